@@ -16,7 +16,8 @@ use Rattle.id_print.specs.Reports.{report_text}
 use Rattle.id_print.specs.Traces.{trace_text}
 use Rattle.id_engine.specs.declared.error.EngineError.{EngineError}
 use Rattle.id_engine.specs.declared.error.EngineError.TheVariants.{Memory, Write}
-use Rattle.id_engine.specs.Reports.{AreAllowed, HasRun, IsReportFrom, IsTrueOf, IsUnallowed, PrintsMachine, PrintsRun, RunsSo, ran, unallowed, status_of}
+use Rattle.id_engine.specs.Reports.{AreAllowed, HasRun, IsReportFrom, IsTrueOf, IsUnallowed, PrintsEvents, PrintsMachine, PrintsRun, RunsSo, ran, unallowed, status_of}
+use Rattle.id_engine.specs.Reports.PrintsEvents.{all_out, front_out}
 use Rattle.id_engine.specs.Reports.PrintsRun.{whole, cut, unprinted}
 use Rattle.id_engine.specs.Reports.PrintsMachine.{reported, out_of_memory}
 use Rattle.id_engine.specs.Runs.{IsTraceOf}
@@ -25,22 +26,21 @@ use Rattle.id_engine.proofs.StuckLemmas.{left_over}
 
 -- ---- what is printed of a machine
 
-module _ (text : List ℕ) (t b : Bool) (w : World) (r : Report) (old new : Option Told) where
-  pub PrintsRun-whole : (es : List EventView) (u : Result (Unit {0}) PrintError) (n : ℕ) → IsTraceOf t w es → Prints old new (trace_text es ++ report_text text b r) u
-      → u ≡ Ok tt → n ≡ status_of r.ending → PrintsRun text t b w r old new (Ok n)
-  PrintsRun-whole es u n traced printed is status =
-      subst (λ (k : ℕ). PrintsRun text t b w r old new (Ok k)) (sym status)
-      (whole (record { events = es; traced = traced; printed = subst (λ (x : Result (Unit {0}) PrintError). Prints old new (trace_text es ++ report_text text b r) x) is printed }))
+module _ (text : List ℕ) (b : Bool) (es : List EventView) (r : Report) (old new : Option Told) where
+  pub PrintsEvents-whole : (u : Result (Unit {0}) PrintError) (n : ℕ) → Prints old new (trace_text es ++ report_text text b r) u → u ≡ Ok tt → n ≡ status_of r.ending
+      → PrintsEvents text b es r old new (Ok n)
+  PrintsEvents-whole u n printed is status =
+      subst (λ (k : ℕ). PrintsEvents text b es r old new (Ok k)) (sym status)
+      (all_out (subst (λ (x : Result (Unit {0}) PrintError). Prints old new (trace_text es ++ report_text text b r) x) is printed))
 
-  pub PrintsRun-cut : (es : List EventView) (u : Result (Unit {0}) PrintError) (e : PrintError) → IsTraceOf t w es → Prints old new (trace_text es ++ report_text text b r) u
-      → u ≡ Err e → PrintsRun text t b w r old new (Err Write)
-  PrintsRun-cut es u e traced printed is =
-      cut e (record { events = es; traced = traced; printed = subst (λ (x : Result (Unit {0}) PrintError). Prints old new (trace_text es ++ report_text text b r) x) is printed })
+  pub PrintsEvents-cut : (u : Result (Unit {0}) PrintError) (e : PrintError) → Prints old new (trace_text es ++ report_text text b r) u → u ≡ Err e
+      → PrintsEvents text b es r old new (Err Write)
+  PrintsEvents-cut u e printed is = front_out e (subst (λ (x : Result (Unit {0}) PrintError). Prints old new (trace_text es ++ report_text text b r) x) is printed)
 
-pub PrintsRun-memory : (text : List ℕ) (t b : Bool) (w : World) (r : Report) (old : Option Told) (result : Result ℕ EngineError) → IsErrAnd result (λ e. e ≡ Memory)
-    → PrintsRun text t b w r old old result
-PrintsRun-memory text t b w r old (Ok n) h = absurd h
-PrintsRun-memory text t b w r old (Err e) h = subst (λ (x : EngineError). PrintsRun text t b w r old old (Err x)) (sym h) (unprinted refl)
+  pub PrintsRun-events : (t : Bool) (w : World) (result : Result ℕ EngineError) → IsTraceOf t w es → PrintsEvents text b es r old new result
+      → PrintsRun text t b w r old new result
+  PrintsRun-events t w result traced (all_out printed) = whole (record { events = es; traced = traced; printed = printed })
+  PrintsRun-events t w result traced (front_out e printed) = cut e (record { events = es; traced = traced; printed = printed })
 
 -- ---- a run of a program with its inputs
 

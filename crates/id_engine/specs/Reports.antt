@@ -121,6 +121,14 @@ pub data PrintsRun (text : List ℕ) (t b : Bool) (w : World) (r : Report) (old 
   cut : (e : PrintError) → HasPrinted text t b w r old new (Err e) → PrintsRun text t b w r old new (Err Write)
   unprinted : new ≡ old → PrintsRun text t b w r old new (Err Memory)
 
+-- these events and the report are printed whole, and this is the status; or a write failed
+pub data PrintsEvents (text : List ℕ) (b : Bool) (es : List EventView) (r : Report) (old new : Option Told) :
+    Result ℕ EngineError → Type 0 where
+  all_out : Prints old new (trace_text es ++ report_text text b r) (Ok tt)
+      → PrintsEvents text b es r old new (Ok (status_of r.ending))
+  front_out : (e : PrintError) → Prints old new (trace_text es ++ report_text text b r) (Err e)
+      → PrintsEvents text b es r old new (Err Write)
+
 -- so many elements and so many steps for each of them are allowed
 pub record AreAllowed (count steps : ℕ) : Type 0 where
   pub some_elements : 0 < count

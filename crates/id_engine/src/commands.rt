@@ -146,7 +146,7 @@ fn picture_of(alloc: Global, text: &str) -> Result<String, EngineError>
     ensures not_write { IfErr result (λ e. e ≢ EngineError.Write) }
 {
     match compile(alloc, text) {
-        Ok(compiled) => draw_compiled(alloc, &compiled),
+        Ok(compiled) => draw_once(alloc, compiled),
         Err(error) => Err(EngineError::Compile(error)),
     }
 }
@@ -161,6 +161,15 @@ fn draw_compiled(alloc: Global, compiled: &Compiled) -> Result<String, EngineErr
         Ok(picture) => Ok(picture),
         Err(_) => Err(EngineError::Memory),
     }
+}
+
+/// The same, and lets the program go.
+fn draw_once(alloc: Global, compiled: Compiled) -> Result<String, EngineError>
+    ensures picture { IfOk result (λ s. string_bytes s ≡ dot_text compiled.graph) }
+    ensures schemas { Schemas compiled.checked compiled.graph }
+    ensures memory { IfErr result (λ e. e ≡ EngineError.Memory) }
+{
+    draw_compiled(alloc, &compiled)
 }
 
 /// Writes the facts of a round of the text on these input words, a line for each, and answers the status, 0.
@@ -203,9 +212,21 @@ fn facts_of(
     ensures not_write { IfErr result (λ e. e ≢ EngineError.Write) }
 {
     match prepare(alloc, text, inputs) {
-        Ok(prepared) => facts_of_prepared(alloc, &prepared, round),
+        Ok(prepared) => facts_once(alloc, prepared, round),
         Err(error) => Err(error),
     }
+}
+
+/// The facts of a round of a compiled program on its inputs. The program is let go.
+fn facts_once(alloc: Global, prepared: Prepared, round: u32) -> Result<Vec<Fact>, EngineError>
+    requires { AreInputs prepared.compiled.checked prepared.inputs.values }
+    ensures facts { IfOk result
+        (λ v. AreFacts (source prepared.compiled.checked prepared.inputs.values) round v.items) }
+    ensures few { IfOk result (λ v. (round ≤ 10000) × (length v.items ≤ 1000000)) }
+    ensures refused { IfErr result
+        (AreRefusedRounds (source prepared.compiled.checked prepared.inputs.values) round) }
+{
+    facts_of_prepared(alloc, &prepared, round)
 }
 
 /// The facts of a round of a compiled program on its inputs.

@@ -16,7 +16,7 @@ ghost use Rattle.id_engine.specs.Programs.{IsPlacedWithin};
 ghost use Rattle.id_engine.specs.Refusals.{IsInsideOf, IsRefusedRun, IsTakenRun};
 ghost use Rattle.id_engine.specs.Reports.{AreAllowed, HasCount, HasEvent, HasRun, IsDelivered, IsFreshMachine};
 ghost use Rattle.id_engine.specs.Reports.{IsHand, IsHeldAt, IsLastHand, IsNextHand, IsReportFrom, PrintsRun, RunsSo};
-ghost use Rattle.id_engine.specs.Reports.{AreReportsWithin, PrintsMachine, status_of};
+ghost use Rattle.id_engine.specs.Reports.{AreReportsWithin, PrintsEvents, PrintsMachine, status_of};
 ghost use Rattle.id_flight.specs.Queues.{context_at};
 ghost use Rattle.id_tag.specs.Routes.{route_of};
 ghost use Rattle.id_core.specs.declared.machine.Came.TheVariants as comes;
@@ -25,7 +25,9 @@ ghost use Rattle.id_engine.specs.Turns.{EndsRun, HasBegun, HasHandled};
 
 use crate::error::EngineError;
 use crate::prepared::{Prepared, prepare};
-use id_core::{Came, Element, MAX_ELEMENTS, Machine, MachineError, Merged, TakeError, merge_records};
+use id_core::{
+    Came, Element, MAX_ELEMENTS, Machine, MachineError, Merged, TakeError, merge_records,
+};
 use id_meaning::Inputs;
 use id_print::{Ending, PrintError, Report, Sink, run_report, write_report, write_trace};
 use id_tag::{Context, Message, route};
@@ -74,11 +76,7 @@ fn goes_on(came: Came) -> bool
 
 /// The element that a message is for.
 #[inline(always)]
-fn element_for<'a, 'b>(
-    machine: &'b Machine<'a>,
-    message: &Message,
-    count: u32,
-) -> &'b Element<'a>
+fn element_for<'a, 'b>(machine: &'b Machine<'a>, message: &Message, count: u32) -> &'b Element<'a>
     requires count { machine.now.count ≡ count }
     requires elements { HasCount machine.now }
     ensures { slice_get machine.now.world.elements (route_of message.now.payload count) ≡ Some result.now.state }
@@ -303,11 +301,7 @@ fn run_machine(machine: &mut Machine<'_>, count: u32, steps: u64) -> Result<(), 
 
 /// The report of a machine, with what names have where that is asked for. Before it is made, the memory of the machine's
 /// run is given back.
-fn report_of(
-    alloc: Global,
-    machine: &mut Machine<'_>,
-    named: bool,
-) -> Result<Report, EngineError>
+fn report_of(alloc: Global, machine: &mut Machine<'_>, named: bool) -> Result<Report, EngineError>
     ensures same { machine.new ≡ machine.old }
     ensures report { IfOk result (IsReportFrom machine.new named) }
     ensures memory { IfErr result (λ e. e ≡ EngineError.Memory) }
@@ -372,6 +366,24 @@ fn write_run<W: Sink>(
     write_report(report, text, names, out)
 }
 
+/// Writes the line of each event, and then the report, and answers the status. The events are let go.
+fn print_events<W: Sink>(
+    events: Merged<'_>,
+    report: &Report,
+    text: &str,
+    names: bool,
+    out: &mut W,
+) -> Result<u8, EngineError>
+    requires fits { length text.now ≤ 1048576 }
+    requires inside { ReportWithin (length text.now) report.now }
+    ensures { PrintsEvents text.now names events.entry report.now (W.told out.old) (W.told out.new) result }
+{
+    match write_run(&events, report, text, names, out) {
+        Ok(()) => Ok(status_of(&report.ending)),
+        Err(_) => Err(EngineError::Write),
+    }
+}
+
 /// Writes the trace of a machine, where it is asked for, and the report, and answers the status. All that is written is
 /// made before the first byte.
 fn print_run<W: Sink>(
@@ -387,10 +399,9 @@ fn print_run<W: Sink>(
     requires inside { ReportWithin (length text.now) report.now }
     ensures { PrintsRun text.now trace names machine.now.world report.now (W.told out.old) (W.told out.new) result }
 {
-    let events = trace_of(alloc, machine, trace)?;
-    match write_run(&events, report, text, names, out) {
-        Ok(()) => Ok(status_of(&report.ending)),
-        Err(_) => Err(EngineError::Write),
+    match trace_of(alloc, machine, trace) {
+        Ok(events) => print_events(events, report, text, names, out),
+        Err(_) => Err(EngineError::Memory),
     }
 }
 

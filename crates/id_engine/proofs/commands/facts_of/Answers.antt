@@ -27,7 +27,7 @@ returns-in-Ok c = record {
   facts = (let p = c.in-Ok.prepared in
       let n = c.args.round in
       let S : Source = source p.compiled.checked p.inputs.values in
-      if_ok c.facts_of_prepared.result (λ v. AreFacts S n v.items) (λ v. AreFactsOf c.args.text.now (map (λ w. w.now) c.args.inputs.now) n v.items)
+      if_ok c.facts_once.result (λ v. AreFacts S n v.items) (λ v. AreFactsOf c.args.text.now (map (λ w. w.now) c.args.inputs.now) n v.items)
       (λ v h. record {
         program = p.compiled.checked;
         is_program = c.in-Ok.ensures.program;
@@ -36,13 +36,13 @@ returns-in-Ok c = record {
             c.in-Ok.ensures.inputs;
         are = h;
       })
-      c.facts_of_prepared.ensures.facts);
+      c.facts_once.ensures.facts);
   within = (let p = c.in-Ok.prepared in
       let n = c.args.round in
       let S : Source = source p.compiled.checked p.inputs.values in
-      if_ok c.facts_of_prepared.result (λ v. AreFacts S n v.items) (λ v. FactsWithin (length c.args.text.now) v.items)
-      (λ v h. facts_within S c.in-Ok.ensures.within n v.items h) c.facts_of_prepared.ensures.facts);
-  short = on_ok c.facts_of_prepared.result (length c.args.text.now ≤ 1048576) c.in-Ok.ensures.short;
+      if_ok c.facts_once.result (λ v. AreFacts S n v.items) (λ v. FactsWithin (length c.args.text.now) v.items)
+      (λ v h. facts_within S c.in-Ok.ensures.within n v.items h) c.facts_once.ensures.facts);
+  short = on_ok c.facts_once.result (length c.args.text.now ≤ 1048576) c.in-Ok.ensures.short;
   taken = (let p = c.in-Ok.prepared in
       let n = c.args.round in
       let ws = map (λ w. w.now) c.args.inputs.now in
@@ -55,9 +55,9 @@ returns-in-Ok c = record {
         inputs = p.inputs.values;
         are_inputs = c.in-Ok.ensures.inputs;
       } in
-      on_ok_both c.facts_of_prepared.result (λ v. AreFacts S n v.items) (λ v. (n ≤ 10000) × (length v.items ≤ 1000000)) (AreTakenFacts c.args.text.now ws n)
-      (λ v h k. record { inputs = has; few_rounds = k.0; facts = v.items; are = h; few = k.1 }) c.facts_of_prepared.ensures.facts
-      c.facts_of_prepared.ensures.few);
+      on_ok_both c.facts_once.result (λ v. AreFacts S n v.items) (λ v. (n ≤ 10000) × (length v.items ≤ 1000000)) (AreTakenFacts c.args.text.now ws n)
+      (λ v h k. record { inputs = has; few_rounds = k.0; facts = v.items; are = h; few = k.1 }) c.facts_once.ensures.facts
+      c.facts_once.ensures.few);
   refused = (let p = c.in-Ok.prepared in
       let n = c.args.round in
       let ws = map (λ w. w.now) c.args.inputs.now in
@@ -70,14 +70,14 @@ returns-in-Ok c = record {
         inputs = p.inputs.values;
         are_inputs = c.in-Ok.ensures.inputs;
       } in
-      if_err c.facts_of_prepared.result (AreRefusedRounds S n) (AreRefusedFacts c.args.text.now ws n) (λ e h. refused_rounds c.args.text.now ws n
-      has e h) c.facts_of_prepared.ensures.refused);
+      if_err c.facts_once.result (AreRefusedRounds S n) (AreRefusedFacts c.args.text.now ws n) (λ e h. refused_rounds c.args.text.now ws n
+      has e h) c.facts_once.ensures.refused);
   inside = (let p = c.in-Ok.prepared in
       let n = c.args.round in
       let S : Source = source p.compiled.checked p.inputs.values in
-      if_err c.facts_of_prepared.result _ _ (λ e h. let l = late_rounds c.args.text.now S n e h in l.0) c.facts_of_prepared.ensures.refused);
+      if_err c.facts_once.result _ _ (λ e h. let l = late_rounds c.args.text.now S n e h in l.0) c.facts_once.ensures.refused);
   not_write = (let p = c.in-Ok.prepared in
       let n = c.args.round in
       let S : Source = source p.compiled.checked p.inputs.values in
-      if_err c.facts_of_prepared.result _ _ (λ e h. let l = late_rounds c.args.text.now S n e h in l.1) c.facts_of_prepared.ensures.refused);
+      if_err c.facts_once.result _ _ (λ e h. let l = late_rounds c.args.text.now S n e h in l.1) c.facts_once.ensures.refused);
 }

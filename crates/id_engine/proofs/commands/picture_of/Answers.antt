@@ -18,22 +18,22 @@ returns-in-Err c = record {
 
 pub returns-in-Ok : goal.returns-in-Ok
 returns-in-Ok c = record {
-  picture = if_ok c.draw_compiled.result (λ s. string_bytes s ≡ dot_text c.in-Ok.compiled.graph) (λ s. IsPictureOf c.args.text.now (string_bytes s))
+  picture = if_ok c.draw_once.result (λ s. string_bytes s ≡ dot_text c.in-Ok.compiled.graph) (λ s. IsPictureOf c.args.text.now (string_bytes s))
       (λ s h. record {
         program = c.in-Ok.compiled.checked;
         is_program = c.in-Ok.ensures.program;
         graph = c.in-Ok.compiled.graph;
-        schemas = c.draw_compiled.ensures.schemas;
+        schemas = c.draw_once.ensures.schemas;
         picture_is = h;
-      }) c.draw_compiled.ensures.picture;
+      }) c.draw_once.ensures.picture;
   program = (let has : HasProgram c.args.text.now = record {
     program = c.in-Ok.compiled.checked;
     is_program = c.in-Ok.ensures.program;
     small =
         c.in-Ok.ensures.small;
   } in
-      on_ok c.draw_compiled.result (HasProgram c.args.text.now) has);
-  refused = if_err _ _ _ (λ e h. subst (IsRefusedText c.args.text.now) (sym h) by_memory) c.draw_compiled.ensures.memory;
-  inside = if_err _ _ _ (λ e h. let l = late_memory c.args.text.now e h in l.0) c.draw_compiled.ensures.memory;
-  not_write = if_err _ _ _ (λ e h. let l = late_memory c.args.text.now e h in l.1) c.draw_compiled.ensures.memory;
+      on_ok c.draw_once.result (HasProgram c.args.text.now) has);
+  refused = if_err _ _ _ (λ e h. subst (IsRefusedText c.args.text.now) (sym h) by_memory) c.draw_once.ensures.memory;
+  inside = if_err _ _ _ (λ e h. let l = late_memory c.args.text.now e h in l.0) c.draw_once.ensures.memory;
+  not_write = if_err _ _ _ (λ e h. let l = late_memory c.args.text.now e h in l.1) c.draw_once.ensures.memory;
 }

@@ -1,11 +1,10 @@
-use Rattle.id_engine.proofs.PrintedLemmas.{PrintsRun-cut, PrintsRun-memory, PrintsRun-whole}
+use Rattle.std.proofs.Common.{refl}
+use Rattle.id_engine.specs.Reports.PrintsRun.{unprinted}
+use Rattle.id_engine.proofs.PrintedLemmas.{PrintsRun-events}
 use Rattle.id_engine.proofs.run.print_run.Goals as goal
 
-pub returns-in_err-events : goal.returns-in_err-events
-returns-in_err-events g c = PrintsRun-memory _ _ _ _ _ _ c.from_residual.result c.from_residual.ensures.1
-
 pub returns-in-Ok : goal.returns-in-Ok
-returns-in-Ok g c = PrintsRun-whole _ _ _ _ _ _ _ c.in_ok-events.events c.write_run.result c.status_of.result c.in_ok-events.ensures c.write_run.ensures c.in-Ok.is c.status_of.ensures
+returns-in-Ok g c = PrintsRun-events _ _ _ _ _ _ _ _ c.print_events.result c.in-Ok.ensures c.print_events.ensures
 
-pub returns : goal.returns
-returns g c = PrintsRun-cut _ _ _ _ _ _ _ c.in_ok-events.events c.write_run.result c.in-Err.field-0 c.in_ok-events.ensures c.write_run.ensures c.in-Err.is
+pub returns-in-Err : goal.returns-in-Err
+returns-in-Err g c = unprinted refl
