@@ -18,7 +18,7 @@ use Rattle.id_engine.specs.declared.error.EngineError.{EngineError}
 use Rattle.id_engine.specs.declared.error.EngineError.TheVariants.{Memory, Write}
 use Rattle.id_engine.specs.Reports.{AreAllowed, HasRun, IsReportFrom, IsTrueOf, IsUnallowed, PrintsEvents, PrintsMachine, PrintsRun, RunsSo, ran, unallowed, status_of}
 use Rattle.id_engine.specs.Reports.PrintsEvents.{all_out, front_out}
-use Rattle.id_engine.specs.Reports.PrintsRun.{whole, cut, unprinted}
+use Rattle.id_engine.specs.Reports.PrintsRun.{whole, cut}
 use Rattle.id_engine.specs.Reports.PrintsMachine.{reported, out_of_memory}
 use Rattle.id_engine.specs.Runs.{IsTraceOf}
 use Rattle.id_engine.proofs.RunLemmas.{IsReportOfRun-from, IsTrueOf-laws}

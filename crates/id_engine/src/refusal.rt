@@ -1,6 +1,6 @@
 //! The lines of refusals. Each cause gets its number, name and status in `Cause::row`, and nowhere else.
 
-ghost use Rattle.std.specs.Prelude.{◌≡◌, ◌++◌, codes, decimal, map};
+ghost use Rattle.std.specs.Prelude.{◌≡◌, ◌++◌, codes, decimal, map, slice_get};
 ghost use Rattle.std.specs.Option.{option_copied};
 ghost use Rattle.id_print.specs.Texts.{place_text};
 ghost use Rattle.id_print.specs.Told.{Prints};
@@ -261,6 +261,14 @@ fn of_compile_error<'a>(error: CompileError) -> Refusal<'a>
     }
 }
 
+/// The refusal of the input word of a number.
+fn of_word<'a>(cause: Cause, words: &'a [&'a str], word: usize) -> Refusal<'a>
+    ensures cause { result.cause ≡ cause }
+    ensures word { IsWord (slice_get (map (λ w. w.now) words.now) word) result.detail }
+{
+    worded(cause, words.get(word).copied())
+}
+
 /// The refusal for an error of a command on these input words.
 pub(crate) fn of_engine_error<'a>(words: &'a [&'a str], error: &'a EngineError) -> Refusal<'a>
     ensures { Tells (map (λ w. w.now) words.now) error.now result }
@@ -268,15 +276,9 @@ pub(crate) fn of_engine_error<'a>(words: &'a [&'a str], error: &'a EngineError) 
     match error {
         EngineError::Compile(error) => of_compile_error(*error),
         EngineError::MissingInput { param } => worded(Cause::MissingInput, Some(param.as_str())),
-        EngineError::UnknownInput { word } => worded(
-            Cause::UnknownInput,
-            words.get(*word).copied(),
-        ),
-        EngineError::RepeatedInput { word } => worded(
-            Cause::RepeatedInput,
-            words.get(*word).copied(),
-        ),
-        EngineError::BadInput { word } => worded(Cause::BadInput, words.get(*word).copied()),
+        EngineError::UnknownInput { word } => of_word(Cause::UnknownInput, words, *word),
+        EngineError::RepeatedInput { word } => of_word(Cause::RepeatedInput, words, *word),
+        EngineError::BadInput { word } => of_word(Cause::BadInput, words, *word),
         EngineError::BadElements => plain(Cause::BadElements),
         EngineError::BadSteps => plain(Cause::BadSteps),
         EngineError::BadRounds => plain(Cause::BadRounds),
