@@ -169,7 +169,9 @@ fn draw_once(alloc: Global, compiled: Compiled) -> Result<String, EngineError>
     ensures schemas { Schemas compiled.checked compiled.graph }
     ensures memory { IfErr result (λ e. e ≡ EngineError.Memory) }
 {
-    draw_compiled(alloc, &compiled)
+    let picture = draw_compiled(alloc, &compiled);
+    drop(compiled);
+    picture
 }
 
 /// Writes the facts of a round of the text on these input words, a line for each, and answers the status, 0.
@@ -226,7 +228,9 @@ fn facts_once(alloc: Global, prepared: Prepared, round: u32) -> Result<Vec<Fact>
     ensures refused { IfErr result
         (AreRefusedRounds (source prepared.compiled.checked prepared.inputs.values) round) }
 {
-    facts_of_prepared(alloc, &prepared, round)
+    let facts = facts_of_prepared(alloc, &prepared, round);
+    drop(prepared);
+    facts
 }
 
 /// The facts of a round of a compiled program on its inputs.

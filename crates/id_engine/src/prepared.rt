@@ -48,7 +48,10 @@ fn with_inputs(alloc: Global, compiled: Compiled, words: &[&str]) -> Result<Prep
 {
     match inputs_of(alloc, compiled.checked(), words) {
         Ok(inputs) => Ok(Prepared { compiled, inputs }),
-        Err(error) => Err(error),
+        Err(error) => {
+            drop(compiled);
+            Err(error)
+        }
     }
 }
 

@@ -299,8 +299,8 @@ fn run_machine(machine: &mut Machine<'_>, count: u32, steps: u64) -> Result<(), 
     }
 }
 
-/// The report of a machine, with what names have where that is asked for. Before it is made, the memory of the machine's
-/// run is given back.
+/// The report of a machine, with what names have where that is asked for. Before it is made, the memory of its run is
+/// given back.
 fn report_of(alloc: Global, machine: &mut Machine<'_>, named: bool) -> Result<Report, EngineError>
     ensures same { machine.new ≡ machine.old }
     ensures report { IfOk result (IsReportFrom machine.new named) }
@@ -452,7 +452,9 @@ fn run_fresh<W: Sink>(
     ensures { PrintsMachine machine.entry text.now trace steps names (W.told out.old) (W.told out.new) result }
 {
     let mut machine = machine;
-    run_started(alloc, &mut machine, text, count, trace, steps, names, out)
+    let status = run_started(alloc, &mut machine, text, count, trace, steps, names, out);
+    drop(machine);
+    status
 }
 
 /// A fresh machine of so many elements for a compiled program with its inputs.
@@ -547,7 +549,9 @@ fn run_once<W: Sink>(
     ensures { RunsSo prepared.compiled.checked prepared.inputs.values text.now count trace steps names
         (W.told out.old) (W.told out.new) result }
 {
-    run_allowed(alloc, &prepared, text, count, trace, steps, names, out)
+    let status = run_allowed(alloc, &prepared, text, count, trace, steps, names, out);
+    drop(prepared);
+    status
 }
 
 /// The status of a run that ended so.

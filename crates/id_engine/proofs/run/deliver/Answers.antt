@@ -7,5 +7,5 @@ goes_on-requires c = came_moves c.args.position c.args.machine.now c.in-Ok.came 
 
 pub returns-in-Ok-clause-delivers : goal.returns-in-Ok-clause-delivers
 returns-in-Ok-clause-delivers c =
-    IsDelivered-by c.args.position c.args.machine.now c.in-Ok.came c.requires.event c.in-Ok.ensures.step c.advance.new.self c.goes_on.result c.in-Ok.ensures.world
-    c.goes_on.ensures
+    IsDelivered-by c.args.position c.args.machine.now c.in-Ok.came c.requires.event c.in-Ok.ensures.step c.advance.new.self c.goes_on.result
+    c.in-Ok.ensures.world c.goes_on.ensures

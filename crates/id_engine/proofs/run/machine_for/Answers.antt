@@ -15,7 +15,8 @@ returns c =
     let p = c.args.prepared.now in
     let S : Parts → MachineView = λ x. record { graph = x; count = c.args.count; world = start x p.inputs.values c.args.count } in
     record {
-      start = if_ok c.machine_of.result (λ m. m ≡ S c.valid.result.now) (λ m. m ≡ S p.compiled.graph) (λ m is. is ∙ ap S c.valid.ensures.value) c.machine_of.ensures.start;
+      start = if_ok c.machine_of.result (λ m. m ≡ S c.valid.result.now) (λ m. m ≡ S p.compiled.graph)
+          (λ m is. is ∙ ap S c.valid.ensures.value) c.machine_of.ensures.start;
       schemas = c.valid.ensures.kept;
       memory = c.machine_of.ensures.memory;
     }

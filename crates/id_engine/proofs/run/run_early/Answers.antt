@@ -21,7 +21,8 @@ deliver-requires-clause-event c =
     let k = c.loop-handled in
     let young = early_half c.args.steps k.handled c.loop-handled-test.true in
     let next = c.turn.ensures.some c.if-not-turn.false in
-    HasEvent-free c.never_stuck.ensures c.args.machine.now k.machine c.args.steps (turn_of k.handled k.hand) c.turn.new.hand.position c.requires.fresh (k.invariant).reaches
+    HasEvent-free c.never_stuck.ensures c.args.machine.now k.machine c.args.steps (turn_of k.handled k.hand) c.turn.new.hand.position c.requires.fresh
+    (k.invariant).reaches
     (IsFree-next c.args.machine.now k.machine c.args.steps k.handled k.hand c.turn.new.hand c.requires.fresh k.invariant young c.requires.few next)
 
 pub returns-in-Ok-false : goal.returns-in-Ok-false

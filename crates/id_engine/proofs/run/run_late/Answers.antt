@@ -1,6 +1,7 @@
 use Rattle.std.proofs.Common.{◌≡◌, ◌≢◌, ◌<◌, ◌*◌, ℕ, length, sym, subst, ap, ◌∙◌, arith}
 use Rattle.id_engine.specs.Runs.{late, AreHeldBefore, IsFree}
-use Rattle.id_engine.proofs.DeliveryLemmas.{HasCount-reaches, HasRun-fault, HasRun-limit, HasRun-rest, HoldsBefore-none, HoldsBefore-went, IsFree-young, half_within, late_half}
+use Rattle.id_engine.proofs.DeliveryLemmas.{HasCount-reaches, HasRun-fault, HasRun-limit, HasRun-rest, HoldsBefore-none, HoldsBefore-went}
+use Rattle.id_engine.proofs.DeliveryLemmas.{IsFree-young, half_within, late_half}
 use Rattle.id_engine.proofs.StuckLemmas.{HasEvent-free}
 use Rattle.id_engine.proofs.run.run_late.Goals as goal
 
@@ -77,7 +78,8 @@ loop-handled-preserved c =
           let count : a.count ≡ c.args.count = sym (has.reaches).same_count ∙ c.requires.count in
           let held = subst (λ (n : ℕ). AreHeldBefore n c.args.steps l.machine.world q) (sym count) c.next_free-position.ensures.held in
           let free = subst (λ (n : ℕ). IsFree n c.args.steps l.machine.world q) (sym count) (c.next_free-position.ensures.free some) in
-          HoldsBefore-went a l.machine c.deliver.new.machine c.args.steps l.handled l.position q d.step is old held free d.delivery (d.went c.in-Ok-true.field-0-test))),
+          HoldsBefore-went a l.machine c.deliver.new.machine c.args.steps l.handled l.position q d.step is old held free d.delivery
+          (d.went c.in-Ok-true.field-0-test))),
       omega (arith, old),
     )
 

@@ -10,7 +10,8 @@ run_late-requires c = record {
 }
 
 pub returns-then-early : goal.returns-then-early
-returns-then-early c = on_ok_from c.run_late.result _ _ (λ e. e c.args.machine.now c.requires.fresh (c.in_ok-early.ensures.handled c.if-early.true)) c.run_late.ensures
+returns-then-early c =
+    on_ok_from c.run_late.result _ _ (λ e. e c.args.machine.now c.requires.fresh (c.in_ok-early.ensures.handled c.if-early.true)) c.run_late.ensures
 
 pub returns-else-early : goal.returns-else-early
 returns-else-early c = c.in_ok-early.ensures.run c.if-early.false

@@ -18,13 +18,14 @@ run_fresh-requires g c =
     let S : Source = source p.compiled.checked p.inputs.values in
     let e = c.in-Ok.ensures in
     record {
-      fresh = IsFreshMachine-start S p.compiled.graph c.args.count _ c.requires.allowed.some_elements c.requires.allowed.few_elements e.start c.requires.inputs e.schemas;
+      fresh = IsFreshMachine-start S p.compiled.graph c.args.count _ c.requires.allowed.some_elements
+          c.requires.allowed.few_elements e.start c.requires.inputs e.schemas;
       count = ap (λ (m : MachineView). m.count) e.start;
       few = c.requires.allowed.few;
       fits = c.requires.short;
       inside = λ n r has from. report_within S c.requires.within c.args.names r
-          (IsTrueOf-ran p.compiled.checked p.inputs.values c.args.text.now c.args.count c.args.trace c.args.steps c.args.names p.compiled.graph c.in-Ok.machine n r
-          c.sound.ensures c.complete.ensures c.requires.inputs e.schemas e.start has from);
+          (IsTrueOf-ran p.compiled.checked p.inputs.values c.args.text.now c.args.count c.args.trace c.args.steps c.args.names p.compiled.graph
+          c.in-Ok.machine n r c.sound.ensures c.complete.ensures c.requires.inputs e.schemas e.start has from);
     }
 
 pub returns-in-Ok : goal.returns-in-Ok
