@@ -143,9 +143,9 @@ pub struct Param {
 pub struct Def {
     pub name: Identifier,
     pub params: Sequence<Param>,
+    pub place: u32,
     pub result: Kind,
     pub body: Expr,
-    pub place: u32,
 }
 
 /// The definitions of a text, in order.
