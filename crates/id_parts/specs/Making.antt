@@ -1,19 +1,19 @@
 -- What the maker of the table has made so far.
 use Rattle.std.specs.Prelude.{◌≡◌, ℕ, List, [], ◌∷◌}
-use Rattle.std.specs.Borrow.{Bor}
 use Rattle.id_tree.specs.declared.tree.Stmt.{Stmt}
 use Rattle.id_tree.specs.declared.tree.Expr.{Expr}
 use Rattle.id_tree.specs.Tree.{Tree, none, more, stmt_tree, tree_of}
 use Rattle.id_parts.specs.declared.maker.Maker.{Maker}
+use Rattle.id_parts.specs.declared.spelled.Spelled.{Spelled}
 use Rattle.id_parts.specs.Names.{first_names, number_of}
 use Rattle.id_parts.specs.declared.row.Stand.{Stand}
 use Rattle.id_parts.specs.declared.row.Node.TheVariants.{Arg, Body, Next, NextUse, Turn}
 use Rattle.id_parts.specs.Rows.{Parts, add, add_nexts, last, naming, size, with_row}
 
--- the texts that the references point to
-abbrev pub texts : List (Bor (List ℕ)) → List (List ℕ)
+-- the texts of the names
+abbrev pub texts : List Spelled → List (List ℕ)
 texts [] = []
-texts (k ∷ ks) = k.now ∷ texts ks
+texts (k ∷ ks) = k.name.now ∷ texts ks
 
 -- the rows and the names that the maker has
 abbrev pub parts : Maker → Parts

@@ -28,6 +28,7 @@
 
 mod maker;
 mod row;
+mod spelled;
 
 pub use maker::table_of;
 pub use row::{Node, Region, Row, Table};

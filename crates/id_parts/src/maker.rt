@@ -1,6 +1,6 @@
 //! The maker of the table: one walk over the tree, in which a name gets its number where it first stands.
 
-ghost use Rattle.std.specs.Prelude.{ℕ, ◌≡◌, ◌+◌, ◌++◌, ◌∷◌, [], length, map, IfOk, OnOk};
+ghost use Rattle.std.specs.Prelude.{ℕ, ◌≡◌, ◌+◌, ◌++◌, ◌∷◌, [], codes, length, map, IfOk, OnOk};
 ghost use Rattle.id_tree.specs.Tree.{unary, binary, name as name_tree, conditional};
 ghost use Rattle.id_tree.specs.Tree.{call, block, binding, loop as loop_tree, array, fetch, store};
 ghost use Rattle.id_tree.specs.Tree.{tree_of, params_tree, def_tree, defs_tree, program_tree};
@@ -12,6 +12,7 @@ ghost use Rattle.id_parts.specs.declared.row.Node.TheVariants.{Variable, If, Arg
 ghost use Rattle.id_parts.specs.Making.{add_argument, add_next, parts, texts, exprs_tree, stmts_tree, IsStart};
 
 use crate::row::{Node, Region, Row, Stand, Table};
+use crate::spelled::Spelled;
 use id_text::Identifier;
 use id_tree::{Block, Call, Def, Expr, Loop, Pair, Param, Program, Stmt, Triple};
 use id_value::{BinaryOp, Kind, UnaryOp};
@@ -22,7 +23,7 @@ use std::alloc::{AllocError, Global};
 #[derive(Drop)]
 pub struct Maker<'a> {
     pub rows: Vec<Row>,
-    pub numbers: IndexSet<&'a str>,
+    pub numbers: IndexSet<Spelled<'a>>,
 }
 
 /// The table of the program.
@@ -30,11 +31,11 @@ pub fn table_of(alloc: Global, program: &Program) -> Result<Table, AllocError>
     ensures rows { IfOk result (λ t. t.rows.items ≡ rows_of (program_tree program.now)) }
     ensures names { IfOk result (λ t. t.names.items ≡ (parts_of (program_tree program.now)).names) }
 {
-    let mut maker = Maker::new(alloc, about_rows(program))?;
+    let main = Identifier::new(alloc, "main")?;
+    let mut maker = Maker::new(alloc, about_rows(program), about_names(program), &main)?;
     maker.add_program(program)?;
-    let names = copy_names(alloc, &maker.numbers)?;
-    let Maker { mut rows, .. } = maker;
-    rows.shrink_to_fit();
+    let Maker { rows, numbers } = maker;
+    let names = names_of(alloc, numbers)?;
     Ok(Table { rows, names })
 }
 
@@ -47,6 +48,26 @@ fn about_rows(program: &Program) -> usize {
     match program.defs.as_slice().last() {
         Some(def) => value_place(&def.body) / ROW_BYTES,
         None => 0,
+    }
+}
+
+/// About how many names the program has: one for each definition, and for each statement of the block that is its body.
+/// No claim rests on it. Takes no memory.
+fn about_names(program: &Program) -> usize {
+    let mut names = 16usize;
+    for def in program.defs.as_slice() {
+        names = names
+            .wrapping_add(1)
+            .wrapping_add(statement_count(&def.body));
+    }
+    names
+}
+
+/// How many statements an expression has, where it is a block. Takes no memory.
+fn statement_count(expr: &Expr) -> usize {
+    match expr {
+        Expr::Block { inside, .. } => inside.statements.as_slice().len(),
+        _ => 0,
     }
 }
 
@@ -74,13 +95,37 @@ fn own_place(expr: &Expr) -> usize {
     }
 }
 
-/// The names of the set, in order.
-fn copy_names(alloc: Global, numbers: &IndexSet<&str>) -> Result<Vec<Identifier>, AllocError>
-    ensures { IfOk result (λ names. names.items ≡ texts numbers.now.keys) }
+/// The names of the set, in order: they take the memory that the set gives back before.
+fn names_of(alloc: Global, numbers: IndexSet<Spelled<'_>>) -> Result<Vec<Identifier>, AllocError>
+    ensures { IfOk result (λ names. names.items ≡ texts numbers.entry.keys) }
 {
-    let mut names = Vec::with_capacity(alloc, numbers.len())?;
-    for name in numbers.iter() {
-        names.push(Identifier::new(alloc, name)?)?;
+    let keys = keys_of(alloc, numbers)?;
+    copy_names(alloc, keys.as_slice())
+}
+
+/// The keys of the set, in order, without what they are found by.
+fn keys_of<'a>(
+    alloc: Global,
+    numbers: IndexSet<Spelled<'a>>,
+) -> Result<Vec<Spelled<'a>>, AllocError>
+    ensures { IfOk result (λ keys. keys.items ≡ numbers.entry.keys) }
+{
+    let count = numbers.len();
+    let rest = numbers.into_iter();
+    let mut keys = Vec::with_capacity(alloc, count)?;
+    for key in rest {
+        keys.push(key)?;
+    }
+    Ok(keys)
+}
+
+/// These names, in order.
+fn copy_names(alloc: Global, keys: &[Spelled<'_>]) -> Result<Vec<Identifier>, AllocError>
+    ensures { IfOk result (λ names. names.items ≡ texts keys.now) }
+{
+    let mut names = Vec::with_capacity(alloc, keys.len())?;
+    for key in keys {
+        names.push(key.name.copy(alloc)?)?;
     }
     Ok(names)
 }
@@ -179,16 +224,21 @@ fn in_arm(stand: Stand, split: usize, side: bool) -> Result<Stand, AllocError>
 }
 
 impl<'a> Maker<'a> {
-    /// No rows, with room for so many, and the name `main`.
-    fn new(alloc: Global, capacity: usize) -> Result<Maker<'a>, AllocError>
+    /// No rows, and the name `main`, with room for so many rows and names. The rows' room is taken first: it is that
+    /// which the tokens gave back.
+    fn new(
+        alloc: Global,
+        rows: usize,
+        names: usize,
+        main: &'a Identifier,
+    ) -> Result<Maker<'a>, AllocError>
+        requires { main.now ≡ codes "main" }
         ensures { IfOk result IsStart }
     {
-        let mut numbers = IndexSet::new(alloc);
-        numbers.insert("main")?;
-        Ok(Maker {
-            rows: Vec::with_capacity(alloc, capacity)?,
-            numbers,
-        })
+        let rows = Vec::with_capacity(alloc, rows)?;
+        let mut numbers = IndexSet::with_capacity(alloc, names)?;
+        numbers.insert(Spelled { name: main })?;
+        Ok(Maker { rows, numbers })
     }
 
     /// The number of the name, which is new where it did not stand before.
@@ -197,7 +247,7 @@ impl<'a> Maker<'a> {
         ensures names { OnOk result (texts self.new.numbers.keys ≡ with_name (texts self.old.numbers.keys) name.now) }
         ensures rows { self.new.rows ≡ self.old.rows }
     {
-        let (number, _) = self.numbers.insert_full(name.as_str())?;
+        let (number, _) = self.numbers.insert_full(Spelled { name })?;
         Ok(number)
     }
 

@@ -10,11 +10,10 @@ use Rattle.id_parts.proofs.maker.table_of.Goals as goal
 pub invariant_of-result : goal.invariant_of-result
 invariant_of-result c =
     let t = program_tree c.args.program.now in
-    let rows : c.shrink_to_fit.new.self.items ≡ rows_of t = c.shrink_to_fit.ensures.items
-    ∙ ap (λ (T : Parts). T.rows) (c.in_ok-add_program.ensures c.in_ok-maker.ensures) in
+    let made = c.in_ok-add_program.ensures c.in_ok-maker.ensures in
+    let rows : c.add_program.new.self.rows.items ≡ rows_of t = ap (λ (T : Parts). T.rows) made in
     let table = IsTable-rows_of t (IsProgramTree-program_tree c.args.program.now) in
-    let names : c.in_ok-names.names.items ≡ (parts_of t).names = c.in_ok-names.ensures
-    ∙ ap (λ (T : Parts). T.names) (c.in_ok-add_program.ensures c.in_ok-maker.ensures) in
+    let names : c.in_ok-names.names.items ≡ (parts_of t).names = c.in_ok-names.ensures ∙ ap (λ (T : Parts). T.names) made in
     record {
       formed = subst IsFormed (sym rows) table.formed;
       nested = subst IsNested (sym rows) table.nested;
