@@ -7,6 +7,7 @@ pub mod FirstsLemmas
 pub mod HomesLemmas
 pub mod LinksLemmas
 pub mod NoneLemmas
+pub mod NotedLemmas
 pub mod OpenLemmas
 pub mod ParamsLemmas
 pub mod ProgramsLemmas

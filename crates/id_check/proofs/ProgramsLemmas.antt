@@ -16,7 +16,6 @@ use Rattle.id_value.specs.declared.Arithmetic.{Arithmetic}
 use Rattle.id_value.specs.declared.Logic.{Logic}
 use Rattle.id_value.specs.declared.Comparison.{Comparison}
 use Rattle.id_value.specs.declared.Comparison.TheVariants.{Lt, Le, Gt, Ge, Eq, Ne}
-use Rattle.id_tree.specs.Tree.{program_tree}
 use Rattle.id_parts.specs.declared.row.Row.{Row}
 use Rattle.id_parts.specs.declared.row.Node.{Node}
 use Rattle.id_parts.specs.declared.row.Node.TheVariants.{Head, Param, Literal, Name, Unary, Binary, Split, If, Enter, Arg, Call, Block, Binding, Def, Program}
@@ -30,7 +29,6 @@ use Rattle.id_parts.specs.Regions.{Lies}
 use Rattle.id_parts.specs.Turns.{IsTable, params_at}
 use Rattle.id_parts.proofs.RegionLemmas.{HasPart-operand}
 use Rattle.id_parts.proofs.TableLemmas.{IsTable-rows_of}
-use Rattle.id_parts.proofs.TreeLemmas.{IsProgramTree-program_tree}
 use Rattle.id_check.specs.declared.cause.CheckCause.TheVariants.{MainKind, TooManyParams, Unknown, WrongCount, WrongKind}
 use Rattle.id_check.specs.declared.checked.Checked.{Checked}
 use Rattle.id_check.specs.declared.cause.CheckCause.{CheckCause}
@@ -39,12 +37,13 @@ use Rattle.id_check.specs.Causes.{head_in, is_count, is_array_param, same_kind, 
 use Rattle.id_check.specs.Causes.{wrong_argument, wrong_both, wrong_count, wrong_equals, wrong_like, wrong_params}
 use Rattle.id_check.specs.Kinds.{AreKinds, EndsIn, Link, binary_kind, constant_kind, Fixed, To, Nowhere, in_kind}
 use Rattle.id_check.specs.Kinds.{in_nothing, further, link_at, link_of, link_of_name, unary_kind}
-use Rattle.id_check.specs.Programs.{Calls, Stands, binder, kind, region, rows}
+use Rattle.id_check.specs.Programs.{Calls, Stands, binder, kind, region, rows, tree}
 use Rattle.id_check.specs.Scopes.{binder_by, binder_in, binder_of, binds, bound_name, first_of, held, is_name}
 use Rattle.id_check.specs.Scopes.{is_next_use, keeps, looks, sees, sees_own, takes, used_name, user_of, uses_procedure, uses_value}
 use Rattle.id_check.proofs.ChainsLemmas.{after}
 use Rattle.id_check.proofs.HomesLemmas.{bound_home, home, seen_outside}
 use Rattle.id_check.proofs.LinksLemmas.{link_below, part_of}
+use Rattle.id_check.proofs.NotedLemmas.{IsProgramTree-tree_in}
 use Rattle.id_check.proofs.ScopesLemmas.{binder_at-below, first_of-some}
 use Rattle.id_parts.proofs.BlocksLemmas.{Among-from_params_at, not_last, param_at}
 
@@ -52,7 +51,7 @@ use Rattle.id_parts.proofs.BlocksLemmas.{Among-from_params_at, not_last, param_a
 
 -- the rows are the table of a program's tree
 pub table_of : (P : Checked) → IsTable (rows P)
-table_of P = subst IsTable (sym P.tabled) (IsTable-rows_of (program_tree P.program) (IsProgramTree-program_tree P.program))
+table_of P = subst IsTable (sym P.tabled) (IsTable-rows_of (tree P) (IsProgramTree-tree_in P.tree.known))
 
 -- ---- kinds
 

@@ -4,10 +4,12 @@ pub mod Kinds
 pub mod Causes
 pub mod Programs
 pub mod Kept
+pub mod Noted
 -- For use inside.
 pub mod Chains
 pub mod Counts
 pub mod Depths
 pub mod Firsts
+pub mod Judged
 pub mod Names
 pub mod Params

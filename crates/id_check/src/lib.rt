@@ -19,8 +19,10 @@ mod params;
 mod program;
 mod rows;
 mod scope;
+mod tabled;
 mod wants;
 
 pub use cause::{CheckCause, CheckError};
 pub use checked::Checked;
-pub use program::check;
+pub use program::{check, check_table, into_table};
+pub use tabled::Tabled;

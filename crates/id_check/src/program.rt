@@ -1,17 +1,19 @@
 //! The check of a program: its table, the binders and kinds of its rows, and the first cause to refuse it.
 
-ghost use Rattle.std.specs.Prelude.{◌≡◌, ◌<◌, ℕ, get_or, length, IfOk, IfErr, IfNone, IfSome, None};
+ghost use Rattle.std.specs.Prelude.{◌≡◌, get_or, length, IfOk, IfErr, IfNone, IfSome, None, Some};
 ghost use Rattle.id_tree.specs.Tree.{program_tree};
 ghost use Rattle.id_tree.specs.Distinct.{Distinct};
-ghost use Rattle.id_parts.specs.Rows.{at, parts_of, rows_of};
+ghost use Rattle.id_parts.specs.Rows.{parts_of, rows_of};
 ghost use Rattle.id_parts.specs.Tables.{IsFormed};
 ghost use Rattle.id_parts.specs.Turns.{IsTable};
 ghost use Rattle.id_check.specs.Causes.{HasNoMain, IsInside, IsMain, IsRefusedFor, causes};
 ghost use Rattle.id_check.specs.Causes as cause;
 ghost use Rattle.id_check.specs.Depths.{AreDepths, AreInBlocks};
 ghost use Rattle.id_check.specs.Firsts.{IsFirstOf};
+ghost use Rattle.id_check.specs.Judged.{IsJudged};
 ghost use Rattle.id_check.specs.Kinds.{AreKinds};
 ghost use Rattle.id_check.specs.Names.{AreNames};
+ghost use Rattle.id_check.specs.Noted.{tree_in};
 ghost use Rattle.id_check.specs.Scopes.{AreBinders};
 
 use crate::calls::find_counts;
@@ -20,9 +22,11 @@ use crate::checked::Checked;
 use crate::depths::find_depths;
 use crate::kinds::find_kinds;
 use crate::scope::{Found, find_binders};
+use crate::tabled::Tabled;
 use crate::wants::note_rows;
 use id_parts::{Node, Row, Table, table_of};
 use id_tree::{Kind, Program};
+use once_cell::race::{Note, OnceBox};
 use std::alloc::{AllocError, Global};
 
 /// What is found in the rows of a program: their binders, kinds and depths, and the first cause in them.
@@ -35,37 +39,139 @@ struct Columns {
 }
 
 /// The program, checked, or the first cause to refuse it: the one at the smallest place, of two at one
-/// place the one with the smaller number, and where there is none, that it has no `main`.
+/// place the one with the smaller number, and where there is none, that it has no `main`. Where it is accepted its tree
+/// gives its memory back; where it is refused it is handed back.
 pub fn check(alloc: Global, program: Program) -> Result<Checked, CheckError>
     requires distinct { Distinct (program_tree program) }
-    ensures ok { IfOk result (λ c. c.program ≡ program) }
+    ensures ok { IfOk result (λ c. c.tree.known ≡ Some program) }
     ensures back { IfErr result (λ e. e.program ≡ program) }
     ensures refused { IfErr result (λ e. IsRefusedFor (rows_of (program_tree program)) e.cause) }
     ensures inside { IfErr result (λ e. IsInside (program_tree program) e.cause) }
 {
-    match find(alloc, &program) {
-        Ok((table, columns)) => settle(program, table, columns),
-        Err(_) => Err(CheckError {
-            program,
-            cause: CheckCause::Memory,
-        }),
+    match judge_tree(alloc, &program) {
+        Ok((table, main, columns)) => match noted(alloc, program) {
+            Ok(tree) => Ok(with_columns(Tabled { tree, table }, main, columns)),
+            Err(program) => Err(CheckError {
+                program,
+                cause: CheckCause::Memory,
+            }),
+        },
+        Err(cause) => Err(CheckError { program, cause }),
     }
 }
 
-/// The table of the program, and what is found in its rows.
-fn find(alloc: Global, program: &Program) -> Result<(Table, Columns), AllocError>
+/// The table of the program, whose tree gives its memory back. Where memory is refused the program is lost; `check`
+/// hands it back.
+pub fn into_table(alloc: Global, program: Program) -> Result<Tabled, AllocError>
+    requires distinct { Distinct (program_tree program) }
+    ensures { IfOk result (λ t. t.tree.known ≡ Some program) }
+{
+    let table = table_of(alloc, &program)?;
+    match noted(alloc, program) {
+        Ok(tree) => Ok(Tabled { tree, table }),
+        Err(_) => Err(AllocError),
+    }
+}
+
+/// The program of the table, checked, or the first cause to refuse it: what `check` says of a program, in less memory.
+pub fn check_table(alloc: Global, tabled: Tabled) -> Result<Checked, CheckCause>
+    ensures ok { IfOk result (λ c. c.tree.known ≡ tabled.tree.known) }
+    ensures refused { IfErr result (IsRefusedFor (rows_of (tree_in tabled.tree.known))) }
+    ensures inside { IfErr result (IsInside (tree_in tabled.tree.known)) }
+{
+    match judge(alloc, &tabled.table) {
+        Ok((main, columns)) => Ok(with_columns(tabled, main, columns)),
+        Err(cause) => Err(cause),
+    }
+}
+
+/// A note of the program, which gives its memory back; or the program, where memory is refused.
+fn noted(alloc: Global, program: Program) -> Result<Note<Program>, Program>
+    ensures ok { IfOk result (λ n. n.known ≡ Some program) }
+    ensures back { IfErr result (λ p. p ≡ program) }
+{
+    let cell = OnceBox::new(alloc);
+    let mut note = cell.note();
+    match Box::new(alloc, program) {
+        Ok(boxed) => match cell.set_as(boxed, &mut note) {
+            Ok(()) => Ok(note),
+            Err(boxed) => Err(Box::into_inner(boxed)),
+        },
+        Err(failed) => Err(failed.value),
+    }
+}
+
+/// The table of the program, the row of `main` in it, and what else is found there; or why the program is refused.
+fn judge_tree(alloc: Global, program: &Program) -> Result<(Table, usize, Columns), CheckCause>
     ensures tabled { IfOk result (λ f. f.0.rows.items ≡ rows_of (program_tree program.now)) }
     ensures named { IfOk result (λ f. f.0.names.items ≡ (parts_of (program_tree program.now)).names) }
-    ensures bound { IfOk result (λ f. AreBinders f.0.rows.items (λ i. get_or f.1.binders.items i None)) }
-    ensures kinded { IfOk result (λ f.
-        AreKinds f.0.rows.items (λ i. get_or f.1.binders.items i None) (λ i. get_or f.1.kinds.items i None)) }
-    ensures deep { IfOk result (λ f. AreDepths f.0.rows.items (length f.0.rows.items) f.1.depths.items) }
-    ensures first { IfOk result (λ f. IsFirstOf f.1.first
-        (causes f.0.rows.items (λ i. get_or f.1.binders.items i None) (λ i. get_or f.1.kinds.items i None))) }
+    ensures judged { IfOk result (λ f. IsJudged f.0.rows.items f.1 f.2) }
+    ensures refused { IfErr result (IsRefusedFor (rows_of (program_tree program.now))) }
 {
-    let table = table_of(alloc, program)?;
-    let columns = find_columns(alloc, table.rows.as_slice(), table.names.as_slice().len())?;
-    Ok((table, columns))
+    match table_of(alloc, program) {
+        Ok(table) => match judge(alloc, &table) {
+            Ok((main, columns)) => Ok((table, main, columns)),
+            Err(cause) => Err(cause),
+        },
+        Err(_) => Err(CheckCause::Memory),
+    }
+}
+
+/// The row of `main` in a table, and what else is found in its rows; or the first cause to refuse the program.
+fn judge(alloc: Global, table: &Table) -> Result<(usize, Columns), CheckCause>
+    requires table { IsTable table.now.rows.items }
+    requires blocks { AreInBlocks table.now.rows.items }
+    ensures judged { IfOk result (λ f. IsJudged table.now.rows.items f.0 f.1) }
+    ensures refused { IfErr result (IsRefusedFor table.now.rows.items) }
+{
+    let rows = table.rows.as_slice();
+    match find_columns(alloc, rows, table.names.as_slice().len()) {
+        Ok(columns) => settle(rows, columns),
+        Err(_) => Err(CheckCause::Memory),
+    }
+}
+
+/// The row of `main`, with these columns; or why the program is refused in whose rows they are found. Takes no memory.
+fn settle(rows: &[Row], columns: Columns) -> Result<(usize, Columns), CheckCause>
+    requires table { IsTable rows.now }
+    requires bound { AreBinders rows.now (λ i. get_or columns.binders.items i None) }
+    requires kinded { AreKinds rows.now
+        (λ i. get_or columns.binders.items i None) (λ i. get_or columns.kinds.items i None) }
+    requires deep { AreDepths rows.now (length rows.now) columns.depths.items }
+    requires first { IsFirstOf columns.first (causes rows.now
+        (λ i. get_or columns.binders.items i None) (λ i. get_or columns.kinds.items i None)) }
+    ensures judged { IfOk result (λ f. IsJudged rows.now f.0 f.1) }
+    ensures refused { IfErr result (IsRefusedFor rows.now) }
+{
+    if let Some(cause) = columns.first {
+        return Err(cause);
+    }
+    match find_main(rows) {
+        Some(main) => Ok((main, columns)),
+        None => Err(CheckCause::NoMain),
+    }
+}
+
+/// The checked program of a table with what is found in it.
+fn with_columns(tabled: Tabled, main: usize, columns: Columns) -> Checked
+    requires { IsJudged tabled.table.rows.items main columns }
+    ensures { result.tree ≡ tabled.tree }
+{
+    let Tabled { tree, table } = tabled;
+    let Columns {
+        binders,
+        kinds,
+        depths,
+        ..
+    } = columns;
+    Checked {
+        tree,
+        table,
+        main,
+        binders,
+        kinds,
+        depths,
+    }
 }
 
 /// What is found in these rows, where the numbers of names are below `count`. Each of the passes is kept apart from the
@@ -100,46 +206,6 @@ fn find_columns(alloc: Global, rows: &[Row], count: usize) -> Result<Columns, Al
         depths,
         first,
     })
-}
-
-/// The program, checked, or why it is refused, where this is its table, and this was found in it. Takes no memory.
-fn settle(program: Program, table: Table, columns: Columns) -> Result<Checked, CheckError>
-    requires distinct { Distinct (program_tree program) }
-    requires tabled { table.rows.items ≡ rows_of (program_tree program) }
-    requires named { table.names.items ≡ (parts_of (program_tree program)).names }
-    requires bound { AreBinders table.rows.items (λ i. get_or columns.binders.items i None) }
-    requires kinded { AreKinds table.rows.items
-        (λ i. get_or columns.binders.items i None) (λ i. get_or columns.kinds.items i None) }
-    requires deep { AreDepths table.rows.items (length table.rows.items) columns.depths.items }
-    requires first { IsFirstOf columns.first (causes table.rows.items
-        (λ i. get_or columns.binders.items i None) (λ i. get_or columns.kinds.items i None)) }
-    ensures ok { IfOk result (λ c. c.program ≡ program) }
-    ensures back { IfErr result (λ e. e.program ≡ program) }
-    ensures refused { IfErr result (λ e. IsRefusedFor (rows_of (program_tree program)) e.cause) }
-{
-    let Columns {
-        binders,
-        kinds,
-        depths,
-        first,
-    } = columns;
-    if let Some(cause) = first {
-        return Err(CheckError { program, cause });
-    }
-    match find_main(table.rows.as_slice()) {
-        Some(main) => Ok(Checked {
-            program,
-            table,
-            main,
-            binders,
-            kinds,
-            depths,
-        }),
-        None => Err(CheckError {
-            program,
-            cause: CheckCause::NoMain,
-        }),
-    }
 }
 
 /// The row of the first definition of `main`.

@@ -1,19 +1,25 @@
-use Rattle.std.specs.Prelude.{Result, Ok, Err, IfErr}
-use Rattle.id_tree.specs.Tree.{Tree, program_tree}
-use Rattle.id_parts.specs.Rows.{rows_of}
-use Rattle.id_parts.specs.Turns.{IsTable}
+use Rattle.std.specs.Prelude.{◌≡◌}
+use Rattle.id_tree.specs.Tree.{program_tree}
+use Rattle.id_tree.specs.Distinct.{Distinct}
+use Rattle.id_parts.specs.Rows.{parts_of, rows_of}
 use Rattle.id_parts.proofs.TableLemmas.{IsTable-rows_of}
 use Rattle.id_parts.proofs.TreeLemmas.{IsProgramTree-program_tree}
-use Rattle.id_check.specs.declared.cause.CheckError.{CheckError}
-use Rattle.id_check.specs.declared.checked.Checked.{Checked}
-use Rattle.id_check.specs.Causes.{IsInside, IsRefusedFor}
+use Rattle.id_check.proofs.NotedLemmas.{known_tree}
 use Rattle.id_check.proofs.StandingLemmas.{IsInside-refused}
 use Rattle.id_check.proofs.program.check.Goals as goal
 
-inside : (t : Tree) (r : Result Checked CheckError) → IsTable (rows_of t) → IfErr r (λ e. IsRefusedFor (rows_of t) e.cause) → IfErr r (λ e. IsInside t e.cause)
-inside t (Ok c) f h = h
-inside t (Err e) f h = IsInside-refused t e.cause f h
+pub invariant_of-with_columns : goal.invariant_of-with_columns
+invariant_of-with_columns c =
+    let t = c.in-Ok.table in
+    let o = c.in-Ok-noted.tree.known in
+    let p = c.args.program in
+    record {
+      tabled = known_tree (λ z. t.rows.items ≡ rows_of z) o p c.in-Ok-noted.ensures.ok c.in-Ok.ensures.tabled;
+      named = known_tree (λ z. t.names.items ≡ (parts_of z).names) o p c.in-Ok-noted.ensures.ok c.in-Ok.ensures.named;
+      distinct = known_tree Distinct o p c.in-Ok-noted.ensures.ok c.requires.distinct;
+    }
 
-pub returns-in-Ok-clause-inside : goal.returns-in-Ok-clause-inside
-returns-in-Ok-clause-inside c =
-    inside (program_tree c.args.program) c.settle.result (IsTable-rows_of (program_tree c.args.program) (IsProgramTree-program_tree c.args.program)) c.settle.ensures.refused
+pub returns-in-Err-clause-inside : goal.returns-in-Err-clause-inside
+returns-in-Err-clause-inside c =
+    let t = program_tree c.args.program in
+    IsInside-refused t c.in-Err.cause (IsTable-rows_of t (IsProgramTree-program_tree c.args.program)) c.in-Err.ensures.refused

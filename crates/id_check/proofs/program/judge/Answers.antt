@@ -1,0 +1,37 @@
+use Rattle.std.proofs.Common.{◌≡◌, ℕ, Some, length, sym, subst}
+use Rattle.std.specs.Prelude.{None, IfErr}
+use Rattle.id_parts.specs.declared.row.Node.{Node}
+use Rattle.id_parts.specs.declared.row.Node.TheVariants.{Param, Name, Enter, Binding, Def, NextUse, Next}
+use Rattle.id_parts.specs.Rows.{at}
+use Rattle.id_parts.specs.Tables.{name_of}
+use Rattle.id_check.specs.Causes.{IsRefusedFor}
+use Rattle.id_check.specs.Names.{AreNames}
+use Rattle.id_check.specs.Scopes.{bound_name, used_name}
+use Rattle.id_check.proofs.program.judge.Goals as goal
+
+bound_one : (n : Node) (x : ℕ) → bound_name n ≡ Some x → name_of n ≡ Some x
+bound_one (Param y k) x e = e
+bound_one (Binding y a) x e = e
+bound_one (Next y k o v) x e = e
+bound_one (Def y h k b) x e = e
+bound_one _ x e = let d : None ≡ Some x = e in cc
+
+used_one : (n : Node) (x : ℕ) → used_name n ≡ Some x → name_of n ≡ Some x
+used_one (Name y) x e = e
+used_one (Enter y) x e = e
+used_one (NextUse y) x e = e
+used_one _ x e = let d : None ≡ Some x = e in cc
+
+pub find_columns-requires-clause-names : goal.find_columns-requires-clause-names
+find_columns-requires-clause-names c =
+    let R = c.args.table.now.rows.items in
+    let named = c.args.table.now.named in
+    subst (λ T. AreNames T (length c.as_slice.result.now)) (sym c.as_slice-rows.ensures.value)
+    (subst (λ ns. AreNames R (length ns)) (sym c.as_slice.ensures.value) (record {
+      bound = λ i x less e. named.each i x less (bound_one (at R i).node x e);
+      used = λ i x less e. named.each i x less (used_one (at R i).node x e);
+    }))
+
+pub returns-in-Ok-clause-refused : goal.returns-in-Ok-clause-refused
+returns-in-Ok-clause-refused c =
+    subst (λ R. IfErr c.settle.result (IsRefusedFor R)) c.as_slice-rows.ensures.value c.settle.ensures.refused
