@@ -1,7 +1,6 @@
 -- The rows of a checked program are known: the table, the binders and the kinds that the check has found.
 use Rattle.std.proofs.Common.{◌≡◌, inl, inr, ℕ, ◌<◌, ◌+◌, true, Some, map, length, refl, sym, ◌∙◌, ap, subst, if◌then◌else◌}
 use Rattle.std.specs.Prelude.{slice_get, unwrap_or}
-use Rattle.id_tree.specs.Tree.{program_tree}
 use Rattle.id_parts.specs.declared.row.Node.{Node}
 use Rattle.id_parts.specs.declared.row.Node.TheVariants.{Param, Literal, Name, Unary, Binary, Arg, Call, Def, Block, Binding, Start, Next, Array, Fetch}
 use Rattle.id_parts.specs.Tables.{AreApart, is_binder, is_top}
@@ -11,7 +10,7 @@ use Rattle.id_parts.proofs.PlacesLemmas.{AreApart-rows_of}
 use Rattle.id_check.specs.declared.checked.Checked.{Checked}
 use Rattle.id_check.specs.Causes.{defines_main}
 use Rattle.id_check.specs.Kinds.{link_of}
-use Rattle.id_check.specs.Programs.{Calls, Stands, binder, kind, region, rows}
+use Rattle.id_check.specs.Programs.{Calls, Stands, binder, kind, region, rows, tree}
 use Rattle.id_check.proofs.ProgramsLemmas.{table_of, bound_name_row, kind_along, kind_fixed, split_row, if_row, def_row, enter_row, callee_row, call_row, next_row, argument_row, argument_call, switches_row}
 use Rattle.id_check.proofs.ProgramsLemmas.{array_row, fetch_row, address_row, store_row}
 use Rattle.id_meaning.specs.Sources.{head_of}
@@ -139,7 +138,7 @@ cell_by P n t i within (of_store is) = address_row P n t i (record { within = wi
 pub known : (P : Checked) → IsKnown P
 known P = record {
   table = table_of P;
-  apart = subst AreApart (sym P.tabled) (AreApart-rows_of (program_tree P.program) P.distinct);
+  apart = subst AreApart (sym P.tabled) (AreApart-rows_of (tree P) P.distinct);
   head_place = λ n h d. (table_of P).head_place n h d;
   main = main_is P;
   params = λ b x k within is. (table_of P).at_top b within (ap is_top is);

@@ -8,11 +8,10 @@ use Rattle.id_parts.specs.Loops.{IsLoopOf, IsNextOf}
 use Rattle.id_parts.specs.Rows.{arm_at, at}
 use Rattle.id_parts.specs.Tables.{AreApart, HasPart, is_binder, is_expression, is_param, is_store, is_thing}
 use Rattle.id_parts.proofs.PlacesLemmas.{AreApart-rows_of, HasPlace-rows_of}
-use Rattle.id_tree.specs.Tree.{program_tree}
 use Rattle.id_tree.specs.Distinct.{HasPlace}
 use Rattle.id_check.specs.declared.checked.Checked.{Checked}
 use Rattle.id_check.specs.Scopes.{depth_at}
-use Rattle.id_check.specs.Programs.{Stands, binder, depth, place, rows}
+use Rattle.id_check.specs.Programs.{Stands, binder, depth, place, rows, tree}
 use Rattle.id_meaning.specs.Sources.{Source}
 use Rattle.id_meaning.specs.Facts.{LoopStands, NextStands, between}
 use Rattle.id_meaning.specs.Links.{far_from}
@@ -48,13 +47,13 @@ thing-param _ h = absurd (false≢true h)
 
 -- no two things of it have one place
 pub apart_of : (P : Checked) → AreApart (rows P)
-apart_of P = let F : List Row → Type 0 = λ R. AreApart R in subst F (sym P.tabled) (AreApart-rows_of (program_tree P.program) P.distinct)
+apart_of P = let F : List Row → Type 0 = λ R. AreApart R in subst F (sym P.tabled) (AreApart-rows_of (tree P) P.distinct)
 
 -- things stand at places of its tree
-pub placed_of : (P : Checked) (n : ℕ) → n < length (rows P) → is_thing (at (rows P) n).node ≡ true → HasPlace (program_tree P.program) (place P n)
+pub placed_of : (P : Checked) (n : ℕ) → n < length (rows P) → is_thing (at (rows P) n).node ≡ true → HasPlace (tree P) (place P n)
 placed_of P =
-    let F : List Row → Type 0 = λ R. (n : ℕ) → n < length R → is_thing (at R n).node ≡ true → HasPlace (program_tree P.program) (at R n).place in
-    subst F (sym P.tabled) (HasPlace-rows_of (program_tree P.program))
+    let F : List Row → Type 0 = λ R. (n : ℕ) → n < length R → is_thing (at R n).node ≡ true → HasPlace (tree P) (at R n).place in
+    subst F (sym P.tabled) (HasPlace-rows_of (tree P))
 
 -- a name's binder is a binder
 pub binder_of : (P : Checked) (n x b : ℕ) → Stands P n (Name x) → binder P n ≡ Some b → (b < length (rows P)) × (is_binder (at (rows P) b).node ≡ true)

@@ -3,14 +3,13 @@ use Rattle.std.proofs.Common.{inl, inr, ℕ, zero, suc, List, [], ◌∷◌, ◌
 use Rattle.std.specs.Prelude.{All}
 use Rattle.std.proofs.lemmas.List.Elements.{All-append, All-cons, All-head, All-nil, All-tail}
 use Rattle.id_list.proofs.AmongLemmas.{Among-from_at}
-use Rattle.id_tree.specs.Tree.{program_tree}
 use Rattle.id_tree.specs.Distinct.{HasPlace}
 use Rattle.id_parts.specs.Rows.{at}
 use Rattle.id_parts.specs.Turns.{params_at}
 use Rattle.id_parts.specs.declared.row.Node.TheVariants.{Unary, Binary, Split, If, Arg, Block, Binding, Def, Switches, Next, Loop}
 use Rattle.id_parts.specs.declared.row.Node.TheVariants.{Array, Fetch, Address, Store}
 use Rattle.id_check.specs.declared.checked.Checked.{Checked}
-use Rattle.id_check.specs.Programs.{place, rows}
+use Rattle.id_check.specs.Programs.{place, rows, tree}
 use Rattle.id_meaning.specs.declared.Path.{Path}
 use Rattle.id_meaning.specs.declared.PathStep.{PathStep}
 use Rattle.id_meaning.specs.declared.Fact.{Fact}
@@ -38,8 +37,8 @@ use Rattle.id_meaning.proofs.ThingsLemmas.{main-thing, node-thing, part-thing}
 
 -- the places of the path's steps are those of the program, and so is the place
 pub record IsPoint (P : Checked) (p : Path) (e : ℕ) : Type 0 where
-  pub path : All (λ s. HasPlace (program_tree P.program) s.place) p.steps
-  pub place : HasPlace (program_tree P.program) e
+  pub path : All (λ s. HasPlace (tree P) s.place) p.steps
+  pub place : HasPlace (tree P) e
 
 abbrev pub IsSite : Checked → Site → Type 0
 IsSite P s = IsPoint P s.path s.place
@@ -64,27 +63,27 @@ constant-placed : (P : Checked) (c : Constant) → PlacedValue P (value_of c)
 constant-placed P (constant.Int n) = tt
 constant-placed P (constant.Bool b) = tt
 
-thing-place : (S : Source) (n : ℕ) → IsThing S n → HasPlace (program_tree S.checked.program) (place S.checked n)
+thing-place : (S : Source) (n : ℕ) → IsThing S n → HasPlace (tree S.checked) (place S.checked n)
 thing-place S n t = placed_of S.checked n t.within t.thing
 
 -- the empty path has no steps, and that of a call one more, at the place of the call
 abbrev InTree : Checked → PathStep → Type 0
-InTree P s = HasPlace (program_tree P.program) s.place
+InTree P s = HasPlace (tree P) s.place
 
-no_steps : (S : Source) → All (λ s. HasPlace (program_tree S.checked.program) s.place) outermost.steps
+no_steps : (S : Source) → All (λ s. HasPlace (tree S.checked) s.place) outermost.steps
 no_steps S = All-nil (InTree S.checked)
 
-below_steps : (S : Source) (p : Path) (e k : ℕ) → IsPoint S.checked p e → All (λ s. HasPlace (program_tree S.checked.program) s.place) (below p e k).steps
+below_steps : (S : Source) (p : Path) (e k : ℕ) → IsPoint S.checked p e → All (λ s. HasPlace (tree S.checked) s.place) (below p e k).steps
 below_steps S p e k h =
     let s : PathStep = record { place = e; number = k } in
     All-append (InTree S.checked) p.steps (s ∷ []) h.path (All-cons (InTree S.checked) s [] h.place (All-nil (InTree S.checked)))
 
 -- the path with a step is placed where its front is and the step is
-front_placed : (S : Source) (p : Path) (e k f : ℕ) → IsPoint S.checked (below p e k) f → All (λ s. HasPlace (program_tree S.checked.program) s.place) p.steps
+front_placed : (S : Source) (p : Path) (e k f : ℕ) → IsPoint S.checked (below p e k) f → All (λ s. HasPlace (tree S.checked) s.place) p.steps
 front_placed S p e k f h = go p.steps h.path
   where
-    go : (ss : List PathStep) → All (λ s. HasPlace (program_tree S.checked.program) s.place) (ss ++ record { place = e; number = k } ∷ [])
-        → All (λ s. HasPlace (program_tree S.checked.program) s.place) ss
+    go : (ss : List PathStep) → All (λ s. HasPlace (tree S.checked) s.place) (ss ++ record { place = e; number = k } ∷ [])
+        → All (λ s. HasPlace (tree S.checked) s.place) ss
     go [] h = All-nil (InTree S.checked)
     go (s ∷ ss) h =
         let more = ss ++ record { place = e; number = k } ∷ [] in

@@ -3,7 +3,7 @@ use Rattle.std.proofs.Common.{◌≡◌, inl, inr, ◌<◌, ◌-◌, ℕ, zero, 
 use Rattle.id_list.specs.List.{Among}
 use Rattle.id_list.proofs.AmongLemmas.{Among-either}
 use Rattle.id_value.specs.declared.BinaryOp.{BinaryOp}
-use Rattle.id_tree.specs.Tree.{Tree, binding, define, more, next, param, program_tree, store}
+use Rattle.id_tree.specs.Tree.{Tree, binding, define, more, next, param, store}
 use Rattle.id_parts.specs.declared.row.Row.{Row}
 use Rattle.id_parts.specs.declared.row.Stand.{Stand}
 use Rattle.id_parts.specs.declared.row.Node.{Node}
@@ -16,9 +16,9 @@ use Rattle.id_parts.specs.Trees.{IsProgramTree, IsTree, Sort, Expression, Argume
 use Rattle.id_parts.specs.Trees.{by_call, by_loop, by_array, by_fetch, next_statement, store_statement, no_arguments, more_arguments, by_block}
 use Rattle.id_parts.specs.Trees.{no_statements, more_statements, no_params, more_params, no_defs, more_defs}
 use Rattle.id_parts.proofs.TableLemmas.{Are-add}
-use Rattle.id_parts.proofs.TreeLemmas.{IsProgramTree-program_tree}
+use Rattle.id_check.proofs.NotedLemmas.{IsProgramTree-tree_in}
 use Rattle.id_check.specs.declared.checked.Checked.{Checked}
-use Rattle.id_check.specs.Programs.{Stands, rows}
+use Rattle.id_check.specs.Programs.{Stands, rows, tree}
 use Rattle.id_check.proofs.ProgramsLemmas.{table_of}
 use Rattle.id_meaning.specs.Facts.{StoreStands}
 
@@ -176,7 +176,7 @@ two-rows t d =
     push (add (in_top 0) start t) (in_top 0) 0 0 Program tt (add-two (in_top 0) start d (λ r i. absurd i))
 
 two-of : (P : Checked) → AreTwo (rows P)
-two-of P = subst AreTwo (sym P.tabled) (two-rows (program_tree P.program) (IsProgramTree-program_tree P.program))
+two-of P = subst AreTwo (sym P.tabled) (two-rows (tree P) (IsProgramTree-tree_in P.tree.known))
 
 row-among : (R : List Row) (n : ℕ) → n < length R → Among (at R n) R
 row-among [] n l = absurd (omega arith)
