@@ -6,8 +6,7 @@ use Rattle.id_text.specs.declared.token.TextError.TheVariants as lexer
 use Rattle.id_text.specs.Tokens.{IsWithin, IsPlaceWithin}
 use Rattle.id_tree.specs.declared.tree.TreeError.{TreeError}
 use Rattle.id_tree.specs.declared.tree.TreeError.TheVariants as parser
-use Rattle.id_tree.specs.declared.tree.Program.{Program}
-use Rattle.id_tree.specs.Tree.{program_tree}
+use Rattle.id_tree.specs.Tree.{Tree}
 use Rattle.id_tree.specs.Distinct.{HasPlace}
 use Rattle.id_tree.specs.Accepted.{StopsAt, RefusedBy}
 use Rattle.id_check.specs.declared.cause.CheckCause.{CheckCause}
@@ -39,11 +38,11 @@ parser_inside text ts (parser.TooDeep at) h all short = record { inside = stop_i
 parser_inside text ts parser.Memory h all short = tt
 
 -- that of a refused program
-module _ (text : List ℕ) (p : Program) (within : (q : ℕ) → HasPlace (program_tree p) q → q ≤ length text) (short : length text ≤ 1048576) where
-  place_inside : (at : ℕ) → HasPlace (program_tree p) at → IsInside text at
+module _ (text : List ℕ) (t : Tree) (within : (q : ℕ) → HasPlace t q → q ≤ length text) (short : length text ≤ 1048576) where
+  place_inside : (at : ℕ) → HasPlace t at → IsInside text at
   place_inside at h = record { inside = within at h; short = short }
 
-  pub checker_inside : (c : CheckCause) → check.IsInside (program_tree p) c → IsDetailInside text (checker_refusal c).detail
+  pub checker_inside : (c : CheckCause) → check.IsInside t c → IsDetailInside text (checker_refusal c).detail
   checker_inside checker.NoMain h = tt
   checker_inside (checker.MainKind at) h = place_inside at h
   checker_inside (checker.Duplicate at first) h = place_inside at h.0

@@ -9,8 +9,8 @@ use Rattle.id_engine.specs.Commands.{ShowsAll, ShowsFront}
 use Rattle.id_engine.specs.Refusals.{IsInsideOf}
 use Rattle.id_engine.specs.Served.{command_of, IsRefusedRequest, IsRun, IsTaken}
 
--- what a request asks for of a text is printed with this result: whole, or up to a failed write, or it is refused before
--- the first byte
+-- what a request asks for of a text is printed with this result: whole, or up to a failed write, or it is refused
+-- before the first byte
 pub record PrintsAsked (text : List ℕ) (r : Request) (old new : Option Told) (result : Result ℕ EngineError) :
     Type 0 where
   pub shown : IfOk result (ShowsAll (command_of r) text old new)

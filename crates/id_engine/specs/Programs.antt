@@ -5,13 +5,12 @@ use Rattle.id_text.specs.declared.token.TextError.{TextError}
 use Rattle.id_text.specs.Lexes.{Lexes, IsRefusal}
 use Rattle.id_text.specs.Lexes.Ending.{Whole}
 use Rattle.id_tree.specs.declared.tree.TreeError.{TreeError}
-use Rattle.id_tree.specs.declared.tree.Program.{Program}
-use Rattle.id_tree.specs.Tree.{program_tree}
+use Rattle.id_tree.specs.Tree.{Tree}
 use Rattle.id_tree.specs.Distinct.{HasPlace}
 use Rattle.id_tree.specs.Accepted.{Accepts, RefusedBy}
 use Rattle.id_parts.specs.Rows.{rows_of}
 use Rattle.id_check.specs.Causes.{IsMain, IsRefusedFor}
-use Rattle.id_check.specs.Programs.{rows}
+use Rattle.id_check.specs.Programs.{rows, tree}
 use Rattle.id_check.specs.declared.checked.Checked.{Checked}
 use Rattle.id_check.specs.declared.cause.CheckCause.{CheckCause}
 use Rattle.id_value.specs.declared.Constant.{Constant}
@@ -20,23 +19,23 @@ use Rattle.id_meaning.specs.Inputs.{AreInputsOf, wanted}
 use Rattle.id_graph.specs.Graph.{Parts}
 use Rattle.id_build.specs.Rows.{size}
 use Rattle.id_engine.specs.declared.compiled.CompileError.{CompileError}
-use Rattle.id_engine.specs.declared.compiled.CompileError.TheVariants.{Text, Tree, Check, TooLarge, Memory}
+use Rattle.id_engine.specs.declared.compiled.CompileError.TheVariants as compiler
 
 -- the tree is that of the text's tokens
-pub record IsTreeOf (text : List ℕ) (p : Program) : Type 0 where
+pub record IsTreeOf (text : List ℕ) (t : Tree) : Type 0 where
   pub tokens : List Token
   pub lexes : Lexes 0 text tokens Whole
-  pub accepts : Accepts tokens (program_tree p)
+  pub accepts : Accepts tokens t
 
 -- the places of the tree's things are at most so many bytes in
-pub record ArePlacedWithin (size : ℕ) (p : Program) : Type 0 where
-  pub within : (q : ℕ) → HasPlace (program_tree p) q → q ≤ size
+pub record ArePlacedWithin (size : ℕ) (t : Tree) : Type 0 where
+  pub within : (q : ℕ) → HasPlace t q → q ≤ size
 
 -- the program is the text's: its tokens are those of the text, its tree is theirs, and its `main` is there
 pub record IsProgramOf (text : List ℕ) (P : Checked) : Type 0 where
   pub tokens : List Token
   pub lexes : Lexes 0 text tokens Whole
-  pub accepts : Accepts tokens (program_tree P.program)
+  pub accepts : Accepts tokens (tree P)
   pub main : IsMain (rows P) P.main
 
 -- the text has a program of which a graph can be built: one of at most 1,000,000 instructions
@@ -64,14 +63,14 @@ IsNameOfParam P number name = option_map (λ (w : Wanted). w.name) (slice_get (w
 
 -- the places of the program's things are at most so many bytes in
 pub record IsPlacedWithin (size : ℕ) (P : Checked) : Type 0 where
-  pub within : (q : ℕ) → HasPlace (program_tree P.program) q → q ≤ size
+  pub within : (q : ℕ) → HasPlace (tree P) q → q ≤ size
 
 -- why a text has no graph: it has no tokens, they have no tree, the program is refused, or it is too large
 pub data IsRefusedBy (text : List ℕ) : CompileError → Type 0 where
-  by_lexer : (e : TextError) → IsRefusal text e → IsRefusedBy text (Text e)
-  by_parser : (ts : List Token) (e : TreeError) → Lexes 0 text ts Whole → RefusedBy ts e → IsRefusedBy text (Tree e)
-  by_check : (ts : List Token) (p : Program) (c : CheckCause) →
-      Lexes 0 text ts Whole → Accepts ts (program_tree p) → IsRefusedFor (rows_of (program_tree p)) c
-      → IsRefusedBy text (Check c)
-  too_large : (P : Checked) → IsProgramOf text P → 1000000 < size P → IsRefusedBy text TooLarge
-  by_memory : IsRefusedBy text Memory
+  by_lexer : (e : TextError) → IsRefusal text e → IsRefusedBy text (compiler.Text e)
+  by_parser : (ts : List Token) (e : TreeError) → Lexes 0 text ts Whole → RefusedBy ts e
+      → IsRefusedBy text (compiler.Tree e)
+  by_check : (ts : List Token) (t : Tree) (c : CheckCause) →
+      Lexes 0 text ts Whole → Accepts ts t → IsRefusedFor (rows_of t) c → IsRefusedBy text (compiler.Check c)
+  too_large : (P : Checked) → IsProgramOf text P → 1000000 < size P → IsRefusedBy text compiler.TooLarge
+  by_memory : IsRefusedBy text compiler.Memory

@@ -177,7 +177,8 @@ pub record HasRun (old new : MachineView) (steps : ℕ) : Type 0 where
 
 -- the places of each report of such a run are at most so many bytes in
 abbrev pub AreReportsWithin : MachineView → ℕ → Bool → ℕ → Type 0
-AreReportsWithin m steps b size = (n : MachineView) (r : Report) → HasRun m n steps → IsReportFrom n b r → ReportWithin size r
+AreReportsWithin m steps b size =
+    (n : MachineView) (r : Report) → HasRun m n steps → IsReportFrom n b r → ReportWithin size r
 
 -- such a run of the machine is printed, or memory was refused before the first byte
 pub data PrintsMachine (m : MachineView) (text : List ℕ) (t : Bool) (steps : ℕ) (b : Bool) (old new : Option Told) :
@@ -190,8 +191,8 @@ pub data PrintsMachine (m : MachineView) (text : List ℕ) (t : Bool) (steps : �
 abbrev pub IsHeldAt : ℕ → ℕ → World → ℕ → Type 0
 IsHeldAt count steps w k = (m : Message) → slice_get w.flight k ≡ Some m → IsHeldBack count steps w m
 
--- what is at hand is so of these messages: the position is not behind their end, and where none in front of it may be of
--- the context, none is
+-- what is at hand is so of these messages: the position is not behind their end, and where none in front of it may be
+-- of the context, none is
 pub record IsHand (ms : List Message) (h : Hand) : Type 0 where
   pub within : h.position ≤ length ms
   pub behind : IsFalse h.may_be_in_front → IsBehindOthers ms h.position (Some h.context)

@@ -1,5 +1,6 @@
 -- Runs of the engine: which messages are delivered, and what is printed of them (docs/PROMISES.md, "The run").
-use Rattle.std.specs.Prelude.{◌≡◌, ◌≢◌, ◌<◌, ◌≤◌, ◌+◌, ◌*◌, ◌⊎◌, ℕ, Bool, IsTrue, IsFalse, List, [], ◌∷◌, ◌++◌, All, length}
+use Rattle.std.specs.Prelude.{◌≡◌, ◌≢◌, ◌<◌, ◌≤◌, ◌+◌, ◌*◌, ◌⊎◌, ℕ, Bool, IsTrue, IsFalse, List, [], ◌∷◌, ◌++◌}
+use Rattle.std.specs.Prelude.{All, length}
 use Rattle.std.specs.Prelude.{slice_get, Option, Some, Ok}
 use Rattle.id_check.specs.declared.checked.Checked.{Checked}
 use Rattle.id_graph.specs.Graph.{Parts}
@@ -86,8 +87,8 @@ pub data IsNext (ms : List Message) (position : ℕ) (c : Option Context) : ℕ 
   last : (k : ℕ) → IsBehindOthers ms position c → AreOthers ms position (length ms) c → k + 1 ≡ length ms
       → IsNext ms position c k
 
--- this delivery is of the next message, where fewer were handled in all than half of those that each element may handle,
--- and else of the first that is not held back
+-- this delivery is of the next message, where fewer were handled in all than half of those that each element may
+-- handle, and else of the first that is not held back
 pub data IsInTurn (count steps : ℕ) (t : Turn) (w : World) (k : ℕ) : Type 0 where
   early : t.handled * 2 < steps → IsNext w.flight t.position t.context k → IsInTurn count steps t w k
   late : steps ≤ t.handled * 2 → AreHeldBefore count steps w k → IsInTurn count steps t w k

@@ -2,14 +2,13 @@
 
 ghost use Rattle.std.specs.Prelude.{◌≡◌, ◌≢◌, ◌≤◌, length, map, IfOk, IfErr, OnOk, Some, string_bytes};
 ghost use Rattle.id_build.specs.Schemas.{Schemas};
-ghost use Rattle.id_tree.specs.declared.tree.Program.{Program};
 ghost use Rattle.id_meaning.specs.Computed.{AreFacts};
 ghost use Rattle.id_meaning.specs.Sources.{AreInputs, source};
 ghost use Rattle.id_print.specs.Within.{FactsWithin};
 ghost use Rattle.id_graph.specs.Dot.{dot_text};
 ghost use Rattle.id_engine.specs.Commands.{AreFactsOf, Check, Draw_graph, Facts, IsListingOf, IsPictureOf, List_graph};
 ghost use Rattle.id_engine.specs.Commands.{ShowsAll, ShowsFront};
-ghost use Rattle.id_engine.specs.Programs.{HasProgram, IsPlacedWithin, IsProgramOf, IsTreeOf};
+ghost use Rattle.id_engine.specs.Programs.{HasProgram, IsPlacedWithin, IsProgramOf};
 ghost use Rattle.id_engine.specs.Refusals.{AreRefusedFacts, AreTakenFacts, IsInsideOf, IsRefusedText};
 ghost use Rattle.id_engine.specs.Reports.{AreRefusedRounds};
 
@@ -19,102 +18,76 @@ use crate::prepared::{Prepared, prepare};
 use id_graph::{draw, list};
 use id_meaning::{Fact, RoundsError, rounds};
 use id_print::{Sink, put, write_facts};
-use id_tree::Program;
 use std::alloc::Global;
 
-/// Writes `ok` where the text is accepted, and answers the status, 0. The text's tree is left in `left`, whose owner
-/// gives its memory back or, where the process ends, doesn't: that takes a tenth of the time of a check.
-pub fn check_text<W: Sink>(
-    alloc: Global,
-    text: &str,
-    out: &mut W,
-    left: &mut Option<Program>,
-) -> Result<u8, EngineError>
+/// Writes `ok` where the text is accepted, and answers the status, 0.
+pub fn check_text<W: Sink>(alloc: Global, text: &str, out: &mut W) -> Result<u8, EngineError>
     ensures shown { IfOk result (ShowsAll Check text.now (W.told out.old) (W.told out.new)) }
     ensures cut { result ≡ Err EngineError.Write → ShowsFront Check text.now (W.told out.old) (W.told out.new) }
     ensures silent { IfErr result (λ e. e ≢ EngineError.Write → W.told out.new ≡ W.told out.old) }
     ensures taken { OnOk result (HasProgram text.now) }
-    ensures left { OnOk result ((p : Program) × (left.new ≡ Some p) × IsTreeOf text.now p) }
     ensures refused { IfErr result (IsRefusedText text.now) }
     ensures inside { IfErr result (IsInsideOf text.now) }
 {
-    let tree = accept_text(alloc, text)?;
-    *left = Some(tree);
+    accept_text(alloc, text)?;
     match put(out, b"ok\n") {
         Ok(()) => Ok(0),
         Err(_) => Err(EngineError::Write),
     }
 }
 
-/// The tree of the text, where the text is accepted.
-fn accept_text(alloc: Global, text: &str) -> Result<Program, EngineError>
-    ensures tree { IfOk result (IsTreeOf text.now) }
+/// Whether the text is accepted.
+fn accept_text(alloc: Global, text: &str) -> Result<(), EngineError>
     ensures program { OnOk result (HasProgram text.now) }
     ensures refused { IfErr result (IsRefusedText text.now) }
     ensures inside { IfErr result (IsInsideOf text.now) }
     ensures not_write { IfErr result (λ e. e ≢ EngineError.Write) }
 {
     match accept(alloc, text) {
-        Ok(tree) => Ok(tree),
+        Ok(()) => Ok(()),
         Err(error) => Err(EngineError::Compile(error)),
     }
 }
 
-/// Writes the listing of the text's graph, and answers the status, 0. The text's tree is left in `left`,
-/// as by `check_text`.
-pub fn graph_text<W: Sink>(
-    alloc: Global,
-    text: &str,
-    out: &mut W,
-    left: &mut Option<Program>,
-) -> Result<u8, EngineError>
+/// Writes the listing of the text's graph, and answers the status, 0.
+pub fn graph_text<W: Sink>(alloc: Global, text: &str, out: &mut W) -> Result<u8, EngineError>
     ensures shown { IfOk result (ShowsAll List_graph text.now (W.told out.old) (W.told out.new)) }
     ensures cut { result ≡ Err EngineError.Write → ShowsFront List_graph text.now (W.told out.old) (W.told out.new) }
     ensures silent { IfErr result (λ e. e ≢ EngineError.Write → W.told out.new ≡ W.told out.old) }
     ensures taken { OnOk result (HasProgram text.now) }
-    ensures left { OnOk result ((p : Program) × (left.new ≡ Some p) × IsTreeOf text.now p) }
     ensures refused { IfErr result (IsRefusedText text.now) }
     ensures inside { IfErr result (IsInsideOf text.now) }
 {
-    let listing = listing_of(alloc, text, left)?;
+    let listing = listing_of(alloc, text)?;
     match put(out, listing.as_str().as_bytes()) {
         Ok(()) => Ok(0),
         Err(_) => Err(EngineError::Write),
     }
 }
 
-/// The listing of the text's graph. The text's tree is left in `left`.
-fn listing_of(alloc: Global, text: &str, left: &mut Option<Program>) -> Result<String, EngineError>
+/// The listing of the text's graph.
+fn listing_of(alloc: Global, text: &str) -> Result<String, EngineError>
     ensures listing { IfOk result (λ s. IsListingOf text.now (string_bytes s)) }
     ensures program { OnOk result (HasProgram text.now) }
-    ensures left { OnOk result ((p : Program) × (left.new ≡ Some p) × IsTreeOf text.now p) }
     ensures refused { IfErr result (IsRefusedText text.now) }
     ensures inside { IfErr result (IsInsideOf text.now) }
     ensures not_write { IfErr result (λ e. e ≢ EngineError.Write) }
 {
     match compile(alloc, text) {
-        Ok(compiled) => list_compiled(alloc, compiled, text, left),
+        Ok(compiled) => list_compiled(alloc, compiled, text),
         Err(error) => Err(EngineError::Compile(error)),
     }
 }
 
-/// The listing of a compiled text's graph. The text's tree is left in `left`.
-fn list_compiled(
-    alloc: Global,
-    compiled: Compiled,
-    text: &str,
-    left: &mut Option<Program>,
-) -> Result<String, EngineError>
+/// The listing of a compiled text's graph.
+fn list_compiled(alloc: Global, compiled: Compiled, text: &str) -> Result<String, EngineError>
     requires program { IsProgramOf text.now compiled.checked }
     requires within { IsPlacedWithin (length text.now) compiled.checked }
     requires short { length text.now ≤ 1048576 }
     ensures listing { IfOk result (λ s. IsListingOf text.now (string_bytes s)) }
-    ensures left { left.new ≡ Some compiled.checked.program }
     ensures memory { IfErr result (λ e. e ≡ EngineError.Memory) }
 {
-    let parts = compiled.into_parts();
-    let (tree, valid) = parts;
-    *left = Some(tree);
+    let valid = compiled.into_valid();
     match list(alloc, valid.graph(), text) {
         Ok(listing) => Ok(listing),
         Err(_) => Err(EngineError::Memory),

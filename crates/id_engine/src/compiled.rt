@@ -4,6 +4,7 @@ ghost use Rattle.std.specs.Prelude.{◌≡◌, ◌<◌, ◌≤◌, length, IfErr
 ghost use Rattle.id_build.specs.Rows.{size};
 ghost use Rattle.id_build.specs.Schemas.{Schemas};
 ghost use Rattle.id_tree.specs.Distinct.{Distinct};
+ghost use Rattle.id_check.specs.Noted.{tree_in};
 ghost use Rattle.id_tree.specs.Tree.{program_tree};
 ghost use Rattle.id_engine.specs.Programs.{ArePlacedWithin, HasProgram, IsProgramOf, IsPlacedWithin, IsRefusedBy};
 ghost use Rattle.id_engine.specs.Programs.{IsTreeOf};
@@ -11,7 +12,7 @@ ghost use Rattle.id_engine.specs.Reports.{IsRefusedGraph};
 ghost use Rattle.id_engine.specs.Refusals.{IsCauseInside};
 
 use id_build::{BuildError, build, is_small, is_small_and_plain, is_surely_small};
-use id_check::{CheckCause, Checked, check};
+use id_check::{CheckCause, Checked, Tabled, check_table, into_table};
 use id_desugar::regions;
 use id_graph::Graph;
 use id_text::{TextError, lex};
@@ -60,14 +61,13 @@ impl Compiled {
         &self.valid
     }
 
-    /// The program's tree and its graph: its table gives its memory back.
-    pub fn into_parts(self) -> (Program, Valid)
-        ensures tree { result.0 ≡ self.checked.program }
-        ensures value { result.1 ≡ self.graph }
+    /// The program's graph: the program gives its memory back.
+    pub fn into_valid(self) -> Valid
+        ensures value { result ≡ self.graph }
         ensures kept { Schemas self.checked self.graph }
     {
-        let Compiled { checked, valid } = self;
-        (tree_in(checked), valid)
+        let Compiled { valid, .. } = self;
+        valid
     }
 }
 
@@ -88,9 +88,9 @@ pub enum CompileError {
 
 /// The tree of a text.
 fn tree_of(alloc: Global, text: &str) -> Result<Program, CompileError>
-    ensures tree { IfOk result (IsTreeOf text.now) }
+    ensures tree { IfOk result (λ p. IsTreeOf text.now (program_tree p)) }
     ensures distinct { IfOk result (λ p. Distinct (program_tree p)) }
-    ensures within { IfOk result (ArePlacedWithin (length text.now)) }
+    ensures within { IfOk result (λ p. ArePlacedWithin (length text.now) (program_tree p)) }
     ensures short { OnOk result (length text.now ≤ 1048576) }
     ensures refused { IfErr result (IsRefusedBy text.now) }
     ensures inside { IfErr result (IsCauseInside text.now) }
@@ -105,12 +105,19 @@ fn tree_of(alloc: Global, text: &str) -> Result<Program, CompileError>
     }
 }
 
-/// The tree of a checked program: its table gives its memory back.
-fn tree_in(checked: Checked) -> Program
-    ensures { result ≡ checked.program }
+/// The table of a text's tree, which gives its memory back.
+fn table_of(alloc: Global, text: &str) -> Result<Tabled, CompileError>
+    ensures tree { IfOk result (λ t. IsTreeOf text.now (tree_in t.tree.known)) }
+    ensures within { IfOk result (λ t. ArePlacedWithin (length text.now) (tree_in t.tree.known)) }
+    ensures short { OnOk result (length text.now ≤ 1048576) }
+    ensures refused { IfErr result (IsRefusedBy text.now) }
+    ensures inside { IfErr result (IsCauseInside text.now) }
 {
-    let Checked { program, .. } = checked;
-    program
+    let program = tree_of(alloc, text)?;
+    match into_table(alloc, program) {
+        Ok(table) => Ok(table),
+        Err(_) => Err(CompileError::Memory),
+    }
 }
 
 /// The checked program of a text.
@@ -121,10 +128,10 @@ fn checked_program(alloc: Global, text: &str) -> Result<Checked, CompileError>
     ensures refused { IfErr result (IsRefusedBy text.now) }
     ensures inside { IfErr result (IsCauseInside text.now) }
 {
-    let program = tree_of(alloc, text)?;
-    match check(alloc, program) {
+    let table = table_of(alloc, text)?;
+    match check_table(alloc, table) {
         Ok(checked) => Ok(checked),
-        Err(error) => Err(CompileError::Check(error.cause)),
+        Err(cause) => Err(CompileError::Check(cause)),
     }
 }
 
@@ -180,17 +187,15 @@ pub fn compile(alloc: Global, text: &str) -> Result<Compiled, CompileError>
     }
 }
 
-/// The tree of a text that has a program of which a graph can be built: what `compile` would answer, without making the
-/// graph.
-pub fn accept(alloc: Global, text: &str) -> Result<Program, CompileError>
-    ensures tree { IfOk result (IsTreeOf text.now) }
+/// Whether a text has a program of which a graph can be built: what `compile` would answer, without making the graph.
+pub fn accept(alloc: Global, text: &str) -> Result<(), CompileError>
     ensures program { OnOk result (HasProgram text.now) }
     ensures refused { IfErr result (IsRefusedBy text.now) }
     ensures inside { IfErr result (IsCauseInside text.now) }
 {
     let checked = checked_program(alloc, text)?;
     match has_graph(alloc, &checked) {
-        Ok(()) => Ok(tree_in(checked)),
+        Ok(()) => Ok(()),
         Err(error) => Err(error),
     }
 }

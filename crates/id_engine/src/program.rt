@@ -12,7 +12,6 @@ use crate::run::engine;
 use crate::source::Source;
 use id_print::{Sink, put};
 use id_request::{Request, Unasked};
-use id_tree::Program;
 use std::alloc::Global;
 
 /// The status of a command line that is refused.
@@ -110,13 +109,12 @@ fn print_asked<O: Sink>(
     request: &Request<'_>,
     text: &str,
     out: &mut O,
-    left: &mut Option<Program>,
 ) -> Result<u8, EngineError>
     ensures { PrintsAsked text.now request.now (O.told out.old) (O.told out.new) result }
 {
     match request {
-        Request::Check { .. } => check_text(alloc, text, out, left),
-        Request::Graph { .. } => graph_text(alloc, text, out, left),
+        Request::Check { .. } => check_text(alloc, text, out),
+        Request::Graph { .. } => graph_text(alloc, text, out),
         Request::Draw { .. } => draw_text(alloc, text, out),
         _ => print_computed(alloc, request, text, out),
     }
@@ -140,19 +138,17 @@ fn tell<E: Sink>(request: &Request<'_>, error: &EngineError, text: &str, err: &m
     refuse(&of_engine_error(words_of(request), error), text, err)
 }
 
-/// Does what a request asks for with a text, and answers the status. The text's tree may be left in `left`, as
-/// by `check_text`.
+/// Does what a request asks for with a text, and answers the status.
 pub fn serve<O: Sink, E: Sink>(
     alloc: Global,
     request: &Request<'_>,
     text: &str,
     out: &mut O,
     err: &mut E,
-    left: &mut Option<Program>,
 ) -> u8
     ensures { Serves text.now request.now (O.told out.old) (O.told out.new) (E.told err.old) (E.told err.new) result }
 {
-    match print_asked(alloc, request, text, out, left) {
+    match print_asked(alloc, request, text, out) {
         Ok(status) => status,
         Err(error) => tell(request, &error, text, err),
     }
@@ -178,27 +174,24 @@ fn serve_file<S: Source, O: Sink, E: Sink>(
     source: &mut S,
     out: &mut O,
     err: &mut E,
-    left: &mut Option<Program>,
 ) -> u8
     ensures { Drives (S.told source.old (file_of request.now)) request.now (O.told out.old) (O.told out.new)
         (E.told err.old) (E.told err.new) result }
 {
     match source.read(alloc, file_of(request)) {
-        Ok(text) => serve(alloc, request, text.as_str(), out, err, left),
+        Ok(text) => serve(alloc, request, text.as_str(), out, err),
         Err(fault) => refuse_plainly(of_source_fault(fault), err),
     }
 }
 
 /// The whole program, but for reading the words: does what they ask for, and answers the status. It
-/// reads texts from `source`, writes what was asked for to `out` and refusals to `err`. The text's tree may be left in
-/// `left`, as by `check_text`.
+/// reads texts from `source`, writes what was asked for to `out` and refusals to `err`.
 pub fn drive<S: Source, O: Sink, E: Sink>(
     alloc: Global,
     asked: &Result<Request<'_>, Unasked>,
     source: &mut S,
     out: &mut O,
     err: &mut E,
-    left: &mut Option<Program>,
 ) -> u8
     ensures asked { IfOk asked.now
         (λ r. Drives (S.told source.old (file_of r)) r (O.told out.old) (O.told out.new) (E.told err.old)
@@ -207,7 +200,7 @@ pub fn drive<S: Source, O: Sink, E: Sink>(
         (λ u. Answers (O.told out.old) (O.told out.new) (E.told err.old) (E.told err.new) u result) }
 {
     match asked {
-        Ok(request) => serve_file(alloc, request, source, out, err, left),
+        Ok(request) => serve_file(alloc, request, source, out, err),
         Err(unasked) => answer(unasked, out, err),
     }
 }

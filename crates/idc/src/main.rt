@@ -15,11 +15,9 @@ use id_print::Sink;
 use std::alloc::Global;
 use std::convert::AsStr;
 use std::io::BufWriter;
-use std::mem::forget;
 use std::process::ExitCode;
 
-/// Does what the words ask for, the program's own name left out, and answers the status. It is the last thing that the
-/// process does: the text's tree is left to the system, which takes a process's memory back at once.
+/// Does what the words ask for, the program's own name left out, and answers the status.
 fn run<N: AsStr, S: Source, O: Sink, E: Sink>(
     alloc: Global,
     words: &[N],
@@ -31,10 +29,7 @@ fn run<N: AsStr, S: Source, O: Sink, E: Sink>(
     if let Ok(Request::Check { .. } | Request::Graph { .. } | Request::Draw { .. }) = &asked {
         keep_memory(alloc);
     }
-    let mut left = None;
-    let status = drive(alloc, &asked, source, out, err, &mut left);
-    forget(left);
-    status
+    drive(alloc, &asked, source, out, err)
 }
 
 /// The size of a block of memory a little above what the tokens of a text take, and what its rows take.
@@ -59,14 +54,7 @@ fn serve_process(rt: &HostRuntime) -> u8 {
             let mut out = Stream { writer };
             let status = match arguments(rt) {
                 Ok(words) => run(alloc, words.as_slice(), &mut source, &mut out, &mut err),
-                Err(unasked) => drive(
-                    alloc,
-                    &Err(unasked),
-                    &mut source,
-                    &mut out,
-                    &mut err,
-                    &mut None,
-                ),
+                Err(unasked) => drive(alloc, &Err(unasked), &mut source, &mut out, &mut err),
             };
             settle(&mut out, &mut err, status)
         }
@@ -80,7 +68,6 @@ fn serve_process(rt: &HostRuntime) -> u8 {
                 &mut source,
                 &mut out,
                 &mut err,
-                &mut None,
             )
         }
     }

@@ -237,7 +237,7 @@ fn expect_refusal<R: Abort + AllocGlobal>(rt: &R, count: u32, steps: u64, line: 
         bytes: Vec::new(alloc),
         failures: 0,
     };
-    let status = drive(alloc, &asked, &mut source, &mut out, &mut err, &mut None);
+    let status = drive(alloc, &asked, &mut source, &mut out, &mut err);
     assert_eq!(rt; status, 4);
     assert_eq!(rt; err.bytes.as_slice(), line.as_bytes());
 }

@@ -13,8 +13,5 @@ returns-in-Err-clause-not_write c = λ h. absurd cc
 pub returns-in-Err-clause-program : goal.returns-in-Err-clause-program
 returns-in-Err-clause-program c = tt
 
-pub returns-in-Err-clause-tree : goal.returns-in-Err-clause-tree
-returns-in-Err-clause-tree c = tt
-
 pub returns-in-Ok : goal.returns-in-Ok
-returns-in-Ok c = record { tree = c.in-Ok.ensures.tree; program = c.in-Ok.ensures.program; refused = tt; inside = tt; not_write = tt }
+returns-in-Ok c = record { program = c.in-Ok.ensures.program; refused = tt; inside = tt; not_write = tt }

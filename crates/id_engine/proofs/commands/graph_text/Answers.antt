@@ -18,7 +18,6 @@ returns-in_err-listing g c =
       cut = err_not r _ Write is.1 told.not_write;
       silent = err_all r _ (λ e k. refl);
       taken = err_taken r _ is.0;
-      left = err_taken r _ is.0;
       refused = err_from r _ _ is.1 told.refused;
       inside = err_from r _ _ is.1 told.inside;
     }
@@ -30,7 +29,6 @@ returns-in-Ok g c = record {
   cut = λ e. absurd cc;
   silent = tt;
   taken = c.in_ok-listing.ensures.program;
-  left = c.in_ok-listing.ensures.left;
   refused = tt;
   inside = tt;
 }
@@ -47,7 +45,6 @@ returns g c = record {
   };
   silent = λ h. absurd (h refl);
   taken = tt;
-  left = tt;
   refused = by_write;
   inside = tt;
 }

@@ -7,14 +7,14 @@ use Rattle.id_engine.proofs.commands.list_compiled.Goals as goal
 pub list-requires-clause-places : goal.list-requires-clause-places
 list-requires-clause-places c =
     let p = c.args.compiled in
-    subst (λ (g : Parts). All (λ i. i.place ≤ length c.args.text.now) g.instrs) (sym (c.graph.ensures.value ∙ c.into_parts-parts.ensures.value))
-    (instrs_within c.requires.within p.graph c.into_parts-parts.ensures.kept)
+    subst (λ (g : Parts). All (λ i. i.place ≤ length c.args.text.now) g.instrs) (sym (c.graph.ensures.value ∙ c.into_valid-valid.ensures.value))
+    (instrs_within c.requires.within p.graph c.into_valid-valid.ensures.kept)
 
 pub returns-in-Ok-clause-listing : goal.returns-in-Ok-clause-listing
 returns-in-Ok-clause-listing c = record {
   program = c.args.compiled.checked;
   is_program = c.requires.program;
   graph = c.args.compiled.graph;
-  schemas = c.into_parts-parts.ensures.kept;
-  listing_is = c.in-Ok.ensures ∙ ap (listing c.args.text.now) (c.graph.ensures.value ∙ c.into_parts-parts.ensures.value);
+  schemas = c.into_valid-valid.ensures.kept;
+  listing_is = c.in-Ok.ensures ∙ ap (listing c.args.text.now) (c.graph.ensures.value ∙ c.into_valid-valid.ensures.value);
 }

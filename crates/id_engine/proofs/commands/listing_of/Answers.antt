@@ -1,6 +1,5 @@
-use Rattle.std.proofs.Common.{◌≡◌, Some, sym, subst}
-use Rattle.id_tree.specs.declared.tree.Program.{Program}
-use Rattle.id_engine.specs.Programs.{HasProgram, IsTreeOf}
+use Rattle.std.proofs.Common.{sym, subst}
+use Rattle.id_engine.specs.Programs.{HasProgram}
 use Rattle.id_engine.specs.Refusals.{IsRefusedText}
 use Rattle.id_engine.specs.Refusals.IsRefusedText.{by_text, by_memory}
 use Rattle.id_engine.proofs.AnsweredLemmas.{if_err, late_memory, on_ok}
@@ -10,7 +9,6 @@ pub returns-in-Err : goal.returns-in-Err
 returns-in-Err c = record {
   listing = tt;
   program = tt;
-  left = tt;
   refused = by_text _ c.in-Err.ensures.refused;
   inside = c.in-Err.ensures.inside;
   not_write = λ h. absurd cc;
@@ -26,10 +24,6 @@ returns-in-Ok c = record {
         c.in-Ok.ensures.small;
   } in
       on_ok c.list_compiled.result (HasProgram c.args.text.now) has);
-  left = (let is = c.in-Ok.ensures.program in
-      let tree : IsTreeOf c.args.text.now c.in-Ok.compiled.checked.program = record { tokens = is.tokens; lexes = is.lexes; accepts = is.accepts } in
-      on_ok c.list_compiled.result ((p : Program) × (c.list_compiled.new.left ≡ Some p) × IsTreeOf c.args.text.now p)
-      (c.in-Ok.compiled.checked.program, c.list_compiled.ensures.left, tree));
   refused = if_err _ _ _ (λ e h. subst (IsRefusedText c.args.text.now) (sym h) by_memory) c.list_compiled.ensures.memory;
   inside = if_err _ _ _ (λ e h. let l = late_memory c.args.text.now e h in l.0) c.list_compiled.ensures.memory;
   not_write = if_err _ _ _ (λ e h. let l = late_memory c.args.text.now e h in l.1) c.list_compiled.ensures.memory;

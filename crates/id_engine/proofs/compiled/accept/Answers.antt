@@ -1,12 +1,8 @@
-use Rattle.std.proofs.lemmas.Result.{IfOk-from_err}
-use Rattle.std.proofs.Common.{subst, sym}
-use Rattle.id_engine.specs.Programs.{IsTreeOf}
 use Rattle.id_engine.proofs.AnsweredLemmas.{err_from, err_taken, graph_inside, refused_graph}
 use Rattle.id_engine.proofs.compiled.accept.Goals as goal
 
-pub returns-in-Err : goal.returns-in-Err
-returns-in-Err c = record {
-  tree = tt;
+pub returns : goal.returns
+returns c = record {
   program = tt;
   refused = refused_graph c.args.text.now c.in_ok-checked.checked c.in-Err.error c.in_ok-checked.ensures.program c.in-Err.ensures.refused;
   inside = graph_inside c.args.text.now c.in_ok-checked.checked c.in-Err.error c.in-Err.ensures.refused;
@@ -14,9 +10,6 @@ returns-in-Err c = record {
 
 pub returns-in-Ok : goal.returns-in-Ok
 returns-in-Ok c = record {
-  tree = (let is = c.in_ok-checked.ensures.program in
-      let tree : IsTreeOf c.args.text.now c.in_ok-checked.checked.program = record { tokens = is.tokens; lexes = is.lexes; accepts = is.accepts } in
-      subst (IsTreeOf c.args.text.now) (sym c.tree_in.ensures) tree);
   program = record { program = c.in_ok-checked.checked; is_program = c.in_ok-checked.ensures.program; small = c.in-Ok.ensures.small };
   refused = tt;
   inside = tt;
@@ -28,7 +21,6 @@ returns-in_err-checked c =
     let is = c.from_residual.ensures in
     let told = c.in_err-checked.ensures in
     record {
-      tree = IfOk-from_err r _ is.0;
       program = err_taken r _ is.0;
       refused = err_from r _ _ is.1 told.refused;
       inside = err_from r _ _ is.1 told.inside;
