@@ -94,15 +94,10 @@ step_at g e s t i later (reacted.Fires o) there comes =
     step_by g e s (message_of t) _ (fires_outcome g (next_numbers e s) s.waiting later s.cells t i o there comes)
 step_at g e s t i later reacted.Apart there comes = tt
 
--- it is that, where the instruction was read in the list, and the state before is what it was when the token came
-pub step_on : (g : Parts) (e : ℕ) (s before : State) (t : PlainToken) (is : List Instr) (i : Instr) (k : PortKind) (later : Store) (r q : Reacted)
-    → kind_at g.instrs (record { instr = t.instr; port = t.port }) ≡ Some k → is ≡ g.instrs → i ≡ get_or is t.instr i
-    → before ≡ s → IsReaction i.op before.waiting later t r → r ≡ q → IsStepOn g e s t i later q
-step_on g e s before t is i k later r q kind own read same comes for =
-    let within = within_kind g (record { instr = t.instr; port = t.port }) k kind in
-    let at : i ≡ get_or g.instrs t.instr i = read ∙ ap (λ xs. get_or xs t.instr i) own in
-    step_at g e s t i later q (slice_get_read g.instrs (length g.instrs) t.instr i refl within at)
-    (subst (λ x. IsReaction i.op s.waiting later t x) for (subst (λ x. IsReaction i.op x.waiting later t r) same comes))
+-- it is that, where what came is known
+pub step_on : (g : Parts) (e : ℕ) (s : State) (t : PlainToken) (i : Instr) (later : Store) (r q : Reacted) → slice_get g.instrs t.instr ≡ Some i
+    → IsReaction i.op s.waiting later t r → r ≡ q → IsStepOn g e s t i later q
+step_on g e s t i later r q there comes for = step_at g e s t i later q there (subst (λ x. IsReaction i.op s.waiting later t x) for comes)
 
 no_error : {A E Z : Type 0} → (a : A) (e : E) → ◌≡◌ {A = Result A E} (Ok a) (Err e) → Z
 no_error a e is = cc
@@ -133,10 +128,14 @@ pub not_ok : {A E Z : Type 0} → (r : Result A E) (a : A) → IsErr r → r ≡
 not_ok (Ok b) a is e = cc
 not_ok (Err e) a is f = no_error a e (sym f)
 
-pub not_apart : {Z : Type 0} → (s : Short) → IsHandled s → ◌≡◌ {A = Result Short TakeError} (Ok s) (Ok Apart) → Z
-not_apart Went h e = cc
-not_apart (Failed f) h e = cc
-not_apart Apart h e = absurd h
+-- what is handled is not handled apart
+pub handled_apart : {Z : Type 0} → (s : Short) → IsHandled s → s ≡ Apart → Z
+handled_apart Went h e = cc
+handled_apart (Failed f) h e = cc
+handled_apart Apart h e = absurd h
+
+pub went_apart : {Z : Type 0} → Went ≡ Apart → Z
+went_apart e = cc
 
 -- and what holds after it, whatever came
 pub on_err : {A E P : Type 0} → (r : Result A E) → P → OnErr r P
@@ -163,6 +162,11 @@ end_if (Err StampEnd) b is e = cc
 pub err_if : {A E : Type 0} → (P : E → Type 0) (r : Result A E) → IsErrAnd r P → IfErr r P
 err_if P (Ok a) is = tt
 err_if P (Err e) is = is
+
+-- and what is said of the error that was passed on
+pub err_as : {A E : Type 0} → (P : E → Type 0) (r : Result A E) (e : E) → IsErrAnd r (λ x. x ≡ e) → P e → IfErr r P
+err_as P (Ok a) e is h = tt
+err_as P (Err x) e is h = subst P (sym is) h
 
 pub not_true : {Z : Type 0} → ◌≡◌ {A = Result Bool TakeError} (Ok false) (Ok true) → Z
 not_true e = cc
@@ -272,3 +276,7 @@ shot_of_two op w later t r s h is = subst (IsReaction op w later t) is h
 pub shot_of_none : (op : Op) (w later : Store) (t : PlainToken) (r : Reacted) → IsReaction op w later t r → r ≡ reacted.Waits
     → IsShot op w later t shot.Nothing
 shot_of_none op w later t r h is = subst (IsReaction op w later t) is h
+
+-- what waits stays, where a token is to be handled apart
+pub stays_apart : (op : Op) (w later : Store) (t : PlainToken) (r : Reacted) → IsReaction op w later t r → r ≡ reacted.Apart → later ≡ w
+stays_apart op w later t r h is = subst (IsReaction op w later t) is h

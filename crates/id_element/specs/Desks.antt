@@ -9,7 +9,7 @@ use Rattle.id_record.specs.declared.line.visiting.Fate.{Fate}
 use Rattle.id_record.specs.Lines.{went}
 use Rattle.id_record.specs.Visits.{fated}
 use Rattle.id_tag.specs.declared.Payload.{Payload}
-use Rattle.id_tag.specs.declared.Payload.TheVariants.{Read, Write}
+use Rattle.id_tag.specs.declared.Payload.TheVariants.{Read, Token, Write}
 use Rattle.id_element.specs.declared.desk.Desk.{Desk}
 use Rattle.id_ops.specs.declared.Fired.{Fired}
 use Rattle.id_ops.specs.Operators.{fired}
@@ -28,6 +28,11 @@ state_of d = record {
   structures = d.structures;
   events = d.log.events;
 }
+
+-- what is said is a token
+abbrev pub IsToken : Payload → Type 0
+IsToken (Token t p v) = Unit {0}
+IsToken x = ⊥
 
 -- what is said is a read
 abbrev pub IsRead : Payload → Type 0

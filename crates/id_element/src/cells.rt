@@ -14,12 +14,14 @@ use id_record::{
     Envelope, Fate, Handling, NO_REPLIES, Reaction, Replies, Verdict, Visiting, message, tag_of,
     token_at, value_of,
 };
-use id_tag::{Message, Payload, Plain, PlainToken, Tag, Value};
+use id_tag::{Cell, Message, Payload, Plain, PlainToken, Tag, Value};
 
 impl<'a> Desk<'a> {
     ghost use Rattle.std.specs.Prelude.{◌≡◌, ◌-◌, ◌^◌, ◌<◌, ◌≤◌, ◌++◌, ◌∷◌, [], ◌↔◌, Some, length};
     ghost use Rattle.std.specs.Prelude.{true, false, IfErr, IfOk, OnOk, OnErr, IsTrue};
     ghost use Rattle.id_element.specs.declared.step.TakeError.TheVariants.{StampEnd};
+    ghost use Rattle.std.specs.FinMap as map;
+    ghost use Rattle.id_bank.specs.Cells.{count_expected, write_after, write_answer};
     ghost use Rattle.id_record.specs.Events.{full_step, tag_of, value_of};
     ghost use Rattle.id_flight.specs.Demands.{demanded};
     ghost use Rattle.id_record.specs.Lines.{AreThere};
@@ -105,8 +107,7 @@ impl<'a> Desk<'a> {
             unreachable!()
         };
         let readers = self.cells.readers(cell);
-        self.reserve(readers, readers, outputs)?;
-        let answer = self.cells.write(cell, value, origin)?;
+        let answer = self.write_cell(cell, value, origin, readers, outputs)?;
         Ok(self.fill(write, stamp, &answer, outputs))
     }
 
@@ -139,12 +140,42 @@ impl<'a> Desk<'a> {
         if !self.is_short(1, &demand.like, stamp) {
             return Ok(false);
         }
+        self.ask_or_put(demand, stamp as u32, outputs)
+    }
+
+    /// Handles a read in small numbers, and a write where it is the first: the element step at this stamp, which is the
+    /// next. It answers whether it did.
+    #[inline(always)]
+    fn ask_or_put(
+        &mut self,
+        demand: &Demand,
+        stamp: u32,
+        outputs: &mut Queue,
+    ) -> Result<bool, TakeError>
+        requires stamp { stamp ≡ next_stamp (state_of self.old) (demanded demand.now) }
+        requires short { IsShort self.old 1 demand.now.like stamp }
+
+        ensures step { result ≡ Ok true → step_of self.old.log.graph self.old.log.element (state_of self.old)
+            (demanded demand.now) ≡ Went }
+        ensures state { result ≡ Ok true → state_of self.new
+            ≡ state_after self.old.log.graph self.old.log.element (state_of self.old) (demanded demand.now) }
+        ensures outputs { result ≡ Ok true → outputs.new.messages ≡ outputs.old.messages
+            ++ outputs_of self.old.log.graph self.old.log.element (state_of self.old) (demanded demand.now) }
+        ensures apart { result ≡ Ok false → state_of self.new ≡ state_of self.old }
+        ensures apart_outputs { result ≡ Ok false → outputs.new.messages ≡ outputs.old.messages }
+        ensures number { self.new.log.element ≡ self.old.log.element }
+        ensures graph { self.new.log.graph ≡ self.old.log.graph }
+
+        ensures memory { IfErr result (λ e. e ≡ TakeError.Memory) }
+        ensures err { OnErr result (state_of self.new ≡ state_of self.old) }
+        ensures err_outputs { OnErr result (outputs.new.messages ≡ outputs.old.messages) }
+    {
         match demand.number {
             None => {
-                self.ask(demand, stamp as u32, outputs)?;
+                self.ask(demand, stamp, outputs)?;
                 Ok(true)
             }
-            Some(number) => self.put(demand, number, stamp as u32, outputs),
+            Some(number) => self.put(demand, number, stamp, outputs),
         }
     }
 
@@ -281,14 +312,79 @@ impl<'a> Desk<'a> {
     {
         match self.cells.expected(write.cell) {
             Some(readers) => {
-                self.reserve(readers, readers, outputs)?;
-                let tag = write.like.tag();
-                let answer = self.cells.write(write.cell, Value::Int(number), tag)?;
-                self.fill_demand(write, number, stamp, &answer, outputs);
+                self.put_first(write, number, readers, stamp, outputs)?;
                 Ok(true)
             }
             None => Ok(false),
         }
+    }
+
+    /// Handles a write of this number in small numbers, the first to its cell, for whose value so many replies wait: the
+    /// element step at this stamp, which is the next.
+    #[inline(always)]
+    fn put_first(
+        &mut self,
+        write: &Demand,
+        number: i64,
+        readers: usize,
+        stamp: u32,
+        outputs: &mut Queue,
+    ) -> Result<(), TakeError>
+        requires is { write.now.number ≡ Some number }
+        requires first { count_expected (map.get self.old.cells write.now.cell) ≡ Some readers }
+        requires stamp { stamp ≡ next_stamp (state_of self.old) (demanded write.now) }
+        requires short { IsShort self.old 1 write.now.like stamp }
+
+        ensures step { step_of self.old.log.graph self.old.log.element (state_of self.old) (demanded write.now) ≡ Went }
+        ensures state { OnOk result (state_of self.new
+            ≡ state_after self.old.log.graph self.old.log.element (state_of self.old) (demanded write.now)) }
+        ensures outputs { OnOk result (outputs.new.messages ≡ outputs.old.messages
+            ++ outputs_of self.old.log.graph self.old.log.element (state_of self.old) (demanded write.now)) }
+        ensures number { self.new.log.element ≡ self.old.log.element }
+        ensures graph { self.new.log.graph ≡ self.old.log.graph }
+
+        ensures memory { IfErr result (λ e. e ≡ TakeError.Memory) }
+        ensures err { OnErr result (state_of self.new ≡ state_of self.old) }
+        ensures err_outputs { OnErr result (outputs.new.messages ≡ outputs.old.messages) }
+    {
+        let tag = write.like.tag();
+        let answer = self.write_cell(write.cell, Value::Int(number), tag, readers, outputs)?;
+        self.fill_demand(write, number, stamp, &answer, outputs);
+        Ok(())
+    }
+
+    /// Writes a value to a cell for whose value at most so many replies wait, and makes room for its event. After an
+    /// error nothing has changed.
+    #[inline(always)]
+    fn write_cell(
+        &mut self,
+        cell: Cell,
+        value: Value,
+        origin: Tag,
+        readers: usize,
+        outputs: &mut Queue,
+    ) -> Result<WriteAnswer, TakeError>
+        requires { length (readers_of (write_answer (map.get self.old.cells cell))) ≤ readers }
+
+        ensures answer { IfOk result (λ a. a ≡ write_answer (map.get self.old.cells cell)) }
+        ensures state { OnOk result (state_of self.new ≡ record (state_of self.old) {
+          cells = write_after self.old.cells cell value origin;
+        }) }
+        ensures messages { outputs.new.messages ≡ outputs.old.messages }
+        ensures number { self.new.log.element ≡ self.old.log.element }
+        ensures graph { self.new.log.graph ≡ self.old.log.graph }
+
+        ensures room { OnOk result (0 < self.new.log.room) }
+        ensures room_aside { OnOk result (0 < self.new.log.room_aside) }
+        ensures room_for_replies { IfOk result (λ a. length (readers_of a) ≤ self.new.log.room_for_replies) }
+        ensures room_in_outputs { IfOk result (λ a. length (readers_of a) ≤ outputs.new.room) }
+
+        ensures memory { IfErr result (λ e. e ≡ TakeError.Memory) }
+        ensures err { OnErr result (state_of self.new ≡ state_of self.old) }
+    {
+        self.reserve(readers, readers, outputs)?;
+        let answer = self.cells.write(cell, value, origin)?;
+        Ok(answer)
     }
 
     /// Sends the number of a write in small numbers to the replies that waited for it, and records the event. There is

@@ -5,7 +5,7 @@ ghost use Rattle.std.specs.Prelude.{◌≡◌};
 
 use crate::outcome::{
     allocated_by, allocated_by_deed, deed_of, fresh_numbers, made_by, most_sent, next_stamp, react,
-    react_operands, react_plain, send, send_deed, send_like, send_shot,
+    react_operands, react_plain, send, send_deed, send_like, send_shot, short_of,
 };
 use crate::step::{PlainOperands, Reacted, Short, TakeError};
 use id_bank::Bank;
@@ -35,7 +35,7 @@ pub(crate) struct Desk<'a> {
 
 impl<'a> Desk<'a> {
     ghost use Rattle.std.specs.Prelude.{◌≡◌, ◌+◌, ◌-◌, ◌^◌, ◌<◌, ◌≤◌, ◌++◌, ◌∷◌, [], ◌↔◌, Some, slice_get, length};
-    ghost use Rattle.std.specs.Prelude.{IfOk, IfSome, OnOk, OnErr, IsTrue};
+    ghost use Rattle.std.specs.Prelude.{IfErr, IfOk, IfSome, OnOk, OnErr, IsTrue};
     ghost use Rattle.id_element.specs.declared.step.TakeError.TheVariants.{StampEnd};
     ghost use Rattle.id_record.specs.Events.{full_step, tag_of};
     ghost use Rattle.id_element.specs.Fits.{Fits};
@@ -49,10 +49,12 @@ impl<'a> Desk<'a> {
     ghost use Rattle.id_element.specs.Steps.{outputs_of, state_after};
     ghost use Rattle.id_record.specs.Sends.{numbered, sent};
     ghost use Rattle.id_valid.specs.Validator.{IsValid};
-    ghost use Rattle.id_element.specs.Desks.{state_of, IsShort, fired_by};
+    ghost use Rattle.id_element.specs.Desks.{state_of, IsShort, IsToken, fired_by};
     ghost use Rattle.id_element.specs.Shorts.{IsHandled, step_in};
     ghost use Rattle.id_element.specs.declared.step.Short.{Short};
-    ghost use Rattle.id_element.specs.Firings.{IsBound, most_sent};
+    ghost use Rattle.id_match.specs.Waiting.{Store};
+    ghost use Rattle.id_element.specs.declared.step.Reacted.{Reacted};
+    ghost use Rattle.id_element.specs.Firings.{IsBound, IsReaction, most_sent};
     ghost use Rattle.id_graph.specs.Graph.{arcs_on, IsGraph};
     ghost use Rattle.id_ops.specs.Operators.{side_of};
 
@@ -115,16 +117,51 @@ impl<'a> Desk<'a> {
     {
         let stamp = next_stamp(self.stamp, message.stamp)?;
         match message.payload {
-            Payload::Token { tag, port, value } => {
-                let instr = &graph.instrs()[tag.instr as usize];
-                self.reserve(most_sent(instr), 0, outputs)?;
-                let next = fresh_numbers(self.log.element(), self.contexts, self.structures);
-                let reaction = react(&mut self.waiting, instr, next, tag, port, value)?;
-                Ok(self.conclude(instr, tag, message, stamp, &reaction, outputs))
-            }
+            Payload::Token { .. } => self.take_token(graph, message, stamp, outputs),
             Payload::Read { .. } => self.take_read(message, stamp, outputs),
             Payload::Write { .. } => self.take_write(message, stamp, outputs),
         }
+    }
+
+    /// Handles a token that fits the graph: the element step where a stamp is left, which is this one.
+    #[inline(always)]
+    fn take_token(
+        &mut self,
+        graph: &Graph,
+        message: &Message,
+        stamp: u64,
+        outputs: &mut Queue,
+    ) -> Result<Verdict, TakeError>
+        requires is { IsToken message.now.payload }
+        requires stamp { stamp ≡ next_stamp (state_of self.old) message.now }
+        requires own { graph.now ≡ self.old.log.graph }
+        requires valid { IsValid graph.now }
+        requires contexts { self.old.contexts + 1 < 2 ^ 64 }
+        requires structures { self.old.structures + 1 < 2 ^ 64 }
+        requires fits { Fits graph.now message.now }
+
+        ensures step { IfOk result (λ v. full_step message.now.payload v
+            ≡ step_of graph.now self.old.log.element (state_of self.old) message.now) }
+        ensures state { OnOk result
+            (state_of self.new ≡ state_after graph.now self.old.log.element (state_of self.old) message.now) }
+        ensures outputs { OnOk result
+            (outputs.new.messages
+            ≡ outputs.old.messages ++ outputs_of graph.now self.old.log.element (state_of self.old) message.now) }
+        ensures number { self.new.log.element ≡ self.old.log.element }
+        ensures graph { self.new.log.graph ≡ self.old.log.graph }
+
+        ensures memory { IfErr result (λ e. e ≡ TakeError.Memory) }
+        ensures err { OnErr result (state_of self.new ≡ state_of self.old) }
+        ensures err_outputs { OnErr result (outputs.new.messages ≡ outputs.old.messages) }
+    {
+        let Payload::Token { tag, port, value } = message.payload else {
+            unreachable!()
+        };
+        let instr = &graph.instrs()[tag.instr as usize];
+        self.reserve(most_sent(instr), 0, outputs)?;
+        let next = fresh_numbers(self.log.element(), self.contexts, self.structures);
+        let reaction = react(&mut self.waiting, instr, next, tag, port, value)?;
+        Ok(self.conclude(instr, tag, message, stamp, &reaction, outputs))
     }
 
     /// Handles a plain token that fits the graph, where that is short, and says what became of it: the element step. No
@@ -169,23 +206,65 @@ impl<'a> Desk<'a> {
             return Ok(Short::Apart);
         };
         self.reserve(room, 0, outputs)?;
-        match react_plain(&mut self.waiting, instr.op, token)? {
+        let reacted = react_plain(&mut self.waiting, instr.op, token)?;
+        Ok(self.conclude_reacted(instr, token, stamp as u32, reacted, outputs))
+    }
+
+    /// Sends what came of a plain token, and records the event, unless it is to be handled apart: the element step at
+    /// this stamp, which is the next, where what waited before is known. There is room for it. Takes no memory.
+    #[inline(always)]
+    fn conclude_reacted(
+        &mut self,
+        instr: &Instr,
+        token: &PlainToken,
+        stamp: u32,
+        reacted: Reacted,
+        outputs: &mut Queue,
+    ) -> Short
+        requires room { 0 < self.old.log.room }
+        requires room_aside { 0 < self.old.log.room_aside }
+        requires own { slice_get self.old.log.graph.instrs token.now.instr ≡ Some instr.now }
+        requires stamp { stamp ≡ next_stamp (state_of self.old) (message_of token.now) }
+        requires short { IsShort self.old (most_sent instr.now) token.now stamp }
+        requires came { (w : Store) × IsReaction instr.now.op w self.old.waiting token.now reacted }
+        requires room_in_outputs { most_sent instr.now ≤ outputs.old.room }
+        requires graph { IsGraph self.old.log.graph }
+        requires valid { IsValid self.old.log.graph }
+        requires counted { self.old.contexts + 1 < 2 ^ 64 }
+        requires numbered { self.old.structures + 1 < 2 ^ 64 }
+
+        ensures step { (w : Store) → IsReaction instr.now.op w self.old.waiting token.now reacted → IsHandled result
+            → step_in result (tag_in token.now) ≡ step_of self.old.log.graph self.old.log.element
+            (record (state_of self.old) { waiting = w }) (message_of token.now) }
+        ensures state { (w : Store) → IsReaction instr.now.op w self.old.waiting token.now reacted → IsHandled result
+            → state_of self.new ≡ state_after self.old.log.graph self.old.log.element
+            (record (state_of self.old) { waiting = w }) (message_of token.now) }
+        ensures outputs { (w : Store) → IsReaction instr.now.op w self.old.waiting token.now reacted → IsHandled result
+            → outputs.new.messages ≡ outputs.old.messages ++ outputs_of self.old.log.graph self.old.log.element
+            (record (state_of self.old) { waiting = w }) (message_of token.now) }
+        ensures apart { result ≡ Short.Apart → reacted ≡ Reacted.Apart }
+        ensures apart_state { result ≡ Short.Apart → state_of self.new ≡ state_of self.old }
+        ensures apart_outputs { result ≡ Short.Apart → outputs.new.messages ≡ outputs.old.messages }
+        ensures number { self.new.log.element ≡ self.old.log.element }
+        ensures graph { self.new.log.graph ≡ self.old.log.graph }
+    {
+        match reacted {
             Reacted::Waits => {
-                self.conclude_shot(instr, token, stamp as u32, Shot::Nothing, outputs);
-                Ok(Short::Went)
+                self.conclude_shot(instr, token, stamp, Shot::Nothing, outputs);
+                Short::Went
             }
             Reacted::One(shot) => {
-                self.conclude_shot(instr, token, stamp as u32, shot, outputs);
-                Ok(Short::Went)
+                self.conclude_shot(instr, token, stamp, shot, outputs);
+                Short::Went
             }
             Reacted::Two(shot) => {
-                self.conclude_shot(instr, token, stamp as u32, shot, outputs);
-                Ok(Short::Went)
+                self.conclude_shot(instr, token, stamp, shot, outputs);
+                Short::Went
             }
             Reacted::Fires(operands) => {
-                Ok(self.conclude_plain(instr, token, stamp as u32, operands, outputs))
+                self.conclude_plain(instr, token, stamp, operands, outputs)
             }
-            Reacted::Apart => Ok(Short::Apart),
+            Reacted::Apart => Short::Apart,
         }
     }
 
@@ -573,6 +652,37 @@ impl<'a> Desk<'a> {
             (sent (Some instr.now.op) (arcs_on (side_of (fired_by self.old instr.now token.now operands)) instr.now)
             (tag_in token.now) (fired_by self.old instr.now token.now operands)) }
     {
+        let reaction = self.fire_full(instr, token, stamp, operands, outputs);
+        self.note(instr, &token.message(), u64::from(stamp), &reaction);
+        short_of(&reaction.fired)
+    }
+
+    /// Fires the operands of which a plain token is one, and sends what comes of them. There is room for it. Takes no
+    /// memory.
+    #[inline(always)]
+    fn fire_full(
+        &self,
+        instr: &Instr,
+        token: &PlainToken,
+        stamp: u32,
+        operands: PlainOperands,
+        outputs: &mut Queue,
+    ) -> Reaction
+        requires own { slice_get self.now.log.graph.instrs token.now.instr ≡ Some instr.now }
+        requires short { IsShort self.now (most_sent instr.now) token.now stamp }
+        requires room_in_outputs { most_sent instr.now ≤ outputs.old.room }
+        requires graph { IsGraph self.now.log.graph }
+        requires valid { IsValid self.now.log.graph }
+        requires counted { self.now.contexts + 1 < 2 ^ 64 }
+        requires numbered { self.now.structures + 1 < 2 ^ 64 }
+
+        ensures fired { result.fired ≡ fired_by self.now instr.now token.now operands }
+        ensures verdict { result.verdict ≡ fired_verdict (fired_by self.now instr.now token.now operands) }
+        ensures outputs { outputs.new.messages ≡ outputs.old.messages
+            ++ numbered self.now.log.element (length self.now.log.events) stamp 0
+            (sent (Some instr.now.op) (arcs_on (side_of (fired_by self.now instr.now token.now operands)) instr.now)
+            (tag_in token.now) (fired_by self.now instr.now token.now operands)) }
+    {
         let next = fresh_numbers(self.log.element(), self.contexts, self.structures);
         let reaction = react_operands(instr, next, token.tag(), operands);
         let sample = PlainToken {
@@ -582,11 +692,6 @@ impl<'a> Desk<'a> {
             ..*token
         };
         send_like(instr, &sample, &reaction.fired, outputs);
-        self.note(instr, &token.message(), u64::from(stamp), &reaction);
-        match reaction.verdict {
-            Verdict::Failed(fault) => Short::Failed(fault),
-            Verdict::Went => Short::Went,
-            Verdict::Stuck | Verdict::Second(_) => unreachable!(),
-        }
+        reaction
     }
 }

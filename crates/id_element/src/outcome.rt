@@ -5,7 +5,8 @@ ghost use Rattle.std.specs.Prelude.{◌++◌, ◌∷◌, [], ◌||◌, ◌==◌,
 ghost use Rattle.std.specs.Prelude.{IfOk, IfSome, OnOk, OnErr, IfErr, IsTrue, true, false, if◌then◌else◌, map};
 ghost use Rattle.id_bank.specs.Cells.{Cells};
 ghost use Rattle.id_element.specs.Steps.{allocated_by, answer_fired, arrival, at_instr, fill_verdict, fresh_numbers};
-ghost use Rattle.id_element.specs.Steps.{made_by, waiting_after};
+ghost use Rattle.id_element.specs.Steps.{fired_verdict, made_by, waiting_after};
+ghost use Rattle.id_element.specs.Shorts.{IsHandled, step_in};
 ghost use Rattle.id_record.specs.Sends.{HasSecond, count_started, sent, started, numbered, replies, token_to};
 ghost use Rattle.id_tag.specs.declared.Sender.TheVariants.{Element};
 ghost use Rattle.id_tag.specs.declared.Payload.TheVariants.{Token};
@@ -32,7 +33,7 @@ ghost use Rattle.id_ops.specs.Shots.{fired_of};
 ghost use Rattle.id_graph.specs.Graph.{arcs_on};
 ghost use Rattle.id_ops.specs.Operators.{side_of, tag_within};
 
-use crate::step::{Arrival, PlainOperands, Reacted, TakeError};
+use crate::step::{Arrival, PlainOperands, Reacted, Short, TakeError};
 use id_bank::{ReadAnswer, WriteAnswer};
 use id_flight::Queue;
 use id_graph::{Dest, Graph, Instr, Op, Port};
@@ -379,6 +380,19 @@ fn verdict(arrival: &Arrival, fired: &Fired) -> Verdict
             Fired::Failed(fault) => Verdict::Failed(fault),
             _ => Verdict::Went,
         },
+    }
+}
+
+/// What becomes of a plain token that fired this: it went well, or its instruction failed. Takes no memory.
+#[inline(always)]
+pub(crate) fn short_of(fired: &Fired) -> Short
+    ensures handled { IsHandled result }
+    ensures step { (t : Tag) (p : Port) (v : Value)
+        → step_in result t ≡ full_step (Token t p v) (fired_verdict fired.now) }
+{
+    match *fired {
+        Fired::Failed(fault) => Short::Failed(fault),
+        _ => Short::Went,
     }
 }
 

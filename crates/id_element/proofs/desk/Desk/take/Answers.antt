@@ -4,7 +4,7 @@ use Rattle.std.proofs.lemmas.Grind.{common_steps}
 use Rattle.id_record.specs.Events.{full_step}
 use Rattle.id_element.specs.Desks.{state_of}
 use Rattle.id_element.specs.Steps.{outputs_of, state_after, step_of}
-use Rattle.id_element.proofs.ShortLemmas.{if_err, on_ok, on_err, end_ok, end_memory, end_if, with_waiting}
+use Rattle.id_element.proofs.ShortLemmas.{if_err, on_ok, end_if}
 use Rattle.id_element.proofs.desk.Desk.take.Goals as goal
 
 pub returns-in_err-stamp-clause-end : goal.returns-in_err-stamp-clause-end
@@ -25,61 +25,9 @@ returns-in_err-stamp-clause-left c = on_ok _ c.from_residual.result c.from_resid
 pub returns-in_err-stamp-clause-last_left : goal.returns-in_err-stamp-clause-last_left
 returns-in_err-stamp-clause-last_left c = on_ok _ c.from_residual.result c.from_residual.ensures.0
 
-pub returns-in_err-reserve-in-Token-clause-step : goal.returns-in_err-reserve-in-Token-clause-step
-returns-in_err-reserve-in-Token-clause-step c = if_err _ c.from_residual-in_err-reserve-in-Token.result c.from_residual-in_err-reserve-in-Token.ensures.0
-
-pub returns-in_err-reserve-in-Token-clause-state : goal.returns-in_err-reserve-in-Token-clause-state
-returns-in_err-reserve-in-Token-clause-state c = on_ok _ c.from_residual-in_err-reserve-in-Token.result c.from_residual-in_err-reserve-in-Token.ensures.0
-
-pub returns-in_err-reserve-in-Token-clause-outputs : goal.returns-in_err-reserve-in-Token-clause-outputs
-returns-in_err-reserve-in-Token-clause-outputs c = on_ok _ c.from_residual-in_err-reserve-in-Token.result c.from_residual-in_err-reserve-in-Token.ensures.0
-
-pub returns-in_err-reserve-in-Token-clause-left : goal.returns-in_err-reserve-in-Token-clause-left
-returns-in_err-reserve-in-Token-clause-left c = on_ok _ c.from_residual-in_err-reserve-in-Token.result c.from_residual-in_err-reserve-in-Token.ensures.0
-
-pub returns-in_err-reserve-in-Token-clause-last_left : goal.returns-in_err-reserve-in-Token-clause-last_left
-returns-in_err-reserve-in-Token-clause-last_left c = on_ok _ c.from_residual-in_err-reserve-in-Token.result c.from_residual-in_err-reserve-in-Token.ensures.0
-
-pub returns-in_err-reserve-in-Token-clause-end : goal.returns-in_err-reserve-in-Token-clause-end
-returns-in_err-reserve-in-Token-clause-end c =
-    end_memory c.from_residual-in_err-reserve-in-Token.result _ c.from_residual-in_err-reserve-in-Token.ensures.1 c.in_ok-stamp.ensures.left
-
-pub returns-in_err-reserve-in-Token-clause-err : goal.returns-in_err-reserve-in-Token-clause-err
-returns-in_err-reserve-in-Token-clause-err c = on_err c.from_residual-in_err-reserve-in-Token.result c.in_err-reserve-in-Token.ensures.state
-
-pub returns-in_err-reserve-in-Token-clause-err_outputs : goal.returns-in_err-reserve-in-Token-clause-err_outputs
-returns-in_err-reserve-in-Token-clause-err_outputs c = on_err c.from_residual-in_err-reserve-in-Token.result c.in_err-reserve-in-Token.ensures.messages
-
-pub returns-in_err-reaction-in-Token-clause-step : goal.returns-in_err-reaction-in-Token-clause-step
-returns-in_err-reaction-in-Token-clause-step c = if_err _ c.from_residual-in_err-reaction-in-Token.result c.from_residual-in_err-reaction-in-Token.ensures.0
-
-pub returns-in_err-reaction-in-Token-clause-state : goal.returns-in_err-reaction-in-Token-clause-state
-returns-in_err-reaction-in-Token-clause-state c = on_ok _ c.from_residual-in_err-reaction-in-Token.result c.from_residual-in_err-reaction-in-Token.ensures.0
-
-pub returns-in_err-reaction-in-Token-clause-outputs : goal.returns-in_err-reaction-in-Token-clause-outputs
-returns-in_err-reaction-in-Token-clause-outputs c = on_ok _ c.from_residual-in_err-reaction-in-Token.result c.from_residual-in_err-reaction-in-Token.ensures.0
-
-pub returns-in_err-reaction-in-Token-clause-left : goal.returns-in_err-reaction-in-Token-clause-left
-returns-in_err-reaction-in-Token-clause-left c = on_ok _ c.from_residual-in_err-reaction-in-Token.result c.from_residual-in_err-reaction-in-Token.ensures.0
-
-pub returns-in_err-reaction-in-Token-clause-last_left : goal.returns-in_err-reaction-in-Token-clause-last_left
-returns-in_err-reaction-in-Token-clause-last_left c = on_ok _ c.from_residual-in_err-reaction-in-Token.result c.from_residual-in_err-reaction-in-Token.ensures.0
-
-pub returns-in_err-reaction-in-Token-clause-end : goal.returns-in_err-reaction-in-Token-clause-end
-returns-in_err-reaction-in-Token-clause-end c =
-    end_memory c.from_residual-in_err-reaction-in-Token.result _ c.from_residual-in_err-reaction-in-Token.ensures.1 c.in_ok-stamp.ensures.left
-
-pub returns-in_err-reaction-in-Token-clause-err : goal.returns-in_err-reaction-in-Token-clause-err
-returns-in_err-reaction-in-Token-clause-err c =
-    on_err c.from_residual-in_err-reaction-in-Token.result (with_waiting
-    (state_of c.reserve.new.self) _ _ c.in_err-reaction-in-Token.ensures.err c.in_ok-reserve-in-Token.ensures.state)
-
-pub returns-in_err-reaction-in-Token-clause-err_outputs : goal.returns-in_err-reaction-in-Token-clause-err_outputs
-returns-in_err-reaction-in-Token-clause-err_outputs c = on_err c.from_residual-in_err-reaction-in-Token.result c.in_ok-reserve-in-Token.ensures.messages
-
 -- and where it is handled, a stamp was left
-pub returns-in_ok-reaction-in-Token-clause-end : goal.returns-in_ok-reaction-in-Token-clause-end
-returns-in_ok-reaction-in-Token-clause-end c = end_ok _ _ c.in_ok-stamp.ensures.left
+pub returns-in-Token-clause-end : goal.returns-in-Token-clause-end
+returns-in-Token-clause-end c = end_if c.take_token.result _ c.take_token.ensures.memory c.in_ok-stamp.ensures.left
 
 pub returns-in-Read-clause-end : goal.returns-in-Read-clause-end
 returns-in-Read-clause-end c = end_if c.take_read.result _ c.take_read.ensures.memory c.in_ok-stamp.ensures.left

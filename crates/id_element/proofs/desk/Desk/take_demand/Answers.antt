@@ -1,5 +1,5 @@
 -- after an error all is as it was
-use Rattle.id_element.proofs.ShortLemmas.{on_ok, not_ok, not_true, on_err, end_ok, end_if}
+use Rattle.id_element.proofs.ShortLemmas.{on_ok, not_ok, not_true, end_ok, end_if}
 use Rattle.id_element.proofs.desk.Desk.take_demand.Goals as goal
 
 pub returns-in_err-stamp-clause-step : goal.returns-in_err-stamp-clause-step
@@ -23,33 +23,6 @@ returns-in_err-stamp-clause-left c = on_ok _ c.from_residual.result c.from_resid
 pub returns-in_err-stamp-clause-last_left : goal.returns-in_err-stamp-clause-last_left
 returns-in_err-stamp-clause-last_left c = on_ok _ c.from_residual.result c.from_residual.ensures.0
 
-pub returns-in_err-ask-in-None-clause-step : goal.returns-in_err-ask-in-None-clause-step
-returns-in_err-ask-in-None-clause-step c = not_ok c.from_residual-in_err-ask-in-None.result _ c.from_residual-in_err-ask-in-None.ensures.0
-
-pub returns-in_err-ask-in-None-clause-state : goal.returns-in_err-ask-in-None-clause-state
-returns-in_err-ask-in-None-clause-state c = not_ok c.from_residual-in_err-ask-in-None.result _ c.from_residual-in_err-ask-in-None.ensures.0
-
-pub returns-in_err-ask-in-None-clause-outputs : goal.returns-in_err-ask-in-None-clause-outputs
-returns-in_err-ask-in-None-clause-outputs c = not_ok c.from_residual-in_err-ask-in-None.result _ c.from_residual-in_err-ask-in-None.ensures.0
-
-pub returns-in_err-ask-in-None-clause-apart : goal.returns-in_err-ask-in-None-clause-apart
-returns-in_err-ask-in-None-clause-apart c = not_ok c.from_residual-in_err-ask-in-None.result _ c.from_residual-in_err-ask-in-None.ensures.0
-
-pub returns-in_err-ask-in-None-clause-apart_outputs : goal.returns-in_err-ask-in-None-clause-apart_outputs
-returns-in_err-ask-in-None-clause-apart_outputs c = not_ok c.from_residual-in_err-ask-in-None.result _ c.from_residual-in_err-ask-in-None.ensures.0
-
-pub returns-in_err-ask-in-None-clause-left : goal.returns-in_err-ask-in-None-clause-left
-returns-in_err-ask-in-None-clause-left c = on_ok _ c.from_residual-in_err-ask-in-None.result c.from_residual-in_err-ask-in-None.ensures.0
-
-pub returns-in_err-ask-in-None-clause-last_left : goal.returns-in_err-ask-in-None-clause-last_left
-returns-in_err-ask-in-None-clause-last_left c = on_ok _ c.from_residual-in_err-ask-in-None.result c.from_residual-in_err-ask-in-None.ensures.0
-
-pub returns-in_err-ask-in-None-clause-err : goal.returns-in_err-ask-in-None-clause-err
-returns-in_err-ask-in-None-clause-err c = on_err c.from_residual-in_err-ask-in-None.result c.in_err-ask-in-None.ensures.err
-
-pub returns-in_err-ask-in-None-clause-err_outputs : goal.returns-in_err-ask-in-None-clause-err_outputs
-returns-in_err-ask-in-None-clause-err_outputs c = on_err c.from_residual-in_err-ask-in-None.result c.in_err-ask-in-None.ensures.err_outputs
-
 -- where it is not short, nothing was done, and a stamp was left in all other cases
 
 pub returns-then-not-is_short-clause-step : goal.returns-then-not-is_short-clause-step
@@ -64,5 +37,5 @@ returns-then-not-is_short-clause-outputs c = not_true
 pub returns-then-not-is_short-clause-end : goal.returns-then-not-is_short-clause-end
 returns-then-not-is_short-clause-end c = end_ok _ _ (rw c.from.ensures at c.in_ok-stamp.ensures.left)
 
-pub returns-in-Some-clause-end : goal.returns-in-Some-clause-end
-returns-in-Some-clause-end c = end_if c.put.result _ c.put.ensures.memory (rw c.from.ensures at c.in_ok-stamp.ensures.left)
+pub returns-clause-end : goal.returns-clause-end
+returns-clause-end c = end_if c.ask_or_put.result _ c.ask_or_put.ensures.memory (rw c.from.ensures at c.in_ok-stamp.ensures.left)
