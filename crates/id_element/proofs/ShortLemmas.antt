@@ -27,6 +27,8 @@ use Rattle.id_graph.specs.declared.instr.Op.{Op}
 use Rattle.id_element.proofs.FiringsLemmas.{IsStepBy, fires_outcome, plain_outcome, shot_outcome, step_by, within_kind}
 use Rattle.id_tag.specs.declared.Message.{Message}
 use Rattle.id_tag.specs.declared.Tag.{Tag}
+use Rattle.id_tag.specs.declared.Value.{Value}
+use Rattle.id_tag.specs.declared.Payload.TheVariants.{Token}
 use Rattle.id_tag.specs.declared.plain.PlainToken.{PlainToken}
 use Rattle.id_tag.specs.Plains.{message_of, tag_in, whole}
 use Rattle.id_tag.specs.declared.plain.Plain.{Plain}
@@ -43,7 +45,7 @@ use Rattle.id_element.specs.declared.step.Short.TheVariants.{Went, Failed, Apart
 use Rattle.id_element.specs.Fits.{ContinuationFits, Fits, IsFor}
 use Rattle.id_element.specs.Replays.{ElementView, IsKept}
 use Rattle.id_element.specs.Shorts.{IsHandled, step_in}
-use Rattle.id_element.specs.Steps.{State, fired_verdict, next_numbers, state_after, step_of}
+use Rattle.id_element.specs.Steps.{Outcome, State, at_instr, fired_verdict, next_numbers, outcome, state_after, step_of}
 use Rattle.id_element.proofs.ReplaysLemmas.{IsKept-take}
 
 module _ (old : ElementView) (t : PlainToken) (went later : Bool) (new : State)
@@ -280,3 +282,11 @@ shot_of_none op w later t r h is = subst (IsReaction op w later t) is h
 -- what waits stays, where a token is to be handled apart
 pub stays_apart : (op : Op) (w later : Store) (t : PlainToken) (r : Reacted) → IsReaction op w later t r → r ≡ reacted.Apart → later ≡ w
 stays_apart op w later t r h is = subst (IsReaction op w later t) is h
+
+-- the element step on a token at the instruction that was read in the list, by its outcome there
+pub token_step : (g : Parts) (e : ℕ) (s : State) (m : Message) (t : Tag) (p : Port) (v : Value) (k : PortKind) (is : List Instr) (i : Instr) (o : Outcome)
+    → m.payload ≡ Token t p v → kind_at g.instrs (record { instr = t.instr; port = p }) ≡ Some k → is ≡ g.instrs → i ≡ get_or is t.instr i
+    → at_instr (next_numbers e s) s.waiting s.cells t p v (Some i) ≡ o → IsStepBy g e s m o
+token_step g e s m t p v k is i o said kind own read comes =
+    let there : slice_get g.instrs t.instr ≡ Some i = own_at g g (record { instr = t.instr; port = p }) is i k kind own read refl in
+    step_by g e s m o (ap (outcome g (next_numbers e s) s.waiting s.cells) said ∙ ap (at_instr (next_numbers e s) s.waiting s.cells t p v) there ∙ comes)

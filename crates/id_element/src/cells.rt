@@ -319,8 +319,8 @@ impl<'a> Desk<'a> {
         }
     }
 
-    /// Handles a write of this number in small numbers, the first to its cell, for whose value so many replies wait: the
-    /// element step at this stamp, which is the next.
+    /// Handles a write of this number in small numbers, the first to its cell, for whose value so many replies wait:
+    /// the element step at this stamp, which is the next.
     #[inline(always)]
     fn put_first(
         &mut self,

@@ -10,14 +10,14 @@ use crate::outcome::{
 use crate::step::{PlainOperands, Reacted, Short, TakeError};
 use id_bank::Bank;
 use id_flight::Queue;
-use id_graph::{Graph, Instr};
+use id_graph::{Graph, Instr, Port};
 use id_match::Waiting;
 use id_ops::{Deed, Shot};
 use id_record::{
     Doing, Envelope, Handling, NO_REPLIES, Reaction, Record, Shooting, Verdict, has_line, message,
     tag_of,
 };
-use id_tag::{Message, Payload, PlainToken, Tag};
+use id_tag::{Message, Payload, PlainToken, Tag, Value};
 use id_valid::Valid;
 use std::alloc::{AllocError, Global};
 
@@ -44,7 +44,8 @@ impl<'a> Desk<'a> {
     ghost use Rattle.id_ops.specs.Shots.{IsBrief, IsOwn, fired_of};
     ghost use Rattle.id_ops.specs.declared.Fired.TheVariants.{Nothing};
     ghost use Rattle.id_record.specs.declared.step.Step.TheVariants.{Went};
-    ghost use Rattle.id_element.specs.Steps.{allocated_by, fresh};
+    ghost use Rattle.id_element.specs.Steps.{allocated_by, at_instr, fresh, next_numbers};
+    ghost use Rattle.id_tag.specs.declared.Payload.TheVariants.{Token};
     ghost use Rattle.id_element.specs.Steps.{fired_verdict, is_ended, made_by, next_stamp, step_of};
     ghost use Rattle.id_element.specs.Steps.{outputs_of, state_after};
     ghost use Rattle.id_record.specs.Sends.{numbered, sent};
@@ -158,10 +159,51 @@ impl<'a> Desk<'a> {
             unreachable!()
         };
         let instr = &graph.instrs()[tag.instr as usize];
+        let reaction = self.react_with_room(instr, tag, port, value, outputs)?;
+        Ok(self.conclude(instr, tag, message, stamp, &reaction, outputs))
+    }
+
+    /// Makes room for the event of a token, and lets it come to its instruction. After an error nothing has changed.
+    #[inline(always)]
+    fn react_with_room(
+        &mut self,
+        instr: &Instr,
+        tag: Tag,
+        port: Port,
+        value: Value,
+        outputs: &mut Queue,
+    ) -> Result<Reaction, TakeError>
+        requires iteration { tag.iteration < 2 ^ 64 - 1 }
+        requires contexts { self.old.contexts + 1 < 2 ^ 64 }
+        requires structures { self.old.structures + 1 < 2 ^ 64 }
+
+        ensures outcome { IfOk result (λ r. at_instr (next_numbers self.old.log.element (state_of self.old))
+            self.old.waiting self.old.cells tag port value (Some instr.now) ≡ record {
+              fired = r.fired;
+              sends = sent (Some instr.now.op) (arcs_on (side_of r.fired) instr.now) tag r.fired;
+              step = full_step (Token tag port value) r.verdict;
+              waiting = self.new.waiting;
+              cells = self.old.cells;
+              made = made_by r.fired;
+              allocated = allocated_by instr.now.op r.fired;
+            }) }
+        ensures state { OnOk result
+            (state_of self.new ≡ record (state_of self.old) { waiting = self.new.waiting }) }
+        ensures messages { outputs.new.messages ≡ outputs.old.messages }
+        ensures number { self.new.log.element ≡ self.old.log.element }
+        ensures graph { self.new.log.graph ≡ self.old.log.graph }
+
+        ensures room { OnOk result (0 < self.new.log.room) }
+        ensures room_aside { OnOk result (0 < self.new.log.room_aside) }
+        ensures room_in_outputs { OnOk result (most_sent instr.now ≤ outputs.new.room) }
+
+        ensures memory { IfErr result (λ e. e ≡ TakeError.Memory) }
+        ensures err { OnErr result (state_of self.new ≡ state_of self.old) }
+    {
         self.reserve(most_sent(instr), 0, outputs)?;
         let next = fresh_numbers(self.log.element(), self.contexts, self.structures);
         let reaction = react(&mut self.waiting, instr, next, tag, port, value)?;
-        Ok(self.conclude(instr, tag, message, stamp, &reaction, outputs))
+        Ok(reaction)
     }
 
     /// Handles a plain token that fits the graph, where that is short, and says what became of it: the element step. No

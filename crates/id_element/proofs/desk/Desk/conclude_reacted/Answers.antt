@@ -7,7 +7,8 @@ use Rattle.id_element.specs.Desks.{state_of}
 use Rattle.id_element.specs.Firings.{IsReaction}
 use Rattle.id_element.proofs.ShortLemmas.{IsStepOn, step_on, shot_of_none, shot_of_one, shot_of_two, went_apart, handled_apart}
 use Rattle.id_element.proofs.desk.Desk.conclude_reacted.Goals as goal
-use Rattle.id_element.proofs.desk.Desk.conclude_reacted.Goals.{After-conclude_shot, After-conclude_shot-in-One, After-conclude_shot-in-Two, After-conclude_plain}
+use Rattle.id_element.proofs.desk.Desk.conclude_reacted.Goals.{After-conclude_shot, After-conclude_shot-in-One, After-conclude_shot-in-Two}
+use Rattle.id_element.proofs.desk.Desk.conclude_reacted.Goals.{After-conclude_plain}
 
 -- where it waits for its partner
 waits : (c : After-conclude_shot) (w : Store) → IsReaction c.args.instr.now.op w c.args.self.now.waiting c.args.token.now c.args.reacted
@@ -170,3 +171,136 @@ conclude_shot-requires-in-Two-clause-brief c = (shot_of_two _ _ _ _ _ _ c.requir
 
 pub conclude_shot-requires-in-Two-clause-makes_none : goal.conclude_shot-requires-in-Two-clause-makes_none
 conclude_shot-requires-in-Two-clause-makes_none c = (shot_of_two _ _ _ _ _ _ c.requires.came.1 c.in-Two.is).makes_none
+
+-- there is room, the numbers are small, and the graph is its own, as is required
+pub conclude_shot-requires-clause-room : goal.conclude_shot-requires-clause-room
+conclude_shot-requires-clause-room c = c.requires.room
+
+pub conclude_shot-requires-clause-room_aside : goal.conclude_shot-requires-clause-room_aside
+conclude_shot-requires-clause-room_aside c = c.requires.room_aside
+
+pub conclude_shot-requires-clause-own : goal.conclude_shot-requires-clause-own
+conclude_shot-requires-clause-own c = c.requires.own
+
+pub conclude_shot-requires-clause-short : goal.conclude_shot-requires-clause-short
+conclude_shot-requires-clause-short c = c.requires.short
+
+pub conclude_shot-requires-clause-room_in_outputs : goal.conclude_shot-requires-clause-room_in_outputs
+conclude_shot-requires-clause-room_in_outputs c = c.requires.room_in_outputs
+
+pub conclude_shot-requires-clause-graph : goal.conclude_shot-requires-clause-graph
+conclude_shot-requires-clause-graph c = c.requires.graph
+
+pub conclude_shot-requires-clause-valid : goal.conclude_shot-requires-clause-valid
+conclude_shot-requires-clause-valid c = c.requires.valid
+
+pub conclude_shot-requires-clause-counted : goal.conclude_shot-requires-clause-counted
+conclude_shot-requires-clause-counted c = c.requires.counted
+
+pub conclude_shot-requires-clause-numbered : goal.conclude_shot-requires-clause-numbered
+conclude_shot-requires-clause-numbered c = c.requires.numbered
+
+pub conclude_shot-requires-in-One-clause-room : goal.conclude_shot-requires-in-One-clause-room
+conclude_shot-requires-in-One-clause-room c = c.requires.room
+
+pub conclude_shot-requires-in-One-clause-room_aside : goal.conclude_shot-requires-in-One-clause-room_aside
+conclude_shot-requires-in-One-clause-room_aside c = c.requires.room_aside
+
+pub conclude_shot-requires-in-One-clause-own : goal.conclude_shot-requires-in-One-clause-own
+conclude_shot-requires-in-One-clause-own c = c.requires.own
+
+pub conclude_shot-requires-in-One-clause-short : goal.conclude_shot-requires-in-One-clause-short
+conclude_shot-requires-in-One-clause-short c = c.requires.short
+
+pub conclude_shot-requires-in-One-clause-room_in_outputs : goal.conclude_shot-requires-in-One-clause-room_in_outputs
+conclude_shot-requires-in-One-clause-room_in_outputs c = c.requires.room_in_outputs
+
+pub conclude_shot-requires-in-One-clause-graph : goal.conclude_shot-requires-in-One-clause-graph
+conclude_shot-requires-in-One-clause-graph c = c.requires.graph
+
+pub conclude_shot-requires-in-One-clause-valid : goal.conclude_shot-requires-in-One-clause-valid
+conclude_shot-requires-in-One-clause-valid c = c.requires.valid
+
+pub conclude_shot-requires-in-One-clause-counted : goal.conclude_shot-requires-in-One-clause-counted
+conclude_shot-requires-in-One-clause-counted c = c.requires.counted
+
+pub conclude_shot-requires-in-One-clause-numbered : goal.conclude_shot-requires-in-One-clause-numbered
+conclude_shot-requires-in-One-clause-numbered c = c.requires.numbered
+
+pub conclude_shot-requires-in-Two-clause-room : goal.conclude_shot-requires-in-Two-clause-room
+conclude_shot-requires-in-Two-clause-room c = c.requires.room
+
+pub conclude_shot-requires-in-Two-clause-room_aside : goal.conclude_shot-requires-in-Two-clause-room_aside
+conclude_shot-requires-in-Two-clause-room_aside c = c.requires.room_aside
+
+pub conclude_shot-requires-in-Two-clause-own : goal.conclude_shot-requires-in-Two-clause-own
+conclude_shot-requires-in-Two-clause-own c = c.requires.own
+
+pub conclude_shot-requires-in-Two-clause-short : goal.conclude_shot-requires-in-Two-clause-short
+conclude_shot-requires-in-Two-clause-short c = c.requires.short
+
+pub conclude_shot-requires-in-Two-clause-room_in_outputs : goal.conclude_shot-requires-in-Two-clause-room_in_outputs
+conclude_shot-requires-in-Two-clause-room_in_outputs c = c.requires.room_in_outputs
+
+pub conclude_shot-requires-in-Two-clause-graph : goal.conclude_shot-requires-in-Two-clause-graph
+conclude_shot-requires-in-Two-clause-graph c = c.requires.graph
+
+pub conclude_shot-requires-in-Two-clause-valid : goal.conclude_shot-requires-in-Two-clause-valid
+conclude_shot-requires-in-Two-clause-valid c = c.requires.valid
+
+pub conclude_shot-requires-in-Two-clause-counted : goal.conclude_shot-requires-in-Two-clause-counted
+conclude_shot-requires-in-Two-clause-counted c = c.requires.counted
+
+pub conclude_shot-requires-in-Two-clause-numbered : goal.conclude_shot-requires-in-Two-clause-numbered
+conclude_shot-requires-in-Two-clause-numbered c = c.requires.numbered
+
+pub conclude_plain-requires-clause-room : goal.conclude_plain-requires-clause-room
+conclude_plain-requires-clause-room c = c.requires.room
+
+pub conclude_plain-requires-clause-room_aside : goal.conclude_plain-requires-clause-room_aside
+conclude_plain-requires-clause-room_aside c = c.requires.room_aside
+
+pub conclude_plain-requires-clause-own : goal.conclude_plain-requires-clause-own
+conclude_plain-requires-clause-own c = c.requires.own
+
+pub conclude_plain-requires-clause-short : goal.conclude_plain-requires-clause-short
+conclude_plain-requires-clause-short c = c.requires.short
+
+pub conclude_plain-requires-clause-room_in_outputs : goal.conclude_plain-requires-clause-room_in_outputs
+conclude_plain-requires-clause-room_in_outputs c = c.requires.room_in_outputs
+
+pub conclude_plain-requires-clause-graph : goal.conclude_plain-requires-clause-graph
+conclude_plain-requires-clause-graph c = c.requires.graph
+
+pub conclude_plain-requires-clause-valid : goal.conclude_plain-requires-clause-valid
+conclude_plain-requires-clause-valid c = c.requires.valid
+
+pub conclude_plain-requires-clause-counted : goal.conclude_plain-requires-clause-counted
+conclude_plain-requires-clause-counted c = c.requires.counted
+
+pub conclude_plain-requires-clause-numbered : goal.conclude_plain-requires-clause-numbered
+conclude_plain-requires-clause-numbered c = c.requires.numbered
+
+pub returns-in-Waits-clause-number : goal.returns-in-Waits-clause-number
+returns-in-Waits-clause-number c = c.conclude_shot.ensures.number
+
+pub returns-in-Waits-clause-graph : goal.returns-in-Waits-clause-graph
+returns-in-Waits-clause-graph c = c.conclude_shot.ensures.graph
+
+pub returns-in-One-clause-number : goal.returns-in-One-clause-number
+returns-in-One-clause-number c = c.conclude_shot-in-One.ensures.number
+
+pub returns-in-One-clause-graph : goal.returns-in-One-clause-graph
+returns-in-One-clause-graph c = c.conclude_shot-in-One.ensures.graph
+
+pub returns-in-Two-clause-number : goal.returns-in-Two-clause-number
+returns-in-Two-clause-number c = c.conclude_shot-in-Two.ensures.number
+
+pub returns-in-Two-clause-graph : goal.returns-in-Two-clause-graph
+returns-in-Two-clause-graph c = c.conclude_shot-in-Two.ensures.graph
+
+pub returns-in-Fires-clause-number : goal.returns-in-Fires-clause-number
+returns-in-Fires-clause-number c = c.conclude_plain.ensures.number
+
+pub returns-in-Fires-clause-graph : goal.returns-in-Fires-clause-graph
+returns-in-Fires-clause-graph c = c.conclude_plain.ensures.graph

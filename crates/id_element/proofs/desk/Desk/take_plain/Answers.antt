@@ -46,7 +46,8 @@ returns-clause-outputs c = λ handled.
 pub returns-clause-apart : goal.returns-clause-apart
 returns-clause-apart c = λ is.
     let apart : c.conclude_reacted.result ≡ Apart = cc in
-    let stays : c.react_plain.new.waiting ≡ c.reserve.new.self.waiting = stays_apart _ _ _ _ _ c.in_ok-reacted.ensures.reaction (c.conclude_reacted.ensures.apart apart) in
+    let stays : c.react_plain.new.waiting ≡ c.reserve.new.self.waiting =
+    stays_apart _ _ _ _ _ c.in_ok-reacted.ensures.reaction (c.conclude_reacted.ensures.apart apart) in
     c.conclude_reacted.ensures.apart_state apart ∙ with_waiting (state_of c.reserve.new.self) _ _ stays c.in_ok-reserve.ensures.state
 
 pub returns-clause-apart_outputs : goal.returns-clause-apart_outputs

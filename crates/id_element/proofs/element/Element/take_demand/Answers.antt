@@ -1,10 +1,11 @@
 -- The record goes on by one event, where the read or the write was handled, and what it sends fits, by what the desk
 -- says of its step.
-use Rattle.std.proofs.Common.{◌≡◌, ◌++◌, ap, refl, subst, ◌∙◌}
+use Rattle.std.proofs.Common.{◌≡◌, ◌++◌, ap, arith, refl, subst, sym, ◌∙◌}
+use Rattle.std.proofs.lemmas.Grind.{common_steps}
 use Rattle.id_flight.specs.Demands.{demanded}
 use Rattle.id_element.specs.Fits.{IsFor}
 use Rattle.id_element.specs.Desks.{state_of}
-use Rattle.id_element.specs.Steps.{outputs_of, state_after}
+use Rattle.id_element.specs.Steps.{outputs_of, state_after, step_of}
 use Rattle.id_element.specs.Replays.{ElementView}
 use Rattle.id_element.proofs.ShortLemmas.{IsKept-demand, on_ok, not_ok, on_err}
 use Rattle.id_element.proofs.OutcomeLemmas.{demand_outputs_fit}
@@ -70,3 +71,27 @@ returns-in_err-handled-clause-err c = on_err c.from_residual.result (rw (c.in_er
 
 pub returns-in_err-handled-clause-err_outputs : goal.returns-in_err-handled-clause-err_outputs
 returns-in_err-handled-clause-err_outputs c = on_err c.from_residual.result c.in_err-handled.ensures.err_outputs
+
+-- the step is that of the desk, and so is the end of stamps
+pub returns-clause-step : goal.returns-clause-step
+returns-clause-step c = λ h.
+    let m = demanded c.args.demand.now in
+    ap (λ (v : ElementView). step_of v.graph v.number v.state m) (sym c.self.view_is) ∙ c.in_ok-handled.ensures.step (cc)
+
+pub returns-clause-apart : goal.returns-clause-apart
+returns-clause-apart c = λ h. rw (c.in_ok-handled.ensures.apart (cc), c.in_ok-handled.ensures.number, c.in_ok-handled.ensures.graph) c.self.view_is
+
+pub returns-clause-apart_outputs : goal.returns-clause-apart_outputs
+returns-clause-apart_outputs c = λ h. c.in_ok-handled.ensures.apart_outputs (cc)
+
+pub returns-in_err-handled-clause-end : goal.returns-in_err-handled-clause-end
+returns-in_err-handled-clause-end c = grind (arith, common_steps)
+
+pub returns-clause-end : goal.returns-clause-end
+returns-clause-end c = rw (← ap (λ v. v.state) c.self.view_is) c.in_ok-handled.ensures.end
+
+pub returns-clause-err : goal.returns-clause-err
+returns-clause-err c = tt
+
+pub returns-clause-err_outputs : goal.returns-clause-err_outputs
+returns-clause-err_outputs c = tt

@@ -1,6 +1,7 @@
 -- The record goes on by one event, where the token was handled, and what it sends fits, by what the desk says of its
 -- step.
-use Rattle.std.proofs.Common.{◌≡◌, ◌++◌, ap, refl, subst, ◌∙◌}
+use Rattle.std.proofs.Common.{◌≡◌, ◌++◌, ap, arith, refl, subst, ◌∙◌}
+use Rattle.std.proofs.lemmas.Grind.{common_steps}
 use Rattle.id_valid.specs.Validator.{IsValid}
 use Rattle.id_tag.specs.Plains.{message_of, tag_in}
 use Rattle.id_element.specs.declared.step.Short.TheVariants.{Apart}
@@ -85,3 +86,30 @@ returns-in_err-short-clause-err c =
 
 pub returns-in_err-short-clause-err_outputs : goal.returns-in_err-short-clause-err_outputs
 returns-in_err-short-clause-err_outputs c = on_err c.from_residual.result c.in_err-short.ensures.err_outputs
+
+-- the step is that of the desk, and so is the end of stamps
+pub returns-clause-step : goal.returns-clause-step
+returns-clause-step c = λ handled.
+    let d = c.self.inside.desk in
+    let m = message_of c.args.token.now in
+    c.in_ok-short.ensures.step handled
+    ∙ ap (λ g. step_of g d.log.element (state_of d) m) (c.graph.ensures.value ∙ c.graph-graph.ensures)
+    ∙ ap (λ (v : ElementView). step_of v.graph v.number v.state m) c.self.view_is
+
+pub returns-clause-apart : goal.returns-clause-apart
+returns-clause-apart c = λ is. rw (c.in_ok-short.ensures.apart is, c.in_ok-short.ensures.number, c.in_ok-short.ensures.graph) c.self.view_is
+
+pub returns-clause-apart_outputs : goal.returns-clause-apart_outputs
+returns-clause-apart_outputs c = c.in_ok-short.ensures.apart_outputs
+
+pub returns-in_err-short-clause-end : goal.returns-in_err-short-clause-end
+returns-in_err-short-clause-end c = grind (arith, common_steps)
+
+pub returns-clause-end : goal.returns-clause-end
+returns-clause-end c = rw (← ap (λ v. v.state) c.self.view_is) c.in_ok-short.ensures.end
+
+pub returns-clause-err : goal.returns-clause-err
+returns-clause-err c = tt
+
+pub returns-clause-err_outputs : goal.returns-clause-err_outputs
+returns-clause-err_outputs c = tt
