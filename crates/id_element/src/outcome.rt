@@ -584,11 +584,7 @@ pub(crate) fn send_deed(instr: &Instr, like: &PlainToken, deed: Deed, outputs: &
     match deed {
         Deed::Addressed(cell) => {
             let value = cell.address();
-            send_plain(
-                instr.dests.as_slice(),
-                &PlainToken { value, ..*like },
-                outputs,
-            )
+            send_plain(instr.dests.as_slice(), &with_value(like, value), outputs)
         }
         Deed::Asked(cell, instr) => outputs.push_read_reserved(
             &PlainToken {
@@ -603,15 +599,23 @@ pub(crate) fn send_deed(instr: &Instr, like: &PlainToken, deed: Deed, outputs: &
         }
         Deed::Switched(true, value) => {
             let dests = instr.dests.as_slice();
-            send_plain(dests, &PlainToken { value, ..*like }, outputs)
+            send_plain(dests, &with_value(like, value), outputs)
         }
         Deed::Switched(false, value) => send_plain(
             instr.others.as_slice(),
-            &PlainToken { value, ..*like },
+            &with_value(like, value),
             outputs,
         ),
-        Deed::Passed(target, value) => send_to(target, &PlainToken { value, ..*like }, outputs),
+        Deed::Passed(target, value) => send_to(target, &with_value(like, value), outputs),
     }
+}
+
+/// A plain token with this value, and else like this one.
+#[inline(always)]
+fn with_value(like: &PlainToken, value: Plain) -> PlainToken
+    ensures { result ≡ record like.now { value = value } }
+{
+    PlainToken { value, ..*like }
 }
 
 /// Appends a token for port 0 of a tag, else like this plain one.
