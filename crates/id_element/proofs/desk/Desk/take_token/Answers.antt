@@ -1,16 +1,17 @@
 -- After an error all is as it was, and else what is recorded is the element step, by the outcome at the instruction.
-use Rattle.std.proofs.Common.{◌∙◌, Some, arith, ap, subst, sym}
+use Rattle.std.proofs.Common.{◌≡◌, ◌∙◌, ◌+◌, ◌<◌, ◌^◌, Some, arith, ap, slice_get, subst, sym}
+use Rattle.id_valid.specs.Validator.{IsValid}
 use Rattle.std.proofs.lemmas.Grind.{common_steps}
 use Rattle.id_graph.specs.Graph.{arcs_on}
 use Rattle.id_ops.specs.Operators.{side_of}
-use Rattle.id_record.specs.Events.{full_step}
+use Rattle.id_record.specs.Events.{full_step, tag_of}
 use Rattle.id_record.specs.Sends.{sent}
 use Rattle.id_tag.specs.declared.Payload.{Payload}
 use Rattle.id_element.specs.Desks.{state_of}
 use Rattle.id_element.specs.Fits.{PayloadFits}
-use Rattle.id_element.specs.Steps.{Outcome, allocated_by, made_by}
+use Rattle.id_element.specs.Steps.{Outcome, State, allocated_by, made_by}
 use Rattle.id_element.proofs.FiringsLemmas.{IsStepBy}
-use Rattle.id_element.proofs.ShortLemmas.{if_err, on_ok, on_err, err_as, token_step}
+use Rattle.id_element.proofs.ShortLemmas.{if_err, on_ok, on_err, err_as, own_at, token_step}
 use Rattle.id_element.proofs.desk.Desk.take_token.Goals as goal
 use Rattle.id_element.proofs.desk.Desk.take_token.Goals.{After-conclude}
 
@@ -75,3 +76,64 @@ returns-in_err-reaction-clause-err c = on_err c.from_residual.result c.in_err-re
 
 pub returns-in_err-reaction-clause-err_outputs : goal.returns-in_err-reaction-clause-err_outputs
 returns-in_err-reaction-clause-err_outputs c = on_err c.from_residual.result c.in_err-reaction.ensures.messages
+
+-- there is room, and the instruction is that of the graph
+pub conclude-requires-clause-room : goal.conclude-requires-clause-room
+conclude-requires-clause-room c = c.in_ok-reaction.ensures.room
+
+pub conclude-requires-clause-room_aside : goal.conclude-requires-clause-room_aside
+conclude-requires-clause-room_aside c = c.in_ok-reaction.ensures.room_aside
+
+pub conclude-requires-clause-room_in_outputs : goal.conclude-requires-clause-room_in_outputs
+conclude-requires-clause-room_in_outputs c = c.in_ok-reaction.ensures.room_in_outputs
+
+pub conclude-requires-clause-own : goal.conclude-requires-clause-own
+conclude-requires-clause-own c =
+    let here = c.in-Token in
+    let fits = subst (PayloadFits c.args.graph.now c.args.message.now.stamp) here.is c.requires.fits in
+    let graph = c.react_with_room.new.self.log.graph in
+    subst (λ x. slice_get graph.instrs (tag_of x).instr ≡ Some c.index-instrs-tag.result) (sym here.is)
+    (own_at c.args.graph.now graph (record { instr = here.tag.instr; port = here.port }) _ c.index-instrs-tag.result _
+    fits.kind c.instrs.ensures.value c.index-instrs-tag.is (c.in_ok-reaction.ensures.graph ∙ sym c.requires.own))
+
+pub conclude-requires-clause-tag : goal.conclude-requires-clause-tag
+conclude-requires-clause-tag c = ap tag_of (sym c.in-Token.is)
+
+pub conclude-requires-clause-valid : goal.conclude-requires-clause-valid
+conclude-requires-clause-valid c = subst IsValid (c.requires.own ∙ sym c.in_ok-reaction.ensures.graph) c.requires.valid
+
+pub conclude-requires-clause-counted : goal.conclude-requires-clause-counted
+conclude-requires-clause-counted c =
+    subst (λ n. n + 1 < 2 ^ 64) (sym (ap (λ (v : State). v.contexts) c.in_ok-reaction.ensures.state)) c.requires.contexts
+
+pub conclude-requires-clause-numbered : goal.conclude-requires-clause-numbered
+conclude-requires-clause-numbered c =
+    subst (λ n. n + 1 < 2 ^ 64) (sym (ap (λ (v : State). v.structures) c.in_ok-reaction.ensures.state)) c.requires.structures
+
+pub react_with_room-requires-clause-contexts : goal.react_with_room-requires-clause-contexts
+react_with_room-requires-clause-contexts c = c.requires.contexts
+
+pub react_with_room-requires-clause-structures : goal.react_with_room-requires-clause-structures
+react_with_room-requires-clause-structures c = c.requires.structures
+
+-- its number and its graph stay
+pub returns-clause-number : goal.returns-clause-number
+returns-clause-number c = c.conclude.ensures.number ∙ c.in_ok-reaction.ensures.number
+
+pub returns-clause-graph : goal.returns-clause-graph
+returns-clause-graph c = c.conclude.ensures.graph ∙ c.in_ok-reaction.ensures.graph
+
+pub returns-in_err-reaction-clause-number : goal.returns-in_err-reaction-clause-number
+returns-in_err-reaction-clause-number c = c.in_err-reaction.ensures.number
+
+pub returns-in_err-reaction-clause-graph : goal.returns-in_err-reaction-clause-graph
+returns-in_err-reaction-clause-graph c = c.in_err-reaction.ensures.graph
+
+pub returns-clause-memory : goal.returns-clause-memory
+returns-clause-memory c = tt
+
+pub returns-clause-err : goal.returns-clause-err
+returns-clause-err c = tt
+
+pub returns-clause-err_outputs : goal.returns-clause-err_outputs
+returns-clause-err_outputs c = tt
