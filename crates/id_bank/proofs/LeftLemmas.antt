@@ -1,5 +1,7 @@
 -- Lemmas on specs/Slots.antt: the cells that are still to come.
-use Rattle.std.proofs.Common.{◌≡◌, ℕ, ℤ, zero, suc, ◌<◌, ◌≤◌, ◌+◌, ◌-◌, List, [], ◌∷◌, ◌++◌, map, length, drop, take, get_or, Option, Some, None, refl, sym, subst, ◌∙◌, ap, arith, Vec, Global, append_assoc, length-append}
+use Rattle.std.proofs.Common.{◌≡◌, ℕ, ℤ, zero, suc, ◌<◌, ◌≤◌, ◌+◌, ◌-◌, List, [], ◌∷◌, ◌++◌, map, length, drop, take}
+use Rattle.std.proofs.Common.{get_or, Option, Some, None, refl, sym, subst, ◌∙◌, ap, arith, Vec, Global, append_assoc}
+use Rattle.std.proofs.Common.{length-append}
 use Rattle.std.specs.List.{flat_map}
 use Rattle.std.proofs.lemmas.List.{append-nil, take_more}
 use Rattle.std.proofs.lemmas.List.Concat.{flat_map-cons}
@@ -47,7 +49,8 @@ unfolding cells_above
 some_left n k e es f at is = first (state_in e.1.items (7 - n)) (subst (λ j. filled_by (cell_in e.0 j) (state_in e.1.items j) ≡ Some f) at is)
   where
     first : (o : Option CellState) → filled_by (cell_in e.0 (7 - n)) o ≡ Some f
-        → flat_map filled_at ((entry_at (cell_in e.0 (7 - n)) o ++ cells_above n e.0 e.1.items) ++ cells_in es) ≡ f ∷ flat_map filled_at (cells_above n e.0 e.1.items ++ cells_in es)
+        → flat_map filled_at ((entry_at (cell_in e.0 (7 - n)) o ++ cells_above n e.0 e.1.items) ++ cells_in es) ≡ f ∷
+        flat_map filled_at (cells_above n e.0 e.1.items ++ cells_in es)
     first None is = cc
     first (Some (Present v w)) is = cc
     first (Some (Deferred ts)) is = cc
@@ -60,7 +63,8 @@ unfolding cells_above
 none_left n k e es at is = second (state_in e.1.items (7 - n)) (subst (λ j. filled_by (cell_in e.0 j) (state_in e.1.items j) ≡ None) at is)
   where
     second : (o : Option CellState) → filled_by (cell_in e.0 (7 - n)) o ≡ None
-        → flat_map filled_at ((entry_at (cell_in e.0 (7 - n)) o ++ cells_above n e.0 e.1.items) ++ cells_in es) ≡ flat_map filled_at (cells_above n e.0 e.1.items ++ cells_in es)
+        → flat_map filled_at ((entry_at (cell_in e.0 (7 - n)) o ++ cells_above n e.0 e.1.items) ++ cells_in es) ≡
+        flat_map filled_at (cells_above n e.0 e.1.items ++ cells_in es)
     second None is = refl
     second (Some (Present v w)) is = cc
     second (Some (Deferred ts)) is = refl
@@ -110,7 +114,8 @@ module _ {A : Type 0} (show : A → (ℤ × Structure) × Vec Slot Global) where
 
 -- ---- how many are still to come
 
-count_filled-append : (xs ys : List (Cell × CellState)) → length (flat_map filled_at (xs ++ ys)) ≡ length (flat_map filled_at xs) + length (flat_map filled_at ys)
+count_filled-append : (xs ys : List (Cell × CellState)) →
+    length (flat_map filled_at (xs ++ ys)) ≡ length (flat_map filled_at xs) + length (flat_map filled_at ys)
 count_filled-append xs ys = ap length (flat_map-append filled_at xs ys) ∙ length-append (flat_map filled_at xs) (flat_map filled_at ys)
 
 -- a page has none at its first 0 places
@@ -162,7 +167,8 @@ module _ {A : Type 0} (show : A → (ℤ × Structure) × Vec Slot Global) where
   filled-more xs i m k x h is before here =
       let cells = λ (e : A). page_cells (show e) in
       let last : flat_map cells (x ∷ []) ≡ page_cells (show x) = append-nil (page_cells (show x)) in
-      ap (λ l. l + k) before ∙ ap (λ l. length (flat_map filled_at (flat_map cells (take i xs))) + l) (here ∙ ap (λ es. length (flat_map filled_at es)) (sym last))
+      ap (λ l. l + k) before ∙ ap (λ l. length (flat_map filled_at (flat_map cells (take i xs))) + l)
+      (here ∙ ap (λ es. length (flat_map filled_at es)) (sym last))
       ∙ sym (count_filled-append (flat_map cells (take i xs)) (flat_map cells (x ∷ [])))
       ∙ ap (λ es. length (flat_map filled_at es)) (sym (flat_map-append cells (take i xs) (x ∷ [])))
       ∙ ap (λ l. length (flat_map filled_at (flat_map cells (take i xs ++ l ∷ [])))) (sym is)

@@ -1,5 +1,7 @@
 -- Lemmas on specs/Slots.antt: pages in order, and the order of their cells.
-use Rattle.std.proofs.Common.{◌≡◌, ◌⊎◌, inl, inr, ℕ, ℤ, pos, zero, suc, ◌<◌, ◌≤◌, ◌+ℤ◌, ◌*ℤ◌, ◌<ℤ◌, Bool, true, false, ◌&&◌, T, List, [], ◌∷◌, ◌++◌, map, Option, Some, None, refl, sym, subst, ◌∙◌, ap, arith, Vec, Global, All}
+use Rattle.std.proofs.Common.{◌≡◌, ◌⊎◌, inl, inr, ℕ, ℤ, pos, zero, suc, ◌<◌, ◌≤◌, ◌+ℤ◌, ◌*ℤ◌, ◌<ℤ◌, Bool, true, false}
+use Rattle.std.proofs.Common.{◌&&◌, T, List, [], ◌∷◌, ◌++◌, map, Option, Some, None, refl, sym, subst, ◌∙◌, ap, arith}
+use Rattle.std.proofs.Common.{Vec, Global, All}
 use Rattle.std.specs.FinMap.{entries, entries_sorted, entries-from_sorted, from_entries, from_sorted, get-from_entries, get-from_sorted, is_sorted, same_map}
 use Rattle.std.specs.FinMap.Entries.{below_all}
 use Rattle.std.specs.List.{IsDistinct, AllByRecursion}
@@ -23,7 +25,9 @@ use Rattle.id_tag.proofs.SortedLemmas.{entries-from_sort}
 use Rattle.id_bank.specs.declared.slot.Slot.{Slot}
 use Rattle.id_bank.specs.Cells.{CellState}
 use Rattle.id_bank.specs.Slots.{IsPage, page_of, offset_of, cell_in, same_page, state_in, entry_at, cells_below, page_cells, cells_in}
-use Rattle.id_bank.proofs.SlotsLemmas.{IsBelow, named, page_cell, index_parts, below_8, cell_in-page_of, keys_of-append, all_append, all_weaker, below-cells_below, same-from_permutation, distinct-from_permutation}
+use Rattle.id_bank.proofs.SlotsLemmas.{IsBelow, named, page_cell, index_parts, below_8, cell_in-page_of}
+use Rattle.id_bank.proofs.SlotsLemmas.{keys_of-append, all_append, all_weaker, below-cells_below}
+use Rattle.id_bank.proofs.SlotsLemmas.{same-from_permutation, distinct-from_permutation}
 
 -- ---- two cells
 
@@ -69,7 +73,8 @@ later_index i j h =
 less-page_of : (c d : Cell) → cell_cmp (named (page_of c)) (named (page_of d)) ≡ Less → cell_cmp c d ≡ Less
 less-page_of c d e = at (then_less (structure_cmp c.structure d.structure) (int_cmp (page_of c).0 (page_of d).0) e)
   where
-    at : (structure_cmp c.structure d.structure ≡ Less) ⊎ ((structure_cmp c.structure d.structure ≡ Equal) × (int_cmp (page_of c).0 (page_of d).0 ≡ Less)) → cell_cmp c d ≡ Less
+    at : (structure_cmp c.structure d.structure ≡ Less) ⊎ ((structure_cmp c.structure d.structure ≡ Equal) × (int_cmp (page_of c).0 (page_of d).0 ≡ Less)) →
+        cell_cmp c d ≡ Less
     at (inl h) = ap (λ o. ordering_then o (int_cmp c.index d.index)) h
     at (inr h) =
         ap (λ o. ordering_then o (int_cmp c.index d.index)) h.0
@@ -141,7 +146,8 @@ later_pages p (e ∷ es) h =
     subst (AllByRecursion (λ d. cell_cmp (named p) (named (page_of d)) ≡ Less))
     (sym (ap keys_of (flat_map-cons page_cells e es) ∙ keys_of-append (page_cells e) (cells_in es)))
     (all_append _ (keys_of (page_cells e)) (keys_of (cells_in es))
-    (all_weaker (IsBelow 8 e.0) _ (λ d g. ap (λ q. cell_cmp (named p) (named q)) g.0 ∙ less_is _ two.0) (keys_of (page_cells e)) (below-cells_below 8 e.0 e.1.items (omega arith)))
+    (all_weaker (IsBelow 8 e.0) _ (λ d g. ap (λ q. cell_cmp (named p) (named q)) g.0 ∙ less_is _ two.0) (keys_of (page_cells e))
+    (below-cells_below 8 e.0 e.1.items (omega arith)))
     (later_pages p es two.1))
 
 sorted_cells : (es : List ((ℤ × Structure) × Vec Slot Global)) → T (is_sorted cell_cmp (map paged es)) → IsStrictlySortedBy cell_cmp (keys_of (cells_in es))
@@ -169,12 +175,14 @@ is_sorted-keys_of (e ∷ es) h = both_true _ _ (below_each e.0 es h.0) (is_sorte
 entries_in_order : (es : List (Cell × CellState)) → IsStrictlySortedBy cell_cmp (keys_of es) → entries (from_entries {R = cell_cmp} es) ≡ es
 entries_in_order es h =
     let rising = is_sorted-keys_of es h in
-    ap entries (same_map cells_total exact_cells (from_entries es) (from_sorted es) (λ q. get-from_entries cells_total es q ∙ sym (get-from_sorted cell_cmp es q rising)))
+    ap entries (same_map cells_total exact_cells (from_entries es) (from_sorted es)
+    (λ q. get-from_entries cells_total es q ∙ sym (get-from_sorted cell_cmp es q rising)))
     ∙ entries-from_sorted cell_cmp es rising
 
 -- ---- pages that are listed by other values
 
-module _ {A : Type 0} (show : A → (ℤ × Structure) × Vec Slot Global) (es : List ((ℤ × Structure) × Vec Slot Global)) (unique : IsDistinct same_page (keys_of es))
+module _ {A : Type 0} (show : A → (ℤ × Structure) × Vec Slot Global) (es : List ((ℤ × Structure) × Vec Slot Global))
+    (unique : IsDistinct same_page (keys_of es))
     (xs ys : List A) (is : map show xs ≡ es) (perm : IsPermutation xs ys) where
   moved : IsPermutation es (map show ys)
   moved = subst (λ l. IsPermutation l (map show ys)) is (IsPermutation-map show xs ys perm)
@@ -189,7 +197,8 @@ module _ {A : Type 0} (show : A → (ℤ × Structure) × Vec Slot Global) (es :
   pub fits-listed : All IsPage (keys_of es) → All (λ a. IsPage (show a).0) ys
   fits-listed all =
       All-from_recursion _ ys (fits-keys ys (recursion_from_All _ _
-      (All-permutation IsPage (keys_of es) (keys_of (map show ys)) (IsPermutation-map (λ (e : (ℤ × Structure) × Vec Slot Global). e.0) es (map show ys) moved) all)))
+      (All-permutation IsPage (keys_of es) (keys_of (map show ys)) (IsPermutation-map (λ (e : (ℤ × Structure) × Vec Slot Global). e.0) es (map show ys) moved)
+      all)))
 
   apart_named : (p : ℤ × Structure) (zs : List A) → AllByRecursion (λ q. same_page p q ≡ false) (keys_of (map show zs))
       → AllByRecursion (λ d. eq_by_cmp cell_cmp (named p) d ≡ false) (keys_of (map paged (map show zs)))
@@ -212,6 +221,7 @@ module _ {A : Type 0} (show : A → (ℤ × Structure) × Vec Slot Global) (es :
       let one : map (λ a. (named (show a).0, (show a).1)) ys ≡ entries (from_entries {R = cell_cmp} gs) =
       entries-from_sort cell_cmp cells_total exact_cells (λ a. named (show a).0) (λ a. (show a).1) gs ys (distinct_named ys unique-moved)
       (subst (IsPermutation gs) (sym (by_two ys)) (IsPermutation-refl gs)) sorted in
-      let rising : T (is_sorted cell_cmp gs) = subst (λ l. T (is_sorted cell_cmp l)) (sym (sym (by_two ys) ∙ one)) (entries_sorted (from_entries {R = cell_cmp} gs)) in
+      let rising : T (is_sorted cell_cmp gs) = subst (λ l. T (is_sorted cell_cmp l)) (sym (sym (by_two ys) ∙ one))
+      (entries_sorted (from_entries {R = cell_cmp} gs)) in
       sym (entries_in_order (cells_in (map show ys)) (sorted_cells (map show ys) rising))
       ∙ ap entries (same-from_permutation es (map show ys) moved unique unique-moved)

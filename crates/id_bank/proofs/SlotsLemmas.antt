@@ -1,6 +1,10 @@
 -- Lemmas on specs/Slots.antt: the pages, and the map that they stand for.
-use Rattle.std.proofs.Common.{◌≡◌, ℕ, ℤ, pos, negsuc, zero, suc, ◌+◌, ◌<◌, ◌≤◌, ◌+ℤ◌, ◌*ℤ◌, Bool, true, false, cond, ◌&&◌, nat_eq, nat_lt, List, [], ◌∷◌, ◌++◌, map, length, Option, Some, None, option_map, option_and_then, Result, Ok, Err, OnOk, OnErr, refl, sym, subst, ◌∙◌, ap, arith, Vec, Global, slice_get, position, IfSome, IfOk, get_or, All, ◌≢◌, true≢false}
-use Rattle.std.specs.FinMap.{empty, entries, entries-insert, find, get, insert, from_entries, get-empty, get-from_entries, get-insert, len-empty, len-entries, put, same_map}
+use Rattle.std.proofs.Common.{◌≡◌, ℕ, ℤ, pos, negsuc, zero, suc, ◌+◌, ◌<◌, ◌≤◌, ◌+ℤ◌, ◌*ℤ◌, Bool, true, false, cond}
+use Rattle.std.proofs.Common.{◌&&◌, nat_eq, nat_lt, List, [], ◌∷◌, ◌++◌, map, length, Option, Some, None, option_map}
+use Rattle.std.proofs.Common.{option_and_then, Result, Ok, Err, OnOk, OnErr, refl, sym, subst, ◌∙◌, ap, arith, Vec}
+use Rattle.std.proofs.Common.{Global, slice_get, position, IfSome, IfOk, get_or, All, ◌≢◌, true≢false}
+use Rattle.std.specs.FinMap.{empty, entries, entries-insert, find, get, insert, from_entries, get-empty}
+use Rattle.std.specs.FinMap.{get-from_entries, get-insert, len-empty, len-entries, put, same_map}
 use Rattle.std.specs.FinMap.Entries.{by_order}
 use Rattle.std.specs.List.{IsDistinct, AllByRecursion, flat_map}
 use Rattle.std.specs.Map.{lookup, keys_of, values_of}
@@ -32,7 +36,8 @@ use Rattle.id_tag.specs.Tags.{cell_cmp, same_structure}
 use Rattle.id_tag.proofs.TagsLemmas.{cells_total, exact_cells, one_from_same_cell, ties-same_cell}
 use Rattle.id_bank.specs.declared.slot.Slot.{Slot}
 use Rattle.id_bank.specs.Cells.{CellState, Present, Deferred, Cells, count_readers, deferred_of, readers_at}
-use Rattle.id_bank.specs.Slots.{IsPage, HasNone, HasNoReaders, page_of, offset_of, cell_in, same_page, state_in, state_at, entry_at, cells_below, page_cells, cells_in}
+use Rattle.id_bank.specs.Slots.{IsPage, HasNone, HasNoReaders, page_of, offset_of, cell_in, same_page, state_in}
+use Rattle.id_bank.specs.Slots.{state_at, entry_at, cells_below, page_cells, cells_in}
 
 -- ---- tests
 
@@ -261,7 +266,8 @@ cells_apart c d h =
 module _ (es : List ((ℤ × Structure) × Vec Slot Global)) (unique : IsDistinct same_page (keys_of es)) (s : Cells) (is : from_entries (cells_in es) ≡ s)
     (c : Cell) (p : ℤ × Structure) (page : p ≡ page_of c) (k : ℕ) (place : k ≡ offset_of c) where
   -- what the map that pages make has at the cell
-  get_page : (fs : List ((ℤ × Structure) × Vec Slot Global)) → IsDistinct same_page (keys_of fs) → get (from_entries {R = cell_cmp} (cells_in fs)) c ≡ state_at fs p k
+  get_page : (fs : List ((ℤ × Structure) × Vec Slot Global)) → IsDistinct same_page (keys_of fs) →
+      get (from_entries {R = cell_cmp} (cells_in fs)) c ≡ state_at fs p k
   get_page fs u = get_state fs u c ∙ ap (λ q. state_at fs q (offset_of c)) (sym page) ∙ ap (state_at fs p) (sym place)
 
   -- what the map has at the cell
@@ -317,7 +323,8 @@ both_at (e ∷ es) zero p v h g = pairs e.0 e.1 p v h g
 both_at (e ∷ es) (suc i) p v h g = both_at es i p v h g
 
 -- the page that is found at a place is the one
-pub state_at-place : (es : List ((ℤ × Structure) × Vec Slot Global)) → IsDistinct same_page (keys_of es) → (i : ℕ) (p : ℤ × Structure) (v : Vec Slot Global) (k : ℕ)
+pub state_at-place : (es : List ((ℤ × Structure) × Vec Slot Global)) → IsDistinct same_page (keys_of es) →
+    (i : ℕ) (p : ℤ × Structure) (v : Vec Slot Global) (k : ℕ)
     → slice_get (keys_of es) i ≡ Some p → slice_get (values_of es) i ≡ Some v → state_at es p k ≡ state_in v.items k
 state_at-place es unique i p v k h g =
     ap (option_and_then (λ w. state_in w.items k)) (lookup_from_place same_page_laws es i p v unique (both_at es i p v h g))
@@ -410,11 +417,13 @@ none-from_empty (x ∷ es) e =
     absurd (some_none (sym here ∙ ap (λ m. get m x.0) e ∙ get-empty cell_cmp x.0))
 
 -- pages of which none was read or written make the map that has nothing
-pub empty-from_none : (es : List ((ℤ × Structure) × Vec Slot Global)) → AllByRecursion (λ e. HasNone e.1.items) es → from_entries {R = cell_cmp} (cells_in es) ≡ empty
+pub empty-from_none : (es : List ((ℤ × Structure) × Vec Slot Global)) → AllByRecursion (λ e. HasNone e.1.items) es →
+    from_entries {R = cell_cmp} (cells_in es) ≡ empty
 empty-from_none es all = ap (λ l. from_entries {R = cell_cmp} l) (none_in es all)
 
 -- and only they do
-pub none-from_pages : (es : List ((ℤ × Structure) × Vec Slot Global)) → from_entries {R = cell_cmp} (cells_in es) ≡ empty → AllByRecursion (λ e. HasNone e.1.items) es
+pub none-from_pages : (es : List ((ℤ × Structure) × Vec Slot Global)) → from_entries {R = cell_cmp} (cells_in es) ≡ empty →
+    AllByRecursion (λ e. HasNone e.1.items) es
 none-from_pages es e = from_in es (none-from_empty (cells_in es) e)
 
 -- ---- no replies
@@ -514,7 +523,8 @@ below-cells_below (suc n) p ss h =
 -- ---- pages in another order
 
 -- make the same map
-pub same-from_permutation : (es fs : List ((ℤ × Structure) × Vec Slot Global)) → IsPermutation es fs → IsDistinct same_page (keys_of es) → IsDistinct same_page (keys_of fs)
+pub same-from_permutation : (es fs : List ((ℤ × Structure) × Vec Slot Global)) → IsPermutation es fs → IsDistinct same_page (keys_of es) →
+    IsDistinct same_page (keys_of fs)
     → from_entries {R = cell_cmp} (cells_in fs) ≡ from_entries {R = cell_cmp} (cells_in es)
 same-from_permutation es fs moved u w =
     same_map cells_total exact_cells _ _
@@ -524,9 +534,11 @@ same-from_permutation es fs moved u w =
     ∙ sym (get_state es u d))
 
 -- and differ as well
-pub distinct-from_permutation : (es fs : List ((ℤ × Structure) × Vec Slot Global)) → IsPermutation es fs → IsDistinct same_page (keys_of es) → IsDistinct same_page (keys_of fs)
+pub distinct-from_permutation : (es fs : List ((ℤ × Structure) × Vec Slot Global)) → IsPermutation es fs → IsDistinct same_page (keys_of es) →
+    IsDistinct same_page (keys_of fs)
 distinct-from_permutation es fs moved u =
-    IsDistinct-IsPermutation same_page same_page_laws.symm (keys_of es) (keys_of fs) (IsPermutation-map (λ (e : (ℤ × Structure) × Vec Slot Global). e.0) es fs moved) u
+    IsDistinct-IsPermutation same_page same_page_laws.symm (keys_of es) (keys_of fs)
+    (IsPermutation-map (λ (e : (ℤ × Structure) × Vec Slot Global). e.0) es fs moved) u
 
 -- ---- a change of one page
 
@@ -578,35 +590,37 @@ module _ {S : Type 0} (m : HashMap (ℤ × Structure) (Vec Slot Global) S) (uniq
   pub fits-written : All IsPage (keys_of m.entries) → All IsPage (keys_of (set_value_at m.entries i w))
   fits-written all = subst (All IsPage) (sym (keys-with_value_at m i w)) all
 
-module _ {S : Type 0} (m n : HashMap (ℤ × Structure) (Vec Slot Global) S) (p : ℤ × Structure) (w : Vec Slot Global) (absent : hash.get same_page m p ≡ None) where
-  -- a new page, none of whose cells was read or written, changes nothing
-  pub same-new : w.items ≡ [] → Updates same_page m n p (Some w) → (q : ℤ × Structure) (k : ℕ) → state_at n.entries q k ≡ state_at m.entries q k
-  same-new none u q k = by (same_page p q) refl
-    where
-      by : (b : Bool) → same_page p q ≡ b → state_at n.entries q k ≡ state_at m.entries q k
-      by true is =
-          let one : p ≡ q = one_page p q is in
-          ap (λ r. state_at n.entries r k) (sym one) ∙ ap (option_and_then (λ v. state_in v.items k)) u.1 ∙ ap (λ ss. state_in ss k) none
-          ∙ sym (state_at-none m.entries p k absent) ∙ ap (λ r. state_at m.entries r k) one
-      by false is = ap (option_and_then (λ v. state_in v.items k)) (u.2 q is)
+module _ {S : Type 0} (m n : HashMap (ℤ × Structure) (Vec Slot Global) S) (p : ℤ × Structure) (w : Vec Slot Global) (absent : hash.get same_page m p ≡ None)
+  where
+    -- a new page, none of whose cells was read or written, changes nothing
+    pub same-new : w.items ≡ [] → Updates same_page m n p (Some w) → (q : ℤ × Structure) (k : ℕ) → state_at n.entries q k ≡ state_at m.entries q k
+    same-new none u q k = by (same_page p q) refl
+      where
+        by : (b : Bool) → same_page p q ≡ b → state_at n.entries q k ≡ state_at m.entries q k
+        by true is =
+            let one : p ≡ q = one_page p q is in
+            ap (λ r. state_at n.entries r k) (sym one) ∙ ap (option_and_then (λ v. state_in v.items k)) u.1 ∙ ap (λ ss. state_in ss k) none
+            ∙ sym (state_at-none m.entries p k absent) ∙ ap (λ r. state_at m.entries r k) one
+        by false is = ap (option_and_then (λ v. state_in v.items k)) (u.2 q is)
 
-  last_key : (es : List ((ℤ × Structure) × Vec Slot Global)) (e : (ℤ × Structure) × Vec Slot Global) → slice_get (keys_of (es ++ e ∷ [])) (length es) ≡ Some e.0
-  last_key [] e = refl
-  last_key (x ∷ es) e = last_key es e
+    last_key : (es : List ((ℤ × Structure) × Vec Slot Global)) (e : (ℤ × Structure) × Vec Slot Global) →
+        slice_get (keys_of (es ++ e ∷ [])) (length es) ≡ Some e.0
+    last_key [] e = refl
+    last_key (x ∷ es) e = last_key es e
 
-  -- comes last
-  pub found-new : n.entries ≡ insert_entry same_page m.entries p w → slice_get (keys_of n.entries) (length m.entries) ≡ Some p
-  found-new is =
-      ap (λ es. slice_get (keys_of es) (length m.entries)) (is ∙ insert_entry-new same_page m p w absent) ∙ last_key m.entries (p, w)
+    -- comes last
+    pub found-new : n.entries ≡ insert_entry same_page m.entries p w → slice_get (keys_of n.entries) (length m.entries) ≡ Some p
+    found-new is =
+        ap (λ es. slice_get (keys_of es) (length m.entries)) (is ∙ insert_entry-new same_page m p w absent) ∙ last_key m.entries (p, w)
 
-  keys_of-end : (es : List ((ℤ × Structure) × Vec Slot Global)) (e : (ℤ × Structure) × Vec Slot Global) → keys_of (es ++ e ∷ []) ≡ keys_of es ++ e.0 ∷ []
-  keys_of-end [] e = refl
-  keys_of-end (x ∷ es) e = ap (λ l. x.0 ∷ l) (keys_of-end es e)
+    keys_of-end : (es : List ((ℤ × Structure) × Vec Slot Global)) (e : (ℤ × Structure) × Vec Slot Global) → keys_of (es ++ e ∷ []) ≡ keys_of es ++ e.0 ∷ []
+    keys_of-end [] e = refl
+    keys_of-end (x ∷ es) e = ap (λ l. x.0 ∷ l) (keys_of-end es e)
 
-  pub fits-new : n.entries ≡ insert_entry same_page m.entries p w → IsPage p → All IsPage (keys_of m.entries) → All IsPage (keys_of n.entries)
-  fits-new is here all =
-      subst (All IsPage) (sym (ap keys_of (is ∙ insert_entry-new same_page m p w absent) ∙ keys_of-end m.entries (p, w)))
-      (All-push IsPage (keys_of m.entries) p all here)
+    pub fits-new : n.entries ≡ insert_entry same_page m.entries p w → IsPage p → All IsPage (keys_of m.entries) → All IsPage (keys_of n.entries)
+    fits-new is here all =
+        subst (All IsPage) (sym (ap keys_of (is ∙ insert_entry-new same_page m p w absent) ∙ keys_of-end m.entries (p, w)))
+        (All-push IsPage (keys_of m.entries) p all here)
 
 -- what holds at an answer implies more there
 pub if_ok : {A B : Type 0} (r : Result A B) (P Q : A → Type 0) → ((a : A) → P a → Q a) → IfOk r P → IfOk r Q

@@ -32,7 +32,8 @@ and-true false b e = cc
 pub dests_from-among : (a : Arc) (ws : List Arc) → Among a ws → Among (dest_of a) (dests_from a.from a.side ws)
 dests_from-among a [] h = absurd h
 dests_from-among a (v ∷ ws) (inl i) =
-    let test : is_from a.from a.side v ≡ true = is_from-here a.from a.side v (sym (ap (λ z. z.from) i)) ∙ ap (λ z. beq z a.side) (sym (ap (λ z. z.side) i)) ∙ beq-refl a.side in
+    let test : is_from a.from a.side v ≡ true = is_from-here a.from a.side v (sym (ap (λ z. z.from) i)) ∙ ap (λ z. beq z a.side) (sym (ap (λ z. z.side) i)) ∙
+    beq-refl a.side in
     rw test (inl (ap dest_of i))
 dests_from-among a (v ∷ ws) (inr h) =
     let m = a.from in
@@ -41,16 +42,20 @@ dests_from-among a (v ∷ ws) (inr h) =
     [ true ↦ inr (dests_from-among a ws h) | false ↦ dests_from-among a ws h ]
 
 -- each destination of the instruction is where an arc of it goes
-pub dests_from-from : (m : ℕ) (s : Bool) (d : Dest) (ws : List Arc) → Among d (dests_from m s ws) → Among (record { from = m; side = s; to = d.instr; port = d.port }) ws
+pub dests_from-from : (m : ℕ) (s : Bool) (d : Dest) (ws : List Arc) → Among d (dests_from m s ws) →
+    Among (record { from = m; side = s; to = d.instr; port = d.port }) ws
 dests_from-from m s d [] h = absurd h
 dests_from-from m s d (v ∷ ws) h = at (is_from m s v) refl (dests_from-from m s d ws) h
   where
-    at : (b : Bool) → is_from m s v ≡ b → (Among d (dests_from m s ws) → Among (record { from = m; side = s; to = d.instr; port = d.port }) ws) → Among d (cond b (dest_of v ∷ dests_from m s ws) (dests_from m s ws)) → Among (record { from = m; side = s; to = d.instr; port = d.port }) (v ∷ ws)
+    at : (b : Bool) → is_from m s v ≡ b → (Among d (dests_from m s ws) → Among (record { from = m; side = s; to = d.instr; port = d.port }) ws) →
+        Among d (cond b (dest_of v ∷ dests_from m s ws) (dests_from m s ws)) → Among (record { from = m; side = s; to = d.instr; port = d.port }) (v ∷ ws)
     at true e f (inl i) =
         let both = and-true (eqb v.from m) (beq v.side s) e in
         let from = eqb-true v.from m both.0 in
         let side = beq-true v.side s both.1 in
-        inl (ap (λ x. record { from = x; side = s; to = d.instr; port = d.port }) (sym from) ∙ ap (λ x. record { from = v.from; side = x; to = d.instr; port = d.port }) (sym side) ∙ ap (λ x. record { from = v.from; side = v.side; to = x.instr; port = x.port }) i)
+        inl (ap (λ x. record { from = x; side = s; to = d.instr; port = d.port }) (sym from) ∙
+        ap (λ x. record { from = v.from; side = x; to = d.instr; port = d.port }) (sym side) ∙
+        ap (λ x. record { from = v.from; side = v.side; to = x.instr; port = x.port }) i)
     at true e f (inr i) = inr (f i)
     at false e f i = inr (f i)
 
@@ -66,7 +71,8 @@ AllDiffer-dests m s (v ∷ ws) d = at (is_from m s v) refl (AllDiffer-dests m s 
           let from = eqb-true v.from m both.0 in
           let side = beq-true v.side s both.1 in
           let A : Arc → Type 0 = λ x. Among x ws in
-          d.0 (subst A (ap (λ x. record { from = x; side = s; to = v.to; port = v.port }) (sym from) ∙ ap (λ x. record { from = v.from; side = x; to = v.to; port = v.port }) (sym side)) (dests_from-from m s (dest_of v) ws i))
+          d.0 (subst A (ap (λ x. record { from = x; side = s; to = v.to; port = v.port }) (sym from) ∙
+          ap (λ x. record { from = v.from; side = x; to = v.to; port = v.port }) (sym side)) (dests_from-from m s (dest_of v) ws i))
           ),
       f,
     )
@@ -99,17 +105,20 @@ arcs_in-from P F (x ∷ xs) a h =
 
 -- what two rows are fed by are two arcs, and so are two feeds of one
 abbrev pub Tells : (P : Checked) (F os : List ℕ) → Type 0
-Tells P F os = (n n' : ℕ) (f f' : Feed) → Among n os → Among n' os → Among f (feeds P n) → Among f' (feeds P n') → arc_of F n f ≡ arc_of F n' f' → (n ≡ n') × (f ≡ f')
+Tells P F os = (n n' : ℕ) (f f' : Feed) → Among n os → Among n' os → Among f (feeds P n) → Among f' (feeds P n') → arc_of F n f ≡ arc_of F n' f' →
+    (n ≡ n') × (f ≡ f')
 
 AllDiffer-map : {A B : Type 0} (g : A → B) (xs : List A) → ((x y : A) → Among x xs → Among y xs → g x ≡ g y → x ≡ y) → AllDiffer xs → AllDiffer (map g xs)
 AllDiffer-map g [] f d = tt
 AllDiffer-map {A = A} g (x ∷ xs) f d = (
-  λ h. (let from = Among-from_map g (g x) xs h in let Z : A → Type 0 = λ z. Among z xs in d.0 (subst Z (sym (f x from.0 (inl refl) (inr from.1) from.2)) from.1)),
+  λ h. (let from = Among-from_map g (g x) xs h in let Z : A →
+      Type 0 = λ z. Among z xs in d.0 (subst Z (sym (f x from.0 (inl refl) (inr from.1) from.2)) from.1)),
   AllDiffer-map g xs (λ y z i j e. f y z (inr i) (inr j) e) d.1,
 )
 
 -- no arc stands twice
-pub AllDiffer-arcs_in : (P : Checked) (F os : List ℕ) → Tells P F os → ((n : ℕ) → Among n os → AllDiffer (feeds P n)) → (ns : List ℕ) → ((n : ℕ) → Among n ns → Among n os) → AllDiffer ns → AllDiffer (arcs_in P F ns)
+pub AllDiffer-arcs_in : (P : Checked) (F os : List ℕ) → Tells P F os → ((n : ℕ) → Among n os → AllDiffer (feeds P n)) → (ns : List ℕ) →
+    ((n : ℕ) → Among n ns → Among n os) → AllDiffer ns → AllDiffer (arcs_in P F ns)
 AllDiffer-arcs_in P F os tells once [] sub d = tt
 AllDiffer-arcs_in P F os tells once (x ∷ xs) sub d =
     let here = sub x (inl refl) in

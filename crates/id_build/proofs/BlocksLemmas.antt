@@ -1,5 +1,6 @@
 -- The blocks of a program: their heads, and the entries of each.
-use Rattle.std.proofs.Common.{◌≡◌, inl, inr, ℕ, zero, suc, ◌+◌, ◌<◌, ◌≤◌, Bool, true, false, List, [], ◌∷◌, ◌++◌, length, map, refl, ap, sym, subst, ◌∙◌, arith, cond, append-nil}
+use Rattle.std.proofs.Common.{◌≡◌, inl, inr, ℕ, zero, suc, ◌+◌, ◌<◌, ◌≤◌, Bool, true, false, List, [], ◌∷◌, ◌++◌}
+use Rattle.std.proofs.Common.{length, map, refl, ap, sym, subst, ◌∙◌, arith, cond, append-nil}
 use Rattle.std.specs.Prelude.{◌&&◌, nat_eq}
 use Rattle.std.proofs.lemmas.Bool.{cases_lt, eqb-true, false≢true}
 use Rattle.std.proofs.lemmas.List.{map-append}
@@ -49,7 +50,8 @@ none_before P h (suc n) l m =
     rw no (none_before P h n l (omega arith))
 
 -- nor is one from its definition on
-none_behind : (P : Checked) (h n : ℕ) → h < length (rows P) → node P h ≡ Head → end_of P h ≤ n → n ≤ length (rows P) → params_below (rows P) h n ≡ params_below (rows P) h (end_of P h)
+none_behind : (P : Checked) (h n : ℕ) → h < length (rows P) → node P h ≡ Head → end_of P h ≤ n → n ≤ length (rows P) →
+    params_below (rows P) h n ≡ params_below (rows P) h (end_of P h)
 none_behind P h zero l e m k = let is : end_of P h ≡ 0 = omega arith in ap (params_below (rows P) h) (sym is)
 none_behind P h (suc n) l e m k = elim (cases_lt n (end_of P h)) [
   | inl i ↦ (let is : end_of P h ≡ suc n = omega arith in ap (params_below (rows P) h) (sym is))
@@ -81,12 +83,14 @@ pub params_start : (P : Checked) (h : ℕ) → h < length (rows P) → params_be
 params_start P h l = none_before P h h l (omega arith)
 
 -- one more row may be one more entry
-pub entries_next : (P : Checked) (F xs new : List ℕ) (h n : ℕ) → xs ≡ map (λ x. number_by F x 0) (params_below (rows P) h n) → new ≡ xs ++ cond (takes P h n) (number_by F n 0 ∷ []) [] → new ≡ map (λ x. number_by F x 0) (params_below (rows P) h (n + 1))
+pub entries_next : (P : Checked) (F xs new : List ℕ) (h n : ℕ) → xs ≡ map (λ x. number_by F x 0) (params_below (rows P) h n) →
+    new ≡ xs ++ cond (takes P h n) (number_by F n 0 ∷ []) [] → new ≡ map (λ x. number_by F x 0) (params_below (rows P) h (n + 1))
 entries_next P F xs new h n e f =
     let next : suc n ≡ n + 1 = omega arith in
     f ∙ ap (λ l. l ++ cond (takes P h n) (number_by F n 0 ∷ []) []) e ∙ at (takes P h n) ∙ ap (λ k. map (λ x. number_by F x 0) (params_below (rows P) h k)) next
   where
-    at : (t : Bool) → map (λ x. number_by F x 0) (params_below (rows P) h n) ++ cond t (number_by F n 0 ∷ []) [] ≡ map (λ x. number_by F x 0) (cond t (params_below (rows P) h n ++ n ∷ []) (params_below (rows P) h n))
+    at : (t : Bool) → map (λ x. number_by F x 0) (params_below (rows P) h n) ++ cond t (number_by F n 0 ∷ []) [] ≡
+        map (λ x. number_by F x 0) (cond t (params_below (rows P) h n ++ n ∷ []) (params_below (rows P) h n))
     at true = sym (map-append (λ x. number_by F x 0) (params_below (rows P) h n) (n ∷ []))
     at false = append-nil (map (λ x. number_by F x 0) (params_below (rows P) h n))
 

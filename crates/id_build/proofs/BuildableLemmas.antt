@@ -109,7 +109,8 @@ first_origin P m n l e h =
     record { within = l; gives = subst (λ x. Gives (made_of P m (place P m) x) 0 true) (sym e) (first_gives P m (place P m) n h) }
 
 -- the loop whose entries stand at a row
-pub entries_head : (P : Checked) (n : ℕ) → n < length (rows P) → node P n ≡ Entries → (block P n < length (rows P)) × (node P (block P n) ≡ LoopHead (block P n - 1))
+pub entries_head : (P : Checked) (n : ℕ) → n < length (rows P) → node P n ≡ Entries →
+    (block P n < length (rows P)) × (node P (block P n) ≡ LoopHead (block P n - 1))
 entries_head P n l e =
     let c = (table_of P).entries_of n l e in
     let x = (table_of P).loop_is c.0 (block P n) c.1 in
@@ -159,7 +160,8 @@ suits P n (Split t) l e = (
 suits P n (If s x y) l e =
     let c : IsIfOf (rows P) n s = record { then = x; otherwise = y; within = l; node = e } in
     let arms = (table_of P).arms n s c in
-    let is : (a : ℕ) → HasOperand (If s x y) a → is_expression (node P a) ≡ true = λ a h. (table_of P).operand_is n a l (subst (λ z. HasOperand z a) (sym e) h) in (
+    let is : (a : ℕ) → HasOperand (If s x y) a → is_expression (node P a) ≡
+    true = λ a h. (table_of P).operand_is n a l (subst (λ z. HasOperand z a) (sym e) h) in (
       part P (arm_at s true) x (before P n x (If s x y) l e (inl refl)) (is x (inl refl)) arms.then_stands,
       part P (arm_at s false) y (before P n y (If s x y) l e (inr refl)) (is y (inr refl)) arms.otherwise_stands,
     )

@@ -122,12 +122,14 @@ start_arcs P F G H n j t r o s ms bs xs ys zs ws g h tt' oo ss jj bb mm one two 
     three ∙ ap (λ (f : List ℕ). zs ++ map (arc_of f n) (import_feeds P s r j bs)) h ∙ ap (λ (z : Origin). zs ++ map (arc_of F n) (import_feeds P z r j bs)) ss
     ∙ ap (λ (z : List ℕ). zs ++ map (arc_of F n) (import_feeds P (output n) r j z)) bb in
     let both : map (arc_of F n) (import_feeds P (output n) r 1 (map (first_binder P) ms ++ imports_of P (n + 1))) ≡ A ++ B =
-    ap (map (arc_of F n)) (import_feeds-both P (output n) r 1 j (map (first_binder P) ms) (imports_of P (n + 1)) (omega (arith, jj, length-map ms (first_binder P))))
+    ap (map (arc_of F n)) (import_feeds-both P (output n) r 1 j (map (first_binder P) ms) (imports_of P (n + 1))
+    (omega (arith, jj, length-map ms (first_binder P))))
     ∙ map-append (arc_of F n) (import_feeds P (output n) r 1 (map (first_binder P) ms)) (import_feeds P (output n) r j (imports_of P (n + 1))) in
     third ∙ ap (λ z. z ++ B) (second ∙ ap (λ z. z ++ A) first) ∙ append_assoc (xs ++ arc_of F n (feed (trigger_of r) 0 Zero) ∷ []) A B
     ∙ append_assoc xs (arc_of F n (feed (trigger_of r) 0 Zero) ∷ []) (A ++ B)
     ∙ ap (λ z. xs ++ arc_of F n (feed (trigger_of r) 0 Zero) ∷ z) (sym both)
-    ∙ ap (λ z. xs ++ arc_of F n (feed (trigger_of r) 0 Zero) ∷ map (arc_of F n) (import_feeds P (output n) r 1 (map (first_binder P) z ++ imports_of P (n + 1)))) mm
+    ∙ ap (λ z. xs ++ arc_of F n (feed (trigger_of r) 0 Zero) ∷
+    map (arc_of F n) (import_feeds P (output n) r 1 (map (first_binder P) z ++ imports_of P (n + 1)))) mm
 
 -- an arc that is pushed is that of its feed
 pub one_arc : (F G : List ℕ) (n k t : ℕ) (o q : Origin) (a : Port) (xs ys : List Arc) → G ≡ F → t ≡ number_by F n k → q ≡ o

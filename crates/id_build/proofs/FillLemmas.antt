@@ -1,5 +1,7 @@
 -- The numbers of rows as the builder writes them.
-use Rattle.std.proofs.Common.{◌≡◌, ◌≢◌, ◌⊎◌, inl, inr, ℕ, zero, suc, ◌+◌, ◌<◌, ◌≤◌, true, false, cond, eqb, List, [], ◌∷◌, ◌++◌, length, length-append, get_or, take, refl, ap, sym, subst, ◌∙◌, arith, get_or-set_other, get_or-set_same}
+use Rattle.std.proofs.Common.{◌≡◌, ◌≢◌, ◌⊎◌, inl, inr, ℕ, zero, suc, ◌+◌, ◌<◌, ◌≤◌, true, false, cond, eqb, List, []}
+use Rattle.std.proofs.Common.{◌∷◌, ◌++◌, length, length-append, get_or, take, refl, ap, sym, subst, ◌∙◌, arith}
+use Rattle.std.proofs.Common.{get_or-set_other, get_or-set_same}
 use Rattle.std.proofs.Math.ListN.{set}
 use Rattle.std.proofs.lemmas.List.{take_more}
 use Rattle.std.proofs.lemmas.Bool.Decides.{eqb_tells}
@@ -44,13 +46,16 @@ read : (F : List ℕ) (m : ℕ) → number_by F m 0 ≡ get_or F m 0
 read F m = let e = unwrap_or-slice_get F m 0 in omega arith
 
 -- one more row has its number
-pub first_in-next : (P : Checked) (order F : List ℕ) (i v : ℕ) → AllDiffer order → i < length order → get_or order i 0 < length F → v ≡ length (pieces_in P (take i order)) → ((m : ℕ) → m < length (rows P) → number_by F m 0 ≡ first_in P 0 (take i order) m) → (m : ℕ) → m < length (rows P) → number_by (set F (get_or order i 0) v) m 0 ≡ first_in P 0 (take (i + 1) order) m
+pub first_in-next : (P : Checked) (order F : List ℕ) (i v : ℕ) → AllDiffer order → i < length order → get_or order i 0 < length F →
+    v ≡ length (pieces_in P (take i order)) → ((m : ℕ) → m < length (rows P) → number_by F m 0 ≡ first_in P 0 (take i order) m) → (m : ℕ) →
+    m < length (rows P) → number_by (set F (get_or order i 0) v) m 0 ≡ first_in P 0 (take (i + 1) order) m
 first_in-next P order F i v d h l e f m lt =
     let n = get_or order i 0 in
     read (set F n v) m ∙ at (eqb_tells n m)
     ∙ sym (first_in-push P (take i order) 0 n m (not_before order i d h)) ∙ ap (λ l. first_in P 0 l m) (sym (take_more order i 0 h))
   where
-    at : ((eqb (get_or order i 0) m ≡ true) × (get_or order i 0 ≡ m)) ⊎ ((eqb (get_or order i 0) m ≡ false) × (get_or order i 0 ≢ m)) → get_or (set F (get_or order i 0) v) m 0 ≡ cond (eqb (get_or order i 0) m) (0 + length (pieces_in P (take i order))) (first_in P 0 (take i order) m)
+    at : ((eqb (get_or order i 0) m ≡ true) × (get_or order i 0 ≡ m)) ⊎ ((eqb (get_or order i 0) m ≡ false) × (get_or order i 0 ≢ m)) →
+        get_or (set F (get_or order i 0) v) m 0 ≡ cond (eqb (get_or order i 0) m) (0 + length (pieces_in P (take i order))) (first_in P 0 (take i order) m)
     at (inl t) =
         let here : get_or (set F (get_or order i 0) v) (get_or order i 0) 0 ≡ v = rw get_or-set_same refl in
         let G : ℕ → Type 0 = λ z. get_or (set F (get_or order i 0) v) z 0 ≡ v in

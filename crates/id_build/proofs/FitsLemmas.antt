@@ -57,7 +57,8 @@ each_variable : (P : Checked) (e v : ℕ) (ms : List ℕ) → v + length ms ≤ 
 each_variable P e v [] l = tt
 each_variable P e v (m ∷ ms) l = ((omega (arith, l), omega arith), each_variable P e (v + 1) ms (omega (arith, l)))
 
-each_import : (P : Checked) (e n k : ℕ) (bs : List ℕ) → n < length (rows P) → k + length bs ≤ length (made P n) → Each P (map (send_to P e) (import_entries n k bs))
+each_import : (P : Checked) (e n k : ℕ) (bs : List ℕ) → n < length (rows P) → k + length bs ≤ length (made P n) →
+    Each P (map (send_to P e) (import_entries n k bs))
 each_import P e n k [] w l = tt
 each_import P e n k (b ∷ bs) w l = ((w, omega (arith, l)), each_import P e n (k + 1) bs w (omega (arith, l)))
 
@@ -101,7 +102,8 @@ each_made P n e Start l is =
     let count = entries_count P h n z.0 z.1 in
     let first : List Piece = map (send_to P e) (variable_entries (h + 1) (nexts_of P h)) in
     let last : List Piece = map (send_to P e) (import_entries (entries_row P h) 0 (imports_of P h)) in
-    let both = each_both P first last (each_variable P e (h + 1) (nexts_of P h) (omega (arith, w))) (each_import P e (entries_row P h) 0 (imports_of P h) w (omega (arith, count))) in
+    let both = each_both P first last (each_variable P e (h + 1) (nexts_of P h) (omega (arith, w)))
+    (each_import P e (entries_row P h) 0 (imports_of P h) w (omega (arith, count))) in
     (tt, subst (Each P) (sym (map-append (send_to P e) (variable_entries (h + 1) (nexts_of P h)) (import_entries (entries_row P h) 0 (imports_of P h)))) both)
 each_made P n e (LoopHead s) l is = (tt, (tt, tt))
 each_made P n e Variable l is = (tt, tt)

@@ -453,7 +453,8 @@ module _ (P : Checked) where
             (λ same. let rise = heads_rise P l in let out = u.outer_head in omega (arith, rise, out, same)))
             ∙ e);
         back = λ y other used l.
-            elim (step_top P h (h - 1) u.head (subst (LiesIn y) w_top (through_side u.side u.test u.side_in u.side_node other (subst (LiesIn y) u.region_is l)))) [
+            elim (step_top P h (h - 1) u.head (subst (LiesIn y) w_top
+            (through_side u.side u.test u.side_in u.side_node other (subst (LiesIn y) u.region_is l)))) [
               | inl same ↦ absurd (none_some (sym (ap (λ t. used_by t (binder P o) (NextUse x)) (is_own u y.head (ap (λ (r : Region). r.head) same)))
                   ∙ sym (ap (used_by (is_right_in P y.head o) (binder P o)) is) ∙ used))
               | inr m ↦ subst (LiesIn y) u.start_region m
@@ -674,7 +675,16 @@ module _ (P : Checked) where
           by true e (inl same) rest =
               let less = before e in
               let stands = y.before_test.stands v (omega (arith, low)) (omega (arith, less)) in
-              let v_in : v < length (rows P) = omega (arith, less, y.test.low, y.test.behind, y.body_is.low, y.last_is.low, y.last_is.ends, (the_loop P h s within is).within) in
+              let v_in : v < length (rows P) = omega (
+                arith,
+                less,
+                y.test.low,
+                y.test.behind,
+                y.body_is.low,
+                y.last_is.low,
+                y.last_is.ends,
+                (the_loop P h s within is).within,
+              ) in
               let z = next_is P v v_in (variable_is (node P v) e) in
               let here_next : IsNextOf (rows P) (next_of P v)
               (block P (next_of P v)) z.index z.name = record { outer = z.outer; value = z.value; within = z.within; block = refl; node = z.node } in

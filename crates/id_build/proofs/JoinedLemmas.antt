@@ -1,5 +1,6 @@
 -- Lemmas on instructions with their arcs.
-use Rattle.std.proofs.Common.{◌≡◌, ◌≢◌, ℕ, zero, suc, ◌+◌, ◌<◌, Bool, true, false, cond, eqb, List, [], ◌∷◌, ◌++◌, length, get_or, refl, ap, append-nil, sym, ◌∙◌, arith, eq-eqb, inl, inr}
+use Rattle.std.proofs.Common.{◌≡◌, ◌≢◌, ℕ, zero, suc, ◌+◌, ◌<◌, Bool, true, false, cond, eqb, List, [], ◌∷◌, ◌++◌}
+use Rattle.std.proofs.Common.{length, get_or, refl, ap, append-nil, sym, ◌∙◌, arith, eq-eqb, inl, inr}
 use Rattle.std.specs.Prelude.{◌&&◌}
 use Rattle.std.proofs.Math.ListN.{set}
 use Rattle.std.proofs.lemmas.List.{append_assoc}
@@ -17,17 +18,20 @@ abbrev pub is_from : ℕ → Bool → Arc → Bool
 is_from m s a = eqb a.from m && beq a.side s
 
 -- one more arc from the side of the instruction comes last
-pub dests_from-push_same : (m : ℕ) (s : Bool) (ws : List Arc) (w : Arc) → is_from m s w ≡ true → dests_from m s (ws ++ w ∷ []) ≡ dests_from m s ws ++ dest_of w ∷ []
+pub dests_from-push_same : (m : ℕ) (s : Bool) (ws : List Arc) (w : Arc) → is_from m s w ≡ true →
+    dests_from m s (ws ++ w ∷ []) ≡ dests_from m s ws ++ dest_of w ∷ []
 dests_from-push_same m s [] w e = rw e refl
 dests_from-push_same m s (v ∷ ws) w e =
-    elim (is_from m s v) as (λ b. cond b (dest_of v ∷ dests_from m s (ws ++ w ∷ [])) (dests_from m s (ws ++ w ∷ [])) ≡ cond b (dest_of v ∷ dests_from m s ws) (dests_from m s ws) ++ dest_of w ∷ [])
+    elim (is_from m s v) as (λ b. cond b (dest_of v ∷ dests_from m s (ws ++ w ∷ [])) (dests_from m s (ws ++ w ∷ [])) ≡
+    cond b (dest_of v ∷ dests_from m s ws) (dests_from m s ws) ++ dest_of w ∷ [])
     [ true ↦ ap (λ l. dest_of v ∷ l) (dests_from-push_same m s ws w e) | false ↦ dests_from-push_same m s ws w e ]
 
 -- one more arc from elsewhere changes nothing
 pub dests_from-push_other : (m : ℕ) (s : Bool) (ws : List Arc) (w : Arc) → is_from m s w ≡ false → dests_from m s (ws ++ w ∷ []) ≡ dests_from m s ws
 dests_from-push_other m s [] w e = rw e refl
 dests_from-push_other m s (v ∷ ws) w e =
-    elim (is_from m s v) as (λ b. cond b (dest_of v ∷ dests_from m s (ws ++ w ∷ [])) (dests_from m s (ws ++ w ∷ [])) ≡ cond b (dest_of v ∷ dests_from m s ws) (dests_from m s ws))
+    elim (is_from m s v) as (λ b. cond b (dest_of v ∷ dests_from m s (ws ++ w ∷ [])) (dests_from m s (ws ++ w ∷ [])) ≡
+    cond b (dest_of v ∷ dests_from m s ws) (dests_from m s ws))
     [ true ↦ ap (λ l. dest_of v ∷ l) (dests_from-push_other m s ws w e) | false ↦ dests_from-push_other m s ws w e ]
 
 -- numbers that differ are not equal by the test
@@ -41,7 +45,8 @@ pub is_from-here : (m : ℕ) (s : Bool) (w : Arc) → w.from ≡ m → is_from m
 is_from-here m s w e = ap (λ b. b && beq w.side s) (eq-eqb w.from m e)
 
 -- one more arc from an instruction is one more destination on its side
-joined-push : (F : List ℕ) (m : ℕ) (p : Piece) (ws : List Arc) (w : Arc) → w.from ≡ m → joined F m p (ws ++ w ∷ []) ≡ with_dest w.side (joined F m p ws) (dest_of w)
+joined-push : (F : List ℕ) (m : ℕ) (p : Piece) (ws : List Arc) (w : Arc) → w.from ≡ m →
+    joined F m p (ws ++ w ∷ []) ≡ with_dest w.side (joined F m p ws) (dest_of w)
 joined-push F m p ws w e = at w.side refl
   where
     at : (s : Bool) → w.side ≡ s → joined F m p (ws ++ w ∷ []) ≡ with_dest s (joined F m p ws) (dest_of w)
@@ -61,14 +66,16 @@ joined-other F m p ws w ne =
     rw (one, two) refl
 
 -- one more arc from an instruction before these changes nothing
-instrs_from-push_before : (F : List ℕ) (m : ℕ) (ps : List Piece) (ws : List Arc) (w : Arc) → w.from < m → instrs_from F m ps (ws ++ w ∷ []) ≡ instrs_from F m ps ws
+instrs_from-push_before : (F : List ℕ) (m : ℕ) (ps : List Piece) (ws : List Arc) (w : Arc) → w.from < m →
+    instrs_from F m ps (ws ++ w ∷ []) ≡ instrs_from F m ps ws
 instrs_from-push_before F m [] ws w h = refl
 instrs_from-push_before F m (p ∷ ps) ws w h =
     let other = joined-other F m p ws w (omega arith) in
     let rest = instrs_from-push_before F (m + 1) ps ws w (omega arith) in
     cc
 
-pub instrs_from-push : (F : List ℕ) (ps : List Piece) (m k : ℕ) (ws : List Arc) (w : Arc) → w.from ≡ m + k → instrs_from F m ps (ws ++ w ∷ []) ≡ connected_at (instrs_from F m ps ws) k w.side (dest_of w)
+pub instrs_from-push : (F : List ℕ) (ps : List Piece) (m k : ℕ) (ws : List Arc) (w : Arc) → w.from ≡ m + k →
+    instrs_from F m ps (ws ++ w ∷ []) ≡ connected_at (instrs_from F m ps ws) k w.side (dest_of w)
 instrs_from-push F [] m k ws w e = refl
 instrs_from-push F (p ∷ ps) m zero ws w e =
     let same = joined-push F m p ws w (omega arith) in
@@ -85,7 +92,8 @@ length-instrs_from F m [] ws = refl
 length-instrs_from F m (p ∷ ps) ws = ap suc (length-instrs_from F (m + 1) ps ws)
 
 -- to change the m-th instruction is to write it again
-pub connected_at-set : (is : List Instr) (m : ℕ) (s : Bool) (i : Instr) (d : Dest) → i ≡ get_or is m i → m < length is → set is m (with_dest s i d) ≡ connected_at is m s d
+pub connected_at-set : (is : List Instr) (m : ℕ) (s : Bool) (i : Instr) (d : Dest) → i ≡ get_or is m i → m < length is →
+    set is m (with_dest s i d) ≡ connected_at is m s d
 connected_at-set [] m s i d e h = absurd (omega arith)
 connected_at-set (j ∷ is) zero s i d e h = ap (λ x. with_dest s x d ∷ is) e
 connected_at-set (j ∷ is) (suc m) s i d e h = ap (λ l. j ∷ l) (connected_at-set is m s i d e (omega arith))

@@ -160,7 +160,8 @@ module _ (P : Checked) where
     ];
     within = λ k h. elim h [ inl i ↦ omega (arith, e, i) | inr i ↦ (let l = inner-within n k i in omega (arith, e, l)) ];
     answer_within = omega (arith, e);
-    answer_first = (let is : n ≡ answer_row P = omega (arith, e) in ap (λ t. cond t 0 (first_in P (0 + length (made P n)) (inner n) (answer_row P))) (eq-eqb n (answer_row P) is));
+    answer_first = (let is : n ≡ answer_row P = omega (arith, e) in
+        ap (λ t. cond t 0 (first_in P (0 + length (made P n)) (inner n) (answer_row P))) (eq-eqb n (answer_row P) is));
   }
 
 -- the order of the program's rows is such
@@ -203,7 +204,8 @@ module _ (P : Checked) where
   in_loops k i = nat_lt (block P i) k && is_loop_head (node P (block P i))
 
   loops-next : (n k : ℕ) → counted (loops_by P (suc n) k) ≡ counted (loops_by P n k) + if_so (in_loops k n) n
-  loops-next n zero = let no : nat_lt (block P n) 0 ≡ false = grind (arith, nat_tests) in omega (arith, ap (λ t. if_so (t && is_loop_head (node P (block P n))) n) no)
+  loops-next n zero = let no : nat_lt (block P n) 0 ≡ false = grind (arith, nat_tests) in
+      omega (arith, ap (λ t. if_so (t && is_loop_head (node P (block P n))) n) no)
   loops-next n (suc k) = go (is_loop_head (node P k)) refl (loops-next n k)
     where
       lower : is_loop_head (node P k) ≡ false → in_loops (suc k) n ≡ in_loops k n
@@ -231,7 +233,8 @@ module _ (P : Checked) where
               ap (λ b. nat_lt (block P n) (suc k) && b) head ∙ off (nat_lt (block P n) (suc k))
               ∙ sym (ap (λ b. nat_lt (block P n) k && b) head ∙ off (nat_lt (block P n) k))
           same (inr j) =
-              none (nat_lt (block P n) (suc k)) (nat_lt (block P n) k) (is_loop_head (node P (block P n))) (grind (arith, nat_tests, j)) (grind (arith, nat_tests, j))
+              none (nat_lt (block P n) (suc k)) (nat_lt (block P n) k) (is_loop_head (node P (block P n))) (grind (arith, nat_tests, j))
+              (grind (arith, nat_tests, j))
 
       -- exactly one of the two is so, or none
       split : is_loop_head (node P k) ≡ true → if_so (in_loops k n) n + if_so (in_block P k n) n ≡ if_so (in_loops (suc k) n) n

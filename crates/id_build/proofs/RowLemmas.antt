@@ -47,7 +47,8 @@ pub record Gives (ps : List Piece) (k : ℕ) (b : Bool) : Type 0 where
   pub gives : (number : ℕ → ℕ → ℕ) → HasSide (op_by number piece.form) b
 
 -- the instruction of each of these binders
-pub for_each-at : (P : Checked) (op : PortKind → Op) (e : ℕ) (bs : List ℕ) (j : ℕ) → j < length bs → (k : PortKind) × (slice_get (for_each P op e bs) j ≡ Some (piece (Plain (op k)) e))
+pub for_each-at : (P : Checked) (op : PortKind → Op) (e : ℕ) (bs : List ℕ) (j : ℕ) → j < length bs →
+    (k : PortKind) × (slice_get (for_each P op e bs) j ≡ Some (piece (Plain (op k)) e))
 for_each-at P op e [] j l = absurd (omega (arith, l))
 for_each-at P op e (b ∷ bs) zero l = (_, refl)
 for_each-at P op e (b ∷ bs) (suc j) l = for_each-at P op e bs j (omega (arith, l))
@@ -465,13 +466,15 @@ named_origin P r b t h = by (comes P r b h.sees)
         })
 
 -- a row of another node than a split's belongs where it stands
-own : (P : Checked) (v : ℕ) (n : Node) → v < length (rows P) → node P v ≡ n → home_of n (region P v) (output v) ≡ region P v → Gives (made_of P v (place P v) n) 0 true
+own : (P : Checked) (v : ℕ) (n : Node) → v < length (rows P) → node P v ≡ n → home_of n (region P v) (output v) ≡ region P v →
+    Gives (made_of P v (place P v) n) 0 true
     → IsOriginOf P (region P v) (output v)
 own P v n l e h g =
     let G : Node → Type 0 = λ x. Gives (made_of P v (place P v) x) 0 true in
     record { is_origin = record { within = l; gives = subst G (sym e) g }; home = ap (λ x. home_of x (region P v) (output v)) e ∙ h }
 
-value_origin : (P : Checked) (v : ℕ) (n : Node) → IsBuildable P → v < length (rows P) → node P v ≡ n → IsValue n → IsOriginOf P (region P v) (origin_of P v (region P v) n)
+value_origin : (P : Checked) (v : ℕ) (n : Node) → IsBuildable P → v < length (rows P) → node P v ≡ n → IsValue n →
+    IsOriginOf P (region P v) (origin_of P v (region P v) n)
 value_origin P v (Name x) t l e h =
     let named = t.named v x l e in
     let Z : Origin → Type 0 = IsOriginOf P (region P v) in

@@ -1,5 +1,6 @@
 -- The builder's graph is one that the schemas give the table.
-use Rattle.std.proofs.Common.{◌≡◌, ◌<◌, inl, inr, cond, ℕ, zero, suc, ◌+◌, Bool, true, false, List, [], ◌∷◌, length, get_or, refl, ap, sym, subst, ◌∙◌, arith, Some}
+use Rattle.std.proofs.Common.{◌≡◌, ◌<◌, inl, inr, cond, ℕ, zero, suc, ◌+◌, Bool, true, false, List, [], ◌∷◌, length}
+use Rattle.std.proofs.Common.{get_or, refl, ap, sym, subst, ◌∙◌, arith, Some}
 use Rattle.std.specs.Prelude.{All, IsSome, option_and_then, slice_get}
 use Rattle.std.proofs.lemmas.Option.{slice_get-get_or, slice_get_within}
 use Rattle.id_build.proofs.ArcsLemmas.{AllDiffer-arcs_in, AllDiffer-dests, arcs_in-among, arcs_in-from, dests_from-among, dests_from-from, Tells}
@@ -27,9 +28,11 @@ use Rattle.id_graph.specs.Ports.{port_kind}
 use Rattle.id_build.proofs.OrderLemmas.{IsOrder}
 
 -- the instruction at a number of the graph
-instrs_from-at : (F : List ℕ) (ps : List Piece) (m k : ℕ) (vs : List Arc) (p : Piece) → slice_get ps k ≡ Some p → slice_get (instrs_from F m ps vs) k ≡ Some (joined F (m + k) p vs)
+instrs_from-at : (F : List ℕ) (ps : List Piece) (m k : ℕ) (vs : List Arc) (p : Piece) → slice_get ps k ≡ Some p →
+    slice_get (instrs_from F m ps vs) k ≡ Some (joined F (m + k) p vs)
 instrs_from-at F [] m k vs p h = cc
-instrs_from-at F (q ∷ ps) m zero vs p h = let e : m ≡ m + 0 = omega arith in let i : q ≡ p = cc in ap (λ x. Some (joined F x q vs)) e ∙ ap (λ x. Some (joined F (m + 0) x vs)) i
+instrs_from-at F (q ∷ ps) m zero vs p h = let e : m ≡ m + 0 = omega arith in let i : q ≡ p = cc in ap (λ x. Some (joined F x q vs)) e ∙
+    ap (λ x. Some (joined F (m + 0) x vs)) i
 instrs_from-at F (q ∷ ps) m (suc k) vs p h =
     let e : m + 1 + k ≡ m + suc k = omega arith in
     instrs_from-at F ps (m + 1) k vs p h ∙ ap (λ x. Some (joined F x p vs)) e
@@ -42,7 +45,8 @@ record IsJoined (F : List ℕ) (ps : List Piece) (m k : ℕ) (vs : List Arc) (i 
 
 instrs_from-from : (F : List ℕ) (ps : List Piece) (m k : ℕ) (vs : List Arc) (i : Instr) → slice_get (instrs_from F m ps vs) k ≡ Some i → IsJoined F ps m k vs i
 instrs_from-from F [] m k vs i h = cc
-instrs_from-from F (q ∷ ps) m zero vs i h = let e : m ≡ m + 0 = omega arith in let j : joined F m q vs ≡ i = cc in record { piece = q; at = refl; is = sym j ∙ ap (λ x. joined F x q vs) e }
+instrs_from-from F (q ∷ ps) m zero vs i h = let e : m ≡ m + 0 = omega arith in let j : joined F m q vs ≡ i = cc in
+    record { piece = q; at = refl; is = sym j ∙ ap (λ x. joined F x q vs) e }
 instrs_from-from F (q ∷ ps) m (suc k) vs i h =
     let rest = instrs_from-from F ps (m + 1) k vs i h in
     let e : m + 1 + k ≡ m + suc k = omega arith in
@@ -53,26 +57,31 @@ number_is : (P : Checked) (order F : List ℕ) (n k : ℕ) → AreFirsts P order
 number_is P order F n k fs l = let at = fs.at n l in omega arith
 
 -- an instruction of a row stands at its number
-stands : (P : Checked) (order F : List ℕ) (n k : ℕ) (p : Piece) → IsOrder P order → AreFirsts P order F → n < length (rows P) → slice_get (made P n) k ≡ Some p → slice_get (pieces_in P order) (number_by F n k) ≡ Some p
+stands : (P : Checked) (order F : List ℕ) (n k : ℕ) (p : Piece) → IsOrder P order → AreFirsts P order F → n < length (rows P) →
+    slice_get (made P n) k ≡ Some p → slice_get (pieces_in P order) (number_by F n k) ≡ Some p
 stands P order F n k p o fs l h =
     let at = pieces_in-at P order 0 n k p (o.covers n l) h in
     let e : number_by F n k ≡ at.0 = omega (arith, at.1, number_is P order F n k fs l) in
     ap (slice_get (pieces_in P order)) e ∙ at.2
 
-instr_at : (P : Checked) (order F : List ℕ) (n k : ℕ) (p : Piece) → IsOrder P order → AreFirsts P order F → n < length (rows P) → slice_get (made P n) k ≡ Some p → slice_get (graph_by P order F).instrs (number_by F n k) ≡ Some (joined F (number_by F n k) p (arcs_in P F order))
+instr_at : (P : Checked) (order F : List ℕ) (n k : ℕ) (p : Piece) → IsOrder P order → AreFirsts P order F → n < length (rows P) →
+    slice_get (made P n) k ≡ Some p → slice_get (graph_by P order F).instrs (number_by F n k) ≡ Some (joined F (number_by F n k) p (arcs_in P F order))
 instr_at P order F n k p o fs l h =
     let e : 0 + number_by F n k ≡ number_by F n k = omega arith in
-    instrs_from-at F (pieces_in P order) 0 (number_by F n k) (arcs_in P F order) p (stands P order F n k p o fs l h) ∙ ap (λ x. Some (joined F x p (arcs_in P F order))) e
+    instrs_from-at F (pieces_in P order) 0 (number_by F n k) (arcs_in P F order) p (stands P order F n k p o fs l h) ∙
+    ap (λ x. Some (joined F x p (arcs_in P F order))) e
 
 -- the instruction that a number is given to, as the builder makes it
-is_joined : (P : Checked) (order F : List ℕ) (m : ℕ) (i : Instr) → slice_get (graph_by P order F).instrs m ≡ Some i → (p : Piece) × (slice_get (pieces_in P order) m ≡ Some p) × (i ≡ joined F m p (arcs_in P F order))
+is_joined : (P : Checked) (order F : List ℕ) (m : ℕ) (i : Instr) → slice_get (graph_by P order F).instrs m ≡ Some i →
+    (p : Piece) × (slice_get (pieces_in P order) m ≡ Some p) × (i ≡ joined F m p (arcs_in P F order))
 is_joined P order F m i h =
     let j = instrs_from-from F (pieces_in P order) 0 m (arcs_in P F order) i h in
     let e : 0 + m ≡ m = omega arith in
     (j.piece, j.at, j.is ∙ ap (λ x. joined F x j.piece (arcs_in P F order)) e)
 
 -- two instructions have two numbers
-number-apart : (P : Checked) (order F : List ℕ) (n k n' k' : ℕ) (p p' : Piece) → IsOrder P order → AreFirsts P order F → n < length (rows P) → n' < length (rows P) → slice_get (made P n) k ≡ Some p → slice_get (made P n') k' ≡ Some p' → number_by F n k ≡ number_by F n' k' → (n ≡ n') × (k ≡ k')
+number-apart : (P : Checked) (order F : List ℕ) (n k n' k' : ℕ) (p p' : Piece) → IsOrder P order → AreFirsts P order F → n < length (rows P) →
+    n' < length (rows P) → slice_get (made P n) k ≡ Some p → slice_get (made P n') k' ≡ Some p' → number_by F n k ≡ number_by F n' k' → (n ≡ n') × (k ≡ k')
 number-apart P order F n k n' k' p p' o fs l l' h h' e =
     first_in-apart P order 0 n k n' k' (o.covers n l) (o.covers n' l') (slice_get_within (made P n) k p h) (slice_get_within (made P n') k' p' h')
     (sym (number_is P order F n k fs l) ∙ e ∙ number_is P order F n' k' fs l')
@@ -94,11 +103,13 @@ tells P order F t o fs n n' f f' i i' h h' e =
     let goal = number-apart P order F n f.part n' f'.part to.piece to'.piece o fs l l' to.at to'.at (ap (λ a. a.to) e) in
     let from = Feeds-origin P n f t l h in
     let from' = Feeds-origin P n' f' t l' h' in
-    let start = number-apart P order F f.origin.row f.origin.part f'.origin.row f'.origin.part from.gives.piece from'.gives.piece o fs from.within from'.within from.gives.at from'.gives.at (ap (λ a. a.from) e) in
+    let start = number-apart P order F f.origin.row f.origin.part f'.origin.row f'.origin.part from.gives.piece from'.gives.piece o fs from.within
+    from'.within from.gives.at from'.gives.at (ap (λ a. a.from) e) in
     let side = ap (λ a. a.side) e in
     let port = ap (λ a. a.port) e in
     let origin : f.origin ≡ f'.origin =
-    ap (λ x. record { row = x; part = f.origin.part; side = f.origin.side }) start.0 ∙ ap (λ x. record { row = f'.origin.row; part = x; side = f.origin.side }) start.1
+    ap (λ x. record { row = x; part = f.origin.part; side = f.origin.side }) start.0 ∙
+    ap (λ x. record { row = f'.origin.row; part = x; side = f.origin.side }) start.1
     ∙ ap (λ x. record { row = f'.origin.row; part = f'.origin.part; side = x }) side in (
       goal.0,
       ap (λ x. record { origin = x; part = f.part; port = f.port }) origin ∙ ap (λ x. record { origin = f'.origin; part = x; port = f.port }) goal.1
@@ -108,10 +119,12 @@ tells P order F t o fs n n' f f' i i' h h' e =
 -- no arc stands twice
 once_in : (P : Checked) (order F : List ℕ) → IsBuildable P → IsOrder P order → AreFirsts P order F → AllDiffer (arcs_in P F order)
 once_in P order F t o fs =
-    AllDiffer-arcs_in P F order (tells P order F t o fs) (λ n i. feeds_differ P n (region P n) (node P n) t (t.suits n (o.within n i))) order (λ n i. i) o.differ
+    AllDiffer-arcs_in P F order (tells P order F t o fs) (λ n i. feeds_differ P n (region P n) (node P n) t (t.suits n (o.within n i))) order (λ n i. i)
+    o.differ
 
 -- what the graph sends is an arc of the builder's
-sent : (P : Checked) (order F : List ℕ) (m : ℕ) (b : Bool) (to : Dest) (i : Instr) → slice_get (graph_by P order F).instrs m ≡ Some i → Among to (arcs_on b i) → Among (record { from = m; side = b; to = to.instr; port = to.port }) (arcs_in P F order)
+sent : (P : Checked) (order F : List ℕ) (m : ℕ) (b : Bool) (to : Dest) (i : Instr) → slice_get (graph_by P order F).instrs m ≡ Some i →
+    Among to (arcs_on b i) → Among (record { from = m; side = b; to = to.instr; port = to.port }) (arcs_in P F order)
 sent P order F m b to i at h =
     let j = is_joined P order F m i at in
     let A : Instr → Type 0 = λ x. Among to (arcs_on b x) in
@@ -130,7 +143,14 @@ Numbered-graph_by P order F t o fs = record {
   only = λ m i h. (
       let j = is_joined P order F m i h in
       let s = pieces_in-from P order 0 m j.0 o.differ j.1 in
-      record { row = s.n; part = s.k; form = j.0.form; place = j.0.place; makes = record { within = o.within s.n s.among; at = s.makes }; is = omega (arith, s.is, number_is P order F s.n s.k fs (o.within s.n s.among)) }
+      record {
+        row = s.n;
+        part = s.k;
+        form = j.0.form;
+        place = j.0.place;
+        makes = record { within = o.within s.n s.among; at = s.makes };
+        is = omega (arith, s.is, number_is P order F s.n s.k fs (o.within s.n s.among));
+      }
       );
   apart = λ n k n' k' p p' e e' h h' i. number-apart P order F n k n' k' (piece p e) (piece p' e') o fs h.within h'.within h.at h'.at i;
   sends = λ s n k p h. (
@@ -138,7 +158,11 @@ Numbered-graph_by P order F t o fs = record {
       let from = Feeds-origin P n f t h.within h.among in
       let a = arc_of F n f in
       let among = arcs_in-among P F order n f (o.covers n h.within) h.among in
-      record { instr = _; at = instr_at P order F s.row s.part from.gives.piece o fs from.within from.gives.at; lists = on_side F s.side (number_by F s.row s.part) from.gives.piece (arcs_in P F order) (dest_of a) (dests_from-among a (arcs_in P F order) among) }
+      record {
+        instr = _;
+        at = instr_at P order F s.row s.part from.gives.piece o fs from.within from.gives.at;
+        lists = on_side F s.side (number_by F s.row s.part) from.gives.piece (arcs_in P F order) (dest_of a) (dests_from-among a (arcs_in P F order) among);
+      }
       );
   no_more = λ m b to h. (
       let c = arcs_in-from P F order _ (sent P order F m b to h.instr h.at h.lists) in
@@ -164,8 +188,10 @@ Numbered-graph_by P order F t o fs = record {
       let from = Feeds-origin P c.n c.fed t (o.within c.n c.at) c.among in
       let number : number_by F c.fed.origin.row c.fed.origin.part ≡ m = sym (ap (λ x. x.from) c.is) in
       let side : c.fed.origin.side ≡ b = sym (ap (λ x. x.side) c.is) in
-      let same = sym at ∙ ap (slice_get (graph_by P order F).instrs) (sym number) ∙ instr_at P order F c.fed.origin.row c.fed.origin.part from.gives.piece o fs from.within from.gives.at in
-      let op : op_by (number_by F) from.gives.piece.form ≡ i.op = cc_op i (joined F (number_by F c.fed.origin.row c.fed.origin.part) from.gives.piece (arcs_in P F order)) same in
+      let same = sym at ∙ ap (slice_get (graph_by P order F).instrs) (sym number) ∙
+      instr_at P order F c.fed.origin.row c.fed.origin.part from.gives.piece o fs from.within from.gives.at in
+      let op : op_by (number_by F) from.gives.piece.form ≡ i.op = cc_op i
+      (joined F (number_by F c.fed.origin.row c.fed.origin.part) from.gives.piece (arcs_in P F order)) same in
       let S : Bool → Type 0 = λ x. HasSide i.op x in
       let O : Op → Type 0 = λ x. HasSide x c.fed.origin.side in
       subst S side (subst O op (from.gives.gives (number_by F)))
@@ -177,7 +203,8 @@ Numbered-graph_by P order F t o fs = record {
       let port : c.fed.port ≡ to.port = sym (ap (λ x. x.port) c.is) in
       let A : ℕ → Type 0 = λ x. slice_get (graph_by P order F).instrs x ≡ Some (joined F (number_by F c.n c.fed.part) takes.piece (arcs_in P F order)) in
       let H : Port → Type 0 = λ x. IsSome (port_kind (op_by (number_by F) takes.piece.form) x) in
-      port_at-instr (graph_by P order F).instrs to _ (subst A number (instr_at P order F c.n c.fed.part takes.piece o fs (o.within c.n c.at) takes.at)) (subst H port (takes.takes (number_by F)))
+      port_at-instr (graph_by P order F).instrs to _ (subst A number (instr_at P order F c.n c.fed.part takes.piece o fs (o.within c.n c.at) takes.at))
+      (subst H port (takes.takes (number_by F)))
       );
   answer_first = fs.at (answer_row P) o.answer_within ∙ o.answer_first;
   parts_behind = λ n k. omega arith;
@@ -199,14 +226,16 @@ pub Schemas-graph_by : (P : Checked) (order F : List ℕ) → IsBuildable P → 
 Schemas-graph_by P order F t o fs = record { number = number_by F; numbered = Numbered-graph_by P order F t o fs }
 
 -- each arc goes between two of the instructions
-pub IsFrom-arcs_in : (P : Checked) (order F : List ℕ) → IsBuildable P → IsOrder P order → AreFirsts P order F → All (IsFrom (pieces_in P order)) (arcs_in P F order)
+pub IsFrom-arcs_in : (P : Checked) (order F : List ℕ) → IsBuildable P → IsOrder P order → AreFirsts P order F →
+    All (IsFrom (pieces_in P order)) (arcs_in P F order)
 IsFrom-arcs_in P order F t o fs k d lt =
     let a = get_or (arcs_in P F order) k d in
     let c = arcs_in-from P F order a (Among-from_at a (arcs_in P F order) k (slice_get-get_or (arcs_in P F order) k d lt)) in
     let l = o.within c.n c.at in
     let to = Feeds-row P c.n c.fed c.among in
     let from = Feeds-origin P c.n c.fed t l c.among in
-    let one = slice_get_within (pieces_in P order) (number_by F c.fed.origin.row c.fed.origin.part) from.gives.piece (stands P order F c.fed.origin.row c.fed.origin.part from.gives.piece o fs from.within from.gives.at) in
+    let one = slice_get_within (pieces_in P order) (number_by F c.fed.origin.row c.fed.origin.part) from.gives.piece
+    (stands P order F c.fed.origin.row c.fed.origin.part from.gives.piece o fs from.within from.gives.at) in
     let two = slice_get_within (pieces_in P order) (number_by F c.n c.fed.part) to.piece (stands P order F c.n c.fed.part to.piece o fs l to.at) in
     let e = ap (λ x. x.from) c.is in
     let e' = ap (λ x. x.to) c.is in

@@ -35,7 +35,8 @@ found-push (x ∷ xs) y b = at (x == b) (found-push xs y b)
 
 -- one more of a head's imports is noted
 pub noted_all-next : (h : ℕ) (bs : List ℕ) (n : ℕ) (i : Import) (o : Option ℕ) → n < length bs
-    → option_or (option_or o (noted_all h (take n bs) i)) (noted (record { head = h; binder = get_or bs n 0 }) n i) ≡ option_or o (noted_all h (take (n + 1) bs) i)
+    → option_or (option_or o (noted_all h (take n bs) i)) (noted (record { head = h; binder = get_or bs n 0 }) n i) ≡
+    option_or o (noted_all h (take (n + 1) bs) i)
 noted_all-next h bs n i o l =
     assoc o (noted_all h (take n bs) i) (noted (record { head = h; binder = get_or bs n 0 }) n i)
     ∙ ap (option_or o) (at (h == i.head) ∙ ap (λ z. noted_all h z i) (sym (take_more bs n 0 l)))
@@ -119,7 +120,8 @@ found_slot (x ∷ xs) b = at (x == b) (found_slot xs b)
     more None n m h = omega (arith, h)
     more (Some k) n m h = omega (arith, h)
 
-    at : (t : Bool) → unwrap_or (found xs b) (length xs) ≡ slot_of xs b → unwrap_or (if t then Some 0 else behind (found xs b)) (suc (length xs)) ≡ (if t then 0 else slot_of xs b + 1)
+    at : (t : Bool) → unwrap_or (found xs b) (length xs) ≡ slot_of xs b →
+        unwrap_or (if t then Some 0 else behind (found xs b)) (suc (length xs)) ≡ (if t then 0 else slot_of xs b + 1)
     at true h = refl
     at false h = more (found xs b) (length xs) (slot_of xs b) h
 

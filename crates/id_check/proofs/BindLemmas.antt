@@ -102,19 +102,23 @@ module _ (R : List Row) (s b x : ℕ) (bs : List (Option Bound)) (o : Option ℕ
     newly-looked i = ap (λ q. newly R s b bs q i) is ∙ ap (λ q. if is_free q && looked i then Some b else None) free
 
     pub newly-given : (k i : ℕ) → sought (at R s).node x ≡ Some k → newly R s b bs o i ≡ given R s k b i
-    newly-given k i e = newly-looked i ∙ ap (λ t. if t then Some b else None) (key_is (at R s).node (at R i).node x k (around R s i) (sees_own (at R i).node || held R i s) e)
+    newly-given k i e = newly-looked i ∙ ap (λ t. if t then Some b else None)
+        (key_is (at R s).node (at R i).node x k (around R s i) (sees_own (at R i).node || held R i s) e)
 
     pub newly-free : (i : ℕ) (p : Option ℕ) → sought (at R s).node x ≡ None → p ≡ option_or p (newly R s b bs o i)
     newly-free i p e =
         sym (or_none p (newly R s b bs o i) (newly-looked i
-        ∙ ap (λ t. if t then Some b else None) (key_none (at R s).node (at R i).node x (around R s i) (sees_own (at R i).node || held R i s) (is_name x (used_name (at R i).node)) e)))
+        ∙ ap (λ t. if t then Some b else None) (key_none (at R s).node (at R i).node x (around R s i) (sees_own (at R i).node || held R i s)
+        (is_name x (used_name (at R i).node)) e)))
 
     pub bound_more : x < length bs → (y : ℕ) → y < length bs
-        → in_scope s (get_or (set bs x (Some (record { scope = s; binder = b }))) y None) ≡ option_or (in_scope s (get_or bs y None)) (if is_name y o then Some b else None)
+        → in_scope s (get_or (set bs x (Some (record { scope = s; binder = b }))) y None) ≡
+        option_or (in_scope s (get_or bs y None)) (if is_name y o then Some b else None)
     bound_more less y c = by (cases_eq y x)
       where
         by : (y ≡ x) ⊎ (y ≢ x)
-            → in_scope s (get_or (set bs x (Some (record { scope = s; binder = b }))) y None) ≡ option_or (in_scope s (get_or bs y None)) (if is_name y o then Some b else None)
+            → in_scope s (get_or (set bs x (Some (record { scope = s; binder = b }))) y None) ≡
+            option_or (in_scope s (get_or bs y None)) (if is_name y o then Some b else None)
         by (inl e) =
             ap (λ k. in_scope s (get_or (set bs x (Some (record { scope = s; binder = b }))) k None)) e
             ∙ (ap (in_scope s) (get_or-set_same bs x (Some (record { scope = s; binder = b })) None less)

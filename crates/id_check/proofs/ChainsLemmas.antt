@@ -33,7 +33,8 @@ found_from l m i k (inl h) t = record { is_end = t; kind = kind_end l i k h.1 t 
 found_from l m i k (inr h) t = h
 
 -- a chain that stays in a list does not end
-closed_endless : (l : ℕ → Link) (ps : List ℕ) → ((p : ℕ) → Among p ps → (j : ℕ) × (l p ≡ To j) × Among j ps) → (i : ℕ) (o : Option Kind) → EndsIn l i o → Among i ps → ⊥
+closed_endless : (l : ℕ → Link) (ps : List ℕ) → ((p : ℕ) → Among p ps → (j : ℕ) × (l p ≡ To j) × Among j ps) → (i : ℕ) (o : Option Kind) → EndsIn l i o →
+    Among i ps → ⊥
 closed_endless l ps h i _ (in_kind k e) a = let w = h i a in let d : Fixed k ≡ To w.0 = sym e ∙ w.1 in cc
 closed_endless l ps h i _ (in_nothing e) a = let w = h i a in let d : Nowhere ≡ To w.0 = sym e ∙ w.1 in cc
 closed_endless l ps h i o (further j e g) a =
@@ -45,7 +46,8 @@ or_same j q ps a (inl h) = h
 or_same j q ps a (inr e) = subst (λ z. Among z ps) (sym e) a
 
 -- the link that a chain comes to gives the row there its kind
-pub met : (l : ℕ → Link) (n m : ℕ) (ps : List ℕ) (q : ℕ) (ks : List Link) → IsPassing l n m ps q ks → IsEnd (get_or ks q Nowhere) → IsFound l q (get_or ks q Nowhere)
+pub met : (l : ℕ → Link) (n m : ℕ) (ps : List ℕ) (q : ℕ) (ks : List Link) → IsPassing l n m ps q ks → IsEnd (get_or ks q Nowhere) →
+    IsFound l q (get_or ks q Nowhere)
 met l n m ps q ks h t = at (h.states q h.next)
   where
     at : IsState l m q (get_or ks q Nowhere) ⊎ (Among q ps × (get_or ks q Nowhere ≡ Fixed Int)) → IsFound l q (get_or ks q Nowhere)
@@ -82,7 +84,10 @@ passing_step l n m ps q j ks h e less = record {
         → IsState l m i (get_or (set ks q (Fixed Int)) i Nowhere) ⊎ (Among i (ps ++ q ∷ []) × (get_or (set ks q (Fixed Int)) i Nowhere ≡ Fixed Int))
     state i (inl c) s =
         let low : q < length ks = subst (λ z. q < z) (sym h.long) h.next in
-        inr (subst (λ z. Among z (ps ++ q ∷ [])) (sym c) mine, ap (λ z. get_or (set ks q (Fixed Int)) z Nowhere) c ∙ get_or-set_same ks q (Fixed Int) Nowhere low)
+        inr (
+          subst (λ z. Among z (ps ++ q ∷ [])) (sym c) mine,
+          ap (λ z. get_or (set ks q (Fixed Int)) z Nowhere) c ∙ get_or-set_same ks q (Fixed Int) Nowhere low,
+        )
     state i (inr c) (inl s) = inl (subst (IsState l m i) (sym (get_or-set_other ks q i (Fixed Int) Nowhere c)) s)
     state i (inr c) (inr s) = inr (Among-left i ps (q ∷ []) s.0, get_or-set_other ks q i (Fixed Int) Nowhere c ∙ s.1)
 
@@ -91,7 +96,12 @@ passing_step l n m ps q j ks h e less = record {
     lead p (inr a) = subst (λ z. (z < n) × Leads l z j) (sym (Among-one p q a)) (h.next, lead_one l q j on)
 
     close : (p : ℕ) → Among p ps ⊎ Among p (q ∷ []) → (k : ℕ) × (l p ≡ To k) × (Among k (ps ++ q ∷ []) ⊎ (k ≡ j))
-    close p (inl a) = let w = h.closed p a in (w.0, w.1, inl (or_same w.0 q (ps ++ q ∷ []) mine (elim w.2 [ inl b ↦ inl (Among-left w.0 ps (q ∷ []) b) | inr c ↦ inr c ])))
+    close p (inl a) = let w = h.closed p a in (
+      w.0,
+      w.1,
+      inl
+          (or_same w.0 q (ps ++ q ∷ []) mine (elim w.2 [ inl b ↦ inl (Among-left w.0 ps (q ∷ []) b) | inr c ↦ inr c ])),
+    )
     close p (inr a) = (j, ap l (Among-one p q a) ∙ on, inr refl)
 
     begin : (m ≡ q) ⊎ Among m ps → (m ≡ j) ⊎ Among m (ps ++ q ∷ [])
@@ -110,7 +120,8 @@ passing_start l n m ks less h = record {
 }
 
 -- the rows that were passed are to have the link that was met
-pub filling_start : (l : ℕ → Link) (n m : ℕ) (ps : List ℕ) (q : ℕ) (ks : List Link) → IsPassing l n m ps q ks → IsEnd (get_or ks q Nowhere) → IsFilling l n (m + 1) ps (get_or ks q Nowhere) ks
+pub filling_start : (l : ℕ → Link) (n m : ℕ) (ps : List ℕ) (q : ℕ) (ks : List Link) → IsPassing l n m ps q ks → IsEnd (get_or ks q Nowhere) →
+    IsFilling l n (m + 1) ps (get_or ks q Nowhere) ks
 filling_start l n m ps q ks h t = record {
   long = h.long;
   states = λ i b. state i (cases_eq i m) (h.states i b);
@@ -124,13 +135,15 @@ filling_start l n m ps q ks h t = record {
     begin i e (inl c) = inl (inr (subst (λ z. IsFound l z (get_or ks z Nowhere)) (sym (e ∙ c)) it))
     begin i e (inr a) = inr (subst (λ z. Among z ps) (sym e) a)
 
-    state : (i : ℕ) → (i ≡ m) ⊎ (i ≢ m) → IsState l m i (get_or ks i Nowhere) ⊎ (Among i ps × (get_or ks i Nowhere ≡ Fixed Int)) → IsState l (m + 1) i (get_or ks i Nowhere) ⊎ Among i ps
+    state : (i : ℕ) → (i ≡ m) ⊎ (i ≢ m) → IsState l m i (get_or ks i Nowhere) ⊎ (Among i ps × (get_or ks i Nowhere ≡ Fixed Int)) →
+        IsState l (m + 1) i (get_or ks i Nowhere) ⊎ Among i ps
     state i (inl c) s = begin i c h.start
     state i (inr c) (inl (inl s)) = let low = s.0 in inl (inl (omega arith, s.1))
     state i (inr c) (inl (inr s)) = inl (inr s)
     state i (inr c) (inr s) = inr s.0
 
-pub filling_step : (l : ℕ → Link) (n m : ℕ) (ps qs : List ℕ) (p : ℕ) (k : Link) (ks : List Link) → p < length ks → ps ≡ qs ++ p ∷ [] → IsFilling l n m ps k ks → IsFilling l n m qs k (set ks p k)
+pub filling_step : (l : ℕ → Link) (n m : ℕ) (ps qs : List ℕ) (p : ℕ) (k : Link) (ks : List Link) → p < length ks → ps ≡ qs ++ p ∷ [] →
+    IsFilling l n m ps k ks → IsFilling l n m qs k (set ks p k)
 filling_step l n m ps qs p k ks less e h = record {
   long = length-set ks p k ∙ h.long;
   states = λ i b. state i (cases_eq i p) (h.states i b);
@@ -138,7 +151,8 @@ filling_step l n m ps qs p k ks less e h = record {
 }
   where
     state : (i : ℕ) → (i ≡ p) ⊎ (i ≢ p) → IsState l m i (get_or ks i Nowhere) ⊎ Among i ps → IsState l m i (get_or (set ks p k) i Nowhere) ⊎ Among i qs
-    state i (inl c) s = inl (inr (subst (λ z. IsFound l z (get_or (set ks p k) z Nowhere)) (sym c) (subst (IsFound l p) (sym (get_or-set_same ks p k Nowhere less)) (h.found p (subst (Among p) (sym e) (Among-right p qs (p ∷ []) (inl refl)))))))
+    state i (inl c) s = inl (inr (subst (λ z. IsFound l z (get_or (set ks p k) z Nowhere)) (sym c)
+        (subst (IsFound l p) (sym (get_or-set_same ks p k Nowhere less)) (h.found p (subst (Among p) (sym e) (Among-right p qs (p ∷ []) (inl refl)))))))
     state i (inr c) (inl s) = inl (subst (IsState l m i) (sym (get_or-set_other ks p i k Nowhere c)) s)
     state i (inr c) (inr a) = elim (Among-either i qs (p ∷ []) (subst (Among i) e a)) [ inl b ↦ inr b | inr b ↦ absurd (c (Among-one i p b)) ]
 

@@ -33,7 +33,8 @@ counts_call R i e c cs is less h = subst (λ n. AreCounts R n (set cs e (option_
   each = λ f l. one f l (cases_eq f e);
 })
   where
-    one : (f : ℕ) → f < length R → (f ≡ e) ⊎ (f ≢ e) → get_or (set cs e (option_or (get_or cs e None) (Some c))) f None ≡ option_or (count_at R i f) (count_in f (at R i).node)
+    one : (f : ℕ) → f < length R → (f ≡ e) ⊎ (f ≢ e) → get_or (set cs e (option_or (get_or cs e None) (Some c))) f None ≡
+        option_or (count_at R i f) (count_in f (at R i).node)
     one f l (inl q) =
         ap (λ k. get_or (set cs e (option_or (get_or cs e None) (Some c))) k None) q
         ∙ get_or-set_same cs e (option_or (get_or cs e None) (Some c)) None (subst (λ n. e < n) (sym h.long) less)

@@ -35,7 +35,11 @@ IsFirst-stays c d cs h f = record {
 pub IsFirst-turns : (c d : CheckCause) (cs : List CheckCause) → (IsBefore c d → ⊥) → IsFirst c cs → IsFirst d (cs ++ d ∷ [])
 IsFirst-turns c d cs h f = record {
   among = Among-right d cs (d ∷ []) (inl refl);
-  before = λ e i. elim (Among-either e cs (d ∷ []) i) [ inl j ↦ IsBefore-others c d e h (f.before e j) | inr j ↦ subst (IsBefore d) (sym (Among-one e d j)) (IsBefore-refl d) ];
+  before = λ e i. elim (Among-either e cs (d ∷ []) i) [
+    | inl j ↦ IsBefore-others c d e h (f.before e j)
+    | inr j ↦ subst (IsBefore d) (sym (Among-one e d j))
+        (IsBefore-refl d)
+  ];
 }
 
 -- causes are noted after others
@@ -45,7 +49,11 @@ Notes-append a b c cs ds g h = λ es i. subst (IsFirstOf c) (append_assoc es cs 
 -- the first of some causes and the first of others is the first of all
 pub IsFirst-all : (f d : CheckCause) (cs ds : List CheckCause) → IsFirst d ds → IsFirst f (cs ++ d ∷ []) → IsFirst f (cs ++ ds)
 IsFirst-all f d cs ds h g = record {
-  among = elim (Among-either f cs (d ∷ []) g.among) [ inl i ↦ Among-left f cs ds i | inr i ↦ Among-right f cs ds (subst (λ e. Among e ds) (sym (Among-one f d i)) h.among) ];
+  among = elim (Among-either f cs (d ∷ []) g.among) [
+    | inl i ↦ Among-left f cs ds i
+    | inr i ↦ Among-right f cs ds
+        (subst (λ e. Among e ds) (sym (Among-one f d i)) h.among)
+  ];
   before = λ e i. elim (Among-either e cs ds i) [
     | inl j ↦ g.before e (Among-left e cs (d ∷ []) j)
     | inr j ↦ IsBefore-through f d e (g.before d (Among-right d cs (d ∷ []) (inl refl))) (h.before e j)

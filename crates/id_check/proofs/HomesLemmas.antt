@@ -267,7 +267,12 @@ module _ (R : List Row) (t : IsTable R) where
   statement_home : (s b i y a : ℕ) → s < length R → has_statements (at R s).node ≡ true → (at R b).node ≡ Binding y a → around R s b ≡ true → held R b s ≡ false
       → s + 1 < length R → around R s i ≡ true → Lies R (home R b) (at R i).region
   statement_home s b i y a less e f inside bare inner round =
-      let w = t.statement_stands s b less (record { block = e; statement = ap is_statement f; inside = inside; right = sym (held_binding R b s y a f) ∙ bare }) in
+      let w = t.statement_stands s b less (record {
+        block = e;
+        statement = ap is_statement f;
+        inside = inside;
+        right = sym (held_binding R b s y a f) ∙ bare;
+      }) in
       subst (λ r. Lies R r (at R i).region) (sym (w.1) ∙ sym (ap (home_in (at R b).block (at R b).region) f)) (t.inside s i inner round)
 
   pub bound_home : (s b i x : ℕ) → s + 1 < length R → looks (at R s).node (Name 0) ≡ true → takes (at R s).node (at R b).node ≡ true

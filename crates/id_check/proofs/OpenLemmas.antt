@@ -29,7 +29,8 @@ open_kept R s k hs ps row h fit behind o = record {
   order = λ i j c d.
       let e : j < k = subst (λ n. j < n) long d in
       let f : i < k = omega arith in
-      subst (λ z. z < get_or (take k ps) j 0) (sym (get_or-take k ps i 0 f)) (subst (λ z. get_or ps i 0 < z) (sym (get_or-take k ps j 0 e)) (o.order i j c (omega arith)));
+      subst (λ z. z < get_or (take k ps) j 0) (sym (get_or-take k ps i 0 f))
+      (subst (λ z. get_or ps i 0 < z) (sym (get_or-take k ps j 0 e)) (o.order i j c (omega arith)));
   all = λ b c d e. let w = o.all b c d (held_before R b s e) in one b c e w.0 w.1 w.2 (cases_lt w.0 k);
 }
   where

@@ -1,5 +1,6 @@
 -- The parameters of a definition are the rows right behind its head.
-use Rattle.std.proofs.Common.{◌≡◌, inl, inr, ◌+◌, ◌-◌, ◌<◌, ◌≤◌, ℕ, zero, suc, Bool as Truth, true, false, List, [], ◌∷◌, ◌++◌, Option, Some, None, length, refl, ap, sym, ◌∙◌, subst, arith}
+use Rattle.std.proofs.Common.{◌≡◌, inl, inr, ◌+◌, ◌-◌, ◌<◌, ◌≤◌, ℕ, zero, suc, Bool as Truth, true, false, List, []}
+use Rattle.std.proofs.Common.{◌∷◌, ◌++◌, Option, Some, None, length, refl, ap, sym, ◌∙◌, subst, arith}
 use Rattle.std.specs.Prelude.{◌&&◌, nat_eq, nat_lt, if◌then◌else◌}
 use Rattle.std.proofs.lemmas.Bool.{false≢true, ltb-true, lt-ltb, eqb-true, cases_lt}
 use Rattle.std.proofs.lemmas.Bool.Decides.{Decides-eqb}
@@ -77,7 +78,8 @@ array_param-none : (R : List Row) (ps qs : List ℕ) → array_param R ps ≡ []
 array_param-none R [] qs e = refl
 array_param-none R (x ∷ xs) qs e = by (is_array_param (at R x).node) e (array_param-none R xs qs)
   where
-    by : (t : Truth) → (if t then (MainKind (at R x).place ∷ []) else array_param R xs) ≡ [] → (array_param R xs ≡ [] → array_param R (xs ++ qs) ≡ array_param R qs)
+    by : (t : Truth) → (if t then (MainKind (at R x).place ∷ []) else array_param R xs) ≡ [] →
+        (array_param R xs ≡ [] → array_param R (xs ++ qs) ≡ array_param R qs)
         → (if t then (MainKind (at R x).place ∷ []) else array_param R (xs ++ qs)) ≡ array_param R qs
     by true f h = cc
     by false f h = h f
@@ -87,7 +89,8 @@ array_param-some : (R : List Row) (ps qs : List ℕ) (c : CheckCause) → array_
 array_param-some R [] qs c e = cc
 array_param-some R (x ∷ xs) qs c e = by (is_array_param (at R x).node) e (array_param-some R xs qs c)
   where
-    by : (t : Truth) → (if t then (MainKind (at R x).place ∷ []) else array_param R xs) ≡ c ∷ [] → (array_param R xs ≡ c ∷ [] → array_param R (xs ++ qs) ≡ c ∷ [])
+    by : (t : Truth) → (if t then (MainKind (at R x).place ∷ []) else array_param R xs) ≡ c ∷ [] →
+        (array_param R xs ≡ c ∷ [] → array_param R (xs ++ qs) ≡ c ∷ [])
         → (if t then (MainKind (at R x).place ∷ []) else array_param R (xs ++ qs)) ≡ c ∷ []
     by true f h = f
     by false f h = h f

@@ -123,7 +123,8 @@ below_nil R β κ (suc n) i e less =
 none_in : (P : Checked) (i : ℕ) (n : Node) → Stands P i n → causes_in (rows P) (kind P) (binder P (user_of i n)) (at (rows P) i).place n ≡ []
 none_in P i n h =
     subst (λ z. causes_in (rows P) (kind P) (binder P (user_of i z)) (at (rows P) i).place z ≡ []) h.node
-    (below_nil (rows P) (binder P) (kind P) (length (rows P)) i (both_nil (duplicates (rows P) (length (rows P))) (causes_below (rows P) (binder P) (kind P) (length (rows P))) P.accepted).1 h.within)
+    (below_nil (rows P) (binder P) (kind P) (length (rows P)) i
+    (both_nil (duplicates (rows P) (length (rows P))) (causes_below (rows P) (binder P) (kind P) (length (rows P))) P.accepted).1 h.within)
 
 -- ---- names
 
@@ -254,7 +255,8 @@ bound_at P i x b j s n h u e w round other =
       within = binder_below P i b h.within e;
       is_binder = taken_binder (at (rows P) s).node (at (rows P) b).node x look w.taken w.name;
       name = w.name;
-      stands = bound_home (rows P) (table_of P) s b j x (not_last (rows P) (table_of P) (λ m. looks m (Name 0)) refl s w.within look) look w.taken w.name w.inside w.bare round other;
+      stands = bound_home (rows P) (table_of P) s b j x (not_last (rows P) (table_of P) (λ m. looks m (Name 0)) refl s w.within look) look w.taken w.name
+          w.inside w.bare round other;
     }
 
 has_binder : (P : Checked) (i : ℕ) (n : Node) → Stands P i n
@@ -279,7 +281,8 @@ bound_use_row P o x h =
     let e = has_binder P o (NextUse x) h refl in
     let w = seen_in P o x e.0 (NextUse x) h refl e.1 in
     let l = (table_of P).loop_of o h.within (ap is_in_loop h.node) in
-    let s = seen_outside (rows P) (table_of P) o x l.0 w.0 h.node (not_last (rows P) (table_of P) is_in_loop refl o h.within (ap is_in_loop h.node)) l.1 l.2 (w.1).within (w.1).round
+    let s = seen_outside (rows P) (table_of P) o x l.0 w.0 h.node (not_last (rows P) (table_of P) is_in_loop refl o h.within (ap is_in_loop h.node)) l.1 l.2
+    (w.1).within (w.1).round
     (subst (λ m. (sees_own m || held (rows P) o w.0) ≡ true) h.node (w.1).out) in
     (e.0, l.0, l.1, bound_at P o x e.0 l.0 w.0 (NextUse x) h refl e.1 w.1 s (λ f. absurd (false≢true (sym (ap is_expression f) ∙ ap is_expression (l.1).node))))
 
@@ -350,11 +353,13 @@ valued_binder n e = or_right (is_expression n) (is_binder n || (is_def n || is_n
 
 valued_def : (n : Node) → is_def n ≡ true → IsValued n
 valued_def n e =
-    or_right (is_expression n) (is_binder n || (is_def n || is_next_use n)) (or_right (is_binder n) (is_def n || is_next_use n) (or_left (is_def n) (is_next_use n) e))
+    or_right (is_expression n) (is_binder n || (is_def n || is_next_use n))
+    (or_right (is_binder n) (is_def n || is_next_use n) (or_left (is_def n) (is_next_use n) e))
 
 valued_use : (n : Node) → is_next_use n ≡ true → IsValued n
 valued_use n e =
-    or_right (is_expression n) (is_binder n || (is_def n || is_next_use n)) (or_right (is_binder n) (is_def n || is_next_use n) (or_right (is_def n) (is_next_use n) e))
+    or_right (is_expression n) (is_binder n || (is_def n || is_next_use n))
+    (or_right (is_binder n) (is_def n || is_next_use n) (or_right (is_def n) (is_next_use n) e))
 
 to_same : (a b : ℕ) → To a ≡ To b → a ≡ b
 to_same a b e = cc
@@ -702,7 +707,8 @@ callee_head P e d h w = ap (callee (rows P)) w.binder ∙ ap head_in w.definitio
 pub call_row : (P : Checked) (i e c d h : ℕ) → Stands P i (Call e c) → (w : Calls P e d h)
     → (c ≡ length (params_at (rows P) h)) × (kind P i ≡ Some w.result)
 call_row P i e c d h s w = (
-  equal_count (rows P) h c (at (rows P) i).place (sym (ap (λ o. wrong_count (rows P) o c (at (rows P) i).place) (callee_head P e d h w)) ∙ none_in P i (Call e c) s),
+  equal_count (rows P) h c (at (rows P) i).place (sym (ap (λ o. wrong_count (rows P) o c (at (rows P) i).place) (callee_head P e d h w)) ∙
+      none_in P i (Call e c) s),
   kind_along P i d (Call e c) s (ap link_of_name w.binder) ∙ kind_fixed P d (Def w.name h w.result w.body) w.result w.definition refl,
 )
 
@@ -755,7 +761,8 @@ argument_row P m e k v d h s w = (param, same)
 
 def_none : (P : Checked) (i x d b : ℕ) (k : Kind) → Stands P i (Def x d k b)
     → (wrong (rows P) (kind P) k b ≡ []) × (wrong_params (rows P) x (at (rows P) i).place (params_at (rows P) d) ≡ [])
-def_none P i x d b k h = both_nil (wrong (rows P) (kind P) k b) (wrong_params (rows P) x (at (rows P) i).place (params_at (rows P) d)) (none_in P i (Def x d k b) h)
+def_none P i x d b k h = both_nil (wrong (rows P) (kind P) k b) (wrong_params (rows P) x (at (rows P) i).place (params_at (rows P) d))
+    (none_in P i (Def x d k b) h)
 
 -- the body of a definition has the kind of its result
 pub def_row : (P : Checked) (i x d b : ℕ) (k : Kind) → Stands P i (Def x d k b) → kind P b ≡ Some k
@@ -776,13 +783,15 @@ no_array R (x ∷ xs) p e a = by (is_array_param (at R x).node) refl e a (no_arr
 pub main_row : (P : Checked) (i d b p : ℕ) (k : Kind) → Stands P i (Def 0 d k b) → Among p (params_at (rows P) d) → is_array_param (at (rows P) p).node ≡ false
 main_row P i d b p k h a =
     no_array (rows P) (params_at (rows P) d) p
-    (both_nil (array_param (rows P) (params_at (rows P) d)) (if nat_lt 16 (length (params_at (rows P) d)) then (TooManyParams (at (rows P) i).place ∷ []) else []) (def_none P i 0 d b k h).1).0 a
+    (both_nil (array_param (rows P) (params_at (rows P) d))
+    (if nat_lt 16 (length (params_at (rows P) d)) then (TooManyParams (at (rows P) i).place ∷ []) else []) (def_none P i 0 d b k h).1).0 a
 
 -- a definition has at most 16 parameters
 pub few_params : (P : Checked) (i x d b : ℕ) (k : Kind) → Stands P i (Def x d k b) → length (params_at (rows P) d) ≤ 16
 few_params P i x d b k h =
     by (nat_lt 16 (length (params_at (rows P) d))) refl
-    (both_nil (if nat_eq x 0 then array_param (rows P) (params_at (rows P) d) else []) (if nat_lt 16 (length (params_at (rows P) d)) then (TooManyParams (at (rows P) i).place ∷ []) else []) (def_none P i x d b k h).1).1
+    (both_nil (if nat_eq x 0 then array_param (rows P) (params_at (rows P) d) else [])
+    (if nat_lt 16 (length (params_at (rows P) d)) then (TooManyParams (at (rows P) i).place ∷ []) else []) (def_none P i x d b k h).1).1
   where
     by : (t : Truth) → nat_lt 16 (length (params_at (rows P) d)) ≡ t → (if t then (TooManyParams (at (rows P) i).place ∷ []) else []) ≡ []
         → length (params_at (rows P) d) ≤ 16

@@ -140,7 +140,8 @@ implied true true r h e = e
 implied true false r h e = refl
 
 pub confines_none : (R : List Row) (s b : ℕ) → keeps R s b ≡ false → confines R s b ≡ false
-confines_none R s b e = implied (takes (at R s).node (at R b).node) (closes (at R s).node (at R b).node) (around R s b) (closes-none (at R s).node (at R b).node) e
+confines_none R s b e = implied (takes (at R s).node (at R b).node) (closes (at R s).node (at R b).node) (around R s b)
+    (closes-none (at R s).node (at R b).node) e
 
 pub confines_is : (R : List Row) (s b : ℕ) → (at R s).first ≤ b → b < s → confines R s b ≡ closes (at R s).node (at R b).node
 confines_is R s b g h = around_is (closes (at R s).node (at R b).node) (at R s).first b s g h
@@ -229,7 +230,8 @@ binder_at-none R n i h = by (used_name (at R i).node)
     none x zero k = refl
     none x (suc m) k =
         let out : sees R m i ≡ false = unseen (looks (at R m).node (at R i).node) (sees_own (at R i).node || held R i m) (at R m).first i m (omega arith) in
-        or_none (binder_of R x i m) (if sees R m i then binder_in R m x m else None) (ap (λ t. if t then binder_in R m x m else None) out) ∙ none x m (omega arith)
+        or_none (binder_of R x i m) (if sees R m i then binder_in R m x m else None) (ap (λ t. if t then binder_in R m x m else None) out) ∙
+        none x m (omega arith)
 
     by : (o : Option ℕ) → binder_by R i o n ≡ None
     by None = refl

@@ -292,20 +292,22 @@ causes_in_standing R β κ i c t less a = by (at R i).node refl a
     by (Store x y) e b = wrong_standing R κ Int y c (thing y (Store x y) e refl) b
     by (Def x d k y) e b = elim (Among-either c (wrong R κ k y) (wrong_params R x (at R i).place (params_at R d)) b) [
       | inl g ↦ wrong_standing R κ k y c (thing y (Def x d k y) e refl) g
-      | inr g ↦ elim (Among-either c (if nat_eq x 0 then array_param R (params_at R d) else []) (if nat_lt 16 (length (params_at R d)) then (TooManyParams (at R i).place ∷ []) else []) g) [
-        | inl j ↦ main (nat_eq x 0) d j
-        | inr j ↦ many (nat_lt 16 (length (params_at R d))) (ap is_thing e) j
-      ]
+      | inr g ↦ elim (Among-either c (if nat_eq x 0 then array_param R (params_at R d) else [])
+          (if nat_lt 16 (length (params_at R d)) then (TooManyParams (at R i).place ∷ []) else []) g) [
+            | inl j ↦ main (nat_eq x 0) d j
+            | inr j ↦ many (nat_lt 16 (length (params_at R d))) (ap is_thing e) j
+          ]
     ]
     by _ e b = absurd b
 
 below_standing : (R : List Row) (β : ℕ → Option ℕ) (κ : ℕ → Option Kind) (n : ℕ) (c : CheckCause) → IsTable R → n ≤ length R
     → Among c (causes_below R β κ n) → IsStanding R c
 below_standing R β κ zero c f less a = absurd a
-below_standing R β κ (suc n) c f less a = elim (Among-either c (causes_below R β κ n) (causes_in R κ (β (user_of n (at R n).node)) (at R n).place (at R n).node) a) [
-  | inl b ↦ below_standing R β κ n c f (omega arith) b
-  | inr b ↦ causes_in_standing R β κ n c f (omega arith) b
-]
+below_standing R β κ (suc n) c f less a = elim (Among-either c (causes_below R β κ n)
+    (causes_in R κ (β (user_of n (at R n).node)) (at R n).place (at R n).node) a) [
+      | inl b ↦ below_standing R β κ n c f (omega arith) b
+      | inr b ↦ causes_in_standing R β κ n c f (omega arith) b
+    ]
 
 -- a cause in a program is at the places of things
 pub causes_standing : (R : List Row) (β : ℕ → Option ℕ) (κ : ℕ → Option Kind) (c : CheckCause) → IsTable R → Among c (causes R β κ) → IsStanding R c

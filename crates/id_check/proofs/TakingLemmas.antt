@@ -67,7 +67,11 @@ pub taking_shut : (R : List Row) (s b : ℕ) (bs : List (Option Bound)) (os : Li
 taking_shut R s b bs os u h = record {
   bound = record { each = λ x c. h.bound.each x c ∙ binder_in-shut R s x b (u x) };
   later = h.later;
-  binders = record { long = h.binders.long; each = λ i c. h.binders.each i c ∙ ap (option_or (binder_at R s i)) (sym (seen-shut R s b i (used_name (at R i).node) u)) };
+  binders = record {
+    long = h.binders.long;
+    each = λ i c. h.binders.each i c ∙
+        ap (option_or (binder_at R s i)) (sym (seen-shut R s b i (used_name (at R i).node) u));
+  };
 }
 
 -- the rows from n up to m are not taken
@@ -142,7 +146,8 @@ pub shut_next : (R : List Row) (s k : ℕ) (ps : List ℕ) → IsOpen R s s ps �
     → (get_or ps k 0 + 1 ≤ get_or ps (k + 1) s) × ((a : ℕ) → get_or ps k 0 + 1 ≤ a → a < get_or ps (k + 1) s → IsShut R s a)
 shut_next R s k ps o less = (
   next (cases_lt (k + 1) (length ps)),
-  λ a d e. let end = within ps s (k + 1) o.below in shut_between R s (k + 1) a ps o (omega arith) (λ j f g. let h = before ps o.order j k f less in omega arith) e,
+  λ a d e. let end = within ps s (k + 1) o.below in shut_between R s (k + 1) a ps o (omega arith)
+      (λ j f g. let h = before ps o.order j k f less in omega arith) e,
 )
   where
     next : (k + 1 < length ps) ⊎ (length ps ≤ k + 1) → get_or ps k 0 + 1 ≤ get_or ps (k + 1) s
@@ -191,8 +196,10 @@ seen_more R s b x i bs p is bare bound noted (Some y) e = one (cases_eq y x)
         ≡ option_or p (if sees R s i then option_or (binder_in R s y b) (if g then Some b else None) else None)
         → option_or (option_or p (seen R s b i (Some y))) (newly R s b bs (Some x) i) ≡ option_or p (seen R s (suc b) i (Some y))
     both f g d k q =
-        ap (λ o. option_or (option_or p (if sees R s i then binder_in R s y b else None)) (if is_free o && (sees R s i && is_name x (used_name (at R i).node)) then Some b else None)) noted
-        ∙ ap (λ t. option_or (option_or p (if sees R s i then binder_in R s y b else None)) (if is_free (binder_in R s x b) && (sees R s i && t) then Some b else None))
+        ap (λ o. option_or (option_or p (if sees R s i then binder_in R s y b else None))
+        (if is_free o && (sees R s i && is_name x (used_name (at R i).node)) then Some b else None)) noted
+        ∙ ap (λ t. option_or (option_or p (if sees R s i then binder_in R s y b else None))
+        (if is_free (binder_in R s x b) && (sees R s i && t) then Some b else None))
         (ap (is_name x) e ∙ d)
         ∙ q
         ∙ ap (λ t. option_or p (if sees R s i then option_or (binder_in R s y b) (if t then Some b else None) else None)) (sym (bind y ∙ k))
@@ -223,7 +230,8 @@ seen_more R s b x i bs p is bare bound noted (Some y) e = one (cases_eq y x)
         let same = ap (λ z. is_name x (Some z)) d ∙ name_same x in
         let also = ap (λ z. is_name z (Some x)) d ∙ name_same x in
         both true true same also
-        (subst (λ z. option_or (option_or p (if sees R s i then binder_in R s y b else None)) (if is_free (binder_in R s z b) && (sees R s i && true) then Some b else None)
+        (subst (λ z. option_or (option_or p (if sees R s i then binder_in R s y b else None))
+        (if is_free (binder_in R s z b) && (sees R s i && true) then Some b else None)
         ≡ option_or p (if sees R s i then option_or (binder_in R s y b) (Some b) else None)) d (mine (sees R s i) p (binder_in R s y b)))
 
 newly-none : (R : List Row) (s b i : ℕ) (bs : List (Option Bound)) (o : Option ℕ) → o ≡ None → newly R s b bs o i ≡ None
@@ -233,7 +241,8 @@ newly-none R s b i bs (Some x) e = let d : Some x ≡ None = e in cc
 -- the scope takes the row b
 pub taking_open : (R : List Row) (s b m : ℕ) (bs cs : List (Option Bound)) (os qs : List (Option ℕ)) → b < length R → keeps R s b ≡ true → held R b s ≡ false
     → AreNames R m → length bs ≡ m → length cs ≡ length bs → IsTaking R s b bs os
-    → ((x : ℕ) → x < length bs → in_scope s (get_or cs x None) ≡ option_or (in_scope s (get_or bs x None)) (if is_name x (bound_name (at R b).node) then Some b else None))
+    → ((x : ℕ) → x < length bs → in_scope s (get_or cs x None) ≡
+    option_or (in_scope s (get_or bs x None)) (if is_name x (bound_name (at R b).node) then Some b else None))
     → ((x t : ℕ) → s < t → in_scope t (get_or bs x None) ≡ None → in_scope t (get_or cs x None) ≡ None)
     → length qs ≡ length R
     → ((i : ℕ) → i < length R → get_or qs i None ≡ option_or (get_or os i None) (newly R s b bs (bound_name (at R b).node) i))
@@ -246,7 +255,8 @@ taking_open R s b m bs cs os qs less is bare names size long h bound later size2
   later = λ x t c. later x t c (h.later x t c);
   binders = record {
     long = size2;
-    each = λ i c. binders i c ∙ (ap (λ o. option_or o (newly R s b bs (bound_name (at R b).node) i)) (h.binders.each i c) ∙ by i (bound_name (at R b).node) refl);
+    each = λ i c. binders i c ∙ (ap (λ o. option_or o (newly R s b bs (bound_name (at R b).node) i)) (h.binders.each i c) ∙
+        by i (bound_name (at R b).node) refl);
   };
 })
   where
@@ -254,14 +264,17 @@ taking_open R s b m bs cs os qs less is bare names size long h bound later size2
         → option_or (option_or (binder_at R s i) (seen R s b i (used_name (at R i).node))) (newly R s b bs (bound_name (at R b).node) i)
         ≡ option_or (binder_at R s i) (seen R s (suc b) i (used_name (at R i).node))
     by i None e =
-        or_none (option_or (binder_at R s i) (seen R s b i (used_name (at R i).node))) (newly R s b bs (bound_name (at R b).node) i) (newly-none R s b i bs (bound_name (at R b).node) e)
+        or_none (option_or (binder_at R s i) (seen R s b i (used_name (at R i).node))) (newly R s b bs (bound_name (at R b).node) i)
+        (newly-none R s b i bs (bound_name (at R b).node) e)
         ∙ ap (option_or (binder_at R s i)) (sym (seen-shut R s b i (used_name (at R i).node) (λ x. binds_open R s x b is bare ∙ ap (is_name x) e)))
     by i (Some x) e =
         ap (λ o. option_or (option_or (binder_at R s i) (seen R s b i (used_name (at R i).node))) (newly R s b bs o i)) e
-        ∙ seen_more R s b x i bs (binder_at R s i) is bare e (h.bound.each x (subst (λ k. x < k) (sym size) (names.bound b x less e))) (used_name (at R i).node) refl
+        ∙ seen_more R s b x i bs (binder_at R s i) is bare e (h.bound.each x (subst (λ k. x < k) (sym size) (names.bound b x less e)))
+        (used_name (at R i).node) refl
 
 -- the cause that is noted there
-pub again-second : (R : List Row) (s b : ℕ) (bs : List (Option Bound)) → keeps R s b ≡ true → held R b s ≡ false → ((x : ℕ) → bound_name (at R b).node ≡ Some x → x < length bs)
+pub again-second : (R : List Row) (s b : ℕ) (bs : List (Option Bound)) → keeps R s b ≡ true → held R b s ≡ false →
+    ((x : ℕ) → bound_name (at R b).node ≡ Some x → x < length bs)
     → IsBinding R s b bs → again R s b bs (bound_name (at R b).node) ≡ second R s b (bound_name (at R b).node)
 again-second R s b bs e f n h =
     second-open R s b (bound_name (at R b).node) (again R s b bs (bound_name (at R b).node)) refl e f
@@ -303,6 +316,7 @@ taken_gap R s n (suc m) hs less u h = by (cases_lt m n) (λ c. taken_gap R s n m
 pub taken_more : (R : List Row) (s b : ℕ) (hs : List Bool) → b < length R → confines R s b ≡ true → AreTaken R s b hs → AreTaken R s (suc b) (set hs b true)
 taken_more R s b hs less is h = record {
   long = length-set hs b true ∙ h.long;
-  done = λ i c d. fill_done false (λ k. held R k s || confines R s k) hs b (length R) true h.long less (sym (or_true (held R b s) (confines R s b) is)) h.done i (omega arith) d;
+  done = λ i c d. fill_done false (λ k. held R k s || confines R s k) hs b (length R) true h.long less (sym (or_true (held R b s) (confines R s b) is)) h.done
+      i (omega arith) d;
   rest = λ i c d. fill_rest false (λ k. held R k s) hs b (length R) true h.rest i (omega arith) d;
 }

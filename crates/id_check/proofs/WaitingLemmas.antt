@@ -109,7 +109,8 @@ not_true false h = refl
 
 -- the last use before a row that gets its binder is the same
 last_below : (R : List Row) (os : List (Option ℕ)) (b y u v : ℕ) → v ≤ u → last_of (is_waiting R os y) v ≡ last_of (is_waiting R (set os u (Some b)) y) v
-last_below R os b y u v c = last_of-same (is_waiting R os y) (is_waiting R (set os u (Some b)) y) v (λ k d. sym (waits_other R os (Some b) y u k (λ f. omega arith)))
+last_below R os b y u v c = last_of-same (is_waiting R os y) (is_waiting R (set os u (Some b)) y) v
+    (λ k d. sym (waits_other R os (Some b) y u k (λ f. omega arith)))
 
 -- and so is that of another name
 last_other : (R : List Row) (os : List (Option ℕ)) (b x y u v : ℕ) → u < length os → is_waiting R os x u ≡ true → y ≢ x
@@ -292,10 +293,12 @@ waiting_more R n m x os ls es fit less e free h = subst (λ k. AreWaiting R k m 
     last : (y : ℕ) → y < m → (y ≡ x) ⊎ (y ≢ x) → get_or (set ls x (Some n)) y None ≡ last_of (is_waiting R os y) (suc n)
     last y c (inl f) =
         let here : get_or (set ls x (Some n)) x None ≡ last_of (is_waiting R os x) (suc n) =
-        get_or-set_same ls x (Some n) None (subst (λ k. x < k) (sym h.long_last) less) ∙ sym (ap (λ t. if t then Some n else last_of (is_waiting R os x) n) it) in
+        get_or-set_same ls x (Some n) None (subst (λ k. x < k) (sym h.long_last) less) ∙
+        sym (ap (λ t. if t then Some n else last_of (is_waiting R os x) n) it) in
         subst (λ z. get_or (set ls x (Some n)) z None ≡ last_of (is_waiting R os z) (suc n)) (sym f) here
     last y c (inr f) =
-        get_or-set_other ls x y (Some n) None f ∙ (h.last y c ∙ sym (ap (λ t. if t then Some n else last_of (is_waiting R os y) n) (waits_once R os x y n it f)))
+        get_or-set_other ls x y (Some n) None f ∙ (h.last y c ∙
+        sym (ap (λ t. if t then Some n else last_of (is_waiting R os y) n) (waits_once R os x y n it f)))
 
     earlier : (y v : ℕ) → y < m → v < suc n → is_waiting R os y v ≡ true → (v ≡ n) ⊎ (v ≢ n)
         → get_or (set es n (get_or ls x None)) v None ≡ last_of (is_waiting R os y) v

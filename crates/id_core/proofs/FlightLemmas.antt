@@ -100,7 +100,8 @@ is_handled (Failed f) not = tt
 is_handled Apart not = absurd (not refl)
 
 -- what went well does not tell the end of stamps, whatever it came to
-pub ok_end : {A B P : Type 0} → (a : A) (b : B) → ◌≡◌ {A = Result A TakeError} (Ok a) (Err StampEnd) ↔ P → ◌≡◌ {A = Result B TakeError} (Ok b) (Err StampEnd) ↔ P
+pub ok_end : {A B P : Type 0} → (a : A) (b : B) → ◌≡◌ {A = Result A TakeError} (Ok a) (Err StampEnd) ↔ P →
+    ◌≡◌ {A = Result B TakeError} (Ok b) (Err StampEnd) ↔ P
 ok_end a b both = ((λ h. absurd (ok_err b h)), (λ p. absurd (ok_err a (both.1 p))))
   where
     ok_err : {C : Type 0} (x : C) → ◌≡◌ {A = Result C TakeError} (Ok x) (Err StampEnd) → ⊥

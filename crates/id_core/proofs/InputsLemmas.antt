@@ -34,7 +34,8 @@ input_messages-more k (n ∷ ns) (v ∷ vs) (suc i) d e lt within =
     let next : i + suc k ≡ suc i + k = omega arith in
     let rest = input_messages-more (suc k) ns vs i d e (omega (arith, lt)) (omega (arith, within)) in
     ap (λ j. input_messages k (take j (n ∷ ns)) (v ∷ vs)) longer
-    ∙ ap (λ ms. input_message k n (constant_value v) ∷ ms) (rest ∙ ap (λ j. input_messages (suc k) (take i ns) vs ++ input_message j (get_or ns i d) (constant_value (get_or vs i e)) ∷ []) next)
+    ∙ ap (λ ms. input_message k n (constant_value v) ∷ ms)
+    (rest ∙ ap (λ j. input_messages (suc k) (take i ns) vs ++ input_message j (get_or ns i d) (constant_value (get_or vs i e)) ∷ []) next)
 
 -- the same, for the message as it was made
 pub input_messages-add : (k : ℕ) (ns : List ℕ) (vs : List Constant) (i d : ℕ) (e : Constant) (v : Value) (m : Message) → i < length ns → length ns ≡ length vs

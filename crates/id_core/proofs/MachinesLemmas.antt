@@ -33,7 +33,9 @@ use Rattle.id_element.specs.Shorts.{IsHandled}
 use Rattle.id_element.specs.Replays.{ElementView}
 use Rattle.id_record.specs.Events.{EventView}
 use Rattle.id_record.specs.declared.step.Step.{Step}
-use Rattle.id_core.specs.Machines.{came_of, world_of, taken_from, given_to, routed_to, delivered, event_of_given, event_of_routed, event_at, start_message, input_messages, block_messages, AreTaken, IsElement, AreElements, IsMachine, MachineView}
+use Rattle.id_core.specs.Machines.{came_of, world_of, taken_from, given_to, routed_to, delivered, event_of_given}
+use Rattle.id_core.specs.Machines.{event_of_routed, event_at, start_message, input_messages, block_messages, AreTaken}
+use Rattle.id_core.specs.Machines.{IsElement, AreElements, IsMachine, MachineView}
 use Rattle.id_observe.specs.Observed.{main_tag}
 use Rattle.id_element.proofs.SentLemmas.{kind_at_op}
 use Rattle.id_core.proofs.InputsLemmas.{inputs_fit}
@@ -44,7 +46,8 @@ All-from_map P f xs all k d within =
     subst P (get_or-map f xs k d (f d) within) (all k (f d) (omega (arith, length-map xs f)))
 
 -- one more element with the next number
-pub AreElements-push : (g : Parts) (count : ℕ) (es : List ElementView) (e : ElementView) → AreElements g count es → IsElement g count (length es) e → AreElements g count (es ++ e ∷ [])
+pub AreElements-push : (g : Parts) (count : ℕ) (es : List ElementView) (e : ElementView) → AreElements g count es → IsElement g count (length es) e →
+    AreElements g count (es ++ e ∷ [])
 AreElements-push g count es e old new n d within =
     ⊎_elim (λ lt. rw (get_or-append es (e ∷ []) d n lt) (old n d lt)) (λ le. last (omega (arith, length-append es (e ∷ [])))) (cases_lt n (length es))
   where
@@ -65,7 +68,8 @@ second_of_main p q (x ∷ xs) b is here = at (λ e. second_of_main p q xs b e he
     at rest false e = let found = rest e in rw found (any_or_true (q x))
 
 -- the start messages fit the graph, where its entries take the inputs
-pub start_fits : (g : Parts) (b : Block) (vs : List Constant) → IsMain g b → IsMainBlock g b → AreTaken g b.entries vs → All (Fits g) (block_messages (b ∷ []) vs)
+pub start_fits : (g : Parts) (b : Block) (vs : List Constant) → IsMain g b → IsMainBlock g b → AreTaken g b.entries vs →
+    All (Fits g) (block_messages (b ∷ []) vs)
 start_fits g b vs main kept inputs =
     let first : TokenFits g 0 (main_tag b.first) port.Zero value.Signal =
     record { kind = kind_at_op g b.first port.Zero (Merge kind.Signal) kept.trigger; in_time = omega arith; continuation = tt; address = tt } in
@@ -123,7 +127,8 @@ event_at-is g count es flight k n m e given =
     ∙ ap (event_of_given g n m) (state_at es n e given.element)
 
 -- an element goes on as the same element
-AreElements-set : (g : Parts) (count : ℕ) (es : List ElementView) (n : ℕ) (e : ElementView) → n < length es → AreElements g count es → IsElement g count n e → AreElements g count (set es n e)
+AreElements-set : (g : Parts) (count : ℕ) (es : List ElementView) (n : ℕ) (e : ElementView) → n < length es → AreElements g count es → IsElement g count n e →
+    AreElements g count (set es n e)
 AreElements-set g count es n e lt old new k d within =
     ⊎_elim (λ same. here same) (λ other. rw (get_or-set_other es n k e d other) (old k d (omega (arith, length-set es n e)))) (cases_eq k n)
   where
@@ -170,7 +175,8 @@ IsMachine-deliver g es flight k n m e old d fits = record {
       (AreElements-set g (length es) es n (taken e m) (slice_get_within es n e d.given.element) old.elements
       (record { number = d.same.number; count_is = d.same.count_is; graph = d.same.graph }));
   flight_fits = All-append (Fits g) (remove flight k) _
-      (All-append (Fits g) (take k flight) (drop (suc k) flight) (All-take (Fits g) k flight old.flight_fits) (All-drop (Fits g) (suc k) flight old.flight_fits))
+      (All-append (Fits g) (take k flight) (drop (suc k) flight) (All-take (Fits g) k flight old.flight_fits)
+      (All-drop (Fits g) (suc k) flight old.flight_fits))
       (let P : Parts → Type 0 = λ x. All (Fits x) (outputs_of e.graph e.number e.state m) in subst P d.same.graph fits);
 }
 

@@ -10,7 +10,8 @@ use Rattle.id_tag.specs.declared.Message.{Message}
 use Rattle.id_graph.specs.declared.dests.Port.{Port}
 use Rattle.id_graph.specs.declared.instr.Instr.{Instr}
 use Rattle.id_graph.specs.declared.instr.Op.{Op}
-use Rattle.id_graph.specs.declared.instr.Op.TheVariants.{Const, Unary, Binary, Merge, Switch, Back, Enter, Send, Next, Reset, Alloc, Address, Fetch, Store as Stores}
+use Rattle.id_graph.specs.declared.instr.Op.TheVariants.{Const, Unary, Binary, Merge, Switch, Back, Enter, Send, Next}
+use Rattle.id_graph.specs.declared.instr.Op.TheVariants.{Reset, Alloc, Address, Fetch, Store as Stores}
 use Rattle.id_graph.specs.Graph.{Parts, arcs_on}
 use Rattle.id_tag.specs.declared.Tag.{Tag}
 use Rattle.id_tag.specs.declared.Value.{Value}
@@ -34,7 +35,8 @@ use Rattle.id_record.specs.declared.line.Handled.{Handled}
 use Rattle.id_record.proofs.LinesLemmas.{event_alone}
 use Rattle.id_tag.specs.declared.Payload.{Payload}
 use Rattle.id_element.specs.Steps.{State, next_stamp, outputs_of, outcome, outcome_of, state_after, step_of}
-use Rattle.id_element.specs.Steps.{Outcome, allocated_by, answer_fired, answer_sends, arrival, arrival_of, arriving, at_instr, fired_step, fired_verdict, made_by, waiting_after}
+use Rattle.id_element.specs.Steps.{Outcome, allocated_by, answer_fired, answer_sends, arrival, arrival_of, arriving}
+use Rattle.id_element.specs.Steps.{at_instr, fired_step, fired_verdict, made_by, waiting_after}
 use Rattle.id_record.specs.Sends.{numbered, sent}
 use Rattle.id_element.specs.declared.step.PlainOperands.{PlainOperands}
 use Rattle.id_element.specs.declared.step.PlainOperands.TheVariants as plain
@@ -91,10 +93,19 @@ none_allocated Address = refl
 none_allocated (Fetch r) = refl
 none_allocated Stores = refl
 
-pub arriving-computed : (n : Fresh) (i : Instr) (t : Tag) (p : Port) (v : Value) (w : Store) (b : Cells) (a : Arrival) → arriving n i t w b a ≡ computed n i t p v w b a
+pub arriving-computed : (n : Fresh) (i : Instr) (t : Tag) (p : Port) (v : Value) (w : Store) (b : Cells) (a : Arrival) →
+    arriving n i t w b a ≡ computed n i t p v w b a
 arriving-computed n i t p v w b (Fires o) =
     let f = fired i.op t o n in
-    ap (λ s. record { fired = f; sends = sent (Some i.op) (arcs_on (side_of f) i) t f; step = s; waiting = w; cells = b; made = made_by f; allocated = allocated_by i.op f }) (fired_step-computed t p v f)
+    ap (λ s. record {
+      fired = f;
+      sends = sent (Some i.op) (arcs_on (side_of f) i) t f;
+      step = s;
+      waiting = w;
+      cells = b;
+      made = made_by f;
+      allocated = allocated_by i.op f;
+    }) (fired_step-computed t p v f)
 arriving-computed n i t p v w b Waits =
     ap (λ k. record { fired = Nothing; sends = []; step = Went; waiting = w; cells = b; made = 0; allocated = k }) (sym (none_allocated i.op))
 arriving-computed n i t p v w b Blocked =

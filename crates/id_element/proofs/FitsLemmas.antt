@@ -50,7 +50,8 @@ same_port-true port.One port.One e = refl
 abbrev Came : Keyed → Tag → Port → Value → Tag → Port → Value → Type 0
 Came m t p v u q x = (m u q ≡ Some x) ⊎ ((t ≡ u) × (p ≡ q) × (v ≡ x))
 
-kept_came : (m : Keyed) (t : Tag) (p : Port) (v : Value) (u : Tag) (q : Port) (x : Value) (a b : Bool) → same_tag t u ≡ a → same_port p q ≡ b → cond (a && b) (Some v) (m u q) ≡ Some x → Came m t p v u q x
+kept_came : (m : Keyed) (t : Tag) (p : Port) (v : Value) (u : Tag) (q : Port) (x : Value) (a b : Bool) → same_tag t u ≡ a → same_port p q ≡ b →
+    cond (a && b) (Some v) (m u q) ≡ Some x → Came m t p v u q x
 kept_came m t p v u q x true true e f is = inr (one_from_same_tag t u e, same_port-true p q f, cc)
 kept_came m t p v u q x true false e f is = inl is
 kept_came m t p v u q x false b e f is = inl is
@@ -59,12 +60,14 @@ left_came : (m : Keyed) (t : Tag) (p : Port) (v : Value) (u : Tag) (q : Port) (x
 left_came m t p v u q x true is = cc
 left_came m t p v u q x false is = inl is
 
-answer_came : (m : Keyed) (t : Tag) (p : Port) (v : Value) (a : Offered) (u : Tag) (q : Port) (x : Value) → keyed_by_answer m t p v a u q ≡ Some x → Came m t p v u q x
+answer_came : (m : Keyed) (t : Tag) (p : Port) (v : Value) (a : Offered) (u : Tag) (q : Port) (x : Value) → keyed_by_answer m t p v a u q ≡ Some x →
+    Came m t p v u q x
 answer_came m t p v Kept u q x is = kept_came m t p v u q x (same_tag t u) (same_port p q) refl refl is
 answer_came m t p v (Pair y z) u q x is = left_came m t p v u q x (same_tag t u && same_port (other_port p) q) is
 answer_came m t p v Taken u q x is = inl is
 
 -- what waits after an offer waited before, or is what was offered
-pub offer_came : (s : Store) (t : Tag) (p : Port) (v : Value) (u : Tag) (q : Port) (x : Value) → waits (offer_after s t p v) u q ≡ Some x → Came (waits s) t p v u q x
+pub offer_came : (s : Store) (t : Tag) (p : Port) (v : Value) (u : Tag) (q : Port) (x : Value) → waits (offer_after s t p v) u q ≡ Some x →
+    Came (waits s) t p v u q x
 offer_came s t p v u q x is =
     answer_came (waits s) t p v (answer_of p v (waits s t p) (waits s t (other_port p))) u q x (sym (waits-offer_after s t p v u q) ∙ is)

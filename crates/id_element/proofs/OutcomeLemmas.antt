@@ -1,12 +1,14 @@
 -- The outcome of a message that fits: what is sent and what waits afterwards fit too.
-use Rattle.std.proofs.Common.{◌≡◌, ℕ, ◌+◌, ◌≤◌, ◌<◌, Bool, true, false, cond, Option, Some, None, List, [], ◌∷◌, length, refl, sym, ap, subst, ◌∙◌, ⊎_elim, arith}
+use Rattle.std.proofs.Common.{◌≡◌, ℕ, ◌+◌, ◌≤◌, ◌<◌, Bool, true, false, cond, Option, Some, None, List, [], ◌∷◌}
+use Rattle.std.proofs.Common.{length, refl, sym, ap, subst, ◌∙◌, ⊎_elim, arith}
 use Rattle.std.specs.Prelude.{ℤ, All, slice_get, option_map, option_and_then, is_some}
 use Rattle.std.proofs.lemmas.List.Elements.{All-nil, All-cons, All-head, All-push, All-tail, All-weaker}
 use Rattle.id_graph.specs.declared.dests.Port.{Port}
 use Rattle.id_graph.specs.declared.dests.Port.TheVariants as port
 use Rattle.id_graph.specs.declared.instr.Instr.{Instr}
 use Rattle.id_graph.specs.declared.instr.Op.{Op}
-use Rattle.id_graph.specs.declared.instr.Op.TheVariants.{Const, Unary, Binary, Merge, Switch, Back, Enter, Send, Next, Reset, Alloc, Address, Fetch, Store as Stores}
+use Rattle.id_graph.specs.declared.instr.Op.TheVariants.{Const, Unary, Binary, Merge, Switch, Back, Enter, Send, Next}
+use Rattle.id_graph.specs.declared.instr.Op.TheVariants.{Reset, Alloc, Address, Fetch, Store as Stores}
 use Rattle.id_graph.specs.Ports.{port_kind, two_ports}
 use Rattle.id_graph.specs.Graph.{Parts}
 use Rattle.id_tag.specs.declared.Tag.{Tag}
@@ -35,7 +37,9 @@ use Rattle.id_ops.specs.Operators.{fired}
 use Rattle.id_element.specs.declared.step.Arrival.{Arrival}
 use Rattle.id_element.specs.declared.step.Arrival.TheVariants.{Fires, Waits, Blocked}
 use Rattle.id_element.specs.Fits.{TokenFits, ReplyFits, PayloadFits, Fits}
-use Rattle.id_element.specs.Steps.{State, allocated_by, answer_sends, arrival, arrival_of, arriving, at_instr, fill_sends, made_by, next_numbers, next_stamp, outcome, outputs_of, state_after, waiting_after}
+use Rattle.id_element.specs.Steps.{State, allocated_by, answer_sends, arrival, arrival_of, arriving, at_instr}
+use Rattle.id_element.specs.Steps.{fill_sends, made_by, next_numbers, next_stamp, outcome, outputs_of, state_after}
+use Rattle.id_element.specs.Steps.{waiting_after}
 use Rattle.id_flight.specs.declared.demand.Demand.{Demand}
 use Rattle.id_flight.specs.Demands.{asked, demanded}
 use Rattle.id_record.specs.Events.{tag_of}
@@ -65,7 +69,8 @@ pair_fits g stamp t port.Zero v None (Some x) fits partner = (fits, partner x re
 pair_fits g stamp t port.One v None (Some x) fits partner = (partner x refl, fits)
 
 -- a port of an operator with one port is port 0
-pub one_port : (g : Parts) (stamp : ℕ) (t : Tag) (p : Port) (v : Value) (i : Instr) → slice_get g.instrs t.instr ≡ Some i → two_ports i.op ≡ false → TokenFits g stamp t p v → TokenFits g stamp t port.Zero v
+pub one_port : (g : Parts) (stamp : ℕ) (t : Tag) (p : Port) (v : Value) (i : Instr) → slice_get g.instrs t.instr ≡ Some i → two_ports i.op ≡ false →
+    TokenFits g stamp t p v → TokenFits g stamp t port.Zero v
 one_port g stamp t port.Zero v i is one fits = fits
 one_port g stamp t port.One v i is one fits = absurd (no_second (port_kind i.op port.One) one there)
   where
@@ -77,7 +82,8 @@ one_port g stamp t port.One v i is one fits = absurd (no_second (port_kind i.op 
     no_second (Some k) e f = cc
 
 -- what arrives at an instruction fits
-arrival_fits : (g : Parts) (stamp : ℕ) (w : Store) (t : Tag) (p : Port) (v : Value) (i : Instr) → slice_get g.instrs t.instr ≡ Some i → AllFit g stamp w → TokenFits g stamp t p v → ArrivalFits g stamp t (arrival i.op w t p v)
+arrival_fits : (g : Parts) (stamp : ℕ) (w : Store) (t : Tag) (p : Port) (v : Value) (i : Instr) → slice_get g.instrs t.instr ≡ Some i → AllFit g stamp w →
+    TokenFits g stamp t p v → ArrivalFits g stamp t (arrival i.op w t p v)
 arrival_fits g stamp w t p v i is waiting fits = by_ports (two_ports i.op) refl
   where
     by_ports : (b : Bool) → two_ports i.op ≡ b → ArrivalFits g stamp t (cond b (arrival_of (offer_answer w t p v)) (Fires (operands.One v)))
@@ -85,9 +91,11 @@ arrival_fits g stamp w t p v i is waiting fits = by_ports (two_ports i.op) refl
     by_ports false e = one_port g stamp t p v i is e fits
 
 -- what is sent on an arrival fits
-arriving_fits : (g : Parts) (stamp : ℕ) (n : Fresh) (w : Store) (b : Cells) (t : Tag) (i : Instr) (a : Arrival) → IsValid g → slice_get g.instrs t.instr ≡ Some i → t.iteration < stamp → ArrivalFits g stamp t a → All (PayloadFits g stamp) (arriving n i t w b a).sends
+arriving_fits : (g : Parts) (stamp : ℕ) (n : Fresh) (w : Store) (b : Cells) (t : Tag) (i : Instr) (a : Arrival) → IsValid g →
+    slice_get g.instrs t.instr ≡ Some i → t.iteration < stamp → ArrivalFits g stamp t a → All (PayloadFits g stamp) (arriving n i t w b a).sends
 arriving_fits g stamp n w b t i (Fires o) valid is in_time fits =
-    sent_fits g stamp t i (fired i.op t o n) valid is (omega (arith, in_time)) (fired_fits g stamp t i.op o n valid (ap (option_map (λ i. i.op)) is) in_time fits)
+    sent_fits g stamp t i (fired i.op t o n) valid is (omega (arith, in_time))
+    (fired_fits g stamp t i.op o n valid (ap (option_map (λ i. i.op)) is) in_time fits)
 arriving_fits g stamp n w b t i Waits valid is in_time fits = All-nil (PayloadFits g stamp)
 arriving_fits g stamp n w b t i Blocked valid is in_time fits = All-nil (PayloadFits g stamp)
 
@@ -99,7 +107,8 @@ AllHeld g stamp b = (c : Cell) (x : CellState) → get b c ≡ Some x → CellFi
 answer_fits : (g : Parts) (stamp : ℕ) (t : Tag) (o : Option CellState) → ((x : CellState) → o ≡ Some x → CellFits g stamp x) → ReplyFits g stamp t
     → All (PayloadFits g stamp) (answer_sends t (read_answer o))
 answer_fits g stamp t None held fits = All-nil (PayloadFits g stamp)
-answer_fits g stamp t (Some (Present v w)) held fits = replies_fit g stamp v (t ∷ []) (held (Present v w) refl) (All-cons (ReplyFits g stamp) t [] fits (All-nil (ReplyFits g stamp)))
+answer_fits g stamp t (Some (Present v w)) held fits = replies_fit g stamp v (t ∷ []) (held (Present v w) refl)
+    (All-cons (ReplyFits g stamp) t [] fits (All-nil (ReplyFits g stamp)))
 answer_fits g stamp t (Some (Deferred ts)) held fits = All-nil (PayloadFits g stamp)
 
 -- a number fits at the replies that waited
@@ -110,13 +119,15 @@ fill_fits g stamp v (Some (Present u w)) held is = All-nil (PayloadFits g stamp)
 fill_fits g stamp v (Some (Deferred ts)) held is = replies_fit g stamp v ts is (held (Deferred ts) refl)
 
 -- what a message sends fits, where the iteration in it is below the stamp
-sends_fit : (g : Parts) (stamp : ℕ) (n : Fresh) (w : Store) (b : Cells) (x : Payload) → IsValid g → AllFit g stamp w → AllHeld g stamp b → (tag_of x).iteration < stamp → PayloadFits g stamp x
+sends_fit : (g : Parts) (stamp : ℕ) (n : Fresh) (w : Store) (b : Cells) (x : Payload) → IsValid g → AllFit g stamp w → AllHeld g stamp b →
+    (tag_of x).iteration < stamp → PayloadFits g stamp x
     → All (PayloadFits g stamp) (outcome g n w b x).sends
 sends_fit g stamp n w b (Token t p v) valid waiting held in_time fits = at (slice_get g.instrs t.instr) refl
   where
     at : (o : Option Instr) → slice_get g.instrs t.instr ≡ o → All (PayloadFits g stamp) (at_instr n w b t p v o).sends
     at None is = All-nil (PayloadFits g stamp)
-    at (Some i) is = arriving_fits g stamp n (waiting_after i.op w t p v) b t i (arrival i.op w t p v) valid is in_time (arrival_fits g stamp w t p v i is waiting fits)
+    at (Some i) is = arriving_fits g stamp n (waiting_after i.op w t p v) b t i (arrival i.op w t p v) valid is in_time
+        (arrival_fits g stamp w t p v i is waiting fits)
 sends_fit g stamp n w b (Read c t) valid waiting held in_time fits = answer_fits g stamp t (get b c) (held c) fits.reply
 sends_fit g stamp n w b (Write c v t) valid waiting held in_time fits = fill_fits g stamp v (get b c) (held c) fits.kind
 
@@ -159,7 +170,8 @@ outputs_fit g n s m valid waiting cells fits =
     (PayloadFits-later g m.stamp (next_stamp s m) m.payload (omega arith) fits))
 
 -- what a read or a write in small numbers sends fits
-demand_sends : (g : Parts) (stamp : ℕ) (n : Fresh) (w : Store) (b : Cells) (c : Cell) (t : Tag) (o : Option ℤ) → AllHeld g stamp b → PayloadFits g stamp (asked o c t)
+demand_sends : (g : Parts) (stamp : ℕ) (n : Fresh) (w : Store) (b : Cells) (c : Cell) (t : Tag) (o : Option ℤ) → AllHeld g stamp b →
+    PayloadFits g stamp (asked o c t)
     → All (PayloadFits g stamp) (outcome g n w b (asked o c t)).sends
 demand_sends g stamp n w b c t None held fits = answer_fits g stamp t (get b c) (held c) fits.reply
 demand_sends g stamp n w b c t (Some m) held fits = fill_fits g stamp (value.Int m) (get b c) (held c) fits.kind
@@ -174,7 +186,8 @@ demand_outputs_fit g n s d cells fits =
     (PayloadFits-later g m.stamp (next_stamp s m) m.payload (omega arith) fits))
 
 -- what waits after an offer fits
-offered_fit : (g : Parts) (stamp : ℕ) (w : Store) (t : Tag) (p : Port) (v : Value) → AllFit g stamp w → TokenFits g stamp t p v → AllFit g stamp (offer_after w t p v)
+offered_fit : (g : Parts) (stamp : ℕ) (w : Store) (t : Tag) (p : Port) (v : Value) → AllFit g stamp w → TokenFits g stamp t p v →
+    AllFit g stamp (offer_after w t p v)
 offered_fit g stamp w t p v waiting fits u q x is =
     ⊎_elim (λ before. waiting u q x before) (λ came. moved came) (offer_came w t p v u q x is)
   where
@@ -187,19 +200,22 @@ arriving_waiting n i t w b (Fires o) = refl
 arriving_waiting n i t w b Waits = refl
 arriving_waiting n i t w b Blocked = refl
 
-waiting_after_fits : (g : Parts) (stamp : ℕ) (w : Store) (t : Tag) (p : Port) (v : Value) (op : Op) → AllFit g stamp w → TokenFits g stamp t p v → AllFit g stamp (waiting_after op w t p v)
+waiting_after_fits : (g : Parts) (stamp : ℕ) (w : Store) (t : Tag) (p : Port) (v : Value) (op : Op) → AllFit g stamp w → TokenFits g stamp t p v →
+    AllFit g stamp (waiting_after op w t p v)
 waiting_after_fits g stamp w t p v op waiting fits = by_ports (two_ports op)
   where
     by_ports : (b : Bool) → AllFit g stamp (cond b (offer_after w t p v) w)
     by_ports true = offered_fit g stamp w t p v waiting fits
     by_ports false = waiting
 
-outcome_fits : (g : Parts) (stamp : ℕ) (n : Fresh) (w : Store) (b : Cells) (x : Payload) → AllFit g stamp w → PayloadFits g stamp x → AllFit g stamp (outcome g n w b x).waiting
+outcome_fits : (g : Parts) (stamp : ℕ) (n : Fresh) (w : Store) (b : Cells) (x : Payload) → AllFit g stamp w → PayloadFits g stamp x →
+    AllFit g stamp (outcome g n w b x).waiting
 outcome_fits g stamp n w b (Token t p v) waiting fits = at (slice_get g.instrs t.instr)
   where
     at : (o : Option Instr) → AllFit g stamp (at_instr n w b t p v o).waiting
     at None = waiting
-    at (Some i) = subst (AllFit g stamp) (sym (arriving_waiting n i t (waiting_after i.op w t p v) b (arrival i.op w t p v))) (waiting_after_fits g stamp w t p v i.op waiting fits)
+    at (Some i) = subst (AllFit g stamp) (sym (arriving_waiting n i t (waiting_after i.op w t p v) b (arrival i.op w t p v)))
+        (waiting_after_fits g stamp w t p v i.op waiting fits)
 outcome_fits g stamp n w b (Read c t) waiting fits = waiting
 outcome_fits g stamp n w b (Write c v t) waiting fits = waiting
 
@@ -241,10 +257,12 @@ written_fits g stamp v t None held is = is
 written_fits g stamp v t (Some (Present u w)) held is = held (Present u w) refl
 written_fits g stamp v t (Some (Deferred ts)) held is = is
 
-outcome_holds : (g : Parts) (stamp : ℕ) (n : Fresh) (w : Store) (b : Cells) (x : Payload) → AllHeld g stamp b → PayloadFits g stamp x → AllHeld g stamp (outcome g n w b x).cells
+outcome_holds : (g : Parts) (stamp : ℕ) (n : Fresh) (w : Store) (b : Cells) (x : Payload) → AllHeld g stamp b → PayloadFits g stamp x →
+    AllHeld g stamp (outcome g n w b x).cells
 outcome_holds g stamp n w b (Token t p v) held fits = subst (AllHeld g stamp) (sym (token_cells n w b t p v (slice_get g.instrs t.instr))) held
 outcome_holds g stamp n w b (Read c t) held fits = inserted_fits g stamp b c (state_read t (get b c)) held (read_fits g stamp t (get b c) (held c) fits.reply)
-outcome_holds g stamp n w b (Write c v t) held fits = inserted_fits g stamp b c (state_written v t (get b c)) held (written_fits g stamp v t (get b c) (held c) fits.kind)
+outcome_holds g stamp n w b (Write c v t) held fits = inserted_fits g stamp b c (state_written v t (get b c)) held
+    (written_fits g stamp v t (get b c) (held c) fits.kind)
 
 -- after a message that fits, what the cells hold fits
 pub CellsFit-take : (g : Parts) (n : ℕ) (s : State) (m : Message) → CellsFit g s → Fits g m → CellsFit g (state_after g n s m)
@@ -297,7 +315,8 @@ one_structure Address f = omega arith
 one_structure (Fetch r) f = omega arith
 one_structure Stores f = omega arith
 
-arriving_makes : (n : Fresh) (i : Instr) (t : Tag) (w : Store) (b : Cells) (a : Arrival) → ((arriving n i t w b a).made ≤ 1) × ((arriving n i t w b a).allocated ≤ 1)
+arriving_makes : (n : Fresh) (i : Instr) (t : Tag) (w : Store) (b : Cells) (a : Arrival) →
+    ((arriving n i t w b a).made ≤ 1) × ((arriving n i t w b a).allocated ≤ 1)
 arriving_makes n i t w b (Fires o) = (at_most_one (fired i.op t o n), one_structure i.op (fired i.op t o n))
 arriving_makes n i t w b Waits = (omega arith, omega arith)
 arriving_makes n i t w b Blocked = (omega arith, omega arith)

@@ -45,10 +45,12 @@ Replays-fresh e is = record {
   none t p v waits = let nothing = waits-empty t p in cc
 
 -- an element that replays does so after one more message
-pub Replays-take : (e : ElementView) (m : Message) → IsFor e.graph e.count e.number m → m.stamp < 2 ^ 64 - 1 → e.state.stamp < 2 ^ 64 - 1 → Replays e → Replays (record e { state = state_after e.graph e.number e.state m })
+pub Replays-take : (e : ElementView) (m : Message) → IsFor e.graph e.count e.number m → m.stamp < 2 ^ 64 - 1 → e.state.stamp < 2 ^ 64 - 1 → Replays e →
+    Replays (record e { state = state_after e.graph e.number e.state m })
 Replays-take e m is_for left last replays = record {
   state = IsReplayed-take e.graph e.number e.state m replays.state;
-  legal = All-push (IsLegal e.graph e.count e.number) e.state.events (event_of e.graph e.number e.state m) replays.legal (record { for_it = is_for; stamp_left = left; stamp = omega (arith, left, last) });
+  legal = All-push (IsLegal e.graph e.count e.number) e.state.events (event_of e.graph e.number e.state m) replays.legal
+      (record { for_it = is_for; stamp_left = left; stamp = omega (arith, left, last) });
   waiting = WaitingFits-take e.graph e.number e.state m replays.waiting is_for.fits;
   cells = CellsFit-take e.graph e.number e.state m replays.cells is_for.fits;
   counted = counted-take e.graph e.number e.state m replays.counted;
@@ -63,7 +65,8 @@ IsKept-fresh e is = record {
 }
 
 -- an element keeps it after one more message, whose step the flag takes in
-pub IsKept-take : (e : ElementView) (m : Message) (a r : Bool) → IsFor e.graph e.count e.number m → m.stamp < 2 ^ 64 - 1 → e.state.stamp < 2 ^ 64 - 1 → (IsTrue r ↔ (IsTrue a × (step_of e.graph e.number e.state m ≡ Went))) → IsKept e a → IsKept (record e { state = state_after e.graph e.number e.state m }) r
+pub IsKept-take : (e : ElementView) (m : Message) (a r : Bool) → IsFor e.graph e.count e.number m → m.stamp < 2 ^ 64 - 1 → e.state.stamp < 2 ^ 64 - 1 →
+    (IsTrue r ↔ (IsTrue a × (step_of e.graph e.number e.state m ≡ Went))) → IsKept e a → IsKept (record e { state = state_after e.graph e.number e.state m }) r
 IsKept-take e m a r is_for left last step kept = record {
   replays = Replays-take e m is_for left last kept.replays;
   went_is = AllWent-push a r e.state.events (event_of e.graph e.number e.state m) kept.went_is step;

@@ -1,5 +1,6 @@
 -- What a firing sends fits the graph, where its operands do.
-use Rattle.std.proofs.Common.{◌≡◌, ◌==◌, ◌||◌, ℕ, ◌+◌, ◌≤◌, ◌<◌, Bool, true, false, cond, Option, Some, None, List, [], ◌∷◌, map, refl, sym, ap, subst, ◌∙◌, arith}
+use Rattle.std.proofs.Common.{◌≡◌, ◌==◌, ◌||◌, ℕ, ◌+◌, ◌≤◌, ◌<◌, Bool, true, false, cond, Option, Some, None, List}
+use Rattle.std.proofs.Common.{[], ◌∷◌, map, refl, sym, ap, subst, ◌∙◌, arith}
 use Rattle.std.specs.Prelude.{All, IsSomeAnd, slice_get, option_map, option_and_then, neg_ℤ}
 use Rattle.std.proofs.lemmas.List.Elements.{All-nil, All-cons, All-append, All-map, All-weaker}
 use Rattle.id_graph.specs.declared.dests.Dest.{Dest}
@@ -41,7 +42,9 @@ use Rattle.id_ops.specs.declared.Operands.TheVariants as operands
 use Rattle.id_ops.specs.declared.Fresh.{Fresh}
 use Rattle.id_ops.specs.declared.Fired.{Fired}
 use Rattle.id_ops.specs.declared.Fired.TheVariants.{Out, Side, Moved, Entered, Sent, Asked, Stored, Failed, Nothing}
-use Rattle.id_ops.specs.Operators.{fired, fired_by, fired_const, fired_unary, fired_binary, fired_merge, fired_switch, fired_back, fired_enter, tag_within, fired_send, fired_next, fired_reset, fired_alloc, fired_address, fired_fetch, fired_store, side_of}
+use Rattle.id_ops.specs.Operators.{fired, fired_by, fired_const, fired_unary, fired_binary, fired_merge, fired_switch}
+use Rattle.id_ops.specs.Operators.{fired_back, fired_enter, tag_within, fired_send, fired_next, fired_reset}
+use Rattle.id_ops.specs.Operators.{fired_alloc, fired_address, fired_fetch, fired_store, side_of}
 use Rattle.id_value.specs.Bounds.{are_good, is_inside}
 use Rattle.id_value.specs.declared.FaultKind.TheVariants.{BadBounds, OutOfBounds}
 use Rattle.id_tag.specs.declared.Structure.{Structure}
@@ -154,7 +157,8 @@ kind_at_op g n p op is = at (slice_get g.instrs n) is
     at None e = cc
     at (Some i) e = let same : i.op ≡ op = cc in ap (λ x. port_kind x p) same
 
-merge_fits : (g : Parts) (stamp : ℕ) (t : Tag) (k : PortKind) (o : Operands) → op_at g t.instr ≡ Some (Merge k) → OperandsFit g stamp t o → FiredFits g stamp (Some k) false (fired_merge k o)
+merge_fits : (g : Parts) (stamp : ℕ) (t : Tag) (k : PortKind) (o : Operands) → op_at g t.instr ≡ Some (Merge k) → OperandsFit g stamp t o →
+    FiredFits g stamp (Some k) false (fired_merge k o)
 merge_fits g stamp t k (operands.One v) is fits =
     zero (same_kind (kind_of v) k)
   where
@@ -168,7 +172,8 @@ merge_fits g stamp t k (operands.Two v w) is fits = tt
 
 -- what moves to an iteration in time fits
 moved_fits : (g : Parts) (stamp : ℕ) (t : Tag) (op : Op) (k : PortKind) (i : ℕ) (v : Value) → op_at g t.instr ≡ Some op → ((j : PortKind) → op ≡ Back j → ⊥)
-    → port_kind op port.Zero ≡ Some k → i ≤ stamp → TokenFits g stamp t port.Zero v → FiredFits g stamp (Some k) false (cond (same_kind (kind_of v) k) (Moved i v) Nothing)
+    → port_kind op port.Zero ≡ Some k → i ≤ stamp → TokenFits g stamp t port.Zero v →
+    FiredFits g stamp (Some k) false (cond (same_kind (kind_of v) k) (Moved i v) Nothing)
 moved_fits g stamp t op k i v is other takes in_time fits = zero (same_kind (kind_of v) k)
   where
     kinds : Some k ≡ Some (kind_of v)
@@ -206,7 +211,8 @@ switch_fits g stamp t k (operands.Two (value.Context c) w) is fits = tt
 switch_fits g stamp t k (operands.Two (value.Continuation u) w) is fits = tt
 switch_fits g stamp t k (operands.One v) is fits = tt
 
-back_fits : (g : Parts) (stamp : ℕ) (t : Tag) (k : PortKind) (o : Operands) → op_at g t.instr ≡ Some (Back k) → OperandsFit g stamp t o → FiredFits g stamp None false (fired_back k o)
+back_fits : (g : Parts) (stamp : ℕ) (t : Tag) (k : PortKind) (o : Operands) → op_at g t.instr ≡ Some (Back k) → OperandsFit g stamp t o →
+    FiredFits g stamp None false (fired_back k o)
 back_fits g stamp t k (operands.Two (value.Continuation u) w) is fits = zero (same_kind (kind_of w) k)
   where
     sent_fits : TokenFits g stamp u port.Zero w
@@ -214,7 +220,8 @@ back_fits g stamp t k (operands.Two (value.Continuation u) w) is fits = zero (sa
         let here = fits.0.continuation in
         let kinds : Some k ≡ Some (kind_of w) = sym (kind_at_op g t.instr port.One (Back k) is) ∙ fits.1.kind in
         let returns = here.1.1 in
-        let at : kind_at g.instrs (record { instr = u.instr; port = port.Zero }) ≡ Some here.1.0 = kind_at_op g u.instr port.Zero (Merge here.1.0) returns.merge in
+        let at : kind_at g.instrs (record { instr = u.instr; port = port.Zero }) ≡
+        Some here.1.0 = kind_at_op g u.instr port.Zero (Merge here.1.0) returns.merge in
         let same : here.1.0 ≡ k = let e = returns.back in cc in
         record {
           kind = at ∙ ap (λ x. Some x) same ∙ kinds;
@@ -287,7 +294,8 @@ address_fits g stamp (operands.Two (value.Structure s) (value.Int i)) = go (is_i
 address_fits g stamp _ = tt
 
 -- the reply of a fetch is a merge for numbers
-fetch_fits : (g : Parts) (stamp : ℕ) (t : Tag) (r : ℕ) (o : Operands) → IsValid g → op_at g t.instr ≡ Some (Fetch r) → t.iteration ≤ stamp → OperandsFit g stamp t o
+fetch_fits : (g : Parts) (stamp : ℕ) (t : Tag) (r : ℕ) (o : Operands) → IsValid g → op_at g t.instr ≡ Some (Fetch r) → t.iteration ≤ stamp →
+    OperandsFit g stamp t o
     → FiredFits g stamp None false (fired_fetch r t o)
 fetch_fits g stamp t r (operands.One (value.Address c)) valid is in_time fits =
     record { cell = fits.address; reply = record { merge = IsReply-valid g t.instr r valid is; in_time = in_time } }
@@ -319,7 +327,8 @@ store_fits g stamp t (operands.Two (value.Continuation u) w) is in_time fits = t
 store_fits g stamp t (operands.One v) is in_time fits = tt
 
 -- what fires fits, where the operands do and the iteration is below the stamp
-pub fired_fits : (g : Parts) (stamp : ℕ) (t : Tag) (op : Op) (o : Operands) (fresh : Fresh) → IsValid g → op_at g t.instr ≡ Some op → t.iteration < stamp → OperandsFit g stamp t o
+pub fired_fits : (g : Parts) (stamp : ℕ) (t : Tag) (op : Op) (o : Operands) (fresh : Fresh) → IsValid g → op_at g t.instr ≡ Some op → t.iteration < stamp →
+    OperandsFit g stamp t o
     → FiredFits g stamp (sends op) (two_sides op) (fired op t o fresh)
 fired_fits g stamp t (Const c) o fresh valid is in_time fits = const_fits g stamp c o
 fired_fits g stamp t (Unary a) o fresh valid is in_time fits = unary_fits g stamp a o
@@ -394,7 +403,8 @@ starts_fit g stamp t c (Fetch r) valid is in_time = All-nil (PayloadFits g stamp
 starts_fit g stamp t c Store valid is in_time = All-nil (PayloadFits g stamp)
 
 -- a token of the kind that the instruction sends fits at each of its destinations
-token_fits : (g : Parts) (stamp : ℕ) (t : Tag) (i : Instr) (v : Value) → t.iteration ≤ stamp → sends i.op ≡ Some (kind_of v) → IsPlain v → (d : Dest) → IsTaken g.instrs i.op d → PayloadFits g stamp (token_to t v d)
+token_fits : (g : Parts) (stamp : ℕ) (t : Tag) (i : Instr) (v : Value) → t.iteration ≤ stamp → sends i.op ≡ Some (kind_of v) → IsPlain v → (d : Dest) →
+    IsTaken g.instrs i.op d → PayloadFits g stamp (token_to t v d)
 token_fits g stamp t i v in_time kinds plain d taken = record {
   kind = let P : Option PortKind → Type 0 = λ k. IsSomeAnd k (λ k. kind_at g.instrs d ≡ Some k) in subst P kinds taken;
   in_time = in_time;
@@ -445,7 +455,8 @@ reply_fits g stamp (value.Context c) t is fits = cc
 reply_fits g stamp (value.Continuation u) t is fits = cc
 
 -- and at all of them
-pub replies_fit : (g : Parts) (stamp : ℕ) (v : Value) (ts : List Tag) → kind_of v ≡ kind.Int → All (ReplyFits g stamp) ts → All (PayloadFits g stamp) (replies v ts)
+pub replies_fit : (g : Parts) (stamp : ℕ) (v : Value) (ts : List Tag) → kind_of v ≡ kind.Int → All (ReplyFits g stamp) ts →
+    All (PayloadFits g stamp) (replies v ts)
 replies_fit g stamp v ts is fit =
     All-map (PayloadFits g stamp) (λ t. Token t port.Zero v) ts
     (All-weaker (ReplyFits g stamp) (λ t. PayloadFits g stamp (Token t port.Zero v)) (λ t. reply_fits g stamp v t is) ts fit)

@@ -94,7 +94,8 @@ among-numbers v lo hi (inr is) = ap is_number is
 number-told : (v : Value) (f : Fired) (s : Structure) → is_number v ≡ true → makes v f ≡ false → f ≢ Out (value.Structure s)
 number-told v f s number not made = let both : true ≡ false = sym number ∙ sym (ap (makes v) made) ∙ not in cc
 
-alloc-fires : (v : Value) (n : Fresh) (x : Operands) → Has v (Fires x) → makes v (fired_alloc n x) ≡ false → (s : Structure) → fired_alloc n x ≢ Out (value.Structure s)
+alloc-fires : (v : Value) (n : Fresh) (x : Operands) → Has v (Fires x) → makes v (fired_alloc n x) ≡ false → (s : Structure) →
+    fired_alloc n x ≢ Out (value.Structure s)
 alloc-fires v n (Two (value.Int lo) (value.Int hi)) has not s =
     number-told v (fired_alloc n (Two (value.Int lo) (value.Int hi))) s (among-numbers v lo hi has) not
 alloc-fires v n x has not s = λ made. cc

@@ -100,7 +100,8 @@ module _ (g : Parts) (vs : List Constant) (count steps : ℕ) (ks text : List �
   quietly _ _ e (stopped ns hs none left all sorted held) = absurd (omega (arith, e))
 
   -- a run that ends at a fault shows it
-  at_fault : (status : ℕ) (bytes : List ℕ) → status ≡ 1 → Ends g vs count steps ks text b status bytes → (f : SourceFault) × EndsAt g count (start g vs count) ks f
+  at_fault : (status : ℕ) (bytes : List ℕ) → status ≡ 1 → Ends g vs count steps ks text b status bytes →
+      (f : SourceFault) × EndsAt g count (start g vs count) ks f
   at_fault _ _ e (quiet ns hs waits still sorted held waiting) = absurd (omega (arith, e))
   at_fault _ _ e (fault f ends) = (f, ends)
   at_fault _ _ e (stopped ns hs none left all sorted held) = absurd (omega (arith, e))
@@ -118,7 +119,8 @@ module _ (S : Source) (inputs : AreInputs S.checked S.inputs) (sound : Soundness
   sound_end : (r : RunOf S) → IsSound S r.graph r.schemas.number (end_of S r)
   sound_end r = sound S r.graph r.count r.positions inputs r.schemas
 
-  same_printed : (r q : RunOf S) (xs ys : List ℕ) → IsQuietly r.graph S.inputs r.count r.positions text b xs → IsQuietly q.graph S.inputs q.count q.positions text b ys → xs ≡ ys
+  same_printed : (r q : RunOf S) (xs ys : List ℕ) → IsQuietly r.graph S.inputs r.count r.positions text b xs →
+      IsQuietly q.graph S.inputs q.count q.positions text b ys → xs ≡ ys
   same_printed r q xs ys h k = h.is ∙ same_text ∙ sym k.is
     where
       same : ShowTheSame S r q
@@ -126,18 +128,21 @@ module _ (S : Source) (inputs : AreInputs S.checked S.inputs) (sound : Soundness
 
       same_names : asked b h.names ≡ asked b k.names
       same_names = asked_same b h.names k.names (λ yes. order_same _ _ _ names_told h.names k.names _ _ (h.sorted yes) (k.sorted yes)
-          (AreApart-sound S r.graph r.schemas.number (end_of S r) (sound_end r)) (AreApart-sound S q.graph q.schemas.number (end_of S q) (sound_end q)) same.names)
+          (AreApart-sound S r.graph r.schemas.number (end_of S r) (sound_end r)) (AreApart-sound S q.graph q.schemas.number (end_of S q) (sound_end q))
+          same.names)
 
       same_helds : h.helds ≡ k.helds
       same_helds = order_same _ _ _ helds_told h.helds k.helds _ _ h.held k.held
-          (AreApartBy-held S r.graph r.schemas.number r.count (end_of S r) (sound_end r)) (AreApartBy-held S q.graph q.schemas.number q.count (end_of S q) (sound_end q))
+          (AreApartBy-held S r.graph r.schemas.number r.count (end_of S r) (sound_end r))
+          (AreApartBy-held S q.graph q.schemas.number q.count (end_of S q) (sound_end q))
           (IsPermutation-append (map Array (shown.structures r.graph (end_of S r))) (map Array (shown.structures q.graph (end_of S q)))
           (map Cell (shown.cell_values r.graph (end_of S r))) (map Cell (shown.cell_values q.graph (end_of S q)))
           (IsPermutation-map Array _ _ same.structures) (IsPermutation-map Cell _ _ (IsPermutation-map shown.cell_value _ _ same.cells)))
 
       same_waits : h.waits ≡ k.waits
       same_waits = order_same _ _ _ asks_told h.waits k.waits _ _ h.waiting k.waiting
-          (AreApartBy-waiting S r.graph r.schemas.number (end_of S r) (sound_end r)) (AreApartBy-waiting S q.graph q.schemas.number (end_of S q) (sound_end q)) same.waiting
+          (AreApartBy-waiting S r.graph r.schemas.number (end_of S r) (sound_end r))
+          (AreApartBy-waiting S q.graph q.schemas.number (end_of S q) (sound_end q)) same.waiting
 
       same_text : quiet_text text (shown.answer r.graph (end_of S r)) (asked b h.names) h.helds h.waits
           ≡ quiet_text text (shown.answer q.graph (end_of S q)) (asked b k.names) k.helds k.waits

@@ -6,7 +6,9 @@ use Rattle.id_meaning.specs.Sources.{Source, source}
 use Rattle.id_engine.specs.declared.compiled.CompileError.{CompileError}
 use Rattle.id_engine.specs.declared.compiled.CompileError.TheVariants as compiler
 use Rattle.id_engine.specs.declared.error.EngineError.{EngineError}
-use Rattle.id_engine.specs.declared.error.EngineError.TheVariants.{Compile, MissingInput, UnknownInput, RepeatedInput, BadInput, BadElements, BadSteps, BadRounds, TooManyFacts, Memory, Write}
+use Rattle.id_engine.specs.declared.error.EngineError.TheVariants.{Compile, MissingInput, UnknownInput, RepeatedInput}
+use Rattle.id_engine.specs.declared.error.EngineError.TheVariants.{BadInput, BadElements, BadSteps, BadRounds}
+use Rattle.id_engine.specs.declared.error.EngineError.TheVariants.{TooManyFacts, Memory, Write}
 use Rattle.id_engine.specs.Programs.{HasInputs, IsProgramOf, IsRefusedBy, by_memory, too_large}
 use Rattle.id_engine.specs.Refusals.{AreRefusedFacts, AreRefusedFor, IsCauseInside, IsRefusedRun, IsInsideOf}
 use Rattle.id_engine.specs.Refusals.IsRefusedRun.{by_source as by_run_source, no_elements, too_many_elements, no_steps, too_many_steps}
@@ -163,7 +165,8 @@ refused_unallowed text ws count steps i Memory h = by_run_source no_memory
 refused_unallowed text ws count steps i Write h = absurd cc
 
 -- why rounds are refused is why the facts of the text are
-pub refused_rounds : (text : List ℕ) (ws : List (List ℕ)) (round : ℕ) (h : HasInputs text ws) (e : EngineError) → AreRefusedRounds (source h.program h.inputs) round e
+pub refused_rounds : (text : List ℕ) (ws : List (List ℕ)) (round : ℕ) (h : HasInputs text ws) (e : EngineError) →
+    AreRefusedRounds (source h.program h.inputs) round e
     → AreRefusedFacts text ws round e
 refused_rounds text ws round i (Compile x) h = absurd cc
 refused_rounds text ws round i (MissingInput x) h = absurd cc

@@ -1,5 +1,8 @@
 -- Deliveries to a machine, each in its turn (specs/Reports.antt).
-use Rattle.std.proofs.Common.{◌≡◌, ◌≢◌, ℕ, zero, suc, ◌+◌, ◌-◌, ◌*◌, ◌/◌, ◌^◌, ◌==◌, ◌<◌, ◌≤◌, ◌⊎◌, Bool, true, false, cond, ◌||◌, inl, inr, List, [], ◌∷◌, ◌++◌, All, length, take, drop, replicate, Option, Some, None, slice_get, slice_index_or, slice_set, IsTrue, IsFalse, refl, sym, ap, subst, ◌∙◌, arith, length-append, length-set, append_assoc}
+use Rattle.std.proofs.Common.{◌≡◌, ◌≢◌, ℕ, zero, suc, ◌+◌, ◌-◌, ◌*◌, ◌/◌, ◌^◌, ◌==◌, ◌<◌, ◌≤◌, ◌⊎◌, Bool, true, false}
+use Rattle.std.proofs.Common.{cond, ◌||◌, inl, inr, List, [], ◌∷◌, ◌++◌, All, length, take, drop, replicate, Option}
+use Rattle.std.proofs.Common.{Some, None, slice_get, slice_index_or, slice_set, IsTrue, IsFalse, refl, sym, ap, subst}
+use Rattle.std.proofs.Common.{◌∙◌, arith, length-append, length-set, append_assoc}
 use Rattle.std.specs.Prelude.{◌↔◌, option_map}
 use Rattle.std.proofs.lemmas.Bool.{cases_eq, false≢true, ne_eqb}
 use Rattle.std.specs.List.{cons_option, remove}
@@ -23,7 +26,8 @@ use Rattle.id_record.specs.declared.step.Step.TheVariants.{Went, Fault, Stuck}
 use Rattle.id_record.specs.declared.step.Fault.TheVariants.{Operator, SecondStore}
 use Rattle.id_core.specs.Events.{EventView}
 use Rattle.id_core.specs.Steps.{State, event_of, fresh, is_ended, outputs_of, state_after}
-use Rattle.id_core.specs.Machines.{World, MachineView, came_of, delivered, event_at, event_of_given, event_of_routed, given_to, routed_to, run, taken_from, world_of}
+use Rattle.id_core.specs.Machines.{World, MachineView, came_of, delivered, event_at, event_of_given, event_of_routed}
+use Rattle.id_core.specs.Machines.{given_to, routed_to, run, taken_from, world_of}
 use Rattle.id_core.specs.Replays.{ElementView}
 use Rattle.id_core.specs.Observed.{events_of, fault_of, faults, faults_of, path_in, structure_in}
 use Rattle.id_list.proofs.AmongLemmas.{Among-from_at}
@@ -65,7 +69,8 @@ delivered-free g count steps w k f =
     let n = route_of f.message.payload count in
     ap (routed_to g count k w) f.at ∙ ap (given_to g k w f.message n) f.element ∙ ap (λ b. cond b w (taken_from g k w f.message n f.state)) f.stamp
 
-pub made_free : (m : MachineView) (count steps k : ℕ) → m.count ≡ count → IsFree count steps m.world k → (v : EventView) × (event_at m.graph m.count m.world k ≡ Some v)
+pub made_free : (m : MachineView) (count steps k : ℕ) → m.count ≡ count → IsFree count steps m.world k →
+    (v : EventView) × (event_at m.graph m.count m.world k ≡ Some v)
 made_free m count steps k is f =
     let made = event-free m.graph count steps m.world k f in
     (_, subst (λ (c : ℕ). event_at m.graph c m.world k ≡ Some (event_of m.graph (route_of f.message.payload count) f.state f.message)) (sym is) made)
@@ -80,7 +85,8 @@ pub IsFree-within : (count steps : ℕ) (w : World) (k : ℕ) → IsFree count s
 IsFree-within count steps w k f = within_get w.flight k f.message f.at
 
 -- its delivery, by what was said of its event
-module _ (k : ℕ) (old : MachineView) (c : Came) (h : HasEvent old k) (said : option_map (λ (e : EventView). came_of e.step) (event_at old.graph old.count old.world k) ≡ Some c) where
+module _ (k : ℕ) (old : MachineView) (c : Came) (h : HasEvent old k)
+    (said : option_map (λ (e : EventView). came_of e.step) (event_at old.graph old.count old.world k) ≡ Some c) where
   came_is : came_of h.event.step ≡ c
   came_is = same (came_of h.event.step) c (sym (ap (option_map (λ (e : EventView). came_of e.step)) h.made) ∙ said)
     where
@@ -90,7 +96,8 @@ module _ (k : ℕ) (old : MachineView) (c : Came) (h : HasEvent old k) (said : o
   pub came_moves : c ≢ came.Stuck
   came_moves e = h.moves (stuck_from h.event.step (came_is ∙ e))
 
-  pub IsDelivered-by : (new : MachineView) (goes : Bool) → new ≡ record old { world = delivered old.graph old.count old.world k } → (IsTrue goes ↔ (c ≡ came.Went))
+  pub IsDelivered-by : (new : MachineView) (goes : Bool) → new ≡ record old { world = delivered old.graph old.count old.world k } →
+      (IsTrue goes ↔ (c ≡ came.Went))
       → IsDelivered k old new goes
   IsDelivered-by new goes is on = record {
     step = h.event.step;
@@ -109,7 +116,8 @@ before_taken (x ∷ xs) zs (suc k) zero lt within = refl
 before_taken (x ∷ xs) zs (suc k) (suc j) lt within = before_taken xs zs k j (omega (arith, lt)) (omega (arith, within))
 
 before_removed : {A : Type 0} (xs ys : List A) (k j : ℕ) → j < k → k < length xs → slice_get (remove xs k ++ ys) j ≡ slice_get xs j
-before_removed xs ys k j lt within = ap (λ zs. slice_get zs j) (append_assoc (take k xs) (drop (suc k) xs) ys) ∙ before_taken xs (drop (suc k) xs ++ ys) k j lt within
+before_removed xs ys k j lt within = ap (λ zs. slice_get zs j) (append_assoc (take k xs) (drop (suc k) xs) ys) ∙
+    before_taken xs (drop (suc k) xs ++ ys) k j lt within
 
 -- ---- what is held back stays so
 
@@ -155,7 +163,8 @@ module _ (g : Parts) (count steps : ℕ) (w : World) (k : ℕ) (f : IsFree count
       at (inl limit) same = absurd (f.some (ap (λ s. length s.events) (sym same) ∙ limit))
       at (inr ended) same =
           let old : is_ended f.state m ≡ true = subst (λ (s : State). is_ended s m ≡ true) same ended in
-          inr (ended_whatever (next.stamp == 2 ^ 64 - 1) (m.stamp == 2 ^ 64 - 1) (ended_by_message (f.state.stamp == 2 ^ 64 - 1) (m.stamp == 2 ^ 64 - 1) (f.message.stamp == 2 ^ 64 - 1) old f.stamp))
+          inr (ended_whatever (next.stamp == 2 ^ 64 - 1) (m.stamp == 2 ^ 64 - 1)
+          (ended_by_message (f.state.stamp == 2 ^ 64 - 1) (m.stamp == 2 ^ 64 - 1) (f.message.stamp == 2 ^ 64 - 1) old f.stamp))
 
   -- a message for another element
   held_other : (m : Message) (h : IsHeldBack count steps w m) → (route_of m.payload count ≡ number → ⊥) → IsHeldBack count steps to m
@@ -176,7 +185,8 @@ module _ (g : Parts) (count steps : ℕ) (w : World) (k : ℕ) (f : IsFree count
   held_before held j m lt at = held_on m (held j m lt (sym (before_removed w.flight _ k j lt (IsFree-within count steps w k f)) ∙ at))
 
   -- no element has handled more than it may
-  few_after : ((n : ℕ) (e : State) → slice_get w.elements n ≡ Some e → length e.events ≤ steps) → (n : ℕ) (e : State) → slice_get to.elements n ≡ Some e → length e.events ≤ steps
+  few_after : ((n : ℕ) (e : State) → slice_get w.elements n ≡ Some e → length e.events ≤ steps) → (n : ℕ) (e : State) → slice_get to.elements n ≡ Some e →
+      length e.events ≤ steps
   few_after few n e at = cases (slice_get-set w.elements number n next e at)
     where
       cases : ((n ≡ number) × (e ≡ next)) ⊎ (slice_get w.elements n ≡ Some e) → length e.events ≤ steps
@@ -255,18 +265,21 @@ faults_put g p m xs ys v none =
     filter_map-append h xs (v ∷ ys) ∙ ap (λ fs. fs ++ cons_option (h v) (faults_of g p m ys)) a ∙ ap (cons_option (h v)) b
 
 -- what a machine shows that showed no fault, after one event more
-faults-next : (g : Parts) (w to : World) (n : ℕ) (a : State) (v : EventView) → (s : Split w.elements n a v) → to.elements ≡ slice_set w.elements n a → faults g w ≡ []
+faults-next : (g : Parts) (w to : World) (n : ℕ) (a : State) (v : EventView) → (s : Split w.elements n a v) → to.elements ≡ slice_set w.elements n a →
+    faults g w ≡ []
     → faults g to ≡ cons_option (fault_of g (path_in g to.elements) (structure_in g to.elements) v.step) []
 faults-next g w to n a v s is none =
     let p = path_in g to.elements in
     let m = structure_in g to.elements in
-    let old : faults_of g p m (events_of w.elements) ≡ [] = faults_pathless g (path_in g w.elements) p (structure_in g w.elements) m (events_of w.elements) none in
+    let old : faults_of g p m (events_of w.elements) ≡ [] = faults_pathless g (path_in g w.elements) p (structure_in g w.elements) m (events_of w.elements)
+    none in
     ap (λ (es : List State). faults_of g p m (events_of es)) is ∙ ap (faults_of g p m) s.new
     ∙ faults_put g p m s.xs s.ys v (ap (faults_of g p m) (sym s.old) ∙ old)
 
 -- ---- how many events there are
 
-total_bound : (es : List State) (steps : ℕ) → ((n : ℕ) (e : State) → slice_get es n ≡ Some e → length e.events ≤ steps) → length (events_of es) ≤ length es * steps
+total_bound : (es : List State) (steps : ℕ) → ((n : ℕ) (e : State) → slice_get es n ≡ Some e → length e.events ≤ steps) →
+    length (events_of es) ≤ length es * steps
 total_bound [] steps few = omega arith
 total_bound (s ∷ es) steps few =
     let here = few 0 s refl in
@@ -339,7 +352,8 @@ Reaches-none a steps h = record {
     turns = tt;
     turn = refl;
     few = λ k e at. fresh_few steps a.count k e (ap (λ w. slice_get w.elements k) (sym h.world) ∙ at);
-    none = ap (faults a.graph) h.world ∙ ap (faults_of a.graph (path_in a.graph (replicate a.count fresh)) (structure_in a.graph (replicate a.count fresh))) (fresh_events a.count);
+    none = ap (faults a.graph) h.world ∙ ap (faults_of a.graph (path_in a.graph (replicate a.count fresh)) (structure_in a.graph (replicate a.count fresh)))
+        (fresh_events a.count);
     size = ap (λ w. length w.elements) h.world ∙ so_many a.count fresh;
     handled = ap (λ w. length (events_of w.elements)) h.world ∙ ap length (fresh_events a.count);
     within = omega arith;
@@ -371,7 +385,8 @@ failed g path name (Fault (SecondStore c t u)) w s = (_, refl)
 failed g path name Stuck w s = absurd (s refl)
 
 -- one delivery more, in its turn
-module _ (g : Parts) (count steps : ℕ) (from w : World) (t : Turn) (q : ℕ) (v : EventView) (h : GoesOn g count steps from w t) (turn : IsInTurn count steps t w q)
+module _ (g : Parts) (count steps : ℕ) (from w : World) (t : Turn) (q : ℕ) (v : EventView) (h : GoesOn g count steps from w t)
+    (turn : IsInTurn count steps t w q)
     (f : IsFree count steps w q) (made : event_at g count w q ≡ Some v) where
   abbrev after : World
   after = to g count steps w q f
@@ -394,7 +409,8 @@ module _ (g : Parts) (count steps : ℕ) (from w : World) (t : Turn) (q : ℕ) (
   turns_are : AreInTurn g count steps first_turn (h.positions ++ q ∷ []) from
   turns_are =
       push_turn g count steps h.positions q from first_turn h.turns
-      (subst (λ (x : Turn). IsInTurn count steps x (run g count h.positions from) q) (sym h.turn) (subst (λ (x : World). IsInTurn count steps t x q) h.world turn))
+      (subst (λ (x : Turn). IsInTurn count steps x (run g count h.positions from) q) (sym h.turn)
+      (subst (λ (x : World). IsInTurn count steps t x q) h.world turn))
       (subst (λ (x : World). IsFree count steps x q) h.world f)
 
   turn_is : turn_after g count (h.positions ++ q ∷ []) from first_turn ≡ next_turn w q t
@@ -418,7 +434,8 @@ module _ (g : Parts) (count steps : ℕ) (from w : World) (t : Turn) (q : ℕ) (
   }
 
 -- a delivery to b, as one to the graph of a
-module _ (a b c : MachineView) (steps : ℕ) (t : Turn) (q : ℕ) (step : Step) (h : Reaches a b steps t) (turn : IsInTurn a.count steps t b.world q) (f : IsFree a.count steps b.world q)
+module _ (a b c : MachineView) (steps : ℕ) (t : Turn) (q : ℕ) (step : Step) (h : Reaches a b steps t) (turn : IsInTurn a.count steps t b.world q)
+    (f : IsFree a.count steps b.world q)
     (d : IsDelivery q b c step) where
   made_there : event_at a.graph a.count b.world q ≡ Some d.event
   made_there =
@@ -490,7 +507,8 @@ ended_run a b steps t h held =
       ended = at_rest (ap (faults a.graph) (sym (h.goes).world) ∙ (h.goes).none) (subst H (h.goes).world held);
     }
 
-pub HasRun-rest : (a b : MachineView) (steps : ℕ) (t : Turn) (q : ℕ) → Reaches a b steps t → AreHeldBefore a.count steps b.world q → q ≡ length b.world.flight → HasRun a b steps
+pub HasRun-rest : (a b : MachineView) (steps : ℕ) (t : Turn) (q : ℕ) → Reaches a b steps t → AreHeldBefore a.count steps b.world q →
+    q ≡ length b.world.flight → HasRun a b steps
 HasRun-rest a b steps t q h held all =
     ended_run a b steps t h (λ k d within. held k (slice_index_or b.world.flight k d) (omega (arith, within, all)) (slice_get-get_or b.world.flight k d within))
 
@@ -532,7 +550,8 @@ not_last a b n less fewer most =
     ap (λ c. c || (b == 2 ^ 64 - 1)) one ∙ two
 
 -- where fewer messages were handled in all than each element may, none is held back
-pub IsFree-young : (a b : MachineView) (steps : ℕ) (t : Turn) (k : ℕ) → IsFreshMachine a → Reaches a b steps t → t.handled < steps → steps ≤ 100000000 → k < length b.world.flight
+pub IsFree-young : (a b : MachineView) (steps : ℕ) (t : Turn) (k : ℕ) → IsFreshMachine a → Reaches a b steps t → t.handled < steps → steps ≤ 100000000 →
+    k < length b.world.flight
     → IsFree a.count steps b.world k
 IsFree-young a b steps t k fresh h young few within =
     let goes = h.goes in
@@ -570,13 +589,15 @@ pub element_at : (w : World) (count n : ℕ) (es : List ElementView) (e : Elemen
 element_at w count n es e x is at route =
     ap (slice_get w.elements) (sym route) ∙ ap (λ (v : World). slice_get v.elements n) (sym is) ∙ slice_get-image (λ (u : ElementView). u.state) es n e at
 
-pub held_by : (w : World) (count steps k : ℕ) (s : State) (x : Message) → slice_get w.flight k ≡ Some x → slice_get w.elements (route_of x.payload count) ≡ Some s
+pub held_by : (w : World) (count steps k : ℕ) (s : State) (x : Message) → slice_get w.flight k ≡ Some x →
+    slice_get w.elements (route_of x.payload count) ≡ Some s
     → (length s.events ≡ steps) ⊎ IsTrue (is_ended s x) → IsHeldAt count steps w k
 held_by w count steps k s x there at held m here =
     let same : x ≡ m = some_same x m (sym there ∙ here) in
     subst (IsHeldBack count steps w) same (record { state = s; element = at; held = held })
 
-pub free_by : (w : World) (count steps k : ℕ) (s : State) (x : Message) → slice_get w.flight k ≡ Some x → slice_get w.elements (route_of x.payload count) ≡ Some s
+pub free_by : (w : World) (count steps k : ℕ) (s : State) (x : Message) → slice_get w.flight k ≡ Some x →
+    slice_get w.elements (route_of x.payload count) ≡ Some s
     → length s.events ≢ steps → IsFalse (is_ended s x) → IsFree count steps w k
 free_by w count steps k s x there at some stamp = record { message = x; at = there; state = s; element = at; some = some; stamp = stamp }
 
@@ -612,7 +633,8 @@ HasHand-none a steps h fresh at context =
 others_stay : (g : Parts) (count steps : ℕ) (w : World) (q : ℕ) (f : IsFree count steps w q) (c : Option Context) → IsBehindOthers w.flight q c
     → IsBehindOthers (delivered g count w q).flight q c
 others_stay g count steps w q f c others = subst (λ (x : World). IsBehindOthers x.flight q c) (sym (delivered-free g count steps w q f)) (λ k is at. (
-    let same = before_removed w.flight (outputs_of g (route_of f.message.payload count) f.state f.message) q k (omega (arith, is)) (IsFree-within count steps w q f) in
+    let same = before_removed w.flight (outputs_of g (route_of f.message.payload count) f.state f.message) q k (omega (arith, is))
+    (IsFree-within count steps w q f) in
     others k is (ap (option_map context_of) (sym same) ∙ at)))
 
 module _ (a b c : MachineView) (steps n : ℕ) (h next : Hand) (step : Step) (has : HasHand a b steps n h) (is : IsNextHand b.world.flight h next)
@@ -633,7 +655,8 @@ module _ (a b c : MachineView) (steps n : ℕ) (h next : Hand) (step : Step) (ha
         is = record {
           within = (there.goes).within;
           behind = λ front. subst (λ (x : World). IsBehindOthers x.flight next.position (Some next.context)) (sym world)
-              (others_stay b.graph b.count steps b.world next.position (subst (λ (i : ℕ). IsFree i steps b.world next.position) same_count f) (Some next.context)
+              (others_stay b.graph b.count steps b.world next.position (subst (λ (i : ℕ). IsFree i steps b.world next.position) same_count f)
+              (Some next.context)
               (is.behind front));
         };
       }
@@ -657,18 +680,21 @@ HoldsBefore-none a b steps n has = record {
   within = omega arith;
 }
 
-pub HoldsBefore-went : (a b c : MachineView) (steps n p q : ℕ) (step : Step) → (has : HoldsBefore a b steps n p) → steps ≤ n * 2 → AreHeldBefore a.count steps b.world q
+pub HoldsBefore-went : (a b c : MachineView) (steps n p q : ℕ) (step : Step) → (has : HoldsBefore a b steps n p) → steps ≤ n * 2 →
+    AreHeldBefore a.count steps b.world q
     → IsFree a.count steps b.world q → IsDelivery q b c step → step ≡ Went → HoldsBefore a c steps (n + 1) q
 HoldsBefore-went a b c steps n p q step has old held f d went =
     let count = has.handled in
     let there = Reaches-went a b c steps has.turn q step has.reaches (late (omega (arith, old, count)) held) f d went in
     let world : c.world ≡ delivered a.graph a.count b.world q =
-    ap (λ m. m.world) d.new_is ∙ ap (λ g. delivered g b.count b.world q) (has.reaches).same_graph ∙ ap (λ i. delivered a.graph i b.world q) (has.reaches).same_count in
+    ap (λ m. m.world) d.new_is ∙ ap (λ g. delivered g b.count b.world q) (has.reaches).same_graph ∙
+    ap (λ i. delivered a.graph i b.world q) (has.reaches).same_count in
     record {
       turn = next_turn b.world q has.turn;
       reaches = there;
       handled = ap (λ i. i + 1) has.handled;
-      held = subst (λ (x : World). AreHeldBefore a.count steps x q) (sym (world ∙ delivered-free a.graph a.count steps b.world q f)) (held_before a.graph a.count steps b.world q f held);
+      held = subst (λ (x : World). AreHeldBefore a.count steps x q) (sym (world ∙ delivered-free a.graph a.count steps b.world q f))
+          (held_before a.graph a.count steps b.world q f held);
       within = (there.goes).within;
     }
 

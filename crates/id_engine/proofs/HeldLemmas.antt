@@ -112,7 +112,11 @@ keys_of (x ∷ xs) = ap (λ ks. (x.name, x.index) ∷ ks) (keys_of xs)
 -- what a sound run shows of structures and cells is apart
 pub AreApartBy-held : (S : Source) (g : Parts) (number : ℕ → ℕ → ℕ) (count : ℕ) (w : World) → IsSound S g number w
     → AreApartBy OfOneThing (held_lines (record { graph = g; count = count; world = w }))
-AreApartBy-held S g number count w s = record { differ = both_differ _ _ (arrays_differ ss differ_shapes) (cells_differ ps differ_cells) (λ h a b. not_both h ss ps a b); one = one }
+AreApartBy-held S g number count w s = record {
+  differ = both_differ _ _ (arrays_differ ss differ_shapes) (cells_differ ps differ_cells)
+      (λ h a b. not_both h ss ps a b);
+  one = one;
+}
   where
     ss : List Shape
     ss = shown.structures g w
@@ -142,13 +146,17 @@ AreSomeHeld-sound S g number count w hs s sorted rise =
     let all = held_lines (record { graph = g; count = count; world = w }) in
     record {
       shapes = λ x h. s.structures x (the_shape x (shown.structures g w) (shown.cell_values g w) (among_sorted all hs (Array x) sorted.same h));
-      puts = λ c h. put_there c (among_image shown.cell_value (shown.cells g w) c (the_cell c (shown.structures g w) (shown.cell_values g w) (among_sorted all hs (Cell c) sorted.same h)));
+      puts = λ c h. put_there c (among_image shown.cell_value (shown.cells g w) c
+          (the_cell c (shown.structures g w) (shown.cell_values g w) (among_sorted all hs (Cell c) sorted.same h)));
       rise = rise;
     }
   where
     put_there : (c : CellValue) → (x : Put) × Among x (shown.cells g w) × (shown.cell_value x ≡ c) → IsPut S c
-    put_there c t =
-        (t.0.store, subst (λ (d : CellValue). Holds S (fact.Put (record { name = d.name; index = d.index; value = d.value; store = t.0.store }))) t.2 (s.cells t.0 t.1))
+    put_there c t = (
+      t.0.store,
+      subst (λ (d : CellValue). Holds S (fact.Put (record { name = d.name; index = d.index; value = d.value; store = t.0.store }))) t.2
+          (s.cells t.0 t.1),
+    )
 
 -- and all, where the run is complete
 pub AreHeld-complete : (S : Source) (g : Parts) (count : ℕ) (w : World) (hs : List Held) → AreSomeHeld S hs → IsComplete S g w
@@ -158,7 +166,8 @@ AreHeld-complete S g count w hs some c sorted =
     record {
       shapes = λ x h. among_permuted all hs (Array x) sorted.same (among_first _ _ _ (among_map Array (shown.structures g w) x (c.structures x h)));
       puts = λ x h. among_permuted all hs (Cell (shown.cell_value x)) sorted.same
-          (among_second _ (map Array (shown.structures g w)) _ (among_map Cell (shown.cell_values g w) _ (among_map shown.cell_value (shown.cells g w) x (c.cells x h))));
+          (among_second _ (map Array (shown.structures g w)) _ (among_map Cell (shown.cell_values g w) _
+          (among_map shown.cell_value (shown.cells g w) x (c.cells x h))));
       some = some;
     }
 
@@ -176,7 +185,8 @@ asks_rise (a ∷ []) h = tt
 asks_rise (a ∷ b ∷ ws) h = (inl h.0, asks_rise (b ∷ ws) h.1)
 
 -- what a complete run's report says of fetches that wait is so, and all of it
-pub AreWaiting-complete : (S : Source) (g : Parts) (w : World) (ws : List Ask) → IsComplete S g w → IsOrderOf WaitBefore ws (shown.waiting g w) → Rises WaitBefore ws → AreWaiting S ws
+pub AreWaiting-complete : (S : Source) (g : Parts) (w : World) (ws : List Ask) → IsComplete S g w → IsOrderOf WaitBefore ws (shown.waiting g w) →
+    Rises WaitBefore ws → AreWaiting S ws
 AreWaiting-complete S g w ws c sorted rise = record {
   all = λ x h. among_permuted (shown.waiting g w) ws x sorted.same (c.waiting x h);
   only = λ x h. c.only_waiting x (among_sorted (shown.waiting g w) ws x sorted.same h);

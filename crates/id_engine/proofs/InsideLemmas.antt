@@ -17,7 +17,8 @@ use Rattle.id_engine.specs.Refusals.{lexer_refusal, parser_refusal, checker_refu
 use Rattle.id_engine.proofs.NamesLemmas.{among_all}
 
 -- that of a text without tokens, unless it is too long
-pub lexer_inside : (text : List ℕ) (e : TextError) → IsPlaceWithin (length text) e → (e ≡ lexer.TooLong) ⊎ (length text ≤ 1048576) → IsDetailInside text (lexer_refusal e).detail
+pub lexer_inside : (text : List ℕ) (e : TextError) → IsPlaceWithin (length text) e → (e ≡ lexer.TooLong) ⊎ (length text ≤ 1048576) →
+    IsDetailInside text (lexer_refusal e).detail
 lexer_inside text lexer.TooLong h short = tt
 lexer_inside text (lexer.BadByte at) h (inl e) = absurd cc
 lexer_inside text (lexer.BadByte at) h (inr s) = record { inside = h; short = s }
@@ -32,7 +33,8 @@ stop_inside text ts at r all =
     omega (arith, w.0, w.1, r.place)
 
 -- that of tokens without tree
-pub parser_inside : (text : List ℕ) (ts : List Token) (e : TreeError) → RefusedBy ts e → All (IsWithin (length text)) ts → length text ≤ 1048576 → IsDetailInside text (parser_refusal e).detail
+pub parser_inside : (text : List ℕ) (ts : List Token) (e : TreeError) → RefusedBy ts e → All (IsWithin (length text)) ts → length text ≤ 1048576 →
+    IsDetailInside text (parser_refusal e).detail
 parser_inside text ts (parser.Unexpected at) h all short = record { inside = stop_inside text ts at h.0 all; short = short }
 parser_inside text ts (parser.TooDeep at) h all short = record { inside = stop_inside text ts at h.0 all; short = short }
 parser_inside text ts parser.Memory h all short = tt

@@ -30,7 +30,8 @@ among_all P xs x all h =
 
 -- what is among a list is among those in another order
 pub among_permuted : {X : Type 0} (xs ys : List X) (x : X) → IsPermutation xs ys → Among x xs → Among x ys
-among_permuted xs ys x s h = among_all (λ z. Among z ys) xs x (All-permutation (λ z. Among z ys) ys xs (IsPermutation-sym xs ys s) (all_among (λ z. Among z ys) ys (λ z k. k))) h
+among_permuted xs ys x s h = among_all (λ z. Among z ys) xs x
+    (All-permutation (λ z. Among z ys) ys xs (IsPermutation-sym xs ys s) (all_among (λ z. Among z ys) ys (λ z k. k))) h
 
 pub among_sorted : {X : Type 0} (xs ys : List X) (x : X) → IsPermutation xs ys → Among x ys → Among x xs
 among_sorted xs ys x s h = among_all (λ z. Among z xs) ys x (All-permutation (λ z. Among z xs) xs ys s (all_among (λ z. Among z xs) xs (λ z k. k))) h

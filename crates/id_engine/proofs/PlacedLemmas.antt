@@ -1,5 +1,6 @@
 -- The facts and the instructions of a source stand at places of its program, and those lie in its text.
-use Rattle.std.proofs.Common.{◌≡◌, ℕ, Bool, zero, suc, ◌+◌, ◌<◌, ◌≤◌, true, false, List, [], ◌∷◌, All, length, map, Option, Some, None, refl, sym, ap, subst, ◌∙◌, arith}
+use Rattle.std.proofs.Common.{◌≡◌, ℕ, Bool, zero, suc, ◌+◌, ◌<◌, ◌≤◌, true, false, List, [], ◌∷◌, All, length, map}
+use Rattle.std.proofs.Common.{Option, Some, None, refl, sym, ap, subst, ◌∙◌, arith}
 use Rattle.std.specs.Prelude.{get_or, slice_get, IfSome}
 use Rattle.std.proofs.lemmas.Option.{slice_get-get_or}
 use Rattle.id_list.proofs.AmongLemmas.{Among-from_at}
@@ -294,7 +295,8 @@ module _ {size : ℕ} (S : Source) (h : IsPlacedWithin size S.checked) where
   answer_within (Some v) k = value_within h v (holds_placed S (Has outermost (place S.checked (main_body S.checked)) v) k).1
 
   asks_within : (ws : List Ask) → ((a : Ask) → Among a ws → Holds S (fact.Ask a)) → AsksWithin size ws
-  asks_within ws s = λ k d within. (let a = get_or ws k d in fact_within h (fact.Ask a) (holds_placed S (fact.Ask a) (s a (Among-from_at _ ws k (slice_get-get_or ws k d within)))))
+  asks_within ws s = λ k d within. (let a = get_or ws k d in
+      fact_within h (fact.Ask a) (holds_placed S (fact.Ask a) (s a (Among-from_at _ ws k (slice_get-get_or ws k d within)))))
 
   -- the names of a source lie in its text
   pub names_within : (ns : List NameValue) → AreSomeNames S ns → NamesWithin size ns

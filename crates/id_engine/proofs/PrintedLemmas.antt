@@ -16,7 +16,8 @@ use Rattle.id_print.specs.Reports.{report_text}
 use Rattle.id_print.specs.Traces.{trace_text}
 use Rattle.id_engine.specs.declared.error.EngineError.{EngineError}
 use Rattle.id_engine.specs.declared.error.EngineError.TheVariants.{Memory, Write}
-use Rattle.id_engine.specs.Reports.{AreAllowed, HasRun, IsReportFrom, IsTrueOf, IsUnallowed, PrintsEvents, PrintsMachine, PrintsRun, RunsSo, ran, unallowed, status_of}
+use Rattle.id_engine.specs.Reports.{AreAllowed, HasRun, IsReportFrom, IsTrueOf, IsUnallowed, PrintsEvents}
+use Rattle.id_engine.specs.Reports.{PrintsMachine, PrintsRun, RunsSo, ran, unallowed, status_of}
 use Rattle.id_engine.specs.Reports.PrintsEvents.{all_out, front_out}
 use Rattle.id_engine.specs.Reports.PrintsRun.{whole, cut}
 use Rattle.id_engine.specs.Reports.PrintsMachine.{reported, out_of_memory}
@@ -27,7 +28,8 @@ use Rattle.id_engine.proofs.StuckLemmas.{left_over}
 -- ---- what is printed of a machine
 
 module _ (text : List ℕ) (b : Bool) (es : List EventView) (r : Report) (old new : Option Told) where
-  pub PrintsEvents-whole : (u : Result (Unit {0}) PrintError) (n : ℕ) → Prints old new (trace_text es ++ report_text text b r) u → u ≡ Ok tt → n ≡ status_of r.ending
+  pub PrintsEvents-whole : (u : Result (Unit {0}) PrintError) (n : ℕ) → Prints old new (trace_text es ++ report_text text b r) u → u ≡ Ok tt →
+      n ≡ status_of r.ending
       → PrintsEvents text b es r old new (Ok n)
   PrintsEvents-whole u n printed is status =
       subst (λ (k : ℕ). PrintsEvents text b es r old new (Ok k)) (sym status)
@@ -35,7 +37,8 @@ module _ (text : List ℕ) (b : Bool) (es : List EventView) (r : Report) (old ne
 
   pub PrintsEvents-cut : (u : Result (Unit {0}) PrintError) (e : PrintError) → Prints old new (trace_text es ++ report_text text b r) u → u ≡ Err e
       → PrintsEvents text b es r old new (Err Write)
-  PrintsEvents-cut u e printed is = front_out e (subst (λ (x : Result (Unit {0}) PrintError). Prints old new (trace_text es ++ report_text text b r) x) is printed)
+  PrintsEvents-cut u e printed is = front_out e (subst (λ (x : Result (Unit {0}) PrintError). Prints old new (trace_text es ++ report_text text b r) x) is
+      printed)
 
   pub PrintsRun-events : (t : Bool) (w : World) (result : Result ℕ EngineError) → IsTraceOf t w es → PrintsEvents text b es r old new result
       → PrintsRun text t b w r old new result
@@ -49,7 +52,8 @@ module _ (P : Checked) (vs : List Constant) (text : List ℕ) (count : ℕ) (t :
   pub RunsSo-unallowed : (old : Option Told) (e : EngineError) → IsUnallowed count steps e → RunsSo P vs text count t steps b old old (Err e)
   RunsSo-unallowed old e why = unallowed e why refl
 
-  pub RunsSo-memory : (old : Option Told) (result : Result ℕ EngineError) (x : EngineError) → IsErrAnd result (λ e. e ≡ x) → x ≡ Memory → RunsSo P vs text count t steps b old old result
+  pub RunsSo-memory : (old : Option Told) (result : Result ℕ EngineError) (x : EngineError) → IsErrAnd result (λ e. e ≡ x) → x ≡ Memory →
+      RunsSo P vs text count t steps b old old result
   RunsSo-memory old (Ok n) x h is = absurd h
   RunsSo-memory old (Err e) x h is = let why : e ≡ Memory = h ∙ is in
       subst (λ (y : EngineError). RunsSo P vs text count t steps b old old (Err y)) (sym why) (unallowed Memory refl refl)
@@ -63,17 +67,20 @@ module _ (P : Checked) (vs : List Constant) (text : List ℕ) (count : ℕ) (t :
     pub IsTrueOf-ran : IsTrueOf (source P vs) b r
     IsTrueOf-ran = let k = ran_from in IsTrueOf-laws (source P vs) g count k.positions m b r sound complete inputs schemas k.same_graph k.world from
 
-    pub RunsSo-from : NeverStuck → AreAllowed count steps → (old new : Option Told) (result : Result ℕ EngineError) → PrintsRun text t b m.world r old new result
+    pub RunsSo-from : NeverStuck → AreAllowed count steps → (old new : Option Told) (result : Result ℕ EngineError) →
+        PrintsRun text t b m.world r old new result
         → RunsSo P vs text count t steps b old new result
     RunsSo-from never allowed old new result prints =
         let k = ran_from in
-        let o = IsReportOfRun-from g vs count steps m b r k from (λ stopped empty. left_over never (source P vs) g count k.positions m r.ending inputs schemas k.same_graph k.world from.ends stopped empty) in
+        let o = IsReportOfRun-from g vs count steps m b r k from (λ stopped empty. left_over never (source P vs) g count k.positions m r.ending inputs schemas
+        k.same_graph k.world from.ends stopped empty) in
         ran g r allowed schemas IsTrueOf-ran o.0 (subst (λ (x : World). PrintsRun text t b x r old new result) o.1 prints)
 
   -- the same of what is printed of the machine at its start
   pub RunsSo-machine : (g : Parts) (a : MachineView) → Soundness → QuietIsComplete → AreInputs P vs → Schemas P g
       → a ≡ record { graph = g; count = count; world = start g vs count } → NeverStuck → AreAllowed count steps
-      → (old new : Option Told) (result : Result ℕ EngineError) → PrintsMachine a text t steps b old new result → RunsSo P vs text count t steps b old new result
+      → (old new : Option Told) (result : Result ℕ EngineError) → PrintsMachine a text t steps b old new result →
+      RunsSo P vs text count t steps b old new result
   RunsSo-machine g a sound complete inputs schemas begins never allowed old new result (reported n r has from prints) =
       RunsSo-from g a n r sound complete inputs schemas begins has from never allowed old new result prints
   RunsSo-machine g a sound complete inputs schemas begins never allowed old new result (out_of_memory same) = unallowed Memory refl same

@@ -37,7 +37,8 @@ if_some S None h = tt
 if_some S (Some v) h = h v refl
 
 -- what a report says is so where the state is sound, and complete if it is quiet
-true_in : (S : Source) (g : Parts) (count : ℕ) (w : World) (b : Bool) (r : Report) (e : Ending) → ((i : ℕ) (f : SourceFault) → slice_get (faults g w) i ≡ Some f → Faulty S f)
+true_in : (S : Source) (g : Parts) (count : ℕ) (w : World) (b : Bool) (r : Report) (e : Ending) →
+    ((i : ℕ) (f : SourceFault) → slice_get (faults g w) i ≡ Some f → Faulty S f)
     → (IsQuiet w → IsComplete S g w) → SaysSome S r → IsReportFrom (record { graph = g; count = count; world = w }) b r → Rises WaitBefore r.waiting
     → EndsSo (record { graph = g; count = count; world = w }) e → SaysTruly S b r e
 true_in S g count w b r Quiet fails completes some from rise ends =
@@ -92,7 +93,8 @@ says_some S g number count w b r ok h = record {
 }
 
 -- what a report of a run of a schemas' graph says is so
-pub IsTrueOf-laws : (S : Source) (g : Parts) (count : ℕ) (ks : List ℕ) (m : MachineView) (b : Bool) (r : Report) → Soundness → QuietIsComplete → AreInputs S.checked S.inputs
+pub IsTrueOf-laws : (S : Source) (g : Parts) (count : ℕ) (ks : List ℕ) (m : MachineView) (b : Bool) (r : Report) → Soundness → QuietIsComplete →
+    AreInputs S.checked S.inputs
     → Schemas S.checked g → m.graph ≡ g → m.world ≡ run g count ks (start g S.inputs count) → IsReportFrom m b r → IsTrueOf S b r
 IsTrueOf-laws S g count ks m b r sound complete inputs schemas same_graph world from =
     let w : World = run g count ks (start g S.inputs count) in

@@ -4,7 +4,9 @@ use Rattle.id_print.specs.Told.{Told}
 use Rattle.id_request.specs.declared.Request.{Request}
 use Rattle.id_request.specs.declared.Request.TheVariants as asks
 use Rattle.id_engine.specs.declared.error.EngineError.{EngineError}
-use Rattle.id_engine.specs.declared.error.EngineError.TheVariants.{Compile, MissingInput, UnknownInput, RepeatedInput, BadInput, BadElements, BadSteps, BadRounds, TooManyFacts, Memory, Write}
+use Rattle.id_engine.specs.declared.error.EngineError.TheVariants.{Compile, MissingInput, UnknownInput, RepeatedInput}
+use Rattle.id_engine.specs.declared.error.EngineError.TheVariants.{BadInput, BadElements, BadSteps, BadRounds}
+use Rattle.id_engine.specs.declared.error.EngineError.TheVariants.{TooManyFacts, Memory, Write}
 use Rattle.id_engine.specs.declared.refusal.Cause.{Cause}
 use Rattle.id_engine.specs.declared.refusal.Detail.{Detail}
 use Rattle.id_engine.specs.declared.refusal.Detail.TheVariants.{Nothing, Place, Kinds, Word}
@@ -60,12 +62,16 @@ told_inside text ws Memory r t h = plain_inside text r _ tt t
 told_inside text ws Write r t h = plain_inside text r _ tt t
 
 -- an error is told by its line and its status
-pub Serves-error : (text : List ℕ) (r : Request) (out out' err err' : Option Told) (e : EngineError) (n : ℕ) → (e ≡ Write → ShowsFront (command_of r) text out out')
+pub Serves-error : (text : List ℕ) (r : Request) (out out' err err' : Option Told) (e : EngineError) (n : ℕ) →
+    (e ≡ Write → ShowsFront (command_of r) text out out')
     → (e ≢ Write → out' ≡ out) → IsRefusedRequest text r e → IsToldRefusal text (words_of r) e err err' n → Serves text r out out' err err' n
 Serves-error text r out out' err err' (Compile x) n front silent why told = let d : Compile x ≢ Write = λ h. absurd cc in refused _ d why (silent d) told
-Serves-error text r out out' err err' (MissingInput x) n front silent why told = let d : MissingInput x ≢ Write = λ h. absurd cc in refused _ d why (silent d) told
-Serves-error text r out out' err err' (UnknownInput j) n front silent why told = let d : UnknownInput j ≢ Write = λ h. absurd cc in refused _ d why (silent d) told
-Serves-error text r out out' err err' (RepeatedInput j) n front silent why told = let d : RepeatedInput j ≢ Write = λ h. absurd cc in refused _ d why (silent d) told
+Serves-error text r out out' err err' (MissingInput x) n front silent why told = let d : MissingInput x ≢ Write = λ h. absurd cc in
+    refused _ d why (silent d) told
+Serves-error text r out out' err err' (UnknownInput j) n front silent why told = let d : UnknownInput j ≢ Write = λ h. absurd cc in
+    refused _ d why (silent d) told
+Serves-error text r out out' err err' (RepeatedInput j) n front silent why told = let d : RepeatedInput j ≢ Write = λ h. absurd cc in
+    refused _ d why (silent d) told
 Serves-error text r out out' err err' (BadInput j) n front silent why told = let d : BadInput j ≢ Write = λ h. absurd cc in refused _ d why (silent d) told
 Serves-error text r out out' err err' BadElements n front silent why told = let d : BadElements ≢ Write = λ h. absurd cc in refused _ d why (silent d) told
 Serves-error text r out out' err err' BadSteps n front silent why told = let d : BadSteps ≢ Write = λ h. absurd cc in refused _ d why (silent d) told
@@ -75,7 +81,8 @@ Serves-error text r out out' err err' Memory n front silent why told = let d : M
 Serves-error text r out out' err err' Write n front silent why told = cut (front refl) told
 
 -- a source's fault is refused
-pub Drives-unread : (told : Option (Result (List ℕ) SourceFault)) (r : Request) (out err err' : Option Told) (fault : SourceFault) (x : Cause) (n : ℕ) → IsUnread told fault
+pub Drives-unread : (told : Option (Result (List ℕ) SourceFault)) (r : Request) (out err err' : Option Told) (fault : SourceFault) (x : Cause) (n : ℕ) →
+    IsUnread told fault
     → x ≡ source_cause fault → n ≡ (row_of x).2 → IsPrintedLine [] (plain x) err err' → Drives told r out out err err' n
 Drives-unread told r out err err' fault x n h is status printed =
     let line : IsPrintedLine [] (plain (source_cause fault)) err err' = subst (λ (y : Cause). IsPrintedLine [] (plain y) err err') is printed in

@@ -1,5 +1,6 @@
 -- Lemmas on specs/Commands.antt: from a report that is so to what is printed.
-use Rattle.std.proofs.Common.{◌≡◌, ◌≢◌, ◌≤◌, ℕ, zero, suc, Bool, true, false, IsTrue, List, [], ◌∷◌, ◌++◌, Option, Some, Result, Ok, Err, IfOk, IfErr, OnOk, slice_get, codes, refl, sym, ap, ◌∙◌, subst}
+use Rattle.std.proofs.Common.{◌≡◌, ◌≢◌, ◌≤◌, ℕ, zero, suc, Bool, true, false, IsTrue, List, [], ◌∷◌, ◌++◌, Option}
+use Rattle.std.proofs.Common.{Some, Result, Ok, Err, IfOk, IfErr, OnOk, slice_get, codes, refl, sym, ap, ◌∙◌, subst}
 use Rattle.id_observe.proofs.FirstsLemmas.{first_is_shown}
 use Rattle.id_check.specs.declared.checked.Checked.{Checked}
 use Rattle.id_print.specs.declared.sink.PrintError.{PrintError}
@@ -8,7 +9,9 @@ use Rattle.id_print.specs.declared.report.Ending.TheVariants.{Quiet, Stopped, Fa
 use Rattle.id_print.specs.declared.report.Report.{Report}
 use Rattle.id_print.specs.Told.{Told, Prints}
 use Rattle.id_print.specs.Reports.{asked, ending_text, report_text}
-use Rattle.id_engine.specs.Commands.{Check, List_graph, Draw_graph, Facts, Run, Shows, accepted, listed, drawn, facts, quiet, fault, stopped, traced, HasShown, ShowsAll, ShowsFront, IsListingOf, IsPictureOf, AreFactsOf}
+use Rattle.id_engine.specs.Commands.{Check, List_graph, Draw_graph, Facts, Run, Shows, accepted, listed, drawn, facts}
+use Rattle.id_engine.specs.Commands.{quiet, fault, stopped, traced, HasShown, ShowsAll, ShowsFront, IsListingOf}
+use Rattle.id_engine.specs.Commands.{IsPictureOf, AreFactsOf}
 use Rattle.id_engine.specs.Programs.{HasInputs, HasProgram, IsProgramOf}
 use Rattle.id_engine.specs.declared.error.EngineError.{EngineError}
 use Rattle.id_engine.specs.declared.error.EngineError.TheVariants.{Write}
@@ -48,20 +51,25 @@ Shows-from_report P ws vs text b r Stopped i h = stopped r.answer r.names r.stru
 Shows-from_report P ws vs text b r (Fault f) i h = fault f i h
 
 -- and so is what comes of it with its trace, where that is asked for
-Shows-traced : (P : Checked) (ws : List (List ℕ)) (vs : List Constant) (text : List ℕ) (t b : Bool) (r : Report) (g : Parts) (count : ℕ) (ks : List ℕ) (es : List EventView)
+Shows-traced : (P : Checked) (ws : List (List ℕ)) (vs : List Constant) (text : List ℕ) (t b : Bool) (r : Report) (g : Parts) (count : ℕ) (ks : List ℕ)
+    (es : List EventView)
     → AreInputsOf P ws vs → Schemas P g → IsTraceOf t (after g vs count ks) es → SaysTruly (source P vs) b r r.ending
     → Shows P text (Run b t ws) (status_of r.ending) (trace_text es ++ report_text text b r)
-Shows-traced P ws vs text true b r g count ks es i schemas trace h = traced count ks es i schemas (trace.asked refl) (Shows-from_report P ws vs text b r r.ending i h)
+Shows-traced P ws vs text true b r g count ks es i schemas trace h = traced count ks es i schemas (trace.asked refl)
+    (Shows-from_report P ws vs text b r r.ending i h)
 Shows-traced P ws vs text false b r g count ks es i schemas trace h =
     subst (λ (xs : List EventView). Shows P text (Run b false ws) (status_of r.ending) (trace_text xs ++ report_text text b r)) (sym (trace.unasked refl))
     (Shows-from_report P ws vs text b r r.ending i h)
 
 -- an accepted text is said to be so
-pub HasShown-accepted : (text : List ℕ) (old new : Option Told) (result : Result (Unit {0}) PrintError) → HasProgram text → Prints old new (codes "ok\n") result → HasShown Check text old new 0 result
-HasShown-accepted text old new result h printed = record { program = h.program; is_program = h.is_program; output = codes "ok\n"; shows = accepted; printed = printed }
+pub HasShown-accepted : (text : List ℕ) (old new : Option Told) (result : Result (Unit {0}) PrintError) → HasProgram text →
+    Prints old new (codes "ok\n") result → HasShown Check text old new 0 result
+HasShown-accepted text old new result h printed = record
+    { program = h.program; is_program = h.is_program; output = codes "ok\n"; shows = accepted; printed = printed }
 
 -- a printed listing of a graph of the text's program is shown
-pub HasShown-listed : (text bytes : List ℕ) (old new : Option Told) (result : Result (Unit {0}) PrintError) → IsListingOf text bytes → Prints old new bytes result → HasShown List_graph text old new 0 result
+pub HasShown-listed : (text bytes : List ℕ) (old new : Option Told) (result : Result (Unit {0}) PrintError) → IsListingOf text bytes →
+    Prints old new bytes result → HasShown List_graph text old new 0 result
 HasShown-listed text bytes old new result h printed = record {
   program = h.program;
   is_program = h.is_program;
@@ -71,7 +79,8 @@ HasShown-listed text bytes old new result h printed = record {
 }
 
 -- a printed picture of a graph of the text's program is shown
-pub HasShown-drawn : (text bytes : List ℕ) (old new : Option Told) (result : Result (Unit {0}) PrintError) → IsPictureOf text bytes → Prints old new bytes result → HasShown Draw_graph text old new 0 result
+pub HasShown-drawn : (text bytes : List ℕ) (old new : Option Told) (result : Result (Unit {0}) PrintError) → IsPictureOf text bytes →
+    Prints old new bytes result → HasShown Draw_graph text old new 0 result
 HasShown-drawn text bytes old new result h printed = record {
   program = h.program;
   is_program = h.is_program;
@@ -81,8 +90,10 @@ HasShown-drawn text bytes old new result h printed = record {
 }
 
 -- printed facts of a round of the text's program are shown
-pub HasShown-facts : (text : List ℕ) (ws : List (List ℕ)) (round : ℕ) (fs : List Fact) (old new : Option Told) (result : Result (Unit {0}) PrintError) → AreFactsOf text ws round fs → Prints old new (facts_text text fs) result → HasShown (Facts round ws) text old new 0 result
-HasShown-facts text ws round fs old new result h printed = record { program = h.program; is_program = h.is_program; output = facts_text text fs; shows = facts h.are_inputs h.are; printed = printed }
+pub HasShown-facts : (text : List ℕ) (ws : List (List ℕ)) (round : ℕ) (fs : List Fact) (old new : Option Told) (result : Result (Unit {0}) PrintError) →
+    AreFactsOf text ws round fs → Prints old new (facts_text text fs) result → HasShown (Facts round ws) text old new 0 result
+HasShown-facts text ws round fs old new result h printed = record
+    { program = h.program; is_program = h.is_program; output = facts_text text fs; shows = facts h.are_inputs h.are; printed = printed }
 
 -- what stands in a list of one is that one, and in none nothing does
 only_one : (x f : SourceFault) (i : ℕ) → slice_get (x ∷ []) i ≡ Some f → x ≡ f
@@ -93,7 +104,8 @@ no_one : (f : SourceFault) (i : ℕ) → slice_get [] i ≡ Some f → ⊥
 no_one f i h = cc
 
 -- a printed report of a run is the run, printed
-ends_text : (g : Parts) (vs : List Constant) (count steps : ℕ) (ks : List ℕ) (text : List ℕ) (b : Bool) (r : Report) (e : Ending) → HasEnded g count steps (start g vs count) ks
+ends_text : (g : Parts) (vs : List Constant) (count steps : ℕ) (ks : List ℕ) (text : List ℕ) (b : Bool) (r : Report) (e : Ending) →
+    HasEnded g count steps (start g vs count) ks
     → (IsTrue b → IsSortedOf r.names (names g (after g vs count ks))) → IsOrderOf HeldBefore r.structures (held_of g count (after g vs count ks))
     → IsOrderOf WaitBefore r.waiting (waiting g (after g vs count ks)) → EndsSo (record { graph = g; count = count; world = after g vs count ks }) e
     → (e ≡ Stopped → (after g vs count ks).flight ≡ [] → ⊥) → r.answer ≡ answer g (after g vs count ks)
@@ -116,12 +128,14 @@ ends_text g vs count steps ks text b r (Fault f) (at_rest none back) sorted held
 -- ---- what is said of a run that is printed
 
 -- the text has this program, and the words give these inputs
-module _ (text : List ℕ) (ws : List (List ℕ)) (P : Checked) (is : IsProgramOf text P) (small : size P ≤ 1000000) (vs : List Constant) (are : AreInputsOf P ws vs) where
+module _ (text : List ℕ) (ws : List (List ℕ)) (P : Checked) (is : IsProgramOf text P) (small : size P ≤ 1000000) (vs : List Constant)
+    (are : AreInputsOf P ws vs) where
   has : HasInputs text ws
   has = record { program = P; is_program = is; small = small; inputs = vs; are_inputs = are }
 
   module _ (count : ℕ) (t : Bool) (steps : ℕ) (b : Bool) (old new : Option Told) where
-    HasShown-run : (result : Result (Unit {0}) PrintError) (g : Parts) (r : Report) → Schemas P g → IsTrueOf (source P vs) b r → (o : IsReportOfRun g vs count steps b r)
+    HasShown-run : (result : Result (Unit {0}) PrintError) (g : Parts) (r : Report) → Schemas P g → IsTrueOf (source P vs) b r →
+        (o : IsReportOfRun g vs count steps b r)
         → HasPrinted text t b (after g vs count o.positions) r old new result → HasShown (Run b t ws) text old new (status_of r.ending) result
     HasShown-run result g r schemas true_of o h = record {
       program = P;
@@ -158,9 +172,11 @@ module _ (text : List ℕ) (ws : List (List ℕ)) (P : Checked) (is : IsProgramO
     RunsSo-ran result (ran g r allowed schemas true_of o (unprinted same)) = tt
     RunsSo-ran result (unallowed e why same) = tt
 
-    pub RunsSo-cut : (result : Result ℕ EngineError) → RunsSo P vs text count t steps b old new result → result ≡ Err Write → ShowsFront (Run b t ws) text old new
+    pub RunsSo-cut : (result : Result ℕ EngineError) → RunsSo P vs text count t steps b old new result → result ≡ Err Write →
+        ShowsFront (Run b t ws) text old new
     RunsSo-cut result (ran g r allowed schemas true_of o (whole h)) k = absurd cc
-    RunsSo-cut result (ran g r allowed schemas true_of o (cut e h)) k = record { status = status_of r.ending; error = e; shown = HasShown-run (Err e) g r schemas true_of o h }
+    RunsSo-cut result (ran g r allowed schemas true_of o (cut e h)) k = record
+        { status = status_of r.ending; error = e; shown = HasShown-run (Err e) g r schemas true_of o h }
     RunsSo-cut result (ran g r allowed schemas true_of o (unprinted same)) k = absurd cc
     RunsSo-cut result (unallowed e why same) k = let l = late_unallowed text count steps e why in let w : e ≡ Write = cc in absurd (l.1 w)
 

@@ -16,7 +16,8 @@ use Rattle.id_meaning.specs.declared.Site.{Site}
 use Rattle.id_meaning.specs.declared.SourceFault.{SourceFault}
 use Rattle.id_core.specs.Events.{EventView}
 use Rattle.id_core.specs.Steps.{State, event_of, is_ended, state_after}
-use Rattle.id_core.specs.Machines.{World, MachineView, IsQuiet, delivered, event_at, event_of_given, event_of_routed, given_to, routed_to, run, start, taken_from}
+use Rattle.id_core.specs.Machines.{World, MachineView, IsQuiet, delivered, event_at, event_of_given, event_of_routed}
+use Rattle.id_core.specs.Machines.{given_to, routed_to, run, start, taken_from}
 use Rattle.id_core.specs.Observed.{events_of, fault_of, faults, faults_of, path_in, structure_in}
 use Rattle.id_build.specs.Schemas.{Schemas}
 use Rattle.id_print.specs.declared.report.Ending.{Ending}
@@ -60,11 +61,13 @@ routed_event g count k s None v h = absurd cc
 routed_event g count k s (Some m) v h = given_event g k s m (route_of m.payload count) (slice_get s.elements (route_of m.payload count)) v refl h
 
 -- the event that a delivery makes is in the records afterwards
-delivered_event : (g : Parts) (count : ℕ) (s : World) (k : ℕ) (v : EventView) → event_at g count s k ≡ Some v → Among v (events_of (delivered g count s k).elements)
+delivered_event : (g : Parts) (count : ℕ) (s : World) (k : ℕ) (v : EventView) → event_at g count s k ≡ Some v →
+    Among v (events_of (delivered g count s k).elements)
 delivered_event g count s k v h = routed_event g count k s (slice_get s.flight k) v h
 
 -- no delivery to a machine that runs a schemas' graph is stuck
-pub not_stuck : NeverStuck → (a b c : MachineView) (steps : ℕ) (t : Turn) (q : ℕ) (step : Step) → IsFreshMachine a → Reaches a b steps t → IsDelivery q b c step → step ≢ Stuck
+pub not_stuck : NeverStuck → (a b c : MachineView) (steps : ℕ) (t : Turn) (q : ℕ) (step : Step) → IsFreshMachine a → Reaches a b steps t →
+    IsDelivery q b c step → step ≢ Stuck
 not_stuck never a b c steps t q step fresh h d stuck =
     let S = fresh.origin in
     let ks = (h.goes).positions in
@@ -77,7 +80,8 @@ not_stuck never a b c steps t q step fresh h d stuck =
     (never S a.graph a.count (ks ++ q ∷ []) fresh.inputs fresh.schemas).goes_on d.event (subst Q is shown) (d.step_is ∙ stuck)
 
 -- the delivery of a message that is not held back makes an event
-pub HasEvent-free : NeverStuck → (a b : MachineView) (steps : ℕ) (t : Turn) (q : ℕ) → IsFreshMachine a → Reaches a b steps t → IsFree a.count steps b.world q → HasEvent b q
+pub HasEvent-free : NeverStuck → (a b : MachineView) (steps : ℕ) (t : Turn) (q : ℕ) → IsFreshMachine a → Reaches a b steps t →
+    IsFree a.count steps b.world q → HasEvent b q
 HasEvent-free never a b steps t q fresh h f =
     let v = made_free b a.count steps q h.same_count f in
     record {
@@ -89,7 +93,8 @@ HasEvent-free never a b steps t q fresh h f =
     }
 
 -- a fresh machine
-pub IsFreshMachine-start : (S : Source) (g : Parts) (count : ℕ) (m : MachineView) → 0 < count → count ≤ 64 → m ≡ record { graph = g; count = count; world = start g S.inputs count }
+pub IsFreshMachine-start : (S : Source) (g : Parts) (count : ℕ) (m : MachineView) → 0 < count → count ≤ 64 →
+    m ≡ record { graph = g; count = count; world = start g S.inputs count }
     → AreInputs S.checked S.inputs → Schemas S.checked g → IsFreshMachine m
 IsFreshMachine-start S g count m some few is inputs schemas =
     let Q : MachineView → Type 0 = IsFreshMachine in
@@ -116,7 +121,8 @@ pub IsQuiet-from : NeverStuck → (S : Source) (g : Parts) (count : ℕ) (ks : L
     → w ≡ run g count ks (start g S.inputs count) → faults g w ≡ [] → w.flight ≡ [] → IsQuiet w
 IsQuiet-from never S g count ks inputs schemas w is none empty =
     let ok = never S g count ks inputs schemas in
-    let no : (v : EventView) → Among v (events_of w.elements) → v.step ≢ Stuck = λ v a. ok.goes_on v (subst (λ (x : World). Among v (events_of x.elements)) is a) in
+    let no : (v : EventView) → Among v (events_of w.elements) →
+    v.step ≢ Stuck = λ v a. ok.goes_on v (subst (λ (x : World). Among v (events_of x.elements)) is a) in
     record {
       empty = empty;
       went = all_among _ w.elements (λ e a. all_among _ e.events (λ v b. (
@@ -130,7 +136,8 @@ IsQuiet-from never S g count ks inputs schemas w is none empty =
     recorded_in w e v a b = let k = at_among e w.elements a in record { element = k.0; state = e; at = k.1; among = b }
 
 -- a run that stops has left a message
-pub left_over : NeverStuck → (S : Source) (g : Parts) (count : ℕ) (ks : List ℕ) (m : MachineView) (e : Ending) → AreInputs S.checked S.inputs → Schemas S.checked g → m.graph ≡ g
+pub left_over : NeverStuck → (S : Source) (g : Parts) (count : ℕ) (ks : List ℕ) (m : MachineView) (e : Ending) → AreInputs S.checked S.inputs →
+    Schemas S.checked g → m.graph ≡ g
     → m.world ≡ run g count ks (start g S.inputs count) → EndsSo m e → e ≡ Stopped → m.world.flight ≡ [] → ⊥
 left_over never S g count ks m e inputs schemas same world ends is empty =
     let E : Ending → Type 0 = λ x. EndsSo m x in

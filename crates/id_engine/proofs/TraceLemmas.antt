@@ -19,11 +19,16 @@ no_more [] h = refl
 no_more (x ∷ xs) h = absurd cc
 
 -- the merged events of all elements, where the trace is asked for
-pub IsTraceOf-asked : {E : Type 0} (t : Bool) (es : List ElementView) (fl : List Message) (w : World) (r : Result (List EventView) E) → world_of es fl ≡ w → t ≡ true
+pub IsTraceOf-asked : {E : Type 0} (t : Bool) (es : List ElementView) (fl : List Message) (w : World) (r : Result (List EventView) E) → world_of es fl ≡ w →
+    t ≡ true
     → IfOk r (λ m. IsPermutation (flat_map (λ (e : ElementView). e.state.events) es) m) → IfOk r (λ m. IsStrictlySortedBy by_moment m) → IfOk r (IsTraceOf t w)
 IsTraceOf-asked t es fl w (Err e) is holds all sorted = tt
 IsTraceOf-asked t es fl w (Ok m) is holds all sorted = record {
-  asked = λ h. record { all = subst (λ (x : World). IsPermutation (flat_map (λ (s : State). s.events) x.elements) m) is (subst (λ (l : List EventView). IsPermutation l m) (sym (flat_map-map (λ (s : State). s.events) (λ e. e.state) es)) all); sorted = sorted };
+  asked = λ h. record {
+    all = subst (λ (x : World). IsPermutation (flat_map (λ (s : State). s.events) x.elements) m) is
+        (subst (λ (l : List EventView). IsPermutation l m) (sym (flat_map-map (λ (s : State). s.events) (λ e. e.state) es)) all);
+    sorted = sorted;
+  };
   unasked = λ off. absurd (false≢true (sym off ∙ holds));
 }
 

@@ -20,7 +20,8 @@ there_with (m ∷ ms) zero c is = omega arith
 there_with (m ∷ ms) (suc k) c is = let rest = there_with ms k c is in omega (arith, rest)
 
 -- the one right in front
-pub IsNextHand-front : (ms : List Message) (h : Hand) → IsHand ms h → 0 < h.position → context_at ms (h.position - 1) ≡ Some h.context → IsTrue h.may_be_in_front
+pub IsNextHand-front : (ms : List Message) (h : Hand) → IsHand ms h → 0 < h.position → context_at ms (h.position - 1) ≡ Some h.context →
+    IsTrue h.may_be_in_front
     → IsNextHand ms h (record { position = h.position - 1; context = h.context; may_be_in_front = h.may_be_in_front })
 IsNextHand-front ms h hand some is may =
     let within = hand.within in

@@ -1,5 +1,6 @@
 -- Lemmas on specs/Listing.antt, in the order of its definitions.
-use Rattle.std.proofs.Common.{◌≡◌, Ordering, Less, nat_lt, suc, get_or, ◌==◌, ◌+◌, ◌*◌, ℕ, ◌≤◌, ◌<◌, cond, true, false, nat_le, length, List, [], ◌∷◌, sum_by, arith, refl, inl, inr, sym, ap, ◌∙◌}
+use Rattle.std.proofs.Common.{◌≡◌, Ordering, Less, nat_lt, suc, get_or, ◌==◌, ◌+◌, ◌*◌, ℕ, ◌≤◌, ◌<◌, cond, true}
+use Rattle.std.proofs.Common.{false, nat_le, length, List, [], ◌∷◌, sum_by, arith, refl, inl, inr, sym, ap, ◌∙◌}
 use Rattle.std.proofs.lemmas.Bool.{cases_lt}
 use Rattle.std.proofs.lemmas.Bool.Decides.{nat_tests}
 use Rattle.std.proofs.lemmas.List.Sums.{sum_by-cons}
@@ -32,14 +33,16 @@ pub record RanksBy (cmp : Dest → Dest → Ordering) : Type 0 where
   pub one_zero : (m n : ℕ) → is_lt (cmp (record { instr = m; port = One }) (record { instr = n; port = Zero })) ≡ false → n ≤ m
   pub both_one : (m n : ℕ) → is_lt (cmp (record { instr = m; port = One }) (record { instr = n; port = One })) ≡ false → n ≤ m
 
-rank-from_parts : {cmp : Dest → Dest → Ordering} → RanksBy cmp → (m n : ℕ) (p q : Port) → is_lt (cmp (record { instr = m; port = p }) (record { instr = n; port = q })) ≡ false → 2 * n + port_number q ≤ 2 * m + port_number p
+rank-from_parts : {cmp : Dest → Dest → Ordering} → RanksBy cmp → (m n : ℕ) (p q : Port) →
+    is_lt (cmp (record { instr = m; port = p }) (record { instr = n; port = q })) ≡ false → 2 * n + port_number q ≤ 2 * m + port_number p
 rank-from_parts by m n Zero Zero least = omega (arith, by.both_zero m n least)
 rank-from_parts by m n Zero One least = omega (arith, by.zero_one m n least)
 rank-from_parts by m n One Zero least = omega (arith, by.one_zero m n least)
 rank-from_parts by m n One One least = omega (arith, by.both_one m n least)
 
 -- along a sorted list the ranks do not fall
-pub IsNonDecreasingBy-from_sorted : {cmp : Dest → Dest → Ordering} → IsTotalOrder cmp → (ds : List Dest) → RanksBy cmp → IsSorted cmp ds → IsNonDecreasingBy rank ds
+pub IsNonDecreasingBy-from_sorted : {cmp : Dest → Dest → Ordering} → IsTotalOrder cmp → (ds : List Dest) → RanksBy cmp → IsSorted cmp ds →
+    IsNonDecreasingBy rank ds
 IsNonDecreasingBy-from_sorted _ ds by sorted =
     IsNonDecreasingBy-from_all_adjacent rank ds (λ k d h.
     let later = get_or ds (k + 1) d in let one = get_or ds k d
@@ -187,8 +190,10 @@ AllFrom-from_index r (d ∷ ds) from = (from 0 d (omega arith), AllFrom-from_ind
 Rises-from_index : (ds : List Dest) → IsNonDecreasingBy rank ds → Rises ds
 unfolding Rises
 Rises-from_index [] up = tt
-Rises-from_index (d ∷ ds) up =
-    (AllFrom-from_index (rank d) ds (λ k x h. up 0 (suc k) x (omega arith) (omega arith)), Rises-from_index ds (λ i j x le h. up (suc i) (suc j) x (omega arith) (omega arith)))
+Rises-from_index (d ∷ ds) up = (
+  AllFrom-from_index (rank d) ds (λ k x h. up 0 (suc k) x (omega arith) (omega arith)),
+  Rises-from_index ds (λ i j x le h. up (suc i) (suc j) x (omega arith) (omega arith)),
+)
 
 -- a sort puts in order
 pub in_order-from_sort : (ds es : List Dest) → IsPermutation ds es → IsNonDecreasingBy rank es → es ≡ in_order ds

@@ -86,8 +86,8 @@ impl Graph {
         }
     }
 
-    /// The graph of these blocks and instructions, whose destinations are known to be ports. Tests nothing, and takes no
-    /// memory.
+    /// The graph of these blocks and instructions, whose destinations are known to be ports. Tests nothing, and takes
+    /// no memory.
     pub fn known(blocks: Vec<Block>, instrs: Vec<Instr>) -> Graph
         requires few { vec_len instrs < 2 ^ 32 }
         requires exist { PortsExist (parts blocks.items instrs.items) }

@@ -53,7 +53,8 @@ use Rattle.id_runs.proofs.Waiting.{HasFired, has_fired, OperandsHandled, one_han
 use Rattle.id_runs.proofs.EveryMessage.{Passes, every_message}
 use Rattle.id_laws.specs.Activations.{Begins, of_call, of_loop, Opens, PathOf, Speaks, Live, entered, ReturnsTo, to_answer, to_row}
 use Rattle.id_laws.specs.Topics.{ToldRead, ToldWrite}
-use Rattle.id_laws.specs.Topics.{IsPart, Shown, ShownContext, Tells, Told, AllTell, AllSpeak, ContextOf, speaks_of, topic_of, topic_at, wants, result_at, result_of}
+use Rattle.id_laws.specs.Topics.{IsPart, Shown, ShownContext, Tells, Told, AllTell, AllSpeak, ContextOf, speaks_of}
+use Rattle.id_laws.specs.Topics.{topic_of, topic_at, wants, result_at, result_of}
 use Rattle.id_laws.proofs.Assumed.{IsKnown}
 use Rattle.id_laws.proofs.LoopTells.{given_tells, looped_tells}
 use Rattle.id_laws.proofs.Begun.{begun_at}
@@ -126,7 +127,8 @@ module _ (S : Source) (known : IsKnown S.checked) (g : Parts) (number : ℕ → 
       → IsPart P row part → tag_in (activation_of t) (number row part) ≡ t
       → OperandsHandled hs t two_of ops → OperandsTell S number run (activation_of t) row part ops
   operands_tell hs all t b ops row part is_part at (one_handled p v is few h) = one p v is (tells_at t row part p v is_part at (all _ h))
-  operands_tell hs all t b ops row part is_part at (two_handled v w is few h k) = two v w is (tells_at t row part Zero v is_part at (all _ h)) (tells_at t row part One w is_part at (all _ k))
+  operands_tell hs all t b ops row part is_part at (two_handled v w is few h k) = two v w is (tells_at t row part Zero v is_part at (all _ h))
+      (tells_at t row part One w is_part at (all _ k))
 
   -- what a firing means, where all that was handled tells
   pub firing_tells : {count : ℕ} {s : World} (hs : List Event) → Reach g S.inputs count s hs → ((x : Payload) → Among x (handled hs) → T x)
@@ -153,9 +155,11 @@ module _ (S : Source) (known : IsKnown S.checked) (g : Parts) (number : ℕ → 
       ap (λ z. result_at (node P z)) one ∙ ap result_at def.node
 
   -- what a procedure gives goes to the call
-  called_tells : {a : Activation} {n x : ℕ} {c : Context} → n < length (rows P) → node P n ≡ Enter x → Live S number run a (region P n) → Opens S number run a n c
+  called_tells : {a : Activation} {n x : ℕ} {c : Context} → n < length (rows P) → node P n ≡ Enter x → Live S number run a (region P n) →
+      Opens S number run a n c
       → (v : Value) (k : ℕ) → Live S number run (at_iteration c k) (region P (result_of P (called P n)))
-      → Shown S number run (at_iteration c k) 0 (place P (result_of P (called P n))) v → Tells S number run a (topic_at P (end_of P n) 0 Zero) v × IsPart P (end_of P n) 0
+      → Shown S number run (at_iteration c k) 0 (place P (result_of P (called P n))) v →
+      Tells S number run a (topic_at P (end_of P n) 0 Zero) v × IsPart P (end_of P n) 0
   called_tells {a} {n} {x} {c} within is live opened v k up shown =
       let d = call_at known within is in
       let q = end_of P n in
@@ -165,7 +169,8 @@ module _ (S : Source) (known : IsKnown S.checked) (g : Parts) (number : ℕ → 
       let here = entered_path 0 within (of_call is) opened path.1 in
       let shown_path = subst (λ j. PathOf S number run (at_iteration c j) shown.path) first shown.path_of in
       let same : shown.path ≡ below path.0 (place P q) 0 = one_path seats shown_path here ∙ ap (λ z. below path.0 z 0) d.place in
-      let has = subst (λ (z : Path × ℕ). Holds S (Has z.0 (place P z.1) shown.value)) {x = (_, result_of P (called P n))} {y = (below path.0 (place P q) 0, (d.def).body)} (λ i. ((without_none shown.path ∙ same) i, body_is i)) shown.holds in
+      let has = subst (λ (z : Path × ℕ). Holds S (Has z.0 (place P z.1) shown.value)) {x = (_, result_of P (called P n))}
+      {y = (below path.0 (place P q) 0, (d.def).body)} (λ i. ((without_none shown.path ∙ same) i, body_is i)) shown.holds in
       let call_live = subst (Live S number run a) d.region live in
       let on = turned_on S known seats call_live path.1 ((known.table).turned q d.within (ap is_expression d.node)) in
       let stands : Stands P q (Call n d.count) = record { within = d.within; node = d.node } in
@@ -189,7 +194,8 @@ module _ (S : Source) (known : IsKnown S.checked) (g : Parts) (number : ℕ → 
       → Shown S number run (at_iteration c k) 0 (place P (result_of P h)) v → Tells S number run caller (topic_at P row 0 Zero) v × IsPart P row 0
   return_tells to_answer v k live shown =
       let ends = (known.table).ends in (
-        subst (λ m. Tells S number run main_activation (wants P (answer_row P) (region P (answer_row P)) m 0 Zero) v) (sym ends) (record { iteration = k; live = live; shown = shown; at_first = refl }),
+        subst (λ m. Tells S number run main_activation (wants P (answer_row P) (region P (answer_row P)) m 0 Zero) v) (sym ends)
+            (record { iteration = k; live = live; shown = shown; at_first = refl }),
         part_of (Rattle.id_laws.proofs.Senders.last_row (known.table).some) (answers ends),
       )
   return_tells {c = c} (to_row {a = a} {n = n} within begins live opened) v k up shown = by begins up shown
@@ -217,7 +223,8 @@ module _ (S : Source) (known : IsKnown S.checked) (g : Parts) (number : ℕ → 
   origin_tells a s row part (Side b w) v fires here other there same gives means =
       let at = one_part numbered here there same in
       let is : record { row = row; part = part; side = b } ≡ s = (λ i. record { row = sym at.0 i; part = sym at.1 i; side = sym gives.0 i }) in
-      subst (λ (z : Origin × Value). Tells S number run a (topic_of P z.0) z.1) {x = (record { row = row; part = part; side = b }, w)} {y = (s, v)} (λ i. (is i, sym gives.1 i)) means
+      subst (λ (z : Origin × Value). Tells S number run a (topic_of P z.0) z.1) {x = (record { row = row; part = part; side = b }, w)} {y = (s, v)}
+      (λ i. (is i, sym gives.1 i)) means
   origin_tells a s row part (Entered c) v fires here other there same gives means =
       let at = one_part numbered here there same in
       let is : record { row = row; part = part; side = true } ≡ s = (λ i. record { row = sym at.0 i; part = sym at.1 i; side = sym gives.0 i }) in
@@ -225,7 +232,8 @@ module _ (S : Source) (known : IsKnown S.checked) (g : Parts) (number : ℕ → 
       record { context = c; is = refl; live = means.live; opens = subst (λ k. FiresAs run (tag_in a (number row k)) (Entered c)) means.first fires } in
       let tells : Tells S number run a (topic_of P (record { row = row; part = part; side = true })) (value.Context c) =
       subst (λ t. Tells S number run a t (value.Context c)) (sym (opens_topic means.begins part means.first)) context in
-      subst (λ (z : Origin × Value). Tells S number run a (topic_of P z.0) z.1) {x = (record { row = row; part = part; side = true }, value.Context c)} {y = (s, v)} (λ i. (is i, sym gives.1 i)) tells
+      subst (λ (z : Origin × Value). Tells S number run a (topic_of P z.0) z.1) {x = (record { row = row; part = part; side = true }, value.Context c)}
+      {y = (s, v)} (λ i. (is i, sym gives.1 i)) tells
   origin_tells a s row part (Moved k w) v fires here other there same gives means = absurd gives
   origin_tells a s row part (Sent u w) v fires here other there same gives means = absurd gives
   origin_tells a s row part (Asked c u) v fires here other there same gives means = absurd gives
@@ -234,7 +242,8 @@ module _ (S : Source) (known : IsKnown S.checked) (g : Parts) (number : ℕ → 
   origin_tells a s row part Nothing v fires here other there same gives means = absurd gives
 
   moved_tells : (a : Activation) (s : Origin) (row part k : ℕ) (v : Value) → IsPart P s.row s.part → IsPart P row part
-      → number s.row s.part ≡ number row part → s.side ≡ true → Means S number run a row part (Moved k v) → Tells S number run (at_iteration a.context k) (topic_of P s) v
+      → number s.row s.part ≡ number row part → s.side ≡ true → Means S number run a row part (Moved k v) →
+      Tells S number run (at_iteration a.context k) (topic_of P s) v
   moved_tells a s row part k v here there same side means =
       let at = one_part numbered here there same in
       let is : record { row = row; part = part; side = true } ≡ s = (λ i. record { row = sym at.0 i; part = sym at.1 i; side = sym side i }) in
@@ -249,8 +258,13 @@ module _ (S : Source) (known : IsKnown S.checked) (g : Parts) (number : ℕ → 
       let source = feeds_source P known arc.feeds in
       let a = activation_of t in
       let gives' = subst (λ c. GivesOn f c v) (sym arc.on) gives in
-      let tells = origin_tells a arc.origin row part f v (subst (λ u. FiresAs run u f) (sym at) fires) source.is_part source.not_answer is_part (arc.from ∙ ap (λ (u : Tag). u.instr) (sym at)) gives' means in
-      let says : Speaks S number run a arc.origin v = record { fired = f; fires = subst (λ u. FiresAs run u f) (ap (tag_in a) (sym arc.from)) fires; gives = gives' } in
+      let tells = origin_tells a arc.origin row part f v (subst (λ u. FiresAs run u f) (sym at) fires) source.is_part source.not_answer is_part
+      (arc.from ∙ ap (λ (u : Tag). u.instr) (sym at)) gives' means in
+      let says : Speaks S number run a arc.origin v = record {
+        fired = f;
+        fires = subst (λ u. FiresAs run u f) (ap (tag_in a) (sym arc.from)) fires;
+        gives = gives';
+      } in
       record {
         activation = a;
         row = arc.row;
@@ -287,7 +301,8 @@ module _ (S : Source) (known : IsKnown S.checked) (g : Parts) (number : ℕ → 
       let region_is : region P b ≡ top (called P e) = known.params b (param.param).name (param.param).kind param.within (param.param).is ∙ ap top param.block in
       let shown = (x.value).1 in
       let here = entered_path 0 arg.enter_within (of_call arg.enter) x.opens shown.path_of in
-      let on = turned_on S known seats (subst (Live S number run a) d.region x.live) shown.path_of ((known.table).turned q d.within (ap is_expression d.node)) in
+      let on = turned_on S known seats (subst (Live S number run a) d.region x.live) shown.path_of ((known.table).turned q d.within (ap is_expression d.node))
+      in
       let stands : Stands P q (Call e d.count) = record { within = d.within; node = d.node } in
       let has = subst (λ z. Holds S (Has z (place P x.argument) shown.value)) (without_none shown.path) shown.holds in
       let gets_it = holds_by S _ _ (argument_has stands (record { within = within; node = x.node }) d.bound (callee_stands d.def) goes.0) (on, (has, tt)) in
@@ -337,7 +352,8 @@ module _ (S : Source) (known : IsKnown S.checked) (g : Parts) (number : ℕ → 
         value = value.Signal;
         is_part = (head_parts known within x.begins).0;
         is = ap (λ m. Token (tag_within c m) Zero value.Signal) at;
-        tells = subst (λ z. Tells S number run (at_iteration c 0) z value.Signal) (sym (wants_signal P h (region P h) (node P h) (begun_at known within x.begins).head))
+        tells = subst (λ z. Tells S number run (at_iteration c 0) z value.Signal)
+            (sym (wants_signal P h (region P h) (node P h) (begun_at known within x.begins).head))
             (refl, entered within x.begins x.live opened);
       }
 
@@ -381,7 +397,9 @@ module _ (S : Source) (known : IsKnown S.checked) (g : Parts) (number : ℕ → 
         value = v;
         is_part = target_part arc.feeds;
         is = ap (λ n. Token (tag_in (at_iteration a.context k) n) d.port v) (sym arc.goes);
-        tells = moves_tell S known number run seats a k arc.origin arc.row arc.part d.port v arc.feeds (record { on = arc.on; fires = subst (λ u. FiresAs run u (Moved k v)) (ap (tag_in a) (sym arc.from)) fires }) (ap (λ z. is_mover (node P z)) here ∙ mover) tells;
+        tells = moves_tell S known number run seats a k arc.origin arc.row arc.part d.port v arc.feeds
+            (record { on = arc.on; fires = subst (λ u. FiresAs run u (Moved k v)) (ap (tag_in a) (sym arc.from)) fires })
+            (ap (λ z. is_mover (node P z)) here ∙ mover) tells;
       }
 
   sent_tells : (t : Tag) (row part : ℕ) → IsPart P row part → tag_in (activation_of t) (number row part) ≡ t → (f : Fired) → FiresAs run t f
@@ -395,11 +413,13 @@ module _ (S : Source) (known : IsKnown S.checked) (g : Parts) (number : ℕ → 
           let z = subst (Means S number run (activation_of t) row part) is means in
           let tag_is : t ≡ tag_in (activation_of t) (number row 0) = sym at ∙ ap (λ k. tag_in (activation_of t) (number row k)) z.first in (
             record { head = z.head; end = z.end; begins = z.begins; first = refl; live = z.live },
-            subst (λ (y : Tag × Fired). FiresAs run y.0 y.1) {x = (t, f)} {y = (tag_in (activation_of t) (number row 0), Entered c)} (λ i. (tag_is i, is i)) fires,
+            subst (λ (y : Tag × Fired). FiresAs run y.0 y.1) {x = (t, f)} {y = (tag_in (activation_of t) (number row 0), Entered c)} (λ i. (tag_is i, is i))
+                fires,
             ap (λ (u : Tag). u.instr) tag_is,
           )
 
-      sends : (u : Tag) (v : Value) → Returned S number run (activation_of t) row u v ⊎ (Passed S number run (activation_of t) row u v ⊎ Given S number run (activation_of t) row u v) → T (Token u Zero v)
+      sends : (u : Tag) (v : Value) → Returned S number run (activation_of t) row u v ⊎
+          (Passed S number run (activation_of t) row u v ⊎ Given S number run (activation_of t) row u v) → T (Token u Zero v)
       sends u v (inl z) = back (activation_of t) row u v z
       sends u v (inr (inl z)) = passed_tells (activation_of t) row u v (is_part.makes).within z
       sends u v (inr (inr z)) = given_tells S known number run seats (activation_of t) row u v (is_part.makes).within z
@@ -417,7 +437,8 @@ module _ (S : Source) (known : IsKnown S.checked) (g : Parts) (number : ℕ → 
       by : SentAs g t f x → T x
       by (along_arc b v d gives among says) = subst T (sym says) (along t row part f b v fires gives is_part at means d among)
       by (moving k v d is among says) =
-          subst T (sym says) (goes_on t row part k v (subst (FiresAs run t) is fires) is_part at (subst (Means S number run (activation_of t) row part) is means) (mover k v is) d among)
+          subst T (sym says) (goes_on t row part k v (subst (FiresAs run t) is fires) is_part at
+          (subst (Means S number run (activation_of t) row part) is means) (mover k v is) d among)
       by (to_tag u v is says) = subst T (sym says) (sends u v (subst (Means S number run (activation_of t) row part) is means))
       by (to_start c is h) = starting_tells c is (starts_as t c x (op_at g t.instr) h)
       by (reading c u is says) = subst T (sym says) (subst (Means S number run (activation_of t) row part) is means)
@@ -479,7 +500,8 @@ module _ (S : Source) (known : IsKnown S.checked) (g : Parts) (number : ℕ → 
           let source = feeds_source P known feeds in
           let m = firing_tells run r (λ z h. all_tell z (inr h)) x.fires in
           let here : number o.row o.part ≡ number (m.0).row (m.0).part = sym (ap (λ (t : Tag). t.instr) (m.0).at) in
-          origin_tells a o (m.0).row (m.0).part x.fired v (subst (λ u. FiresAs run u x.fired) (sym (m.0).at) x.fires) source.is_part source.not_answer (m.0).is_part here x.gives m.1;
+          origin_tells a o (m.0).row (m.0).part x.fired v (subst (λ u. FiresAs run u x.fired) (sym (m.0).at) x.fires) source.is_part source.not_answer
+          (m.0).is_part here x.gives m.1;
       moves = λ a o k n part p v feeds x.
           let source = feeds_source P known feeds in
           let m = firing_tells run r (λ z h. all_tell z (inr h)) x.fires in

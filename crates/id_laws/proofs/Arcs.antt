@@ -1,5 +1,6 @@
 -- Which parts a row has and what feeds them, by cases on its node.
-use Rattle.std.proofs.Common.{◌≡◌, ◌⊎◌, inl, inr, ℕ, zero, suc, ◌+◌, ◌-◌, ◌<◌, true, Option, Some, None, List, [], ◌∷◌, ◌++◌, map, length, slice_get, get_or, refl, sym, ◌∙◌, ap}
+use Rattle.std.proofs.Common.{◌≡◌, ◌⊎◌, inl, inr, ℕ, zero, suc, ◌+◌, ◌-◌, ◌<◌, true, Option, Some, None, List, []}
+use Rattle.std.proofs.Common.{◌∷◌, ◌++◌, map, length, slice_get, get_or, refl, sym, ◌∙◌, ap}
 use Rattle.std.proofs.Common.{subst, arith}
 use Rattle.id_value.specs.declared.Kind.{Kind}
 use Rattle.id_value.specs.declared.Constant.{Constant}
@@ -51,10 +52,12 @@ pub data Does (P : Checked) (n : ℕ) : ℕ → Form → Type 0 where
   passes : {e k v : ℕ} → node P n ≡ Arg e k v → Does P n 0 (SendTo (port_at P (param_of P e k)) (param_of P e k) 0)
   gets : {e c : ℕ} → node P n ≡ Call e c → Does P n 0 (Plain (op.Merge (port_at P n)))
   names : {x a : ℕ} → node P n ≡ Binding x a → Does P n 0 (Plain (op.Merge (port_at P n)))
-  sends_in : (k : ℕ) (q : Entry) → node P n ≡ Start → slice_get (loop_entries P (n + 1)) k ≡ Some q → Does P n (suc k) (SendTo (port_at P q.binder) q.row q.part)
+  sends_in : (k : ℕ) (q : Entry) → node P n ≡ Start → slice_get (loop_entries P (n + 1)) k ≡ Some q →
+      Does P n (suc k) (SendTo (port_at P q.binder) q.row q.part)
   gives_back : {s : ℕ} → node P n ≡ LoopHead s → Does P n 1 (Plain (op.Back (port_at P (end_of P n))))
   varies : node P n ≡ Variable → Does P n 0 (Plain (op.Merge (port_at P (next_of P n))))
-  takes_in : (k : ℕ) → node P n ≡ Entries → k < length (imports_of P (block P n)) → Does P n k (Plain (op.Merge (port_at P (get_or (imports_of P (block P n)) k 0))))
+  takes_in : (k : ℕ) → node P n ≡ Entries → k < length (imports_of P (block P n)) →
+      Does P n k (Plain (op.Merge (port_at P (get_or (imports_of P (block P n)) k 0))))
   moves_on : node P n ≡ Turn → Does P n 0 (Plain (op.Next Signal))
   moves_name : (k : ℕ) → node P n ≡ Turn → k < length (imports_of P (block P n))
       → Does P n (suc k) (Plain (op.Next (port_at P (get_or (imports_of P (block P n)) k 0))))
@@ -127,61 +130,82 @@ send_made P e (r ∷ qs) (suc k) q h = send_made P e qs k q h
 
 made_by : (P : Checked) (n part : ℕ) (f : Form) (e : ℕ) (m : Node) → node P n ≡ m → slice_get (made_of P n (place P n) m) part ≡ Some (piece f e)
     → Doing P n part f e
-made_by P n zero f e Head is h = let b = same_form _ f _ e h in record { does = subst (Does P n _) b.0 (starts (ap begins_block is)); place_is = b.1 ∙ ap (place_shown P (place P n)) (sym is) }
-made_by P n (suc zero) f e Head is h = let b = same_form _ f _ e h in record { does = subst (Does P n _) b.0 (returns is); place_is = b.1 ∙ ap (place_shown P (place P n)) (sym is) }
+made_by P n zero f e Head is h = let b = same_form _ f _ e h in
+    record { does = subst (Does P n _) b.0 (starts (ap begins_block is)); place_is = b.1 ∙ ap (place_shown P (place P n)) (sym is) }
+made_by P n (suc zero) f e Head is h = let b = same_form _ f _ e h in
+    record { does = subst (Does P n _) b.0 (returns is); place_is = b.1 ∙ ap (place_shown P (place P n)) (sym is) }
 made_by P n (suc (suc k)) f e Head is h = cc
-made_by P n zero f e (Param x k) is h = let b = same_form _ f _ e h in record { does = subst (Does P n _) b.0 (enters is); place_is = b.1 ∙ ap (place_shown P (place P n)) (sym is) }
+made_by P n zero f e (Param x k) is h = let b = same_form _ f _ e h in
+    record { does = subst (Does P n _) b.0 (enters is); place_is = b.1 ∙ ap (place_shown P (place P n)) (sym is) }
 made_by P n (suc j) f e (Param x k) is h = cc
-made_by P n zero f e (Literal c) is h = let b = same_form _ f _ e h in record { does = subst (Does P n _) b.0 (constant is); place_is = b.1 ∙ ap (place_shown P (place P n)) (sym is) }
+made_by P n zero f e (Literal c) is h = let b = same_form _ f _ e h in
+    record { does = subst (Does P n _) b.0 (constant is); place_is = b.1 ∙ ap (place_shown P (place P n)) (sym is) }
 made_by P n (suc j) f e (Literal c) is h = cc
 made_by P n j f e (Name x) is h = cc
-made_by P n zero f e (Unary o a) is h = let b = same_form _ f _ e h in record { does = subst (Does P n _) b.0 (unary is); place_is = b.1 ∙ ap (place_shown P (place P n)) (sym is) }
+made_by P n zero f e (Unary o a) is h = let b = same_form _ f _ e h in
+    record { does = subst (Does P n _) b.0 (unary is); place_is = b.1 ∙ ap (place_shown P (place P n)) (sym is) }
 made_by P n (suc j) f e (Unary o a) is h = cc
-made_by P n zero f e (Binary o a c) is h = let b = same_form _ f _ e h in record { does = subst (Does P n _) b.0 (binary is); place_is = b.1 ∙ ap (place_shown P (place P n)) (sym is) }
+made_by P n zero f e (Binary o a c) is h = let b = same_form _ f _ e h in
+    record { does = subst (Does P n _) b.0 (binary is); place_is = b.1 ∙ ap (place_shown P (place P n)) (sym is) }
 made_by P n (suc j) f e (Binary o a b) is h = cc
-made_by P n zero f e (Split t) is h = let b = same_form _ f _ e h in record { does = subst (Does P n _) b.0 (turns_on (of_arms is)); place_is = b.1 ∙ ap (place_shown P (place P n)) (sym is) }
+made_by P n zero f e (Split t) is h = let b = same_form _ f _ e h in
+    record { does = subst (Does P n _) b.0 (turns_on (of_arms is)); place_is = b.1 ∙ ap (place_shown P (place P n)) (sym is) }
 made_by P n (suc k) f e (Split t) is h =
     let z = piece_at P op.Switch (place P n) (imports_of P n) k f e h in
     record { does = subst (Does P n _) (sym z.form) (hands k (of_arms is) z.within); place_is = z.place ∙ ap (place_shown P (place P n)) (sym is) }
-made_by P n zero f e (If s x y) is h = let b = same_form _ f _ e h in record { does = subst (Does P n _) b.0 (joins is); place_is = b.1 ∙ ap (place_shown P (place P n)) (sym is) }
+made_by P n zero f e (If s x y) is h = let b = same_form _ f _ e h in
+    record { does = subst (Does P n _) b.0 (joins is); place_is = b.1 ∙ ap (place_shown P (place P n)) (sym is) }
 made_by P n (suc j) f e (If s x y) is h = cc
-made_by P n zero f e (Enter x) is h = let b = same_form _ f _ e h in record { does = subst (Does P n _) b.0 (opens (of_call is)); place_is = b.1 ∙ ap (place_shown P (place P n)) (sym is) }
+made_by P n zero f e (Enter x) is h = let b = same_form _ f _ e h in
+    record { does = subst (Does P n _) b.0 (opens (of_call is)); place_is = b.1 ∙ ap (place_shown P (place P n)) (sym is) }
 made_by P n (suc j) f e (Enter x) is h = cc
-made_by P n zero f e (Arg s k v) is h = let b = same_form _ f _ e h in record { does = subst (Does P n _) b.0 (passes is); place_is = b.1 ∙ ap (place_shown P (place P n)) (sym is) }
+made_by P n zero f e (Arg s k v) is h = let b = same_form _ f _ e h in
+    record { does = subst (Does P n _) b.0 (passes is); place_is = b.1 ∙ ap (place_shown P (place P n)) (sym is) }
 made_by P n (suc j) f e (Arg s k v) is h = cc
-made_by P n zero f e (Call s c) is h = let b = same_form _ f _ e h in record { does = subst (Does P n _) b.0 (gets is); place_is = b.1 ∙ ap (place_shown P (place P n)) (sym is) }
+made_by P n zero f e (Call s c) is h = let b = same_form _ f _ e h in
+    record { does = subst (Does P n _) b.0 (gets is); place_is = b.1 ∙ ap (place_shown P (place P n)) (sym is) }
 made_by P n (suc j) f e (Call s c) is h = cc
 made_by P n j f e (Block b) is h = cc
-made_by P n zero f e (Binding x a) is h = let b = same_form _ f _ e h in record { does = subst (Does P n _) b.0 (names is); place_is = b.1 ∙ ap (place_shown P (place P n)) (sym is) }
+made_by P n zero f e (Binding x a) is h = let b = same_form _ f _ e h in
+    record { does = subst (Does P n _) b.0 (names is); place_is = b.1 ∙ ap (place_shown P (place P n)) (sym is) }
 made_by P n (suc j) f e (Binding x a) is h = cc
 made_by P n j f e (Def x g k b) is h = cc
-made_by P n zero f e Start is h = let b = same_form _ f _ e h in record { does = subst (Does P n _) b.0 (opens (of_loop is)); place_is = b.1 ∙ ap (place_shown P (place P n)) (sym is) }
+made_by P n zero f e Start is h = let b = same_form _ f _ e h in
+    record { does = subst (Does P n _) b.0 (opens (of_loop is)); place_is = b.1 ∙ ap (place_shown P (place P n)) (sym is) }
 made_by P n (suc k) f e Start is h =
     let z = send_at P (place P n) (loop_entries P (n + 1)) k f e h in
     record { does = subst (Does P n _) (sym z.form) (sends_in k z.entry is z.at); place_is = z.place ∙ ap (place_shown P (place P n)) (sym is) }
-made_by P n zero f e (LoopHead s) is h = let b = same_form _ f _ e h in record { does = subst (Does P n _) b.0 (starts (ap begins_block is)); place_is = b.1 ∙ ap (place_shown P (place P n)) (sym is) }
-made_by P n (suc zero) f e (LoopHead s) is h = let b = same_form _ f _ e h in record { does = subst (Does P n _) b.0 (gives_back is); place_is = b.1 ∙ ap (place_shown P (place P n)) (sym is) }
+made_by P n zero f e (LoopHead s) is h = let b = same_form _ f _ e h in
+    record { does = subst (Does P n _) b.0 (starts (ap begins_block is)); place_is = b.1 ∙ ap (place_shown P (place P n)) (sym is) }
+made_by P n (suc zero) f e (LoopHead s) is h = let b = same_form _ f _ e h in
+    record { does = subst (Does P n _) b.0 (gives_back is); place_is = b.1 ∙ ap (place_shown P (place P n)) (sym is) }
 made_by P n (suc (suc k)) f e (LoopHead s) is h = cc
-made_by P n zero f e Variable is h = let b = same_form _ f _ e h in record { does = subst (Does P n _) b.0 (varies is); place_is = b.1 ∙ ap (place_shown P (place P n)) (sym is) }
+made_by P n zero f e Variable is h = let b = same_form _ f _ e h in
+    record { does = subst (Does P n _) b.0 (varies is); place_is = b.1 ∙ ap (place_shown P (place P n)) (sym is) }
 made_by P n (suc j) f e Variable is h = cc
 made_by P n k f e Entries is h =
     let z = piece_at P op.Merge (place P n) (imports_of P (block P n)) k f e h in
     record { does = subst (Does P n _) (sym z.form) (takes_in k is z.within); place_is = z.place ∙ ap (place_shown P (place P n)) (sym is) }
-made_by P n zero f e (Switches t) is h = let b = same_form _ f _ e h in record { does = subst (Does P n _) b.0 (turns_on (of_turns is)); place_is = b.1 ∙ ap (place_shown P (place P n)) (sym is) }
+made_by P n zero f e (Switches t) is h = let b = same_form _ f _ e h in
+    record { does = subst (Does P n _) b.0 (turns_on (of_turns is)); place_is = b.1 ∙ ap (place_shown P (place P n)) (sym is) }
 made_by P n (suc k) f e (Switches t) is h =
     let z = piece_at P op.Switch (place P n) (imports_of P n) k f e h in
     record { does = subst (Does P n _) (sym z.form) (hands k (of_turns is) z.within); place_is = z.place ∙ ap (place_shown P (place P n)) (sym is) }
-made_by P n zero f e Turn is h = let b = same_form _ f _ e h in record { does = subst (Does P n _) b.0 (moves_on is); place_is = b.1 ∙ ap (place_shown P (place P n)) (sym is) }
+made_by P n zero f e Turn is h = let b = same_form _ f _ e h in
+    record { does = subst (Does P n _) b.0 (moves_on is); place_is = b.1 ∙ ap (place_shown P (place P n)) (sym is) }
 made_by P n (suc k) f e Turn is h =
     let z = piece_at P op.Next (place P n) (imports_of P (block P n)) k f e h in
     record { does = subst (Does P n _) (sym z.form) (moves_name k is z.within); place_is = z.place ∙ ap (place_shown P (place P n)) (sym is) }
 made_by P n j f e (NextUse x) is h = cc
-made_by P n zero f e (Next x k o v) is h = let b = same_form _ f _ e h in record { does = subst (Does P n _) b.0 (advances is); place_is = b.1 ∙ ap (place_shown P (place P n)) (sym is) }
+made_by P n zero f e (Next x k o v) is h = let b = same_form _ f _ e h in
+    record { does = subst (Does P n _) b.0 (advances is); place_is = b.1 ∙ ap (place_shown P (place P n)) (sym is) }
 made_by P n (suc j) f e (Next x k o v) is h = cc
 made_by P n j f e Body is h = cc
-made_by P n zero f e (Reset v) is h = let b = same_form _ f _ e h in record { does = subst (Does P n _) b.0 (resets is); place_is = b.1 ∙ ap (place_shown P (place P n)) (sym is) }
+made_by P n zero f e (Reset v) is h = let b = same_form _ f _ e h in
+    record { does = subst (Does P n _) b.0 (resets is); place_is = b.1 ∙ ap (place_shown P (place P n)) (sym is) }
 made_by P n (suc j) f e (Reset v) is h = cc
-made_by P n zero f e (Loop g w l) is h = let b = same_form _ f _ e h in record { does = subst (Does P n _) b.0 (gets_last is); place_is = b.1 ∙ ap (place_shown P (place P n)) (sym is) }
+made_by P n zero f e (Loop g w l) is h = let b = same_form _ f _ e h in
+    record { does = subst (Does P n _) b.0 (gets_last is); place_is = b.1 ∙ ap (place_shown P (place P n)) (sym is) }
 made_by P n (suc j) f e (Loop g w l) is h = cc
 made_by P n zero f e (Array u w) is h =
     let b = same_form _ f _ e h in record { does = subst (Does P n _) b.0 (allocates is); place_is = b.1 ∙ ap (place_shown P (place P n)) (sym is) }
@@ -199,7 +223,8 @@ made_by P n (suc j) f e (Address u i) is h = cc
 made_by P n zero f e (Store u v) is h =
     let b = same_form _ f _ e h in record { does = subst (Does P n _) b.0 (stores is); place_is = b.1 ∙ ap (place_shown P (place P n)) (sym is) }
 made_by P n (suc j) f e (Store u v) is h = cc
-made_by P n zero f e Program is h = let b = same_form _ f _ e h in record { does = subst (Does P n _) b.0 (answers is); place_is = b.1 ∙ ap (place_shown P (place P n)) (sym is) }
+made_by P n zero f e Program is h = let b = same_form _ f _ e h in
+    record { does = subst (Does P n _) b.0 (answers is); place_is = b.1 ∙ ap (place_shown P (place P n)) (sym is) }
 made_by P n (suc j) f e Program is h = cc
 
 pub doing : {P : Checked} {n part : ℕ} {f : Form} {e : ℕ} → Makes P n part f e → Doing P n part f e
@@ -208,7 +233,10 @@ doing {P} {n} {part} {f} {e} h = made_by P n part f e (node P n) refl h.at
 made_at : (P : Checked) (n part : ℕ) (m : Node) (f : Form) → n < length (rows P) → node P n ≡ m
     → slice_get (made_of P n (place P n) m) part ≡ Some (piece f (place_shown P (place P n) m))
     → Makes P n part f (place_shown P (place P n) (node P n))
-made_at P n part m f within is h = record { within = within; at = subst (λ z. slice_get (made_of P n (place P n) z) part ≡ Some (piece f (place_shown P (place P n) z))) (sym is) h }
+made_at P n part m f within is h = record {
+  within = within;
+  at = subst (λ z. slice_get (made_of P n (place P n) z) part ≡ Some (piece f (place_shown P (place P n) z))) (sym is) h;
+}
 
 -- what the node says is made
 pub makes : {P : Checked} {n part : ℕ} {f : Form} → n < length (rows P) → Does P n part f → Makes P n part f (place_shown P (place P n) (node P n))
@@ -225,8 +253,10 @@ makes {P} {n} within (unary {o = o} {a = a} is) = made_at P n 0 (Unary o a) _ wi
 makes {P} {n} within (binary {o = o} {a = a} {b = b} is) = made_at P n 0 (Binary o a b) _ within is refl
 makes {P} {n} within (turns_on {t = t} (of_arms is)) = made_at P n 0 (Split t) _ within is refl
 makes {P} {n} within (turns_on {t = t} (of_turns is)) = made_at P n 0 (Switches t) _ within is refl
-makes {P} {n} within (hands {t = t} k (of_arms is) less) = made_at P n (suc k) (Split t) _ within is (piece_made P op.Switch (place P n) (imports_of P n) k less)
-makes {P} {n} within (hands {t = t} k (of_turns is) less) = made_at P n (suc k) (Switches t) _ within is (piece_made P op.Switch (place P n) (imports_of P n) k less)
+makes {P} {n} within (hands {t = t} k (of_arms is) less) = made_at P n (suc k) (Split t) _ within is
+    (piece_made P op.Switch (place P n) (imports_of P n) k less)
+makes {P} {n} within (hands {t = t} k (of_turns is) less) = made_at P n (suc k) (Switches t) _ within is
+    (piece_made P op.Switch (place P n) (imports_of P n) k less)
 makes {P} {n} within (joins {s = s} {x = x} {y = y} is) = made_at P n 0 (If s x y) _ within is refl
 makes {P} {n} within (opens (of_call {x = x} is)) = made_at P n 0 (Enter x) _ within is refl
 makes {P} {n} within (opens (of_loop is)) = made_at P n 0 Start _ within is refl
@@ -277,9 +307,11 @@ pub data Arc (P : Checked) (n : ℕ) : ℕ → Port → Origin → Type 0 where
   to_head : {s : ℕ} → node P n ≡ LoopHead s → Arc P n 0 Zero (output (turn_row P n))
   to_loop_back : {s : ℕ} → node P n ≡ LoopHead s → Arc P n 1 One (output (end_of P n - 1))
   to_variable : node P n ≡ Variable → Arc P n 0 Zero (output (next_of P n))
-  to_entry : (k : ℕ) → node P n ≡ Entries → k < length (imports_of P (block P n)) → Arc P n k Zero (record { row = turn_row P (block P n); part = suc k; side = true })
+  to_entry : (k : ℕ) → node P n ≡ Entries → k < length (imports_of P (block P n)) →
+      Arc P n k Zero (record { row = turn_row P (block P n); part = suc k; side = true })
   to_turn : node P n ≡ Turn → Arc P n 0 Zero (trigger_of (region P n))
-  to_turn_name : (k : ℕ) → node P n ≡ Turn → k < length (imports_of P (block P n)) → Arc P n (suc k) Zero (name_in P (region P n) (get_or (imports_of P (block P n)) k 0))
+  to_turn_name : (k : ℕ) → node P n ≡ Turn → k < length (imports_of P (block P n)) →
+      Arc P n (suc k) Zero (name_in P (region P n) (get_or (imports_of P (block P n)) k 0))
   to_next : {x k o v : ℕ} → node P n ≡ Next x k o v → Arc P n 0 Zero (origin P v)
   to_reset : {v : ℕ} → node P n ≡ Reset v → Arc P n 0 Zero (origin P v)
   to_low : {a b : ℕ} → node P n ≡ Array a b → Arc P n 0 Zero (origin P a)
@@ -295,7 +327,8 @@ moved {P} {n} s t part k p q is a =
     let origin_is : s ≡ t = ap (λ (z : Rattle.id_build.specs.declared.arc.Feed.Feed). z.origin) is in
     let part_is : part ≡ k = ap (λ (z : Rattle.id_build.specs.declared.arc.Feed.Feed). z.part) is in
     let port_is : p ≡ q = ap (λ (z : Rattle.id_build.specs.declared.arc.Feed.Feed). z.port) is in
-    subst (λ (z : ℕ × (Port × Origin)). Arc P n z.0 z.1.0 z.1.1) {x = (k, (q, t))} {y = (part, (p, s))} (λ i. (sym part_is i, (sym port_is i, sym origin_is i))) a
+    subst (λ (z : ℕ × (Port × Origin)). Arc P n z.0 z.1.0 z.1.1) {x = (k, (q, t))} {y = (part, (p, s))}
+    (λ i. (sym part_is i, (sym port_is i, sym origin_is i))) a
 
 -- what feeds the switches of imports
 data ImportFed (P : Checked) (t : Origin) (r : Region) (j : ℕ) (bs : List ℕ) (s : Origin) (part : ℕ) (p : Port) : Type 0 where
@@ -321,10 +354,12 @@ as_arc : {P : Checked} {n : ℕ} {t : ℕ} {s : Origin} {part : ℕ} {p : Port} 
     → ImportFed P (origin P t) (region P n) 1 (imports_of P n) s part p → Arc P n part p s
 as_arc {P} {n} {t} {s} {part} {p} is (by_test k less at q from) =
     let part_is : part ≡ suc k = omega (arith, at) in
-    subst (λ (z : ℕ × (Port × Origin)). Arc P n z.0 z.1.0 z.1.1) {x = (suc k, (Zero, origin P t))} {y = (part, (p, s))} (λ i. (sym part_is i, (sym q i, sym from i))) (to_import_test k is less)
+    subst (λ (z : ℕ × (Port × Origin)). Arc P n z.0 z.1.0 z.1.1) {x = (suc k, (Zero, origin P t))} {y = (part, (p, s))}
+    (λ i. (sym part_is i, (sym q i, sym from i))) (to_import_test k is less)
 as_arc {P} {n} {t} {s} {part} {p} is (by_name k less at q from) =
     let part_is : part ≡ suc k = omega (arith, at) in
-    subst (λ (z : ℕ × (Port × Origin)). Arc P n z.0 z.1.0 z.1.1) {x = (suc k, (One, name_in P (region P n) (get_or (imports_of P n) k 0)))} {y = (part, (p, s))} (λ i. (sym part_is i, (sym q i, sym from i)))
+    subst (λ (z : ℕ × (Port × Origin)). Arc P n z.0 z.1.0 z.1.1) {x = (suc k, (One, name_in P (region P n) (get_or (imports_of P n) k 0)))}
+    {y = (part, (p, s))} (λ i. (sym part_is i, (sym q i, sym from i)))
     (to_import k is less)
 
 -- the sends to the entries of a loop
@@ -332,10 +367,12 @@ as_send : {P : Checked} {n : ℕ} {s : Origin} {part : ℕ} {p : Port} → node 
     → ImportFed P (output n) (region P n) 1 (entering P (n + 1)) s part p → Arc P n part p s
 as_send {P} {n} {s} {part} {p} is (by_test k less at q from) =
     let part_is : part ≡ suc k = omega (arith, at) in
-    subst (λ (z : ℕ × (Port × Origin)). Arc P n z.0 z.1.0 z.1.1) {x = (suc k, (Zero, output n))} {y = (part, (p, s))} (λ i. (sym part_is i, (sym q i, sym from i))) (to_loop_context k is less)
+    subst (λ (z : ℕ × (Port × Origin)). Arc P n z.0 z.1.0 z.1.1) {x = (suc k, (Zero, output n))} {y = (part, (p, s))}
+    (λ i. (sym part_is i, (sym q i, sym from i))) (to_loop_context k is less)
 as_send {P} {n} {s} {part} {p} is (by_name k less at q from) =
     let part_is : part ≡ suc k = omega (arith, at) in
-    subst (λ (z : ℕ × (Port × Origin)). Arc P n z.0 z.1.0 z.1.1) {x = (suc k, (One, name_in P (region P n) (get_or (entering P (n + 1)) k 0)))} {y = (part, (p, s))}
+    subst (λ (z : ℕ × (Port × Origin)). Arc P n z.0 z.1.0 z.1.1) {x = (suc k, (One, name_in P (region P n) (get_or (entering P (n + 1)) k 0)))}
+    {y = (part, (p, s))}
     (λ i. (sym part_is i, (sym q i, sym from i))) (to_entering k is less)
 
 -- what feeds the entries of a loop's imports
@@ -360,15 +397,23 @@ entry_fed w j (b ∷ bs) s part p (inl is) =
 entry_fed w j (b ∷ bs) s part p (inr h) =
     let z = entry_fed w (j + 1) bs s part p h in
     let up : j + 1 + z.slot ≡ j + suc z.slot = omega arith in
-    record { slot = suc z.slot; less = omega (arith, z.less); at = z.at ∙ up; port = z.port; from = z.from ∙ ap (λ y. record { row = w; part = y + 1; side = true }) up }
+    record {
+      slot = suc z.slot;
+      less = omega (arith, z.less);
+      at = z.at ∙ up;
+      port = z.port;
+      from = z.from ∙ ap (λ y. record { row = w; part = y + 1; side = true }) up;
+    }
 
 as_entry : {P : Checked} {n : ℕ} {s : Origin} {part : ℕ} {p : Port} → node P n ≡ Entries
     → EntryFed (turn_row P (block P n)) 0 (imports_of P (block P n)) s part p → Arc P n part p s
 as_entry {P} {n} {s} {part} {p} is x =
     let part_is : part ≡ x.slot = omega (arith, x.at) in
     let next : 0 + x.slot + 1 ≡ suc x.slot = omega arith in
-    let from : s ≡ record { row = turn_row P (block P n); part = suc x.slot; side = true } = x.from ∙ ap (λ z. record { row = turn_row P (block P n); part = z; side = true }) next in
-    subst (λ (z : ℕ × (Port × Origin)). Arc P n z.0 z.1.0 z.1.1) {x = (x.slot, (Zero, record { row = turn_row P (block P n); part = suc x.slot; side = true }))} {y = (part, (p, s))}
+    let from : s ≡ record { row = turn_row P (block P n); part = suc x.slot; side = true } = x.from ∙
+    ap (λ z. record { row = turn_row P (block P n); part = z; side = true }) next in
+    subst (λ (z : ℕ × (Port × Origin)). Arc P n z.0 z.1.0 z.1.1)
+    {x = (x.slot, (Zero, record { row = turn_row P (block P n); part = suc x.slot; side = true }))} {y = (part, (p, s))}
     (λ i. (sym part_is i, (sym x.port i, sym from i))) (to_entry x.slot is x.less)
 
 -- what feeds the parts that hand imports on
@@ -400,7 +445,8 @@ as_turn : {P : Checked} {n : ℕ} {s : Origin} {part : ℕ} {p : Port} → node 
     → TurnFed P (region P n) 1 (imports_of P (block P n)) s part p → Arc P n part p s
 as_turn {P} {n} {s} {part} {p} is x =
     let part_is : part ≡ suc x.slot = omega (arith, x.at) in
-    subst (λ (z : ℕ × (Port × Origin)). Arc P n z.0 z.1.0 z.1.1) {x = (suc x.slot, (Zero, name_in P (region P n) (get_or (imports_of P (block P n)) x.slot 0)))} {y = (part, (p, s))}
+    subst (λ (z : ℕ × (Port × Origin)). Arc P n z.0 z.1.0 z.1.1)
+    {x = (suc x.slot, (Zero, name_in P (region P n) (get_or (imports_of P (block P n)) x.slot 0)))} {y = (part, (p, s))}
     (λ i. (sym part_is i, (sym x.port i, sym x.from i))) (to_turn_name x.slot is x.less)
 
 arc_by : (P : Checked) (s : Origin) (n part : ℕ) (p : Port) (m : Node) → node P n ≡ m → Among (feed s part p) (feeds_of P n (region P n) m) → Arc P n part p s
@@ -681,7 +727,8 @@ import_listed P t r j (b ∷ bs) zero h =
 import_listed P t r j (b ∷ bs) (suc k) h =
     let rest = import_listed P t r (j + 1) bs k (omega (arith, h)) in
     let at : (j + 1) + k ≡ j + suc k = omega arith in
-    subst (λ m. Among (feed t m Zero) (import_feeds P t r j (b ∷ bs)) × Among (feed (name_in P r (get_or bs k 0)) m One) (import_feeds P t r j (b ∷ bs))) at (inr (inr rest.0), inr (inr rest.1))
+    subst (λ m. Among (feed t m Zero) (import_feeds P t r j (b ∷ bs)) × Among (feed (name_in P r (get_or bs k 0)) m One) (import_feeds P t r j (b ∷ bs))) at
+    (inr (inr rest.0), inr (inr rest.1))
 
 pub imports_fed : (P : Checked) (n t k : ℕ) → n < length (rows P) → Tests P n t → k < length (imports_of P n)
     → Feeds P (origin P t) n (suc k) Zero × Feeds P (name_in P (region P n) (get_or (imports_of P n) k 0)) n (suc k) One
@@ -697,20 +744,30 @@ imports_fed P n t k within tests less = (by tests).0
     by : Tests P n t → (Feeds P (origin P t) n (suc k) Zero × Feeds P (name_in P (region P n) (get_or (imports_of P n) k 0)) n (suc k) One) × Unit {0}
     by (of_arms is) = (
       (
-        record { within = within; among = subst (λ (z : ℕ × Node). Among (feed (origin P t) z.0 Zero) (feeds_of P n (region P n) z.1)) {x = (1 + k, Split t)} {y = (suc k, node P n)} (λ i. (at i, sym is i)) (inr (inr listed.0)) },
         record {
           within = within;
-          among = subst (λ (z : ℕ × Node). Among (feed (name_in P (region P n) (get_or (imports_of P n) k 0)) z.0 One) (feeds_of P n (region P n) z.1)) {x = (1 + k, Split t)} {y = (suc k, node P n)} (λ i. (at i, sym is i)) (inr (inr listed.1));
+          among = subst (λ (z : ℕ × Node). Among (feed (origin P t) z.0 Zero) (feeds_of P n (region P n) z.1)) {x = (1 + k, Split t)}
+              {y = (suc k, node P n)} (λ i. (at i, sym is i)) (inr (inr listed.0));
+        },
+        record {
+          within = within;
+          among = subst (λ (z : ℕ × Node). Among (feed (name_in P (region P n) (get_or (imports_of P n) k 0)) z.0 One) (feeds_of P n (region P n) z.1))
+              {x = (1 + k, Split t)} {y = (suc k, node P n)} (λ i. (at i, sym is i)) (inr (inr listed.1));
         },
       ),
       tt,
     )
     by (of_turns is) = (
       (
-        record { within = within; among = subst (λ (z : ℕ × Node). Among (feed (origin P t) z.0 Zero) (feeds_of P n (region P n) z.1)) {x = (1 + k, Switches t)} {y = (suc k, node P n)} (λ i. (at i, sym is i)) (inr (inr listed.0)) },
         record {
           within = within;
-          among = subst (λ (z : ℕ × Node). Among (feed (name_in P (region P n) (get_or (imports_of P n) k 0)) z.0 One) (feeds_of P n (region P n) z.1)) {x = (1 + k, Switches t)} {y = (suc k, node P n)} (λ i. (at i, sym is i)) (inr (inr listed.1));
+          among = subst (λ (z : ℕ × Node). Among (feed (origin P t) z.0 Zero) (feeds_of P n (region P n) z.1))
+              {x = (1 + k, Switches t)} {y = (suc k, node P n)} (λ i. (at i, sym is i)) (inr (inr listed.0));
+        },
+        record {
+          within = within;
+          among = subst (λ (z : ℕ × Node). Among (feed (name_in P (region P n) (get_or (imports_of P n) k 0)) z.0 One) (feeds_of P n (region P n) z.1))
+              {x = (1 + k, Switches t)} {y = (suc k, node P n)} (λ i. (at i, sym is i)) (inr (inr listed.1));
         },
       ),
       tt,

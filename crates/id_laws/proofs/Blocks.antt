@@ -85,7 +85,8 @@ to_passing f (suc i) x h e =
     less x i h other = omega (arith, h, other)
 
 passing_if : (b : Bool) (xs : List ℕ) (i : ℕ) → AllDiffer xs → (Among i xs → ⊥) → AllDiffer (cond b (xs ++ i ∷ []) xs)
-passing_if true xs i d apart = AllDiffer-append xs (i ∷ []) d (λ h. h, tt) (λ z h k. elim k [ inl e ↦ apart (subst (λ y. Among y xs) e h) | inr none ↦ absurd none ])
+passing_if true xs i d apart = AllDiffer-append xs (i ∷ []) d (λ h. h, tt)
+    (λ z h k. elim k [ inl e ↦ apart (subst (λ y. Among y xs) e h) | inr none ↦ absurd none ])
 passing_if false xs i d apart = d
 
 -- none is there twice
@@ -131,7 +132,8 @@ a_param R h n b among =
 pub param_listed : (R : List Row) (h n b x : ℕ) (k : Kind) → b < n → (at R b).node ≡ Param x k → (at R b).block ≡ h → Among b (params_below R h n)
 param_listed R h n b x k less is block =
     subst (Among b) (sym (params_pass R h n))
-    (to_passing (λ i. is_param (at R i).node && nat_eq (at R i).block h) n b less (ap (λ m. is_param m && nat_eq (at R b).block h) is ∙ eq-eqb (at R b).block h block))
+    (to_passing (λ i. is_param (at R i).node && nat_eq (at R i).block h) n b less
+    (ap (λ m. is_param m && nat_eq (at R b).block h) is ∙ eq-eqb (at R b).block h block))
 
 -- ---- the heads of all blocks
 
@@ -165,13 +167,15 @@ all_listed P h within begins = go (node P h) refl begins
     go Head is b = Among-left h (heads_of (rows P)) (loop_heads_below P (length (rows P))) (head_listed (rows P) (length (rows P)) h within is)
     go (LoopHead s) is b =
         Among-right h (heads_of (rows P)) (loop_heads_below P (length (rows P)))
-        (subst (Among h) (sym (those_pass (λ i. is_loop_head (node P i)) (length (rows P)))) (to_passing (λ i. is_loop_head (node P i)) (length (rows P)) h within (ap is_loop_head is)))
+        (subst (Among h) (sym (those_pass (λ i. is_loop_head (node P i)) (length (rows P))))
+        (to_passing (λ i. is_loop_head (node P i)) (length (rows P)) h within (ap is_loop_head is)))
     go _ is b = absurd (true_false (sym b))
 
 -- no two are one
 pub all_differ : (P : Checked) → AllDiffer (all_heads P)
 all_differ P =
-    AllDiffer-append (heads_of (rows P)) (loop_heads_below P (length (rows P))) (heads_differ (rows P) (length (rows P))) (loop_heads_differ P (length (rows P)))
+    AllDiffer-append (heads_of (rows P)) (loop_heads_below P (length (rows P))) (heads_differ (rows P) (length (rows P)))
+    (loop_heads_differ P (length (rows P)))
     (λ h a b.
     let z = a_head (rows P) (length (rows P)) h a in
     let l = a_loop_head P (length (rows P)) h b in

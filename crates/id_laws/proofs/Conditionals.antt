@@ -132,7 +132,8 @@ arm_live {S} known (entered {n = m} within begins live opened) is at =
     absurd (tests_no_block at (ap (λ (z : Region). begins_block (node S.checked z.head)) (sym is) ∙ (begun_at known within begins).head))
 arm_live {S} known (again {n = m} {e = e} within is' live says goes) is at =
     let l = loop_of_row known (Switches e) within is' refl in
-    absurd (tests_no_block at (ap (λ (z : Region). begins_block (node S.checked z.head)) (sym is ∙ (known.table).at_top m within (ap is_top is')) ∙ ap begins_block l.head))
+    absurd (tests_no_block at (ap (λ (z : Region). begins_block (node S.checked z.head)) (sym is ∙ (known.table).at_top m within (ap is_top is')) ∙
+    ap begins_block l.head))
 
 -- two sides of one row's switches are not both live: the predicate has spoken once
 pub sides_apart : {S : Source} (known : IsKnown S.checked) {number : ℕ → ℕ → ℕ} {run : List Event} {a : Activation} {n t : ℕ} → FiresOnce run

@@ -58,7 +58,8 @@ IsPermutation-from_members : {A : Type 0} (xs ys : List A) → AllDiffer xs → 
     → ((x : A) → Among x ys → Among x xs) → IsPermutation xs ys
 IsPermutation-from_members [] [] d e to from = IsPermutation-refl []
 IsPermutation-from_members [] (y ∷ ys) d e to from = absurd (from y (inl refl))
-IsPermutation-from_members {A = A} (x ∷ xs) ys d e to from = IsPermutation-taken x xs ys k at (IsPermutation-from_members xs (remove ys k) d.1 (AllDiffer-remove ys k e) there back)
+IsPermutation-from_members {A = A} (x ∷ xs) ys d e to from = IsPermutation-taken x xs ys k at
+    (IsPermutation-from_members xs (remove ys k) d.1 (AllDiffer-remove ys k e) there back)
   where
     k : ℕ
     k = (at-from_Among x ys (to x (inl refl))).0
@@ -100,13 +101,15 @@ module _ (S : Source) (inputs : AreInputs S.checked S.inputs) where
     answer = one_answer S (coherence S a.no_fault) _ _ a.answer b.answer;
     names = IsPermutation-from_members _ _ (AllDiffer-from_map (λ (n : NameValue). site n.path n.place) _ m.names_once)
         (AllDiffer-from_map (λ (n : NameValue). site n.path n.place) _ n.names_once) (λ x h. b.names x (m.names x h)) (λ x h. a.names x (n.names x h));
-    structures = IsPermutation-from_members _ _ (AllDiffer-from_map (λ (x : Shape). x.name) _ m.structures_once) (AllDiffer-from_map (λ (x : Shape). x.name) _ n.structures_once)
+    structures = IsPermutation-from_members _ _ (AllDiffer-from_map (λ (x : Shape). x.name) _ m.structures_once)
+        (AllDiffer-from_map (λ (x : Shape). x.name) _ n.structures_once)
         (λ x h. b.structures x (m.structures x h)) (λ x h. a.structures x (n.structures x h));
     cells = IsPermutation-from_members _ _ (AllDiffer-from_map cell_of _ m.cells_once) (AllDiffer-from_map cell_of _ n.cells_once)
         (λ x h. b.cells x (m.cells x h)) (λ x h. a.cells x (n.cells x h));
     asks = IsPermutation-from_members _ _ (AllDiffer-from_map (λ (x : Ask). x.fetch) _ m.asks_once) (AllDiffer-from_map (λ (x : Ask). x.fetch) _ n.asks_once)
         (λ x h. b.asks x (m.asks x h)) (λ x h. a.asks x (n.asks x h));
-    waiting = IsPermutation-from_members _ _ (AllDiffer-from_map (λ (x : Ask). x.fetch) _ m.waiting_once) (AllDiffer-from_map (λ (x : Ask). x.fetch) _ n.waiting_once)
+    waiting = IsPermutation-from_members _ _ (AllDiffer-from_map (λ (x : Ask). x.fetch) _ m.waiting_once)
+        (AllDiffer-from_map (λ (x : Ask). x.fetch) _ n.waiting_once)
         (λ x h. b.waiting x (a.only_waiting x h)) (λ x h. a.waiting x (b.only_waiting x h));
   }
     where
@@ -126,7 +129,8 @@ module _ (S : Source) (inputs : AreInputs S.checked S.inputs) where
       b = complete_end q still
 
   no_fault_shown : (r q : RunOf S) → IsQuiet (end_of S r) → shown.faults q.graph (end_of S q) ≡ []
-  no_fault_shown r q quiet = no_members (shown.faults q.graph (end_of S q)) (λ (f : SourceFault) h. (complete_end r quiet).no_fault f ((sound_end q).faults f h))
+  no_fault_shown r q quiet = no_members (shown.faults q.graph (end_of S q))
+      (λ (f : SourceFault) h. (complete_end r quiet).no_fault f ((sound_end q).faults f h))
 
 pub determined : Determinate
 determined = λ S inputs. record { same = same_shown S inputs; no_fault = no_fault_shown S inputs }

@@ -13,4 +13,5 @@ soundness = λ S g count ks inputs schemas.
 pub completeness : QuietIsComplete
 completeness = λ S g count ks inputs schemas quiet.
     let r = reached g S.inputs count ks in
-    complete_at S g schemas.number schemas.numbered (known S.checked) inputs count (alone S (known S.checked) g schemas.number schemas.numbered count) _ r.events r.reach quiet
+    complete_at S g schemas.number schemas.numbered (known S.checked) inputs count (alone S (known S.checked) g schemas.number schemas.numbered count) _
+    r.events r.reach quiet

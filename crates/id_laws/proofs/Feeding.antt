@@ -25,7 +25,8 @@ use Rattle.id_build.specs.Schemas.{Feeds}
 use Rattle.id_runs.specs.Activations.{Activation, at_iteration}
 use Rattle.id_runs.specs.Events.{Event}
 use Rattle.id_laws.specs.Activations.{of_call, of_loop, Tests, of_arms, of_turns, Speaks, Moves, Live}
-use Rattle.id_laws.specs.Topics.{Turned, ValueOf, NameIn, ResultOf, TestOf, split_of, Tells, ShownResult, speaks_of, topic_of, wants, topic_at, result_at, result_of}
+use Rattle.id_laws.specs.Topics.{Turned, ValueOf, NameIn, ResultOf, TestOf, split_of, Tells, ShownResult, speaks_of}
+use Rattle.id_laws.specs.Topics.{topic_of, wants, topic_at, result_at, result_of}
 use Rattle.id_laws.proofs.Assumed.{IsKnown}
 use Rattle.id_laws.proofs.Loops.{loop_of_head, loop_of_row, next_block, reset_in, reset_node, turn_in, turn_node}
 use Rattle.id_build.proofs.LoopsLemmas.{next_is}
@@ -60,10 +61,12 @@ module _ (S : Source) (known : IsKnown S.checked) (number : ℕ → ℕ → ℕ)
       → T (topic_of P (origin P e)) v → T (ValueOf e) v
   operand_tells n e m v within is part operand tells =
       let less = (((known.table).formed).each n within).parts e (subst (λ z. HasPart z e) (sym is) part) in
-      origin_shows S known number run seats a e v (omega (arith, within, less.1)) (known.operands n e within (subst (λ z. HasOperand z e) (sym is) operand)) tells
+      origin_shows S known number run seats a e v (omega (arith, within, less.1)) (known.operands n e within (subst (λ z. HasOperand z e) (sym is) operand))
+      tells
 
   -- the value of a procedure's body
-  result_tells : (h : ℕ) (v : Value) → h < length (rows P) → node P h ≡ Head → T (topic_of P (origin P (body_of (node P (end_of P h))))) v → ShownResult S number run a h v
+  result_tells : (h : ℕ) (v : Value) → h < length (rows P) → node P h ≡ Head → T (topic_of P (origin P (body_of (node P (end_of P h))))) v →
+      ShownResult S number run a h v
   result_tells h v within is tells =
       let def = end_is P (known.table) h within is in
       let b = result_of P h in
@@ -71,8 +74,14 @@ module _ (S : Source) (known : IsKnown S.checked) (number : ℕ → ℕ → ℕ)
       let same : body_of (node P (end_of P h)) ≡ b = ap body_of def.node ∙ sym body_is in
       let parts = (((known.table).formed).each (end_of P h) def.within).parts def.body (subst (λ z. HasPart z def.body) (sym def.node) (inr refl)) in
       let expression = ((known.table).head_is (end_of P h) def.name h def.body def.result def.within def.node).2 in
-      let shows = origin_shows S known number run seats a b v (subst (λ z. z < length (rows P)) (sym body_is) (omega (arith, def.within, parts.1))) (ap (λ z. is_expression (node P z)) body_is ∙ expression) (subst (λ z. T (topic_of P (origin P z)) v) same tells) in
-      record { iteration = a.iteration; live = shows.0; shown = shows.1; at_first = seats.first def (subst (λ z. Live S number run a (region P z)) body_is shows.0) }
+      let shows = origin_shows S known number run seats a b v (subst (λ z. z < length (rows P)) (sym body_is) (omega (arith, def.within, parts.1)))
+      (ap (λ z. is_expression (node P z)) body_is ∙ expression) (subst (λ z. T (topic_of P (origin P z)) v) same tells) in
+      record {
+        iteration = a.iteration;
+        live = shows.0;
+        shown = shows.1;
+        at_first = seats.first def (subst (λ z. Live S number run a (region P z)) body_is shows.0);
+      }
 
   -- what the trigger of a region speaks of
   trigger_topic : (r : Region) → HeadOf P r → topic_of P (trigger_of r) ≡ Turned r
@@ -118,7 +127,8 @@ module _ (S : Source) (known : IsKnown S.checked) (number : ℕ → ℕ → ℕ)
           value = shown.value;
           stands = shown.stands;
           holds = subst (λ z. Holds S (Has z (place P n) shown.value)) (sym (without_none shown.path))
-              (holds_by S _ _ (conditional_has (chosen b (record { within = within; node = is }) (record { within = c.within; node = c.node }))) (on, (test, (has, tt))));
+              (holds_by S _ _ (conditional_has (chosen b (record { within = within; node = is }) (record { within = c.within; node = c.node })))
+              (on, (test, (has, tt))));
         },
       )
 
@@ -167,8 +177,10 @@ module _ (S : Source) (known : IsKnown S.checked) (number : ℕ → ℕ → ℕ)
   by_arc {n} v within (to_literal {c = c} is) says tells =
       at_node n 0 Zero v (Literal c) is (signal_tells n v within (λ e. let bad : Program ≡ Literal c = sym e ∙ is in cc) tells)
   by_arc {n} v within (to_unary {o = o} {a = e} is) says tells = at_node n 0 Zero v (Unary o e) is (operand_tells n e (Unary o e) v within is refl refl tells)
-  by_arc {n} v within (to_left {o = o} {a = e} {b = f} is) says tells = at_node n 0 Zero v (Binary o e f) is (operand_tells n e (Binary o e f) v within is (inl refl) (inl refl) tells)
-  by_arc {n} v within (to_right {o = o} {a = e} {b = f} is) says tells = at_node n 0 One v (Binary o e f) is (operand_tells n f (Binary o e f) v within is (inr refl) (inr refl) tells)
+  by_arc {n} v within (to_left {o = o} {a = e} {b = f} is) says tells = at_node n 0 Zero v (Binary o e f) is
+      (operand_tells n e (Binary o e f) v within is (inl refl) (inl refl) tells)
+  by_arc {n} v within (to_right {o = o} {a = e} {b = f} is) says tells = at_node n 0 One v (Binary o e f) is
+      (operand_tells n f (Binary o e f) v within is (inr refl) (inr refl) tells)
   by_arc {n} v within (to_test {t = t} is) says tells = at_tests n 0 v is (test_tells n t v within is says tells)
   by_arc {n} v within (to_trigger {t = t} is) says tells = at_switch n 0 v is (signal_tells n v within (tests_other P known is) tells)
   by_arc {n} v within (to_import_test {t = t} k is less) says tells = at_tests n (suc k) v is (test_tells n t v within is says tells)
@@ -178,14 +190,16 @@ module _ (S : Source) (known : IsKnown S.checked) (number : ℕ → ℕ → ℕ)
       at_switch n (suc k) v is (named_tells S known number run seats a (region P n) b v z.0 z.1 z.2 tells)
   by_arc {n} v within (to_then {s = s} {x = x} {y = y} is) says tells = at_node n 0 Zero v (If s x y) is (arm_tells n s x y true v within is tells)
   by_arc {n} v within (to_else {s = s} {x = x} {y = y} is) says tells = at_node n 0 Zero v (If s x y) is (arm_tells n s x y false v within is tells)
-  by_arc {n} v within (to_enter (of_call {x = x} is)) says tells = at_node n 0 Zero v (Enter x) is (signal_tells n v within (begins_other P known (of_call is)) tells)
+  by_arc {n} v within (to_enter (of_call {x = x} is)) says tells = at_node n 0 Zero v (Enter x) is
+      (signal_tells n v within (begins_other P known (of_call is)) tells)
   by_arc {n} v within (to_enter (of_loop is)) says tells = at_node n 0 Zero v Start is (signal_tells n v within (begins_other P known (of_loop is)) tells)
   by_arc {n} v within (to_context {e = e} {k = k} {v = w} is) says tells =
       let z = arg_at known within is in
       at_node n 0 Zero v (Arg e k w) is (subst (λ m. T (speaks_of P e (region P e) m 0 true) v) z.enter tells)
   by_arc {n} v within (to_argument {e = e} {k = k} {v = w} is) says tells =
       at_node n 0 One v (Arg e k w) is (operand_tells n w (Arg e k w) v within is (inr refl) refl tells)
-  by_arc {n} v within (to_label {x = x} {a = e} is) says tells = at_node n 0 Zero v (Binding x e) is (operand_tells n e (Binding x e) v within is refl refl tells)
+  by_arc {n} v within (to_label {x = x} {a = e} is) says tells = at_node n 0 Zero v (Binding x e) is
+      (operand_tells n e (Binding x e) v within is refl refl tells)
   by_arc {n} v within (to_loop_context k is less) says tells =
       at_node n (suc k) Zero v Start is (subst (λ m. T (speaks_of P n (region P n) m 0 true) v) is tells)
   by_arc {n} v within (to_entering k is less) says tells =

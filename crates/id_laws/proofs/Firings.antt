@@ -42,7 +42,8 @@ use Rattle.id_laws.proofs.Start.{is_there}
 use Rattle.id_build.specs.declared.arc.Form.{Form}
 use Rattle.id_build.specs.Rows.{op_by}
 
-module _ (S : Source) (g : Parts) (number : ℕ → ℕ → ℕ) (numbered : Numbered S.checked g number) (known : IsKnown S.checked) (count : ℕ) (only : Exclusive g S.inputs count)
+module _ (S : Source) (g : Parts) (number : ℕ → ℕ → ℕ) (numbered : Numbered S.checked g number) (known : IsKnown S.checked) (count : ℕ)
+    (only : Exclusive g S.inputs count)
     (s : World) (run : List Event) (r : Reach g S.inputs count s run) (quiet : s.flight ≡ []) where
   -- what was sent, or was there at the start, was handled
   pub was_handled : (x : Payload) → ComesFrom g S.inputs run x → Among x (handled run)
@@ -71,7 +72,8 @@ module _ (S : Source) (g : Parts) (number : ℕ → ℕ → ℕ) (numbered : Num
       → two_ports (op_by number o) ≡ false → Among (Token (tag_in a (number n part)) p v) (handled run) → PartFired a n part (op_by number o) (Alone v)
   alone_formed a n part o p v within does one h =
       let m = numbered.made n part o _ (makes within does) in
-      by_instr a n part (op_by number o) (Alone v) m.instr m.op (alone g S.inputs count s run r (tag_in a (number n part)) p v m.instr m.at (ap two_ports m.op ∙ one) h)
+      by_instr a n part (op_by number o) (Alone v) m.instr m.op
+      (alone g S.inputs count s run r (tag_in a (number n part)) p v m.instr m.at (ap two_ports m.op ∙ one) h)
 
   pub alone_fired : (a : Activation) (n part : ℕ) (o : Op) (p : Port) (v : Value) → n < length (rows S.checked) → Does S.checked n part (Plain o)
       → two_ports o ≡ false → Among (Token (tag_in a (number n part)) p v) (handled run) → PartFired a n part o (Alone v)
@@ -83,7 +85,8 @@ module _ (S : Source) (g : Parts) (number : ℕ → ℕ → ℕ) (numbered : Num
       → PartFired a n part (op_by number o) (Two v w)
   both_formed a n part o v w within does two h k =
       let m = numbered.made n part o _ (makes within does) in
-      by_instr a n part (op_by number o) (Two v w) m.instr m.op (met g S.inputs count only s run r (tag_in a (number n part)) v w m.instr m.at (ap two_ports m.op ∙ two) h k)
+      by_instr a n part (op_by number o) (Two v w) m.instr m.op
+      (met g S.inputs count only s run r (tag_in a (number n part)) v w m.instr m.at (ap two_ports m.op ∙ two) h k)
 
   pub both_fired : (a : Activation) (n part : ℕ) (o : Op) (v w : Value) → n < length (rows S.checked) → Does S.checked n part (Plain o)
       → two_ports o ≡ true
@@ -129,4 +132,5 @@ module _ (S : Source) (g : Parts) (number : ℕ → ℕ → ℕ) (numbered : Num
       let to = numbered.sends t n part p feeds in
       let u = tag_in a (number t.row t.part) in
       let here = subst (λ ds. Among d ds) (sym (dests_are t.side _ to.instr to.at)) to.lists in
-      sent_handled x.fires (Token (tag_in (at_iteration a.context k) (number n part)) p v) (moved_sent g u k v d (subst (λ b. Among d (dests_at g u.instr b)) x.on here))
+      sent_handled x.fires (Token (tag_in (at_iteration a.context k) (number n part)) p v)
+      (moved_sent g u k v d (subst (λ b. Among d (dests_at g u.instr b)) x.on here))

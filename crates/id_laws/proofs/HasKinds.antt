@@ -253,13 +253,16 @@ module _ (S : Source) (known : IsKnown S.checked) (inputs : AreInputs S.checked 
       (input_kind b w x))
   kind_by m all (literal_has {n = r} {c = c} x) h n p v within thing is =
       let parts = same_fact is in
-      subst (OfKind n) parts.1 (one_row n r _ (value_of c) x refl within thing parts.0 (known.literal_kind r c x.within x.node ∙ ap (λ z. Some z) (constant_kind_is c)))
+      subst (OfKind n) parts.1 (one_row n r _ (value_of c) x refl within thing parts.0
+      (known.literal_kind r c x.within x.node ∙ ap (λ z. Some z) (constant_kind_is c)))
   kind_by m all (unary_has {n = r} {a = a} {o = o} {x = y} c x result) h n p v within thing is =
       let parts = same_fact is in
-      subst (OfKind n) parts.1 (one_row n r _ (value_of y) x refl within thing parts.0 (known.unary_kinds r a o x.within x.node ∙ ap (λ z. Some z) (sym (unary_gives o c y result))))
+      subst (OfKind n) parts.1 (one_row n r _ (value_of y) x refl within thing parts.0
+      (known.unary_kinds r a o x.within x.node ∙ ap (λ z. Some z) (sym (unary_gives o c y result))))
   kind_by m all (binary_has {n = r} {a = a} {b = b} {o = o} {x = y} c d x result) h n p v within thing is =
       let parts = same_fact is in
-      subst (OfKind n) parts.1 (one_row n r _ (value_of y) x refl within thing parts.0 (known.binary_kinds r a b o x.within x.node ∙ ap (λ z. Some z) (sym (binary_gives o c d y result))))
+      subst (OfKind n) parts.1 (one_row n r _ (value_of y) x refl within thing parts.0
+      (known.binary_kinds r a b o x.within x.node ∙ ap (λ z. Some z) (sym (binary_gives o c d y result))))
   kind_by m all (name_has {n = r} {x = y} {b = b} {v = w} x binds) h n p v within thing is =
       let parts = same_fact is in
       let known_binder = known.bound r y x.within x.node in
@@ -290,7 +293,13 @@ module _ (S : Source) (known : IsKnown S.checked) (inputs : AreInputs S.checked 
       let inner = operand_of f body def.within (subst (λ z. HasOperand z body) (sym def.node) refl) in
       let result = known.result_kind f g here in
       subst (OfKind n) parts.1 (one_row n r _ w x refl within thing parts.0
-      (known.call_kind r e count c.name f (record { name = y; result = k; body = body; within = def.within; node = def.node ∙ ap (λ z. Def y z k body) (sym head) }) x.within x.node
+      (known.call_kind r e count c.name f (record {
+        name = y;
+        result = k;
+        body = body;
+        within = def.within;
+        node = def.node ∙ ap (λ z. Def y z k body) (sym head);
+      }) x.within x.node
       ∙ sym result ∙ all.kinds_of body _ w inner.0 inner.1 h.1.0))
   kind_by m all (first_has {m = i} {o = o} {v = a} {c = c} {u = w} x y bound) h n p v within thing is =
       let parts = same_fact is in

@@ -45,8 +45,10 @@ module _ (P : Checked) (known : IsKnown P) (g : Parts) (number : ℕ → ℕ →
   entries_take h (b ∷ bs) (v ∷ vs) inside own =
       let z = a_param (rows P) h (length (rows P)) b (inside b (inl refl)) in
       let of_kind = suits_kind P known b v z.within (node P b) refl own.0 in
-      let kind_is : port_at P b ≡ token_kind (constant_value v) = port_is P b (constant_kind v) of_kind ∙ sym (token_port v) in
-      (op_made P known g number numbered z.within (enters (z.param).is) ∙ ap (λ k. Some (Merge k)) kind_is, entries_take h bs vs (λ y k. inside y (inr k)) own.1)
+      let kind_is : port_at P b ≡ token_kind (constant_value v) = port_is P b (constant_kind v) of_kind ∙ sym (token_port v) in (
+        op_made P known g number numbered z.within (enters (z.param).is) ∙ ap (λ k. Some (Merge k)) kind_is,
+        entries_take h bs vs (λ y k. inside y (inr k)) own.1,
+      )
 
   takes_inputs : (vs : List Constant) → AreInputs P vs → TakesInputs g vs
   takes_inputs vs own = record {

@@ -63,7 +63,8 @@ abbrev at_row : Checked → ℕ → Row
 at_row P h = at (rows P) h
 
 -- no more loops are round a binder than round where it is seen
-pub seen_depth : {P : Checked} (known : IsKnown P) {b : ℕ} {r : Region} → b < length (rows P) → is_binder (node P b) ≡ true → Sees P b r → depth (rows P) b ≤ depth (rows P) r.head
+pub seen_depth : {P : Checked} (known : IsKnown P) {b : ℕ} {r : Region} → b < length (rows P) → is_binder (node P b) ≡ true → Sees P b r →
+    depth (rows P) b ≤ depth (rows P) r.head
 seen_depth {P} known {b} {r} within binds (own is) =
     let l = label_row known within binds in
     let same = ap (λ (z : Region). block P z.head) (sym is) ∙ (region_of known l.within l.other).block ∙ l.block in

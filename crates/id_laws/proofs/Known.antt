@@ -11,7 +11,9 @@ use Rattle.id_check.specs.declared.checked.Checked.{Checked}
 use Rattle.id_check.specs.Causes.{defines_main}
 use Rattle.id_check.specs.Kinds.{link_of}
 use Rattle.id_check.specs.Programs.{Calls, Stands, binder, kind, region, rows, tree}
-use Rattle.id_check.proofs.ProgramsLemmas.{table_of, bound_name_row, kind_along, kind_fixed, split_row, if_row, def_row, enter_row, callee_row, call_row, next_row, argument_row, argument_call, switches_row}
+use Rattle.id_check.proofs.ProgramsLemmas.{table_of, bound_name_row, kind_along, kind_fixed, split_row, if_row}
+use Rattle.id_check.proofs.ProgramsLemmas.{def_row, enter_row, callee_row, call_row, next_row, argument_row}
+use Rattle.id_check.proofs.ProgramsLemmas.{argument_call, switches_row}
 use Rattle.id_check.proofs.ProgramsLemmas.{array_row, fetch_row, address_row, store_row}
 use Rattle.id_meaning.specs.Sources.{head_of}
 use Rattle.id_meaning.proofs.ArgumentsLemmas.{argument-get}

@@ -1,5 +1,6 @@
 -- The labels of a schemas' graph are the instructions of binders.
-use Rattle.std.proofs.Common.{◌≡◌, ℕ, zero, suc, ◌-◌, ◌≤◌, ◌<◌, length, ◌==◌, ◌&&◌, not, Bool as Truth, true, false, cond, Some, List, [], ◌∷◌, slice_get, refl, sym}
+use Rattle.std.proofs.Common.{◌≡◌, ℕ, zero, suc, ◌-◌, ◌≤◌, ◌<◌, length, ◌==◌, ◌&&◌, not, Bool as Truth, true, false}
+use Rattle.std.proofs.Common.{cond, Some, List, [], ◌∷◌, slice_get, refl, sym}
 use Rattle.std.proofs.Common.{◌∙◌, ap, arith}
 use Rattle.std.specs.List.{count_by}
 use Rattle.std.proofs.lemmas.Bool.Decides.{nat_tests}
@@ -23,7 +24,8 @@ use Rattle.id_laws.specs.Topics.{of_fetch, IsPart}
 use Rattle.id_laws.proofs.Assumed.{IsKnown}
 use Rattle.id_laws.proofs.Arcs.{Does, starts, returns, enters, constant, unary, binary, turns_on, hands, joins, names, answers, doing, makes, part_of}
 use Rattle.id_laws.proofs.Arcs.{place_shown, opens, passes, gets}
-use Rattle.id_laws.proofs.Arcs.{sends_in, gives_back, varies, takes_in, moves_on, moves_name, advances, resets, gets_last, allocates, addresses, fetches, gets_reply, stores}
+use Rattle.id_laws.proofs.Arcs.{sends_in, gives_back, varies, takes_in, moves_on, moves_name, advances, resets}
+use Rattle.id_laws.proofs.Arcs.{gets_last, allocates, addresses, fetches, gets_reply, stores}
 use Rattle.id_laws.proofs.LoopRows.{entries_place, loop_marks, variable_at}
 use Rattle.id_laws.proofs.Conditionals.{conditional}
 use Rattle.id_laws.proofs.Tokens.{one_part}
@@ -87,7 +89,8 @@ merge_no_next _ e = cc
 pub claims_place : (p : ℕ) (i : Instr) → i.place ≡ p → shown.is_next i.op ≡ false → shown.claims p i ≡ true
 claims_place p i at other = (λ t. same_number i.place p at t && not (other t))
 
-module _ (P : Checked) (known : IsKnown P) (g : Parts) (number : ℕ → ℕ → ℕ) (numbered : Numbered P g number) (main_head_is : node P (main_head P) ≡ Head) (main_within : main_head P < length (rows P)) where
+module _ (P : Checked) (known : IsKnown P) (g : Parts) (number : ℕ → ℕ → ℕ) (numbered : Numbered P g number) (main_head_is : node P (main_head P) ≡ Head)
+    (main_within : main_head P < length (rows P)) where
   -- no other part has the place of a label, save a `next`
   clash_by : {n j r k : ℕ} {f : Form} → (x : IsPart P n j) → shown.is_label g (number n j) ≡ true → r < length (rows P) → Does P r k f
       → shown.is_next (op_by number f) ≡ false → place_shown P (place P r) (node P r) ≡ place_shown P (place P n) (node P n) → (number n j ≡ number r k → ⊥) → ⊥

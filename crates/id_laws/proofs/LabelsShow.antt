@@ -25,7 +25,8 @@ use Rattle.id_laws.proofs.Stores.{address_at}
 use Rattle.id_laws.proofs.Assumed.{IsKnown}
 use Rattle.id_laws.proofs.Arcs.{Does, starts, returns, enters, constant, unary, binary, turns_on, hands, joins, names, answers, doing, makes, part_of}
 use Rattle.id_laws.proofs.Arcs.{place_shown, opens, passes, gets}
-use Rattle.id_laws.proofs.Arcs.{sends_in, gives_back, varies, takes_in, moves_on, moves_name, advances, resets, gets_last, allocates, addresses, fetches, gets_reply, stores}
+use Rattle.id_laws.proofs.Arcs.{sends_in, gives_back, varies, takes_in, moves_on, moves_name, advances, resets}
+use Rattle.id_laws.proofs.Arcs.{gets_last, allocates, addresses, fetches, gets_reply, stores}
 use Rattle.id_laws.proofs.LabelsBind.{claims_place}
 use Rattle.id_laws.proofs.LoopRows.{LoopPlace, LabelAt, label_at, variable_at, head_place, start_place, entries_place, switches_place, reset_place}
 use Rattle.id_build.specs.declared.arc.Form.{Form}
@@ -53,7 +54,8 @@ one_counts f (y ∷ xs) zero x at e alone =
     let is : y ≡ x = cc in
     let here : one_if (f y) ≡ 1 = ap (λ z. one_if (f z)) is ∙ ap one_if e in
     omega (arith, sum_by-cons (λ z. one_if (f z)) y xs, none_counts f xs (λ m z at' e'. let bad : suc m ≡ 0 = alone (suc m) z at' e' in absurd (omega arith)))
-one_counts {A} f (y ∷ xs) (suc n) x at e alone = go (f y) refl (one_counts f xs n x at e (λ m z at' e'. let next : suc m ≡ suc n = alone (suc m) z at' e' in omega arith))
+one_counts {A} f (y ∷ xs) (suc n) x at e alone = go (f y) refl
+    (one_counts f xs n x at e (λ m z at' e'. let next : suc m ≡ suc n = alone (suc m) z at' e' in omega arith))
   where
     go : (b : Truth) → f y ≡ b → count_by f xs ≡ 1 → count_by f (y ∷ xs) ≡ 1
     go true k rest = let bad : 0 ≡ suc n = alone 0 y refl k in absurd (omega arith)
@@ -95,7 +97,8 @@ module _ (P : Checked) (known : IsKnown P) (g : Parts) (number : ℕ → ℕ →
     where
       here : (m : Node) → node P n ≡ m → is_thing m ≡ true → place_shown P (place P n) m ≡ place P n → label_by (block P n) n m ≡ n → n ≡ label P b
       here m is thing shows own =
-          let one = (known.apart).apart n b within inside (ap is_thing is ∙ thing) (binds_thing (node P b) binds) (sym shows ∙ ap (place_shown P (place P n)) (sym is) ∙ same) in
+          let one = (known.apart).apart n b within inside (ap is_thing is ∙ thing) (binds_thing (node P b) binds)
+          (sym shows ∙ ap (place_shown P (place P n)) (sym is) ∙ same) in
           sym (ap (label_by (block P n) n) is ∙ own) ∙ ap (label P) one
 
       -- a loop's variable has the place of its `next`, whose label it is
@@ -131,7 +134,8 @@ module _ (P : Checked) (known : IsKnown P) (g : Parts) (number : ℕ → ℕ →
           let c = (known.table).has_if n t within is in
           let d = c.1 in
           let z = (known.table).split_of c.0 n d in
-          let one = (known.apart).apart c.0 b d.within inside (ap is_thing d.node) (binds_thing (node P b) binds) (sym z.place ∙ ap (place_shown P (place P n)) (sym is) ∙ same) in
+          let one = (known.apart).apart c.0 b d.within inside (ap is_thing d.node) (binds_thing (node P b) binds)
+          (sym z.place ∙ ap (place_shown P (place P n)) (sym is) ∙ same) in
           true_false (sym binds ∙ ap (λ m. is_binder (node P m)) (sym one) ∙ ap is_binder d.node)
       at_split {t} (of_turns is) = at_loop (Switches t) is refl (switches_place P n t within is)
 
@@ -218,7 +222,8 @@ module _ (P : Checked) (known : IsKnown P) (g : Parts) (number : ℕ → ℕ →
         let z = numbered.made k.row k.part k.form k.place k.makes in
         let claim = claims_are i.place j e in
         let same : z.instr ≡ j = some_is (sym z.at ∙ ap (slice_get g.instrs) k.is ∙ at) in
-        let there : place_shown P (place P k.row) (node P k.row) ≡ place P b = sym d.place_is ∙ sym z.place ∙ ap (λ (x : Instr). x.place) same ∙ claim.0 ∙ place_is in
+        let there : place_shown P (place P k.row) (node P k.row) ≡ place P b = sym d.place_is ∙ sym z.place ∙ ap (λ (x : Instr). x.place) same ∙ claim.0 ∙
+        place_is in
         let still : shown.is_next (op_by number k.form) ≡ false = ap shown.is_next (sym z.op) ∙ ap (λ (x : Instr). shown.is_next x.op) same ∙ claim.1 in
         let here = made_there b within binds k.row k.part k.form (k.makes).within d.does still there in
         sym k.is ∙ (λ t. number (here.0 t) (here.1 t))) in

@@ -1,5 +1,6 @@
 -- What goes to each entry of a loop.
-use Rattle.std.proofs.Common.{◌≡◌, ℕ, zero, suc, ◌+◌, ◌<◌, Bool as Truth, true, false, cond, Some, List, [], ◌∷◌, ◌++◌, map, length, slice_get, get_or, refl, sym, ◌∙◌, ap, subst, arith}
+use Rattle.std.proofs.Common.{◌≡◌, ℕ, zero, suc, ◌+◌, ◌<◌, Bool as Truth, true, false, cond, Some, List, [], ◌∷◌}
+use Rattle.std.proofs.Common.{◌++◌, map, length, slice_get, get_or, refl, sym, ◌∙◌, ap, subst, arith}
 use Rattle.id_parts.specs.declared.row.Node.{Node}
 use Rattle.id_parts.specs.declared.row.Node.TheVariants.{Variable}
 use Rattle.id_parts.specs.Tables.{is_variable}
@@ -53,8 +54,10 @@ slot_at : (P : Checked) (v n e : ℕ) (bs : List ℕ) (k : ℕ) (q : Entry) → 
 slot_at P v zero e bs k q h = none_slot P v e bs k q h
 slot_at P v (suc n) e bs k q h = go (is_variable (node P v)) refl k h (slot_at P (suc v) n e bs)
   where
-    go : (t : Truth) → is_variable (node P v) ≡ t → (k : ℕ) → slice_get (variable_entries v (cond t (next_of P v ∷ nexts_from P (suc v) n) []) ++ import_entries e 0 bs) k ≡ Some q
-        → ((j : ℕ) (p : Entry) → slice_get (variable_entries (suc v) (nexts_from P (suc v) n) ++ import_entries e 0 bs) j ≡ Some p → Slot P (suc v) e (nexts_from P (suc v) n) bs j p)
+    go : (t : Truth) → is_variable (node P v) ≡ t → (k : ℕ) →
+        slice_get (variable_entries v (cond t (next_of P v ∷ nexts_from P (suc v) n) []) ++ import_entries e 0 bs) k ≡ Some q
+        → ((j : ℕ) (p : Entry) → slice_get (variable_entries (suc v) (nexts_from P (suc v) n) ++ import_entries e 0 bs) j ≡ Some p →
+        Slot P (suc v) e (nexts_from P (suc v) n) bs j p)
         → Slot P v e (cond t (next_of P v ∷ nexts_from P (suc v) n) []) bs k q
     go true is zero at rest = at_next v (omega arith) (omega arith) is (sym (some_is at)) refl
     go true is (suc k) at rest =
@@ -68,9 +71,11 @@ slot_at P v (suc n) e bs k q h = go (is_variable (node P v)) refl k h (slot_at P
 
 -- a variable takes the value of its first binder, and another entry that of its import
 pub data GivenAs (P : Checked) (h k : ℕ) (q : Entry) : Type 0 where
-  as_first : (v : ℕ) → v < length (rows P) → node P v ≡ Variable → h < v → v < entries_row P h → v ≡ h + 1 + k → q ≡ record { binder = next_of P v; row = v; part = 0 }
+  as_first : (v : ℕ) → v < length (rows P) → node P v ≡ Variable → h < v → v < entries_row P h → v ≡ h + 1 + k →
+      q ≡ record { binder = next_of P v; row = v; part = 0 }
       → get_or (entering P h) k 0 ≡ first_binder P (next_of P v) → GivenAs P h k q
-  as_import : (j : ℕ) → j < length (imports_of P h) → k ≡ length (nexts_of P h) + j → q ≡ record { binder = get_or (imports_of P h) j 0; row = entries_row P h; part = j }
+  as_import : (j : ℕ) → j < length (imports_of P h) → k ≡ length (nexts_of P h) + j →
+      q ≡ record { binder = get_or (imports_of P h) j 0; row = entries_row P h; part = j }
       → get_or (entering P h) k 0 ≡ get_or (imports_of P h) j 0 → GivenAs P h k q
 
 pub given_as : (P : Checked) (h k : ℕ) (q : Entry) → slice_get (loop_entries P h) k ≡ Some q → GivenAs P h k q

@@ -18,7 +18,8 @@ use Rattle.id_desugar.specs.Ends.{end_of, next_of}
 use Rattle.id_desugar.specs.Regions.{imports_of, nexts_from, nexts_of, taken, handed}
 use Rattle.id_build.specs.declared.arc.Origin.{Origin}
 use Rattle.id_build.specs.declared.arc.Form.TheVariants.{Plain}
-use Rattle.id_build.specs.Rows.{Entry, block, entering, entries_row, entry_feeds, feed, feeds_of, first_binder, import_entries, label, label_by, loop_entries, name_in}
+use Rattle.id_build.specs.Rows.{Entry, block, entering, entries_row, entry_feeds, feed, feeds_of, first_binder}
+use Rattle.id_build.specs.Rows.{import_entries, label, label_by, loop_entries, name_in}
 use Rattle.id_build.specs.Rows.{node, output, port_at, trigger_of, turn_feeds, turn_row, variable_entries}
 use Rattle.id_build.specs.Schemas.{Feeds}
 use Rattle.id_build.proofs.EndsLemmas.{loop_same}
@@ -298,7 +299,8 @@ module _ {P : Checked} (known : IsKnown P) {h : ℕ} (x : LoopOf P h) where
       subst (λ z. Among (feed (name_in P (region P turn) (taken_at j)) z Zero) (turn_feeds P (region P turn) 1 (imports_of P h))) at
       (turn_listed P (region P turn) 1 (imports_of P h) j less) in
       let there : Among (feed (name_in P (region P turn) (taken_at j)) (suc j) Zero) (feeds_of P turn (region P turn) Turn) =
-      inr (subst (λ g. Among (feed (name_in P (region P turn) (taken_at j)) (suc j) Zero) (turn_feeds P (region P turn) 1 (imports_of P g))) (sym turn_block) here) in
+      inr (subst (λ g. Among (feed (name_in P (region P turn) (taken_at j)) (suc j) Zero) (turn_feeds P (region P turn) 1 (imports_of P g))) (sym turn_block)
+      here) in
       subst (λ r. Feeds P (name_in P r (taken_at j)) turn (suc j) Zero) (turn_region P known h x)
       (fed_as P known (name_in P (region P turn) (taken_at j)) turn (suc j) Zero Turn (turn_within P known h x) (turn_node P known h x) there)
 

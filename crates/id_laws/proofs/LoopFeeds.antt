@@ -13,7 +13,8 @@ use Rattle.id_laws.proofs.Arcs.{import_listed}
 use Rattle.id_laws.proofs.Speakers.{fed_as}
 use Rattle.id_laws.proofs.Assumed.{IsKnown}
 
-turn_listed : (P : Checked) (r : Region) (j : ℕ) (bs : List ℕ) (k : ℕ) → k < length bs → Among (feed (name_in P r (get_or bs k 0)) (j + k) Zero) (turn_feeds P r j bs)
+turn_listed : (P : Checked) (r : Region) (j : ℕ) (bs : List ℕ) (k : ℕ) → k < length bs →
+    Among (feed (name_in P r (get_or bs k 0)) (j + k) Zero) (turn_feeds P r j bs)
 turn_listed P r j [] k h = absurd (omega (arith, h))
 turn_listed P r j (b ∷ bs) zero h = let at : j + 0 ≡ j = omega arith in inl (ap (λ m. feed (name_in P r b) m Zero) at)
 turn_listed P r j (b ∷ bs) (suc k) h =
@@ -21,7 +22,8 @@ turn_listed P r j (b ∷ bs) (suc k) h =
     let at : (j + 1) + k ≡ j + suc k = omega arith in
     subst (λ m. Among (feed (name_in P r (get_or bs k 0)) m Zero) (turn_feeds P r j (b ∷ bs))) at (inr rest)
 
-entry_listed : (n j : ℕ) (bs : List ℕ) (k : ℕ) → k < length bs → Among (feed (record { row = n; part = suc (j + k); side = true }) (j + k) Zero) (entry_feeds n j bs)
+entry_listed : (n j : ℕ) (bs : List ℕ) (k : ℕ) → k < length bs →
+    Among (feed (record { row = n; part = suc (j + k); side = true }) (j + k) Zero) (entry_feeds n j bs)
 entry_listed n j [] k h = absurd (omega (arith, h))
 entry_listed n j (b ∷ bs) zero h =
     let at : j + 0 ≡ j = omega arith in
@@ -39,9 +41,11 @@ module _ (P : Checked) (known : IsKnown P) where
   sends_fed n k within is less =
       let z = import_listed P (output n) (region P n) 1 (entering P (n + 1)) k less in
       let at : 1 + k ≡ suc k = omega arith in (
-        fed_as P known (output n) n (suc k) Zero Start within is (inr (subst (λ m. Among (feed (output n) m Zero) (import_feeds P (output n) (region P n) 1 (entering P (n + 1)))) at z.0)),
+        fed_as P known (output n) n (suc k) Zero Start within is
+            (inr (subst (λ m. Among (feed (output n) m Zero) (import_feeds P (output n) (region P n) 1 (entering P (n + 1)))) at z.0)),
         fed_as P known (name_in P (region P n) (get_or (entering P (n + 1)) k 0)) n (suc k) One Start within is
-            (inr (subst (λ m. Among (feed (name_in P (region P n) (get_or (entering P (n + 1)) k 0)) m One) (import_feeds P (output n) (region P n) 1 (entering P (n + 1)))) at z.1)),
+            (inr (subst (λ m. Among (feed (name_in P (region P n) (get_or (entering P (n + 1)) k 0)) m One)
+            (import_feeds P (output n) (region P n) 1 (entering P (n + 1)))) at z.1)),
       )
 
   -- what hands on takes the names of its region
@@ -50,7 +54,8 @@ module _ (P : Checked) (known : IsKnown P) where
   turn_name_fed n k within is less =
       let at : 1 + k ≡ suc k = omega arith in
       fed_as P known (name_in P (region P n) (get_or (imports_of P (block P n)) k 0)) n (suc k) Zero Turn within is
-      (inr (subst (λ m. Among (feed (name_in P (region P n) (get_or (imports_of P (block P n)) k 0)) m Zero) (turn_feeds P (region P n) 1 (imports_of P (block P n)))) at
+      (inr (subst (λ m. Among (feed (name_in P (region P n) (get_or (imports_of P (block P n)) k 0)) m Zero)
+      (turn_feeds P (region P n) 1 (imports_of P (block P n)))) at
       (turn_listed P (region P n) 1 (imports_of P (block P n)) k less)))
 
   -- and gives them to the loop's entries

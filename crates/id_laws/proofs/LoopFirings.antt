@@ -41,7 +41,8 @@ use Rattle.id_laws.proofs.Loops.{LoopOf, turn_within}
 use Rattle.id_laws.proofs.LoopFacts.{entering_fed, entry_does, entry_fed, entry_within, head_fed, turn_does, turn_fed, turn_name_does, turn_name_fed}
 use Rattle.id_laws.proofs.Sent.{dests_are}
 
-module _ (S : Source) (g : Parts) (number : ℕ → ℕ → ℕ) (numbered : Numbered S.checked g number) (known : IsKnown S.checked) (count : ℕ) (only : Exclusive g S.inputs count)
+module _ (S : Source) (g : Parts) (number : ℕ → ℕ → ℕ) (numbered : Numbered S.checked g number) (known : IsKnown S.checked) (count : ℕ)
+    (only : Exclusive g S.inputs count)
     (s : World) (run : List Event) (r : Reach g S.inputs count s run) (quiet : s.flight ≡ []) where
   abbrev P : Checked
   P = S.checked
@@ -55,7 +56,8 @@ module _ (S : Source) (g : Parts) (number : ℕ → ℕ → ℕ) (numbered : Num
       let u = tag_in a (number t.row t.part) in
       let there = subst (λ b. Among d (arcs_on b to.instr)) x.on to.lists in
       let here = subst (λ ds. Among d ds) (sym (dests_are true _ to.instr to.at)) there in
-      sent_handled S g number numbered known count only s run r quiet x.fires (Token (tag_in (at_iteration a.context k) (number n part)) p v) (moved_sent g u k v d here)
+      sent_handled S g number numbered known count only s run r quiet x.fires (Token (tag_in (at_iteration a.context k) (number n part)) p v)
+      (moved_sent g u k v d here)
 
   -- a `next` moves a value of its kind to the next iteration, a `reset` to the first
   pub next_moves : (a : Activation) (n part : ℕ) (k : PortKind) (v : Value)
@@ -136,4 +138,5 @@ module _ (S : Source) (g : Parts) (number : ℕ → ℕ → ℕ) (numbered : Num
       (value.Context c) v within (sends_in k q is at) refl context_in value_in in
       let into = tag_in (at_iteration c 0) (number q.row q.part) in
       let sent : cond (same_kind (kind_of v) (port_at P q.binder)) (Sent into v) Nothing ≡ Sent into v = ap (λ z. cond z (Sent into v) Nothing) fits in
-      sent_handled S g number numbered known count only s run r quiet (subst (λ z. FiresAs run (tag_in a (number n (suc k))) z) sent fired_so.fires) (Token into Zero v) (inl refl)
+      sent_handled S g number numbered known count only s run r quiet (subst (λ z. FiresAs run (tag_in a (number n (suc k))) z) sent fired_so.fires)
+      (Token into Zero v) (inl refl)

@@ -1,5 +1,6 @@
 -- What the rows of a loop make, and what they import.
-use Rattle.std.proofs.Common.{◌≡◌, inl, inr, ℕ, zero, suc, ◌+◌, ◌-◌, ◌<◌, Bool as Truth, true, false, cond, Option, Some, None, List, [], ◌∷◌, ◌++◌, map, length}
+use Rattle.std.proofs.Common.{◌≡◌, inl, inr, ℕ, zero, suc, ◌+◌, ◌-◌, ◌<◌, Bool as Truth, true, false, cond, Option}
+use Rattle.std.proofs.Common.{Some, None, List, [], ◌∷◌, ◌++◌, map, length}
 use Rattle.std.proofs.Common.{slice_get, get_or, unwrap_or, refl, sym, ◌∙◌, ap, subst, arith}
 use Rattle.id_list.specs.List.{Among}
 use Rattle.id_list.proofs.AmongLemmas.{Among-either, Among-from_map}
@@ -16,7 +17,9 @@ use Rattle.id_graph.specs.declared.instr.Op.TheVariants as op
 use Rattle.id_desugar.specs.Ends.{next_of, end_of}
 use Rattle.id_desugar.specs.Regions.{imports_of, nexts_of, nexts_from, taken, handed, used, used_by, with_use, is_outside, has, imports_by, is_right_in}
 use Rattle.id_build.specs.declared.arc.Form.TheVariants.{Plain}
-use Rattle.id_build.specs.Rows.{Entry, block, entering, entries, entries_by, entries_row, first_binder, import_entries, label, label_by, loop_entries, node, outer_at, param_entry, port_at, variable_entries}
+use Rattle.id_build.specs.Rows.{Entry, block, entering, entries, entries_by, entries_row, first_binder}
+use Rattle.id_build.specs.Rows.{import_entries, label, label_by, loop_entries, node, outer_at, param_entry, port_at}
+use Rattle.id_build.specs.Rows.{variable_entries}
 use Rattle.id_build.proofs.LoopsLemmas.{entries_node, entries_stand, entries_within, next_is}
 use Rattle.id_laws.proofs.Arcs.{Does, enters, names, place_shown, varies, takes_in}
 use Rattle.id_laws.proofs.Blocks.{a_param}
@@ -122,7 +125,8 @@ pub a_next : (P : Checked) (v n m : ℕ) → Among m (nexts_from P v n) → Next
 a_next P v zero m h = absurd h
 a_next P v (suc n) m h = go (is_variable (node P v)) refl h (a_next P (suc v) n m)
   where
-    go : (t : Truth) → is_variable (node P v) ≡ t → Among m (cond t (next_of P v ∷ nexts_from P (suc v) n) []) → (Among m (nexts_from P (suc v) n) → NextAt P m) → NextAt P m
+    go : (t : Truth) → is_variable (node P v) ≡ t → Among m (cond t (next_of P v ∷ nexts_from P (suc v) n) []) →
+        (Among m (nexts_from P (suc v) n) → NextAt P m) → NextAt P m
     go true e (inl is) rest =
         let z = next_is P v (variable_within P v e) (variable_is (node P v) e) in
         subst (NextAt P) (sym is) (record { name = z.name; index = z.index; outer = z.outer; value = z.value; within = z.within; node = z.node })
@@ -272,7 +276,8 @@ pub record LabelAt (P : Checked) (b : ℕ) : Type 0 where
 
 -- what stands at the row of the label
 abbrev Labels : Checked → ℕ → ℕ → Type 0
-Labels P b n = (n < length (rows P)) × Does P n 0 (Plain (op.Merge (port_at P b))) × (place P n ≡ place P b) × (place_shown P (place P n) (node P n) ≡ place P n)
+Labels P b n = (n < length (rows P)) × Does P n 0 (Plain (op.Merge (port_at P b))) × (place P n ≡ place P b) ×
+    (place_shown P (place P n) (node P n) ≡ place P n)
 
 pub label_at : (P : Checked) (b : ℕ) → b < length (rows P) → is_binder (node P b) ≡ true → LabelAt P b
 label_at P b within e = go (node P b) refl e
@@ -285,8 +290,12 @@ label_at P b within e = go (node P b) refl e
     go (Binding x a) is h = by b (ap (label_by (block P b) b) is) (within, names is, refl, ap (place_shown P (place P b)) is)
     go (Next x k o v) is h =
         let z = variable_of_next P b x k o v within is in
-        by (block P b + 1 + k) (ap (label_by (block P b) b) is)
-        (z.within, subst (λ n. Does P (block P b + 1 + k) 0 (Plain (op.Merge (port_at P n)))) z.next (varies z.node), z.place, ap (place_shown P (place P (block P b + 1 + k))) z.node)
+        by (block P b + 1 + k) (ap (label_by (block P b) b) is) (
+          z.within,
+          subst (λ n. Does P (block P b + 1 + k) 0 (Plain (op.Merge (port_at P n)))) z.next (varies z.node),
+          z.place,
+          ap (place_shown P (place P (block P b + 1 + k))) z.node,
+        )
     go _ is h = absurd (true_false (sym h))
 
 -- a variable is the label of its `next` statement

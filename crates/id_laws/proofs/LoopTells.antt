@@ -42,7 +42,8 @@ module _ (S : Source) (known : IsKnown S.checked) (number : ℕ → ℕ → ℕ)
   P = S.checked
 
   -- what a loop gives goes to it
-  pub looped_tells : {a : Activation} {n : ℕ} {c : Context} → n < length (rows P) → node P n ≡ Start → Live S number run a (region P n) → Opens S number run a n c
+  pub looped_tells : {a : Activation} {n : ℕ} {c : Context} → n < length (rows P) → node P n ≡ Start → Live S number run a (region P n) →
+      Opens S number run a n c
       → (v : Value) (k : ℕ) → Shown S number run (at_iteration c k) 0 (place P (result_of P (n + 1))) v
       → Tells S number run a (topic_at P (end_of P (n + 1)) 0 Zero) v × IsPart P (end_of P (n + 1)) 0
   looped_tells {a} {n} {c} within is live opened v k shown =
@@ -55,7 +56,8 @@ module _ (S : Source) (known : IsKnown S.checked) (number : ℕ → ℕ → ℕ)
       let path = live_path live in
       let here = entered_path k within (of_loop is) opened path.1 in
       let same : shown.path ≡ below path.0 (place P q) k = one_path seats shown.path_of here ∙ ap (λ z. below path.0 z k) place_is in
-      let has = subst (λ (z : Path × ℕ). Holds S (Has z.0 (place P z.1) shown.value)) {x = (_, result_of P h)} {y = (below path.0 (place P q) k, last_row P known h l)} (λ i. ((without_none shown.path ∙ same) i, result_is P known h l i)) shown.holds in
+      let has = subst (λ (z : Path × ℕ). Holds S (Has z.0 (place P z.1) shown.value)) {x = (_, result_of P h)}
+      {y = (below path.0 (place P q) k, last_row P known h l)} (λ i. ((without_none shown.path ∙ same) i, result_is P known h l i)) shown.holds in
       let gives = holds_by S _ _ (loop_has path.0 k (loop_stands P known h l)) (has, tt) in (
         subst (λ m. Tells S number run a (wants P q (region P q) m 0 Zero) v) (sym (l.the).node) (
           subst (Live S number run a) region_is live,
@@ -70,7 +72,8 @@ module _ (S : Source) (known : IsKnown S.checked) (number : ℕ → ℕ → ℕ)
         part_of (l.the).within (gets_last (l.the).node),
       )
 
-  module _ (a : Activation) (n : ℕ) (c : Context) (v : Value) (within : n < length (rows P)) (is : node P n ≡ Start) (live : Live S number run a (region P n)) (opens : Opens S number run a n c) where
+  module _ (a : Activation) (n : ℕ) (c : Context) (v : Value) (within : n < length (rows P)) (is : node P n ≡ Start) (live : Live S number run a (region P n))
+      (opens : Opens S number run a n c) where
     abbrev inside : Activation
     inside = at_iteration c 0
 
@@ -98,15 +101,23 @@ module _ (S : Source) (known : IsKnown S.checked) (number : ℕ → ℕ → ℕ)
         let m_block : block P m ≡ h = next_block P known w less at_w ∙ stand.0 in
         let x = tells.1 in
         let bound = known.first_bound m z.name z.index z.outer z.value z.within z.node in
-        let next : NextStands P m h z.outer z.value = record { name = z.name; index = z.index; next = record { within = z.within; node = z.node }; block = m_block } in
+        let next : NextStands P m h z.outer z.value = record {
+          name = z.name;
+          index = z.index;
+          next = record { within = z.within; node = z.node };
+          block = m_block;
+        } in
         let depth : loops_between (rows P) (region P n).head b ≡ loops_between (rows P) q (first_binder P m) =
         same_depth P (region P n).head q b block_is ∙ ap (loops_between (rows P) q) first in
-        let has = subst (λ (y : ℕ × ℕ). Holds S (Has (without y.0 x.path) (place P y.1) x.value)) {x = (_, b)} {y = (loops_between (rows P) q (first_binder P m), first_binder P m)} (λ i. (depth i, first i)) x.holds in
+        let has = subst (λ (y : ℕ × ℕ). Holds S (Has (without y.0 x.path) (place P y.1) x.value)) {x = (_, b)}
+        {y = (loops_between (rows P) q (first_binder P m), first_binder P m)} (λ i. (depth i, first i)) x.holds in
         let region_q = start_region P known h l in
-        let on = turned_on S known seats (subst (Live S number run a) (ap (region P) (sym back) ∙ region_q) live) x.path_of ((known.table).turned q (l.the).within (ap is_expression (l.the).node)) in
+        let on = turned_on S known seats (subst (Live S number run a) (ap (region P) (sym back) ∙ region_q) live) x.path_of
+        ((known.table).turned q (l.the).within (ap is_expression (l.the).node)) in
         let gets = holds_by S _ _ (first_has (loop_stands P known h l) next bound) (on, (has, tt)) in
         let p = below x.path (place P n) 0 in
-        let none : loops_between (rows P) (region P w).head m ≡ 0 = no_depth P (region P w).head m (ap (λ (r : Region). block P r.head) stand.1 ∙ (known.table).head_block h l.within (ap begins_block l.head) ∙ sym m_block) in
+        let none : loops_between (rows P) (region P w).head m ≡ 0 = no_depth P (region P w).head m
+        (ap (λ (r : Region). block P r.head) stand.1 ∙ (known.table).head_block h l.within (ap begins_block l.head) ∙ sym m_block) in
         subst (λ y. Tells S number run inside (wants P w (region P w) y 0 Zero) v) (sym at_w) (
           subst (Live S number run inside) (sym stand.1) live_inside,
           record {
@@ -114,7 +125,8 @@ module _ (S : Source) (known : IsKnown S.checked) (number : ℕ → ℕ → ℕ)
             path_of = entered_path 0 within (of_loop is) opens x.path_of;
             value = x.value;
             stands = x.stands;
-            holds = subst (λ y. Holds S (Has y (place P m) x.value)) (ap (λ e. below x.path e 0) (sym place_is) ∙ sym (ap (λ d. without d p) none ∙ without_none p)) gets;
+            holds = subst (λ y. Holds S (Has y (place P m) x.value))
+                (ap (λ e. below x.path e 0) (sym place_is) ∙ sym (ap (λ d. without d p) none ∙ without_none p)) gets;
           },
         )
 
@@ -131,7 +143,8 @@ module _ (S : Source) (known : IsKnown S.checked) (number : ℕ → ℕ → ℕ)
         let p = below x.path (place P n) 0 in
         let start_depth : loops_between (rows P) (region P n).head b ≡ loops_between (rows P) n b =
         same_depth P (region P n).head n b (region_of known within (λ z. let bad : Start ≡ Program = sym is ∙ z in cc)).block in
-        let depth : loops_between (rows P) h b ≡ suc (loops_between (rows P) (region P n).head b) = loop_between known within is less binds sees ∙ ap suc (sym start_depth) in
+        let depth : loops_between (rows P) h b ≡ suc (loops_between (rows P) (region P n).head b) = loop_between known within is less binds sees ∙
+        ap suc (sym start_depth) in
         let path_is : without (loops_between (rows P) h b) p ≡ without (loops_between (rows P) (region P n).head b) x.path =
         ap (λ d. without d p) depth ∙ without_below (loops_between (rows P) (region P n).head b) x.path (place P n) 0 in
         let tells' : Tells S number run inside (NameIn (top h) b) v = (
@@ -153,7 +166,8 @@ module _ (S : Source) (known : IsKnown S.checked) (number : ℕ → ℕ → ℕ)
   pub given_tells : (a : Activation) (n : ℕ) (u : Tag) (v : Value) → n < length (rows P) → Given S number run a n u v → Told S number run (Token u Zero v)
   given_tells a n u v within x = by (given_as P (n + 1) x.slot x.entry x.at)
     where
-      to : (row part : ℕ) → (x.entry).row ≡ row → (x.entry).part ≡ part → IsPart P row part → Tells S number run (at_iteration x.context 0) (topic_at P row part Zero) v
+      to : (row part : ℕ) → (x.entry).row ≡ row → (x.entry).part ≡ part → IsPart P row part →
+          Tells S number run (at_iteration x.context 0) (topic_at P row part Zero) v
           → Told S number run (Token u Zero v)
       to row part at_row at_part is_part tells = record {
         activation = at_iteration x.context 0;
@@ -177,8 +191,10 @@ module _ (S : Source) (known : IsKnown S.checked) (number : ℕ → ℕ → ℕ)
           let z = known.loop_imports h n l.within (l.head ∙ ap (λ k. LoopHead k) back) b (listed (imports_of P h) j less) in
           let stand = entries_stand P h (h - 1) l.within l.head (entries_row P h) (omega arith) (omega arith) in
           to (entries_row P h) j (ap (λ (q : Entry). q.row) entry) (ap (λ (q : Entry). q.part) entry)
-          (part_of (entries_within P h (h - 1) l.within l.head) (takes_in j (entries_node P h (h - 1) l.within l.head) (subst (λ g. j < length (imports_of P g)) (sym stand.0) less)))
-          (import_tells a n x.context v within x.node x.live x.opens j b refl z.0 z.1 z.2 (subst (λ y. Tells S number run a (NameIn (region P n) y) v) there x.value))
+          (part_of (entries_within P h (h - 1) l.within l.head) (takes_in j (entries_node P h (h - 1) l.within l.head)
+          (subst (λ g. j < length (imports_of P g)) (sym stand.0) less)))
+          (import_tells a n x.context v within x.node x.live x.opens j b refl z.0 z.1 z.2
+          (subst (λ y. Tells S number run a (NameIn (region P n) y) v) there x.value))
         where
           back : (n + 1) - 1 ≡ n
           back = omega arith

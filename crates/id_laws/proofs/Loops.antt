@@ -86,7 +86,8 @@ module _ (P : Checked) (known : IsKnown P) (h : ℕ) (x : LoopOf P h) where
   -- its switches
   pub switches_within : switches_row < length (rows P)
   switches_within =
-      let part = (((known.table).formed).each loop_row (x.the).within).parts switches_row (subst (λ m. HasPart m switches_row) (sym (x.the).node) (inr (inl refl))) in
+      let part = (((known.table).formed).each loop_row (x.the).within).parts switches_row
+      (subst (λ m. HasPart m switches_row) (sym (x.the).node) (inr (inl refl))) in
       omega (arith, part.1, (x.the).within)
 
   abbrev pub test_row : ℕ
@@ -135,7 +136,8 @@ module _ (P : Checked) (known : IsKnown P) (h : ℕ) (x : LoopOf P h) where
   reset_in =
       let z = (known.table).reset_of (loop_row - 1) last_row reset_within reset_node in
       let row : z.0 ≡ loop_row = omega (arith, z.3, ((x.all).last_is).ends) in
-      let both : Loop (block P (loop_row - 1)) (z.1).switches (z.1).last ≡ Loop h (x.the).switches (x.the).last = sym (z.1).node ∙ ap (node P) row ∙ (x.the).node in
+      let both : Loop (block P (loop_row - 1)) (z.1).switches (z.1).last ≡ Loop h (x.the).switches (x.the).last = sym (z.1).node ∙ ap (node P) row ∙
+      (x.the).node in
       cc
 
   -- the loop's rule
@@ -168,7 +170,8 @@ pub record NextOf (P : Checked) (m x k o v : ℕ) (l : LoopOf P (block P m)) : T
   pub stands : NextStands P m (block P m) o v
   pub outer : node P o ≡ NextUse x
 
-pub next_at : {P : Checked} (known : IsKnown P) {m x k o v : ℕ} (within : m < length (rows P)) (is : node P m ≡ Next x k o v) (l : LoopOf P (block P m)) → NextOf P m x k o v l
+pub next_at : {P : Checked} (known : IsKnown P) {m x k o v : ℕ} (within : m < length (rows P)) (is : node P m ≡ Next x k o v) (l : LoopOf P (block P m)) →
+    NextOf P m x k o v l
 next_at {P} known {m} {x} {k} {o} {v} within is l =
     let z = (known.table).next_in m (block P m) k x (record { outer = o; value = v; within = within; block = refl; node = is }) in
     record {
@@ -178,7 +181,8 @@ next_at {P} known {m} {x} {k} {o} {v} within is l =
     }
 
 -- the body's end, and its switches
-pub body_at : {P : Checked} (known : IsKnown P) {n : ℕ} → n < length (rows P) → node P n ≡ Body → (x : LoopOf P (block P n)) → region P n ≡ arm_at (x.the).switches true
+pub body_at : {P : Checked} (known : IsKnown P) {n : ℕ} → n < length (rows P) → node P n ≡ Body → (x : LoopOf P (block P n)) →
+    region P n ≡ arm_at (x.the).switches true
 body_at {P} known {n} within is x =
     let z = (known.table).body_of n within is in
     let same = same_loop known z.1 x in
@@ -190,7 +194,8 @@ pub next_block : (P : Checked) (known : IsKnown P) (v : ℕ) → v < length (row
 next_block P known v within is =
     let n = next_is P v within is in
     let m = next_of P v in
-    let there = ((known.table).next_in m (block P m) n.index n.name (record { outer = n.outer; value = n.value; within = n.within; block = refl; node = n.node })).2 in
+    let there = ((known.table).next_in m (block P m) n.index n.name
+    (record { outer = n.outer; value = n.value; within = n.within; block = refl; node = n.node })).2 in
     sym there.variable_block ∙ ap (block P) n.is
 
 -- a loop has one pair of switches
@@ -201,7 +206,12 @@ one_switches P known n w e t within is within' is' same =
     let y = (known.table).switches_of w t within' is' in
     let l = loop_of_row known (Switches t) within' is' refl in
     let c = z.1 in
-    let c' : IsLoopOf (rows P) z.0 (block P w) = record { switches = c.switches; last = c.last; within = c.within; node = c.node ∙ ap (λ h. Loop h c.switches c.last) same } in
+    let c' : IsLoopOf (rows P) z.0 (block P w) = record {
+      switches = c.switches;
+      last = c.last;
+      within = c.within;
+      node = c.node ∙ ap (λ h. Loop h c.switches c.last) same;
+    } in
     sym z.2 ∙ (same_loop known c' l).switches ∙ sym (same_loop known y.1 l).switches ∙ y.2
 
 -- and those are the loop's

@@ -7,7 +7,8 @@ use Rattle.id_list.specs.List.{Among, AllDiffer}
 use Rattle.id_list.proofs.AmongLemmas.{Among-from_at}
 use Rattle.id_parts.specs.declared.row.Region.{Region}
 use Rattle.id_parts.specs.declared.row.Node.{Node}
-use Rattle.id_parts.specs.declared.row.Node.TheVariants.{Head, Param, If, Program, Enter, Arg, Call, Start, LoopHead, Variable, Entries, Turn, Next, Reset, Loop, Fetch}
+use Rattle.id_parts.specs.declared.row.Node.TheVariants.{Head, Param, If, Program, Enter, Arg, Call, Start, LoopHead}
+use Rattle.id_parts.specs.declared.row.Node.TheVariants.{Variable, Entries, Turn, Next, Reset, Loop, Fetch}
 use Rattle.id_parts.specs.Tables.{begins_block}
 use Rattle.id_parts.specs.Rows.{arm_at}
 use Rattle.id_parts.specs.Turns.{params_at}
@@ -41,17 +42,21 @@ use Rattle.id_runs.proofs.CellLaws.{one_reply}
 use Rattle.id_runs.specs.Runs.{Reach, handled, starting}
 use Rattle.id_runs.specs.OneMessage.{Exclusive, Few}
 use Rattle.id_runs.proofs.Messages.{one_firing}
-use Rattle.id_laws.specs.Activations.{Begins, of_call, of_loop, of_arms, main_head, Speaks, Moves, Live, ReturnsTo, to_answer, to_row, SeatOf, made_seat, Below, path_at}
+use Rattle.id_laws.specs.Activations.{Begins, of_call, of_loop, of_arms, main_head, Speaks, Moves, Live, ReturnsTo}
+use Rattle.id_laws.specs.Activations.{to_answer, to_row, SeatOf, made_seat, Below, path_at}
 use Rattle.id_laws.specs.Topics.{AllTell, AllSpeak, Tells, topic_at, wants}
-use Rattle.id_laws.specs.Ways.{Way, by_arc, by_move, by_back, StartsAt, signal, way_back, input, by_send, by_enter, by_continuation, by_reply, of_argument, of_entry, SendsTo}
+use Rattle.id_laws.specs.Ways.{Way, by_arc, by_move, by_back, StartsAt, signal, way_back, input, by_send, by_enter}
+use Rattle.id_laws.specs.Ways.{by_continuation, by_reply, of_argument, of_entry, SendsTo}
 use Rattle.id_laws.proofs.Arcs.{Does, starts, returns, enters, constant, unary, binary, turns_on, hands, joins, names, answers, doing, FromArm, one_feed}
 use Rattle.id_laws.proofs.Arcs.{answer_unfed, head_unfed, loop_head_unfed, loop_unfed, opens, passes, gets, call_unfed}
-use Rattle.id_laws.proofs.Arcs.{sends_in, gives_back, varies, takes_in, moves_on, moves_name, advances, resets, gets_last, allocates, addresses, fetches, gets_reply, stores, reply_unfed, part_of}
+use Rattle.id_laws.proofs.Arcs.{sends_in, gives_back, varies, takes_in, moves_on, moves_name, advances, resets}
+use Rattle.id_laws.proofs.Arcs.{gets_last, allocates, addresses, fetches, gets_reply, stores, reply_unfed, part_of}
 use Rattle.id_laws.proofs.Begun.{EndsAs, as_call, as_loop, begun_at, one_begun, one_head}
 use Rattle.id_laws.proofs.Movers.{Steps}
 use Rattle.id_laws.proofs.Sendings.{is_enter}
 use Rattle.id_laws.proofs.Steps.{Stepping, stepping}
-use Rattle.id_laws.proofs.Sources.{is_entry, is_mover, Stays, Returns, to_trigger_again, to_result, to_variable_again, to_entry_again, feeds_source, fed_from, mover_returns, returned_mover}
+use Rattle.id_laws.proofs.Sources.{is_entry, is_mover, Stays, Returns, to_trigger_again, to_result, to_variable_again}
+use Rattle.id_laws.proofs.Sources.{to_entry_again, feeds_source, fed_from, mover_returns, returned_mover}
 use Rattle.id_laws.proofs.Assumed.{IsKnown}
 use Rattle.id_laws.proofs.LoopEntries.{GivenAs, as_first, as_import, given_as, one_entry}
 use Rattle.id_laws.proofs.Loops.{last_region, loop_of_head, loop_of_row, loop_of_start, reset_last, switches_node, switches_row, switches_within, turn_node}
@@ -120,7 +125,8 @@ is_return _ = false
 
 -- ---- two ways to one port are of one event
 
-module _ (S : Source) (number : ℕ → ℕ → ℕ) (run : List Event) (known : IsKnown S.checked) (seats : OneSeat S number run) (once : FiresOnce run) (speak : AllSpeak S number run) (steps : Stepping S number run) (g : Parts) (numbered : Numbered S.checked g number)
+module _ (S : Source) (number : ℕ → ℕ → ℕ) (run : List Event) (known : IsKnown S.checked) (seats : OneSeat S number run) (once : FiresOnce run)
+    (speak : AllSpeak S number run) (steps : Stepping S number run) (g : Parts) (numbered : Numbered S.checked g number)
     (apart : ContextsApart run) (replies_once : (t : Tag) (v v' : Value) (e e' : Event) → Replies run t v e → Replies run t v' e' → e ≡ e') where
   abbrev main : ℕ
   main = main_head S.checked
@@ -173,7 +179,8 @@ module _ (S : Source) (number : ℕ → ℕ → ℕ) (run : List Event) (known :
   sent_entry (of_argument {e = e} {k = k} {v = v} within is) =
       let b = param_of S.checked e k in
       let ps = params_at (rows S.checked) (called S.checked e) in
-      ap is_entry ((a_param (rows S.checked) (called S.checked e) (length (rows S.checked)) b (Among-from_at b ps k (known.passed _ e k v within is).0)).param).is
+      ap is_entry ((a_param (rows S.checked) (called S.checked e) (length (rows S.checked)) b
+      (Among-from_at b ps k (known.passed _ e k v within is).0)).param).is
   sent_entry {m = m} (of_entry k q within is at) = by (given_as S.checked (m + 1) k q at)
     where
       by : GivenAs S.checked (m + 1) k q → is_entry (node S.checked q.row) ≡ true
@@ -185,14 +192,22 @@ module _ (S : Source) (number : ℕ → ℕ → ℕ) (run : List Event) (known :
   enter_start : {x : ℕ} {n : Node} → n ≡ Enter x → n ≡ Start → ⊥
   enter_start {x = x} e h = let bad : Enter x ≡ Start = sym e ∙ h in cc
 
-  one_send : {m m' k k' i i' n n' part part' : ℕ} → SendsTo S.checked m k i n part → SendsTo S.checked m' k' i' n' part' → i ≡ i' → n ≡ n' → part ≡ part' → (m ≡ m') × (k ≡ k')
+  one_send : {m m' k k' i i' n n' part part' : ℕ} → SendsTo S.checked m k i n part → SendsTo S.checked m' k' i' n' part' → i ≡ i' → n ≡ n' → part ≡ part' →
+      (m ≡ m') × (k ≡ k')
   one_send (of_argument {e = e} {k = k} {v = v} within is) (of_argument {e = f} {k = l} {v = w} within' is') same to at =
       let ps = params_at (rows S.checked) (called S.checked f) in
-      let first = ap (λ z. slice_get (params_at (rows S.checked) (called S.checked z)) k) (sym same) ∙ (known.passed _ e k v within is).0 ∙ ap (λ z. Some z) to in
-      let index : k ≡ l = place_once ps k l (param_of S.checked f l) (params_differ (rows S.checked) (called S.checked f) (length (rows S.checked))) first (known.passed _ f l w within' is').0 in
-      ((known.table).one_arg _ _ f l (record { value = v; within = within; node = is ∙ (λ z. Arg (same z) (index z) v) }) (record { value = w; within = within'; node = is' }), refl)
-  one_send (of_argument {e = e} within is) (of_entry k q within' is' at) same to there = absurd (enter_start ((arg_at known within is).enter) (ap (node S.checked) same ∙ is'))
-  one_send (of_entry k q within is at) (of_argument {e = f} within' is') same to there = absurd (enter_start ((arg_at known within' is').enter) (ap (node S.checked) (sym same) ∙ is))
+      let first = ap (λ z. slice_get (params_at (rows S.checked) (called S.checked z)) k) (sym same) ∙ (known.passed _ e k v within is).0 ∙
+      ap (λ z. Some z) to in
+      let index : k ≡ l = place_once ps k l (param_of S.checked f l) (params_differ (rows S.checked) (called S.checked f) (length (rows S.checked))) first
+      (known.passed _ f l w within' is').0 in (
+        (known.table).one_arg _ _ f l (record { value = v; within = within; node = is ∙ (λ z. Arg (same z) (index z) v) })
+            (record { value = w; within = within'; node = is' }),
+        refl,
+      )
+  one_send (of_argument {e = e} within is) (of_entry k q within' is' at) same to there = absurd
+      (enter_start ((arg_at known within is).enter) (ap (node S.checked) same ∙ is'))
+  one_send (of_entry k q within is at) (of_argument {e = f} within' is') same to there = absurd
+      (enter_start ((arg_at known within' is').enter) (ap (node S.checked) (sym same) ∙ is))
   one_send {m} {m'} (of_entry k q within is at) (of_entry l q' within' is' at') same to there =
       (same, ap suc (one_entry S.checked (m + 1) (m' + 1) k l q q' at at' (ap (λ z. z + 1) same) to there))
 
@@ -220,7 +235,8 @@ module _ (S : Source) (number : ℕ → ℕ → ℕ) (run : List Event) (known :
       → Speaks S number run a (origin S.checked x) v → Speaks S number run a (origin S.checked y) v' → ⊥
   arms_apart a n part p s x y v v' is feeds feeds' says says' =
       let c = conditional known feeds.within is in
-      sides_apart known once (of_arms c.node) (spoken_live a n part p s x y s true v is feeds says refl) (spoken_live a n part p s x y s false v' is feeds' says' refl)
+      sides_apart known once (of_arms c.node) (spoken_live a n part p s x y s true v is feeds says refl)
+      (spoken_live a n part p s x y s false v' is feeds' says' refl)
 
   -- what has spoken to a port is one origin
   one_origin : (a : Activation) (n part : ℕ) (p : Port) (s s' : Origin) (v v' : Value) → Feeds S.checked s n part p → Feeds S.checked s' n part p
@@ -320,7 +336,8 @@ module _ (S : Source) (number : ℕ → ℕ → ℕ) (run : List Event) (known :
       behind h = omega (arith, h, first)
 
       by_returns : {n part : ℕ} {s : Origin} → Returns S.checked n part Zero s → n < length (rows S.checked) → Steps (node S.checked s.row) a.iteration k → ⊥
-      by_returns {n} (to_trigger_again {t = t} is) within h = behind (subst (λ m. Steps m a.iteration k) (turn_node S.checked known n (loop_of_head known within is)) h)
+      by_returns {n} (to_trigger_again {t = t} is) within h = behind
+          (subst (λ m. Steps m a.iteration k) (turn_node S.checked known n (loop_of_head known within is)) h)
       by_returns {n} (to_variable_again is) within h = behind (subst (λ m. Steps m a.iteration k) (next_is S.checked n within is).node h)
       by_returns {n} (to_entry_again j is less) within h =
           behind (subst (λ m. Steps m a.iteration k) (turn_node S.checked known (block S.checked n) (loop_of_row known Entries within is refl)) h)
@@ -359,7 +376,8 @@ module _ (S : Source) (number : ℕ → ℕ → ℕ) (run : List Event) (known :
 
   -- two moves to one port under one activation are one
   one_move : {a b : Activation} {s t : Origin} {k l n part : ℕ} {p : Port} {v w : Value} (feeds : Feeds S.checked s n part p) → Feeds S.checked t n part p
-      → (x : Moves S number run a s k v) → (y : Moves S number run b t l w) → at_iteration a.context k ≡ at_iteration b.context l → fired_event x.fires ≡ fired_event y.fires
+      → (x : Moves S number run a s k v) → (y : Moves S number run b t l w) → at_iteration a.context k ≡ at_iteration b.context l →
+      fired_event x.fires ≡ fired_event y.fires
   one_move {a} {b} {s} {t} {k} {l} {n} {part} {p} {v} {w} feeds feeds' x y same = elim (one_feed feeds feeds') [
     | inl is ↦ from_one is
     | inr arms ↦ absurd (no_arm (mover_returns S.checked known feeds (mover_is feeds x)) arms.0)
@@ -382,10 +400,12 @@ module _ (S : Source) (number : ℕ → ℕ → ℕ) (run : List Event) (known :
           let loop = loop_of_row known (Reset e) within is refl in
           let last = reset_last known within is loop in
           let h = block S.checked s.row in
-          let stands : region S.checked e ≡ arm_at (switches_row S.checked known h loop) false = ap (region S.checked) last ∙ last_region S.checked known h loop in
+          let stands : region S.checked e ≡ arm_at (switches_row S.checked known h loop) false = ap (region S.checked) last ∙
+          last_region S.checked known h loop in
           one_end S known g number numbered run apart once (switches_within S.checked known h loop) (switches_node S.checked known h loop)
           (subst (Live S number run a) stands here)
-          (subst (λ c. Live S number run (at_iteration c b.iteration) (arm_at (switches_row S.checked known h loop) false)) (sym contexts) (subst (Live S number run b) stands there))
+          (subst (λ c. Live S number run (at_iteration c b.iteration) (arm_at (switches_row S.checked known h loop) false)) (sym contexts)
+          (subst (Live S number run b) stands there))
 
       iterations : (m : Node) → node S.checked s.row ≡ m → s ≡ t → Steps m a.iteration k → Steps m b.iteration l → a.iteration ≡ b.iteration
       iterations Turn is from h h' = omega (arith, h, h', targets)
@@ -397,7 +417,8 @@ module _ (S : Source) (number : ℕ → ℕ → ℕ) (run : List Event) (known :
       from_one from =
           let steps_s = steps.goes a s k v (feeds_source S.checked known feeds).is_part x in
           let steps_t = steps.goes b t l w (feeds_source S.checked known feeds').is_part y in
-          let one = iterations (node S.checked s.row) refl from steps_s (subst (λ (o : Origin). Steps (node S.checked o.row) b.iteration l) (sym from) steps_t) in
+          let one = iterations (node S.checked s.row) refl from steps_s
+          (subst (λ (o : Origin). Steps (node S.checked o.row) b.iteration l) (sym from) steps_t) in
           one_firing once (λ i. tag_in (record { context = contexts i; iteration = one i }) (number (from i).row (from i).part)) x.fires y.fires
 
   -- where a reply comes stands a fetch, and no other
@@ -415,47 +436,81 @@ module _ (S : Source) (number : ℕ → ℕ → ℕ) (run : List Event) (known :
           → (e' : Event) (a' : Activation) (n' part' : ℕ) (p' : Port) (v' : Value) → Way S number run e' a' n' part' p' v' → a ≡ a' → n ≡ n'
           → part ≡ part' → p ≡ p' → e ≡ e'
       by e a n part p v (by_arc _ s _ _ _ _ feeds x is) e' a' n' part' p' v' (by_arc _ s' _ _ _ _ feeds' x' is') sa sn sp sq =
-          let from = one_origin a n part p s s' v v' feeds (moved_feed feeds' (sym sn) (sym sp) (sym sq)) x (subst (λ b. Speaks S number run b s' v') (sym sa) x') in
+          let from = one_origin a n part p s s' v v' feeds (moved_feed feeds' (sym sn) (sym sp) (sym sq)) x
+          (subst (λ b. Speaks S number run b s' v') (sym sa) x') in
           sym is ∙ one_firing once (λ i. tag_in (sa i) (number (from i).row (from i).part)) x.fires x'.fires ∙ is'
-      by e a n part p v (by_arc _ s _ _ _ _ feeds x is) e' a' n' part' p' v' (by_move u' s' k' _ _ _ _ feeds' x' is') sa sn sp sq = absurd (no_both feeds x (moved_feed feeds' (sym sn) (sym sp) (sym sq)) x')
-      by e a n part p v (by_arc _ s _ _ _ _ feeds x is) e' a' n' part' p' v' (by_send _ c' m' j' i' _ _ _ sends' o' x' is') sa sn sp sq = absurd (arc_entry (moved_feed feeds sn sp sq) x (sent_entry sends'))
-      by e a n part p v (by_arc _ s _ _ _ _ feeds x is) e' a' n' part' p' v' (by_enter _ i' h' q' c' within' enter' x' is') sa sn sp sq = absurd (arc_head (moved_feed feeds sn sp sq) x (entered_head within' enter'))
-      by e a n part p v (by_arc _ s _ _ _ _ feeds x is) e' a' n' part' p' v' (by_continuation _ i' h' q' c' within' enter' x' is') sa sn sp sq = absurd (arc_head (moved_feed feeds sn sp sq) x (entered_head within' enter'))
-      by e a n part p v (by_arc _ s _ _ _ _ feeds x is) e' a' n' part' p' v' (by_back c' h' _ _ _ back' x' is') sa sn sp sq = absurd (return_unfed _ (returned back') (moved_feed feeds sn sp sq))
-      by e a n part p v (by_move u s k _ _ _ _ feeds x is) e' a' n' part' p' v' (by_arc _ s' _ _ _ _ feeds' x' is') sa sn sp sq = absurd (no_both feeds' x' (moved_feed feeds sn sp sq) x)
-      by e a n part p v (by_move u s k _ _ _ _ feeds x is) e' a' n' part' p' v' (by_move u' s' k' _ _ _ _ feeds' x' is') sa sn sp sq = sym is ∙ one_move feeds (moved_feed feeds' (sym sn) (sym sp) (sym sq)) x x' sa ∙ is'
-      by e a n part p v (by_move u s k _ _ _ _ feeds x is) e' a' n' part' p' v' (by_send _ c' m' j' i' _ _ _ sends' o' x' is') sa sn sp sq = absurd (later (moved_feed feeds sn sp sq) x (first_iteration sa))
-      by e a n part p v (by_move u s k _ _ _ _ feeds x is) e' a' n' part' p' v' (by_enter _ i' h' q' c' within' enter' x' is') sa sn sp sq = absurd (later (moved_feed feeds sn sp sq) x (first_iteration sa))
-      by e a n part p v (by_move u s k _ _ _ _ feeds x is) e' a' n' part' p' v' (by_continuation _ i' h' q' c' within' enter' x' is') sa sn sp sq = absurd (way_back_unfed (entered_head within' enter') (moved_feed feeds sn sp sq))
-      by e a n part p v (by_move u s k _ _ _ _ feeds x is) e' a' n' part' p' v' (by_back c' h' _ _ _ back' x' is') sa sn sp sq = absurd (return_unfed _ (returned back') (moved_feed feeds sn sp sq))
-      by e a n part p v (by_send _ c m j i _ _ _ sends o x is) e' a' n' part' p' v' (by_arc _ s' _ _ _ _ feeds' x' is') sa sn sp sq = absurd (arc_entry (moved_feed feeds' (sym sn) (sym sp) (sym sq)) x' (sent_entry sends))
-      by e a n part p v (by_send _ c m j i _ _ _ sends o x is) e' a' n' part' p' v' (by_move u' s' k' _ _ _ _ feeds' x' is') sa sn sp sq = absurd (later (moved_feed feeds' (sym sn) (sym sp) (sym sq)) x' (first_iteration (sym sa)))
+      by e a n part p v (by_arc _ s _ _ _ _ feeds x is) e' a' n' part' p' v' (by_move u' s' k' _ _ _ _ feeds' x' is') sa sn sp sq = absurd
+          (no_both feeds x (moved_feed feeds' (sym sn) (sym sp) (sym sq)) x')
+      by e a n part p v (by_arc _ s _ _ _ _ feeds x is) e' a' n' part' p' v' (by_send _ c' m' j' i' _ _ _ sends' o' x' is') sa sn sp sq = absurd
+          (arc_entry (moved_feed feeds sn sp sq) x (sent_entry sends'))
+      by e a n part p v (by_arc _ s _ _ _ _ feeds x is) e' a' n' part' p' v' (by_enter _ i' h' q' c' within' enter' x' is') sa sn sp sq = absurd
+          (arc_head (moved_feed feeds sn sp sq) x (entered_head within' enter'))
+      by e a n part p v (by_arc _ s _ _ _ _ feeds x is) e' a' n' part' p' v' (by_continuation _ i' h' q' c' within' enter' x' is') sa sn sp sq = absurd
+          (arc_head (moved_feed feeds sn sp sq) x (entered_head within' enter'))
+      by e a n part p v (by_arc _ s _ _ _ _ feeds x is) e' a' n' part' p' v' (by_back c' h' _ _ _ back' x' is') sa sn sp sq = absurd
+          (return_unfed _ (returned back') (moved_feed feeds sn sp sq))
+      by e a n part p v (by_move u s k _ _ _ _ feeds x is) e' a' n' part' p' v' (by_arc _ s' _ _ _ _ feeds' x' is') sa sn sp sq = absurd
+          (no_both feeds' x' (moved_feed feeds sn sp sq) x)
+      by e a n part p v (by_move u s k _ _ _ _ feeds x is) e' a' n' part' p' v' (by_move u' s' k' _ _ _ _ feeds' x' is') sa sn sp sq = sym is ∙
+          one_move feeds (moved_feed feeds' (sym sn) (sym sp) (sym sq)) x x' sa ∙ is'
+      by e a n part p v (by_move u s k _ _ _ _ feeds x is) e' a' n' part' p' v' (by_send _ c' m' j' i' _ _ _ sends' o' x' is') sa sn sp sq = absurd
+          (later (moved_feed feeds sn sp sq) x (first_iteration sa))
+      by e a n part p v (by_move u s k _ _ _ _ feeds x is) e' a' n' part' p' v' (by_enter _ i' h' q' c' within' enter' x' is') sa sn sp sq = absurd
+          (later (moved_feed feeds sn sp sq) x (first_iteration sa))
+      by e a n part p v (by_move u s k _ _ _ _ feeds x is) e' a' n' part' p' v' (by_continuation _ i' h' q' c' within' enter' x' is') sa sn sp sq = absurd
+          (way_back_unfed (entered_head within' enter') (moved_feed feeds sn sp sq))
+      by e a n part p v (by_move u s k _ _ _ _ feeds x is) e' a' n' part' p' v' (by_back c' h' _ _ _ back' x' is') sa sn sp sq = absurd
+          (return_unfed _ (returned back') (moved_feed feeds sn sp sq))
+      by e a n part p v (by_send _ c m j i _ _ _ sends o x is) e' a' n' part' p' v' (by_arc _ s' _ _ _ _ feeds' x' is') sa sn sp sq = absurd
+          (arc_entry (moved_feed feeds' (sym sn) (sym sp) (sym sq)) x' (sent_entry sends))
+      by e a n part p v (by_send _ c m j i _ _ _ sends o x is) e' a' n' part' p' v' (by_move u' s' k' _ _ _ _ feeds' x' is') sa sn sp sq = absurd
+          (later (moved_feed feeds' (sym sn) (sym sp) (sym sq)) x' (first_iteration (sym sa)))
       by e a n part p v (by_send _ c m j i _ _ _ sends o x is) e' a' n' part' p' v' (by_send _ c' m' j' i' _ _ _ sends' o' x' is') sa sn sp sq =
           let z = sends_within sends in
           let z' = sends_within sends' in
           let opening = one_opening S known g number numbered run apart z.0 z'.0 z.3 z'.3 o o' (ap (λ (y : Activation). y.context) sa) in
           let row = one_send sends sends' opening.1 sn sp in
           sym is ∙ one_firing once (λ t. tag_in (opening.0 t) (number (row.0 t) (row.1 t))) x x' ∙ is'
-      by e a n part p v (by_send _ c m j i _ _ _ sends o x is) e' a' n' part' p' v' (by_enter _ i' h' q' c' within' enter' x' is') sa sn sp sq = absurd (entry_no_head _ (there is_entry (sent_entry sends) sn) (entered_head within' enter'))
-      by e a n part p v (by_send _ c m j i _ _ _ sends o x is) e' a' n' part' p' v' (by_continuation _ i' h' q' c' within' enter' x' is') sa sn sp sq = absurd (entry_no_head _ (there is_entry (sent_entry sends) sn) (entered_head within' enter'))
-      by e a n part p v (by_send _ c m j i _ _ _ sends o x is) e' a' n' part' p' v' (by_back c' h' _ _ _ back' x' is') sa sn sp sq = absurd (return_no_entry _ (returned back') (there is_entry (sent_entry sends) sn))
-      by e a n part p v (by_enter _ i h q c within enter x is) e' a' n' part' p' v' (by_arc _ s' _ _ _ _ feeds' x' is') sa sn sp sq = absurd (arc_head (moved_feed feeds' (sym sn) (sym sp) (sym sq)) x' (entered_head within enter))
-      by e a n part p v (by_enter _ i h q c within enter x is) e' a' n' part' p' v' (by_move u' s' k' _ _ _ _ feeds' x' is') sa sn sp sq = absurd (later (moved_feed feeds' (sym sn) (sym sp) (sym sq)) x' (first_iteration (sym sa)))
-      by e a n part p v (by_enter _ i h q c within enter x is) e' a' n' part' p' v' (by_send _ c' m' j' i' _ _ _ sends' o' x' is') sa sn sp sq = absurd (entry_no_head _ (there is_entry (sent_entry sends') (sym sn)) (entered_head within enter))
-      by e a n part p v (by_enter _ i h q c within enter x is) e' a' n' part' p' v' (by_enter _ i' h' q' c' within' enter' x' is') sa sn sp sq = sym is ∙ same_opening x x' (ap (λ (y : Activation). y.context) sa) ∙ is'
-      by e a n part p v (by_enter _ i h q c within enter x is) e' a' n' part' p' v' (by_continuation _ i' h' q' c' within' enter' x' is') sa sn sp sq = absurd (zero_one sp)
-      by e a n part p v (by_enter _ i h q c within enter x is) e' a' n' part' p' v' (by_back c' h' _ _ _ back' x' is') sa sn sp sq = absurd (return_no_head _ (returned back') (there begins_block (entered_head within enter) sn))
-      by e a n part p v (by_continuation _ i h q c within enter x is) e' a' n' part' p' v' (by_arc _ s' _ _ _ _ feeds' x' is') sa sn sp sq = absurd (arc_head (moved_feed feeds' (sym sn) (sym sp) (sym sq)) x' (entered_head within enter))
-      by e a n part p v (by_continuation _ i h q c within enter x is) e' a' n' part' p' v' (by_move u' s' k' _ _ _ _ feeds' x' is') sa sn sp sq = absurd (way_back_unfed (entered_head within enter) (moved_feed feeds' (sym sn) (sym sp) (sym sq)))
-      by e a n part p v (by_continuation _ i h q c within enter x is) e' a' n' part' p' v' (by_send _ c' m' j' i' _ _ _ sends' o' x' is') sa sn sp sq = absurd (entry_no_head _ (there is_entry (sent_entry sends') (sym sn)) (entered_head within enter))
-      by e a n part p v (by_continuation _ i h q c within enter x is) e' a' n' part' p' v' (by_enter _ i' h' q' c' within' enter' x' is') sa sn sp sq = absurd (zero_one (sym sp))
-      by e a n part p v (by_continuation _ i h q c within enter x is) e' a' n' part' p' v' (by_continuation _ i' h' q' c' within' enter' x' is') sa sn sp sq = sym is ∙ same_opening x x' (ap (λ (y : Activation). y.context) sa) ∙ is'
-      by e a n part p v (by_continuation _ i h q c within enter x is) e' a' n' part' p' v' (by_back c' h' _ _ _ back' x' is') sa sn sp sq = absurd (return_no_head _ (returned back') (there begins_block (entered_head within enter) sn))
-      by e a n part p v (by_back c h _ _ _ back x is) e' a' n' part' p' v' (by_arc _ s' _ _ _ _ feeds' x' is') sa sn sp sq = absurd (return_unfed _ (returned back) (moved_feed feeds' (sym sn) (sym sp) (sym sq)))
-      by e a n part p v (by_back c h _ _ _ back x is) e' a' n' part' p' v' (by_move u' s' k' _ _ _ _ feeds' x' is') sa sn sp sq = absurd (return_unfed _ (returned back) (moved_feed feeds' (sym sn) (sym sp) (sym sq)))
-      by e a n part p v (by_back c h _ _ _ back x is) e' a' n' part' p' v' (by_send _ c' m' j' i' _ _ _ sends' o' x' is') sa sn sp sq = absurd (return_no_entry _ (returned back) (there is_entry (sent_entry sends') (sym sn)))
-      by e a n part p v (by_back c h _ _ _ back x is) e' a' n' part' p' v' (by_enter _ i' h' q' c' within' enter' x' is') sa sn sp sq = absurd (return_no_head _ (returned back) (there begins_block (entered_head within' enter') (sym sn)))
-      by e a n part p v (by_back c h _ _ _ back x is) e' a' n' part' p' v' (by_continuation _ i' h' q' c' within' enter' x' is') sa sn sp sq = absurd (return_no_head _ (returned back) (there begins_block (entered_head within' enter') (sym sn)))
+      by e a n part p v (by_send _ c m j i _ _ _ sends o x is) e' a' n' part' p' v' (by_enter _ i' h' q' c' within' enter' x' is') sa sn sp sq = absurd
+          (entry_no_head _ (there is_entry (sent_entry sends) sn) (entered_head within' enter'))
+      by e a n part p v (by_send _ c m j i _ _ _ sends o x is) e' a' n' part' p' v' (by_continuation _ i' h' q' c' within' enter' x' is') sa sn sp sq = absurd
+          (entry_no_head _ (there is_entry (sent_entry sends) sn) (entered_head within' enter'))
+      by e a n part p v (by_send _ c m j i _ _ _ sends o x is) e' a' n' part' p' v' (by_back c' h' _ _ _ back' x' is') sa sn sp sq = absurd
+          (return_no_entry _ (returned back') (there is_entry (sent_entry sends) sn))
+      by e a n part p v (by_enter _ i h q c within enter x is) e' a' n' part' p' v' (by_arc _ s' _ _ _ _ feeds' x' is') sa sn sp sq = absurd
+          (arc_head (moved_feed feeds' (sym sn) (sym sp) (sym sq)) x' (entered_head within enter))
+      by e a n part p v (by_enter _ i h q c within enter x is) e' a' n' part' p' v' (by_move u' s' k' _ _ _ _ feeds' x' is') sa sn sp sq = absurd
+          (later (moved_feed feeds' (sym sn) (sym sp) (sym sq)) x' (first_iteration (sym sa)))
+      by e a n part p v (by_enter _ i h q c within enter x is) e' a' n' part' p' v' (by_send _ c' m' j' i' _ _ _ sends' o' x' is') sa sn sp sq = absurd
+          (entry_no_head _ (there is_entry (sent_entry sends') (sym sn)) (entered_head within enter))
+      by e a n part p v (by_enter _ i h q c within enter x is) e' a' n' part' p' v' (by_enter _ i' h' q' c' within' enter' x' is') sa sn sp sq = sym is ∙
+          same_opening x x' (ap (λ (y : Activation). y.context) sa) ∙ is'
+      by e a n part p v (by_enter _ i h q c within enter x is) e' a' n' part' p' v' (by_continuation _ i' h' q' c' within' enter' x' is') sa sn sp sq = absurd
+          (zero_one sp)
+      by e a n part p v (by_enter _ i h q c within enter x is) e' a' n' part' p' v' (by_back c' h' _ _ _ back' x' is') sa sn sp sq = absurd
+          (return_no_head _ (returned back') (there begins_block (entered_head within enter) sn))
+      by e a n part p v (by_continuation _ i h q c within enter x is) e' a' n' part' p' v' (by_arc _ s' _ _ _ _ feeds' x' is') sa sn sp sq = absurd
+          (arc_head (moved_feed feeds' (sym sn) (sym sp) (sym sq)) x' (entered_head within enter))
+      by e a n part p v (by_continuation _ i h q c within enter x is) e' a' n' part' p' v' (by_move u' s' k' _ _ _ _ feeds' x' is') sa sn sp sq = absurd
+          (way_back_unfed (entered_head within enter) (moved_feed feeds' (sym sn) (sym sp) (sym sq)))
+      by e a n part p v (by_continuation _ i h q c within enter x is) e' a' n' part' p' v' (by_send _ c' m' j' i' _ _ _ sends' o' x' is') sa sn sp sq = absurd
+          (entry_no_head _ (there is_entry (sent_entry sends') (sym sn)) (entered_head within enter))
+      by e a n part p v (by_continuation _ i h q c within enter x is) e' a' n' part' p' v' (by_enter _ i' h' q' c' within' enter' x' is') sa sn sp sq = absurd
+          (zero_one (sym sp))
+      by e a n part p v (by_continuation _ i h q c within enter x is) e' a' n' part' p' v' (by_continuation _ i' h' q' c' within' enter' x' is') sa sn sp sq =
+          sym is ∙ same_opening x x' (ap (λ (y : Activation). y.context) sa) ∙ is'
+      by e a n part p v (by_continuation _ i h q c within enter x is) e' a' n' part' p' v' (by_back c' h' _ _ _ back' x' is') sa sn sp sq = absurd
+          (return_no_head _ (returned back') (there begins_block (entered_head within enter) sn))
+      by e a n part p v (by_back c h _ _ _ back x is) e' a' n' part' p' v' (by_arc _ s' _ _ _ _ feeds' x' is') sa sn sp sq = absurd
+          (return_unfed _ (returned back) (moved_feed feeds' (sym sn) (sym sp) (sym sq)))
+      by e a n part p v (by_back c h _ _ _ back x is) e' a' n' part' p' v' (by_move u' s' k' _ _ _ _ feeds' x' is') sa sn sp sq = absurd
+          (return_unfed _ (returned back) (moved_feed feeds' (sym sn) (sym sp) (sym sq)))
+      by e a n part p v (by_back c h _ _ _ back x is) e' a' n' part' p' v' (by_send _ c' m' j' i' _ _ _ sends' o' x' is') sa sn sp sq = absurd
+          (return_no_entry _ (returned back) (there is_entry (sent_entry sends') (sym sn)))
+      by e a n part p v (by_back c h _ _ _ back x is) e' a' n' part' p' v' (by_enter _ i' h' q' c' within' enter' x' is') sa sn sp sq = absurd
+          (return_no_head _ (returned back) (there begins_block (entered_head within' enter') (sym sn)))
+      by e a n part p v (by_back c h _ _ _ back x is) e' a' n' part' p' v' (by_continuation _ i' h' q' c' within' enter' x' is') sa sn sp sq = absurd
+          (return_no_head _ (returned back) (there begins_block (entered_head within' enter') (sym sn)))
       by e a n part p v (by_back c h _ _ _ back x is) e' a' n' part' p' v' (by_back c' h' _ _ _ back' x' is') sa sn sp sq =
           let one = returns_once back back' sa sn in
           sym is ∙ one_firing once (λ i. tag_in (at_iteration (one.0 i) 0) (number (one.1 i) 1)) x x' ∙ is'
@@ -494,7 +549,8 @@ module _ (S : Source) (number : ℕ → ℕ → ℕ) (run : List Event) (known :
   started_at way_back = (refl, inr (ap begins_block main_is))
   started_at (input b v x) = (refl, inl (ap is_entry (input_is x).is))
 
-  unfed : {a : Activation} {s : Origin} {n part : ℕ} {p : Port} {v w : Value} → StartsAt S number n part p w → Feeds S.checked s n part p → Speaks S number run a s v → ⊥
+  unfed : {a : Activation} {s : Origin} {n part : ℕ} {p : Port} {v w : Value} → StartsAt S number n part p w → Feeds S.checked s n part p →
+      Speaks S number run a s v → ⊥
   unfed start feeds x =
       let z = started_at start in
       let feeds' = moved_feed feeds refl refl z.0 in
@@ -509,8 +565,10 @@ module _ (S : Source) (number : ℕ → ℕ → ℕ) (run : List Event) (known :
   not_started e a n part p v w (by_arc _ s _ _ _ _ feeds x is) start main_one = unfed start feeds x
   not_started e a n part p v w (by_move u s k _ _ _ _ feeds x is) start main_one =
       later (moved_feed feeds refl refl (started_at start).0) x (ap (λ (z : Activation). z.iteration) main_one)
-  not_started e a n part p v w (by_send _ c m j i _ _ _ sends o x is) start main_one = not_main S known g number numbered run apart o (ap (λ (z : Activation). z.context) main_one)
-  not_started e a n part p v w (by_enter _ i h q c within enter x is) start main_one = not_main S known g number numbered run apart x (ap (λ (z : Activation). z.context) main_one)
+  not_started e a n part p v w (by_send _ c m j i _ _ _ sends o x is) start main_one = not_main S known g number numbered run apart o
+      (ap (λ (z : Activation). z.context) main_one)
+  not_started e a n part p v w (by_enter _ i h q c within enter x is) start main_one = not_main S known g number numbered run apart x
+      (ap (λ (z : Activation). z.context) main_one)
   not_started e a n part p v w (by_continuation _ i h q c within enter x is) start main_one =
       not_main S known g number numbered run apart x (ap (λ (z : Activation). z.context) main_one)
   not_started e a n part p v w (by_back c h _ _ _ back x is) start main_one = no_return start (returned back)
@@ -587,7 +645,8 @@ module _ (S : Source) (g : Parts) (number : ℕ → ℕ → ℕ) (numbered : Num
   one_token : (s : World) (run : List Event) → Reach g S.inputs count s run → Few run → FiresOnce run → (e e' : Event) (x y : Payload)
       → CameBy S number run e x → CameBy S number run e' y → key_of x ≡ key_of y → e ≡ e'
   one_token s run r few once e e' x y a b same =
-      let keys : AtPort (tag_in a.activation (number a.row a.part)) a.port ≡ AtPort (tag_in b.activation (number b.row b.part)) b.port = sym (ap key_of a.is) ∙ same ∙ ap key_of b.is in
+      let keys : AtPort (tag_in a.activation (number a.row a.part)) a.port ≡
+      AtPort (tag_in b.activation (number b.row b.part)) b.port = sym (ap key_of a.is) ∙ same ∙ ap key_of b.is in
       let tags = ap tag_of_key keys in
       let parts = one_part numbered a.is_part b.is_part (ap (λ (t : Tag). t.instr) tags) in
       let acts : a.activation ≡ b.activation = ap activation_of tags in
@@ -595,7 +654,8 @@ module _ (S : Source) (g : Parts) (number : ℕ → ℕ → ℕ) (numbered : Num
       one_way S number run known (seats S known g number numbered run count s r) once (speak s run r)
       (stepping S g number numbered count s run r (tell s run r)) g numbered (contexts_apart g S.inputs count s run r)
       (replies_once s run r few) e e' a.activation a.row a.part a.port a.value b.value a.way
-      (subst (λ (z : Activation × (ℕ × (ℕ × Port))). Way S number run e' z.0 z.1.0 z.1.1.0 z.1.1.1 b.value) {x = (b.activation, (b.row, (b.part, b.port)))} {y = (a.activation, (a.row, (a.part, a.port)))}
+      (subst (λ (z : Activation × (ℕ × (ℕ × Port))). Way S number run e' z.0 z.1.0 z.1.1.0 z.1.1.1 b.value) {x = (b.activation, (b.row, (b.part, b.port)))}
+      {y = (a.activation, (a.row, (a.part, a.port)))}
       (λ i. (sym acts i, (sym parts.0 i, (sym parts.1 i, sym ports i)))) b.way)
 
   -- so are two that ask for one fetch, and two that store for one store

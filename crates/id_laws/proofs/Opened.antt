@@ -38,7 +38,8 @@ head_loop : {s : ℕ} → Head ≡ LoopHead s → ⊥
 head_loop h = cc
 
 -- switches of a loop stand in its block
-looped : (P : Checked) (known : IsKnown P) (n e : ℕ) → n < length (rows P) → node P n ≡ Switches e → node P (block P (region P n).head) ≡ LoopHead (block P n - 1)
+looped : (P : Checked) (known : IsKnown P) (n e : ℕ) → n < length (rows P) → node P n ≡ Switches e →
+    node P (block P (region P n).head) ≡ LoopHead (block P n - 1)
 looped P known n e within is =
     ap (node P) (region_of known within (λ z. let bad : Switches e ≡ Program = sym is ∙ z in cc)).block ∙ (loop_of_row known (Switches e) within is refl).head
 
@@ -47,7 +48,12 @@ module _ (S : Source) (known : IsKnown S.checked) (number : ℕ → ℕ → ℕ)
   live_block at_start = for_main refl ((known.table).head_block (main_head S.checked) main_within (ap begins_block (main_head_is known)))
     where
       main_within : main_head S.checked < length (rows S.checked)
-      main_within = let d = known.main in omega (arith, d.within, (((known.table).formed).each (S.checked).main d.within).first, (known.table).head_is (S.checked).main d.name (main_head S.checked) d.body d.result d.within d.node)
+      main_within = let d = known.main in omega (
+        arith,
+        d.within,
+        (((known.table).formed).each (S.checked).main d.within).first,
+        (known.table).head_is (S.checked).main d.name (main_head S.checked) d.body d.result d.within d.node,
+      )
   live_block {a} (on_side {n = n} within tests live says goes) =
       subst (OpenedFor S number run a.context) (region_of known within (tests_other S.checked known tests)).block (live_block live)
   live_block (entered {h = h} {c = c} within begins live opened) =
@@ -73,7 +79,8 @@ module _ (S : Source) (known : IsKnown S.checked) (number : ℕ → ℕ → ℕ)
       by (of_call enter) at e = absurd (head_loop (sym (called_head known within enter).1 ∙ at))
       by (of_loop start) at e = record { outer = b; start = n; within = within; node = start; head = e; live = live; opens = opened }
 
-  pub live_loop : {a : Activation} {r : Region} {s : ℕ} → Live S number run a r → node S.checked (block S.checked r.head) ≡ LoopHead s → InLoop a (block S.checked r.head)
+  pub live_loop : {a : Activation} {r : Region} {s : ℕ} → Live S number run a r → node S.checked (block S.checked r.head) ≡ LoopHead s →
+      InLoop a (block S.checked r.head)
   live_loop live is = in_loop (live_block live) is
 
   -- the path of an iteration goes on below that of the activation under which the loop was started
@@ -90,15 +97,18 @@ module _ (S : Source) (known : IsKnown S.checked) (number : ℕ → ℕ → ℕ)
   pub next_path : {h : ℕ} (l : LoopOf S.checked h) {a : Activation} (x : InLoop a h) {p : Path} (y : LoopPath a h x p) (k : ℕ)
       → PathOf S number run (at_iteration a.context k) (below y.path (place S.checked (end_of S.checked h)) k)
   next_path {h} l {a} x y k =
-      subst (λ e. PathOf S number run (at_iteration a.context k) (below y.path e k)) (loop_place l x) (entered_path k x.within (of_loop x.node) x.opens y.path_of)
+      subst (λ e. PathOf S number run (at_iteration a.context k) (below y.path e k)) (loop_place l x)
+      (entered_path k x.within (of_loop x.node) x.opens y.path_of)
 
-  pub loop_path : OneSeat S number run → {h : ℕ} (l : LoopOf S.checked h) {a : Activation} (x : InLoop a h) {p : Path} → PathOf S number run a p → LoopPath a h x p
+  pub loop_path : OneSeat S number run → {h : ℕ} (l : LoopOf S.checked h) {a : Activation} (x : InLoop a h) {p : Path} → PathOf S number run a p →
+      LoopPath a h x p
   loop_path seats {h} l {a} x path =
       let up = live_path x.live in
       record {
         path = up.0;
         path_of = up.1;
-        is = one_path seats path (subst (λ e. PathOf S number run a (below up.0 e a.iteration)) (loop_place l x) (entered_path a.iteration x.within (of_loop x.node) x.opens up.1));
+        is = one_path seats path (subst (λ e. PathOf S number run a (below up.0 e a.iteration)) (loop_place l x)
+            (entered_path a.iteration x.within (of_loop x.node) x.opens up.1));
       }
 
   module _ (g : Parts) (numbered : Numbered S.checked g number) (apart : ContextsApart run) where
@@ -107,10 +117,12 @@ module _ (S : Source) (known : IsKnown S.checked) (number : ℕ → ℕ → ℕ)
     main_first at_start e = refl
     main_first (on_side within tests live says goes) e = main_first live e
     main_first (entered within begins live opened) e = refl
-    main_first (again within is live says goes) e = absurd (not_main S known g number numbered run apart (live_loop live (looped S.checked known _ _ within is)).opens e)
+    main_first (again within is live says goes) e = absurd
+        (not_main S known g number numbered run apart (live_loop live (looped S.checked known _ _ within is)).opens e)
 
     -- and so is a context that a call has made
-    pub call_first : {a : Activation} {r : Region} → Live S number run a r → {b : Activation} {n x : ℕ} → n < length (rows S.checked) → node S.checked n ≡ Enter x
+    pub call_first : {a : Activation} {r : Region} → Live S number run a r → {b : Activation} {n x : ℕ} → n < length (rows S.checked) →
+        node S.checked n ≡ Enter x
         → Opens S number run b n a.context → a.iteration ≡ 0
     call_first at_start within enter o = refl
     call_first (on_side inside tests live says goes) within enter o = call_first live within enter o
@@ -131,7 +143,8 @@ module _ (S : Source) (known : IsKnown S.checked) (number : ℕ → ℕ → ℕ)
         let own : block S.checked h ≡ h = t.head_block h (omega (arith, x.within, low.1)) (ap begins_block heads.0) in
         by (subst (OpenedFor S number run a.context) (ap (λ (r : Region). block S.checked r.head) stands.1 ∙ own) (live_block live)) heads.0
       where
-        begun : {b : Activation} {n g q : ℕ} → n < length (rows S.checked) → Begins S.checked n g q → Opens S number run b n a.context → node S.checked g ≡ Head → a.iteration ≡ 0
+        begun : {b : Activation} {n g q : ℕ} → n < length (rows S.checked) → Begins S.checked n g q → Opens S number run b n a.context →
+            node S.checked g ≡ Head → a.iteration ≡ 0
         begun within (of_call enter) opened is = call_first live within enter opened
         begun within (of_loop start) opened is = absurd (head_loop (sym is ∙ (loop_of_start known within start).head))
 

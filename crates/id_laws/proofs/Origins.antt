@@ -80,7 +80,8 @@ module _ (S : Source) (known : IsKnown S.checked) (number : ℕ → ℕ → ℕ)
           path_of = shown.path_of;
           value = shown.value;
           stands = shown.stands;
-          holds = subst (λ z. Holds S (Has z (place P e) shown.value)) (sym (without_none shown.path)) (holds_by S _ _ (block_has (record { within = within; node = is })) (on, (has, tt)));
+          holds = subst (λ z. Holds S (Has z (place P e) shown.value)) (sym (without_none shown.path))
+              (holds_by S _ _ (block_has (record { within = within; node = is })) (on, (has, tt)));
         },
       )
 
@@ -100,7 +101,8 @@ module _ (S : Source) (known : IsKnown S.checked) (number : ℕ → ℕ → ℕ)
           let has_part : HasPart (node P e) b = subst (λ z. HasPart z b) (sym m) refl in
           let less = (((known.table).formed).each e within).parts b has_part in
           let expression = known.operands e b within (subst (λ z. HasOperand z b) (sym m) refl) in
-          block_shows a e b v within m (rest b v (omega (arith, less.1)) (omega (arith, less.1)) expression (subst (λ z. ShowsRow a z v) ((known.table).value_block e b within m) w))
+          block_shows a e b v within m (rest b v (omega (arith, less.1)) (omega (arith, less.1)) expression
+          (subst (λ z. ShowsRow a z v) ((known.table).value_block e b within m) w))
       go _ m rest = itself (ap is_block m)
 
   -- what a name's binder Has as the name's region sees it, the name Has
@@ -118,7 +120,8 @@ module _ (S : Source) (known : IsKnown S.checked) (number : ℕ → ℕ → ℕ)
           path_of = shown.path_of;
           value = shown.value;
           stands = shown.stands;
-          holds = subst (λ z. Holds S (Has z (place P n) shown.value)) (sym (without_none shown.path)) (holds_by S _ _ (name_has (record { within = within; node = is }) binds) (on, (has, tt)));
+          holds = subst (λ z. Holds S (Has z (place P n) shown.value)) (sym (without_none shown.path))
+              (holds_by S _ _ (name_has (record { within = within; node = is }) binds) (on, (has, tt)));
         },
       )
 

@@ -147,7 +147,8 @@ merged_is : (b : Truth) (v u : Value) → cond b (Out v) Nothing ≡ Out u → v
 merged_is true v u e = out_is e
 merged_is false v u e = absurd (nothing_out e)
 
-module _ (S : Source) (g : Parts) (number : ℕ → ℕ → ℕ) (numbered : Numbered S.checked g number) (known : IsKnown S.checked) (inputs : AreInputs S.checked S.inputs) (count : ℕ)
+module _ (S : Source) (g : Parts) (number : ℕ → ℕ → ℕ) (numbered : Numbered S.checked g number) (known : IsKnown S.checked)
+    (inputs : AreInputs S.checked S.inputs) (count : ℕ)
     (only : Exclusive g S.inputs count) (s : World) (run : List Event) (r : Reach g S.inputs count s run) (quiet : IsQuiet s) where
   abbrev P : Checked
   P = S.checked
@@ -177,7 +178,8 @@ module _ (S : Source) (g : Parts) (number : ℕ → ℕ → ℕ) (numbered : Num
   main_end : end_of P main ≡ P.main
   main_end =
       (known.table).one_def (end_of P main) P.main main
-      (end_is P (known.table) main (main_within S g number numbered known count only s run r quiet.empty) (main_is S g number numbered known count only s run r quiet.empty)) known.main
+      (end_is P (known.table) main (main_within S g number numbered known count only s run r quiet.empty)
+      (main_is S g number numbered known count only s run r quiet.empty)) known.main
 
   main_kind : result_of (node P (end_of P main)) ≡ (known.main).result
   main_kind = ap (λ n. result_of (node P n)) main_end ∙ ap result_of (known.main).node
@@ -192,13 +194,15 @@ module _ (S : Source) (g : Parts) (number : ℕ → ℕ → ℕ) (numbered : Num
       let thing = expression_thing (node P (main_body P)) b.1 in
       let d = known.main in
       let body_is : main_body P ≡ d.body = ap body_of d.node in
-      let kind_is : value_kind v ≡ d.result = some_is (sym (Has_kind S known inputs (main_body P) outermost v b.0 thing has) ∙ ap (kind_at P) body_is ∙ known.result_kind P.main main d) in
+      let kind_is : value_kind v ≡ d.result = some_is (sym (Has_kind S known inputs (main_body P) outermost v b.0 thing has) ∙ ap (kind_at P) body_is ∙
+      known.result_kind P.main main d) in
       let c : CarriedHas S number run outermost (place P (main_body P)) v = carried S g number numbered known inputs count only s run r quiet.empty no_second _
       has in
       let row_is = here_is S g number numbered known inputs count only s run r quiet.empty (c.here) (record { within = b.0; node = refl }) thing in
       let start : Live S number run main_activation (top main) = at_start in
       let one = one_activation S g number numbered known count only s run r quiet.empty (c.here).live start (c.here).path_of main_path in
-      let from : speaker P (c.here).row ≡ origin P (main_body P) = ap (speaker P) row_is ∙ expression_speaks P known (main_body P) (node P (main_body P)) refl b.1 in
+      let from : speaker P (c.here).row ≡ origin P (main_body P) = ap (speaker P) row_is ∙
+      expression_speaks P known (main_body P) (node P (main_body P)) refl b.1 in
       let said : Speaks S number run main_activation (origin P (built.body_of (node P (end_of P main)))) c.value =
       subst (λ (z : Activation × Origin). Speaks S number run z.0 z.1 c.value) {x = ((c.here).activation, speaker P (c.here).row)}
       {y = (main_activation, origin P (built.body_of (node P (end_of P main))))}
@@ -229,9 +233,11 @@ module _ (S : Source) (g : Parts) (number : ℕ → ℕ → ℕ) (numbered : Num
       let listed = filter_map_has (λ (u : EventView). shown.brought u.message.payload) (events s) record_it.0 w (among_events s record_it.0 record_it.1)
       (ap shown.brought payload_is) in
       let first = first_of_some (shown.answers (events s)) w listed in
-      let event = among_filter_map (λ (u : EventView). shown.brought u.message.payload) (events s) first.0 (Among-from_at first.0 (shown.answers (events s)) 0 first.1) in
+      let event = among_filter_map (λ (u : EventView). shown.brought u.message.payload) (events s) first.0
+      (Among-from_at first.0 (shown.answers (events s)) 0 first.1) in
       let brought = brought_is (event.0).message.payload first.0 event.2 in
-      let also : Among (Token (main_tag 0) brought.0 first.0) (handled run) = subst (λ x. Among x (handled run)) brought.1 (message_handled g S.inputs count s run r event.0 event.1) in
+      let also : Among (Token (main_tag 0) brought.0 first.0) (handled run) = subst (λ x. Among x (handled run)) brought.1
+      (message_handled g S.inputs count s run r event.0 event.1) in
       let port_is = (answer_tells S known g number numbered count s run r brought.0 first.0 also).0 in
       let same : first.0 ≡ w = one_value g S.inputs count only s run r (main_tag 0) Zero first.0 w
       (subst (λ p. Among (Token (main_tag 0) p first.0) (handled run)) port_is also) came_in in
@@ -358,7 +364,8 @@ module _ (S : Source) (g : Parts) (number : ℕ → ℕ → ℕ) (numbered : Num
 
       merge_out : (k : PortKind) (ops : Operands) (two : Truth) (u : Value) → two ≡ false → OperandsHandled run t two ops → Out u ≡ fired_merge k ops
           → (p : Port) × Among (Token t p u) (handled run)
-      merge_out k ops two u one (one_handled p v is few h) e = (p, subst (λ z. Among (Token t p z) (handled run)) (merged_is (same_kind (kind_of v) k) v u (sym (e ∙ ap (fired_merge k) is))) h)
+      merge_out k ops two u one (one_handled p v is few h) e =
+          (p, subst (λ z. Among (Token t p z) (handled run)) (merged_is (same_kind (kind_of v) k) v u (sym (e ∙ ap (fired_merge k) is))) h)
       merge_out k ops two u one (two_handled v v' is few h h') e = absurd (true_false (sym few ∙ one))
 
       no_merge : {k : PortKind} {x y : ℕ} → op.Merge k ≡ op.Enter x y → ⊥

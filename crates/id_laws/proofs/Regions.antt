@@ -82,7 +82,8 @@ region_of {P} known {n} within other = elim ((known.table).region n less) [
 
 -- as many loops are round rows of one block
 pub same_depth : (P : Checked) (i j b : ℕ) → block P i ≡ block P j → loops_between (rows P) i b ≡ loops_between (rows P) j b
-same_depth P i j b same = ap (λ h. loops_from (rows P) (length (rows P)) (at (rows P) h).node - loops_from (rows P) (length (rows P)) (at (rows P) (at (rows P) b).block).node) same
+same_depth P i j b same = ap (λ h. loops_from (rows P) (length (rows P)) (at (rows P) h).node - loops_from (rows P) (length (rows P))
+    (at (rows P) (at (rows P) b).block).node) same
 
 itself : (m n : ℕ) → m ≡ n → m - n ≡ 0
 itself m n e = omega (arith, e)

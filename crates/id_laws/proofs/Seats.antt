@@ -43,7 +43,8 @@ pub main_path_is : {S : Source} {number : ℕ → ℕ → ℕ} {run : List Event
 main_path_is seats h = one_path seats h main_path
 
 -- the path of a context that was made goes on below that of the activation under which it was
-pub entered_path : {S : Source} {number : ℕ → ℕ → ℕ} {run : List Event} {a : Activation} {n h q : ℕ} {c : Context} {p : Path} (k : ℕ) → n < length (rows S.checked)
+pub entered_path : {S : Source} {number : ℕ → ℕ → ℕ} {run : List Event} {a : Activation} {n h q : ℕ} {c : Context} {p : Path} (k : ℕ) →
+    n < length (rows S.checked)
     → Begins S.checked n h q → Opens S number run a n c → PathOf S number run a p
     → PathOf S number run (at_iteration c k) (below p (place S.checked n) k)
 entered_path {S = S} {n = n} k within is opened path =
@@ -100,10 +101,12 @@ seat_other (Below p q) k e same = let up : p ≡ below p q k = cc in below_other
 event_tag : {run : List Event} {t u : Tag} {f f' : Fired} (x : FiresAs run t f) (y : FiresAs run u f') → fired_event x ≡ fired_event y → t ≡ u
 event_tag x y e = cc
 
-pub event_context : {run : List Event} {t u : Tag} {c c' : Context} (x : FiresAs run t (Entered c)) (y : FiresAs run u (Entered c')) → fired_event x ≡ fired_event y → c ≡ c'
+pub event_context : {run : List Event} {t u : Tag} {c c' : Context} (x : FiresAs run t (Entered c)) (y : FiresAs run u (Entered c')) →
+    fired_event x ≡ fired_event y → c ≡ c'
 event_context x y e = cc
 
-module _ (S : Source) (known : IsKnown S.checked) (g : Parts) (number : ℕ → ℕ → ℕ) (numbered : Numbered S.checked g number) (run : List Event) (apart : ContextsApart run) where
+module _ (S : Source) (known : IsKnown S.checked) (g : Parts) (number : ℕ → ℕ → ℕ) (numbered : Numbered S.checked g number) (run : List Event)
+    (apart : ContextsApart run) where
   -- no context that was made is main's
   pub not_main : {t : Tag} {c : Context} → FiresAs run t (Entered c) → c ≡ main_context → ⊥
   not_main o e = apart.not_main (fired_event o) o.among (ap Entered e)
@@ -132,7 +135,8 @@ module _ (S : Source) (known : IsKnown S.checked) (g : Parts) (number : ℕ → 
   one_seat c s t x y = seats_by c c s t x y refl
 
   module _ (once : FiresOnce run)
-      (zero : (a : Activation) (n h q : ℕ) (c : Context) → n < length (rows S.checked) → Begins S.checked n h q → Opens S number run a n c → a.context ≡ main_context → a.iteration ≡ 0) where
+      (zero : (a : Activation) (n h q : ℕ) (c : Context) → n < length (rows S.checked) → Begins S.checked n h q → Opens S number run a n c →
+      a.context ≡ main_context → a.iteration ≡ 0) where
     -- contexts of which some paths are one are one context, and these paths are of one iteration, where none is main's:
     -- the paths of the activations that made them are one
     contexts_by : (c c' : Context) (s t : Seat) (k k' : ℕ) → SeatOf S number run c s → SeatOf S number run c' t → path_at s k ≡ path_at t k'

@@ -1,5 +1,6 @@
 -- Each token that an event sends came one of the ways, each read was asked by a fetch, and each write stored by a store.
-use Rattle.std.proofs.Common.{◌≡◌, ◌⊎◌, inl, inr, ℕ, ℤ, ◌+◌, ◌<◌, ◌-◌, length, arith, Bool as Truth, true, false, cond, Some, List, slice_get, refl, sym, ◌∙◌, ap, subst}
+use Rattle.std.proofs.Common.{◌≡◌, ◌⊎◌, inl, inr, ℕ, ℤ, ◌+◌, ◌<◌, ◌-◌, length, arith, Bool as Truth, true, false}
+use Rattle.std.proofs.Common.{cond, Some, List, slice_get, refl, sym, ◌∙◌, ap, subst}
 use Rattle.id_value.specs.declared.FaultKind.TheVariants.{BadBounds, OutOfBounds}
 use Rattle.id_value.specs.Bounds.{are_good, is_inside}
 use Rattle.id_value.specs.declared.Outcome.{Outcome}
@@ -60,7 +61,8 @@ use Rattle.id_laws.specs.Topics.{AllTell, IsPart, Tells, Told, ToldRead, ShownCo
 use Rattle.id_laws.specs.Ways.{Way, by_arc, by_move, by_send, by_enter, by_continuation, by_back, by_reply, SendsTo}
 use Rattle.id_laws.proofs.Arcs.{answers, doing, gets_reply, part_of, target_part}
 use Rattle.id_laws.proofs.Assumed.{IsKnown}
-use Rattle.id_laws.proofs.Sendings.{Passing, is_back, is_enter, is_fetch, is_send, is_store, head_parts, returns_at, sending_part, sent_part, wants_back, wants_context}
+use Rattle.id_laws.proofs.Sendings.{Passing, is_back, is_enter, is_fetch, is_send, is_store, head_parts, returns_at}
+use Rattle.id_laws.proofs.Sendings.{sending_part, sent_part, wants_back, wants_context}
 use Rattle.id_laws.proofs.Tokens.{told_at}
 use Rattle.id_laws.proofs.Sent.{sends_there}
 use Rattle.id_laws.proofs.Started.{Starts, first, second, starts_as}
@@ -229,7 +231,8 @@ pub return_part : (S : Source) (number : ℕ → ℕ → ℕ) (run : List Event)
 return_part S number run known to_answer = part_of (last_row (known.table).some) (answers (known.table).ends)
 return_part S number run known (to_row within is live opened) = returns_at known within is
 
-module _ (S : Source) (g : Parts) (number : ℕ → ℕ → ℕ) (numbered : Numbered S.checked g number) (count : ℕ) (s : World) (run : List Event) (r : Reach g S.inputs count s run)
+module _ (S : Source) (g : Parts) (number : ℕ → ℕ → ℕ) (numbered : Numbered S.checked g number) (count : ℕ) (s : World) (run : List Event)
+    (r : Reach g S.inputs count s run)
     (known : IsKnown S.checked) (tell : AllTell S number run s) where
   along : (e : Event) (x : Payload) (t : Tag) (y : Fired) (b : Truth) (v : Value) (f : FiresAs run t y) → fired_event f ≡ e → GivesOn y b v
       → (d : Dest) → Among d (dests_at g t.instr b)
@@ -247,7 +250,8 @@ module _ (S : Source) (g : Parts) (number : ℕ → ℕ → ℕ) (numbered : Num
         value = v;
         is = says ∙ ap (λ n. Token (tag_in a n) d.port v) (sym arc.goes);
         is_part = target_part arc.feeds;
-        way = by_arc a from arc.row arc.part d.port v arc.feeds (record { fired = f'; fires = y.0; gives = subst (λ c. GivesOn f' c v) (sym arc.on) gives }) y.1;
+        way = by_arc a from arc.row arc.part d.port v arc.feeds (record { fired = f'; fires = y.0; gives = subst (λ c. GivesOn f' c v) (sym arc.on) gives })
+            y.1;
       }
 
   goes_on : (e : Event) (x : Payload) (t : Tag) (k : ℕ) (v : Value) (f : FiresAs run t (Moved k v)) → fired_event f ≡ e
@@ -272,7 +276,8 @@ module _ (S : Source) (g : Parts) (number : ℕ → ℕ → ℕ) (numbered : Num
       → ShownWayBack S number run a h (Continuation u) → (x : Payload) → x ≡ Token u Zero v → CameBy S number run e x
   goes_back e a h u v f is back x says =
       let to : u ≡ tag_in back.caller (number back.row 0) = continuation_is (back.is) in
-      let first : tag_in a (number h 1) ≡ tag_in (at_iteration a.context 0) (number h 1) = (λ i. record { context = a.context; iteration = back.at_first i; instr = number h 1 }) in
+      let first : tag_in a (number h 1) ≡ tag_in (at_iteration a.context 0) (number h 1) =
+      (λ i. record { context = a.context; iteration = back.at_first i; instr = number h 1 }) in
       let y = moved_firing f is first in
       let z = subst (λ t. (y : FiresAs run (tag_in (at_iteration a.context 0) (number h 1)) (Sent t v)) × (fired_event y ≡ e)) to y in
       record {
@@ -290,7 +295,8 @@ module _ (S : Source) (g : Parts) (number : ℕ → ℕ → ℕ) (numbered : Num
       → Among (Token t Zero (Continuation u)) (handled run) → ShownWayBack S number run (activation_of t) n (Continuation u)
   back_told t n u within is_part is at h =
       let a = activation_of t in
-      let told : Told S number run (Token (tag_in a (number n 1)) Zero (Continuation u)) = subst (λ m. Told S number run (Token (tag_in a m) Zero (Continuation u))) (sym at) (tell _ (inr h)) in
+      let told : Told S number run (Token (tag_in a (number n 1)) Zero (Continuation u)) = subst
+      (λ m. Told S number run (Token (tag_in a m) Zero (Continuation u))) (sym at) (tell _ (inr h)) in
       let wanted = told_at S g number run numbered a n 1 Zero (Continuation u) is_part told in
       subst (λ z. Tells S number run a z (Continuation u)) (wants_back S.checked n (region S.checked n) (node S.checked n) is) wanted
 
@@ -332,7 +338,8 @@ module _ (S : Source) (g : Parts) (number : ℕ → ℕ → ℕ) (numbered : Num
       → Among (Token t Zero (Opened c)) (handled run) → ShownContext S number run (activation_of t) i (Opened c)
   context_told t n part i row to c sends at h =
       let a = activation_of t in
-      let told : Told S number run (Token (tag_in a (number n part)) Zero (Opened c)) = subst (λ m. Told S number run (Token (tag_in a m) Zero (Opened c))) (sym at) (tell _ (inr h)) in
+      let told : Told S number run (Token (tag_in a (number n part)) Zero (Opened c)) = subst (λ m. Told S number run (Token (tag_in a m) Zero (Opened c)))
+      (sym at) (tell _ (inr h)) in
       let wanted = told_at S g number run numbered a n part Zero (Opened c) (sending_part known sends) told in
       subst (λ z. Tells S number run a z (Opened c)) (wants_context sends) wanted
 
@@ -419,7 +426,8 @@ module _ (S : Source) (g : Parts) (number : ℕ → ℕ → ℕ) (numbered : Num
       some_op : {o q : Op} → Some o ≡ Some q → o ≡ q
       some_op h = cc
 
-  came_first : (e : Event) (x : Payload) (t : Tag) (c : Context) (b back : ℕ) → Opening t c e b back → x ≡ Token (tag_within c b) Zero Signal → CameBy S number run e x
+  came_first : (e : Event) (x : Payload) (t : Tag) (c : Context) (b back : ℕ) → Opening t c e b back → x ≡ Token (tag_within c b) Zero Signal →
+      CameBy S number run e x
   came_first e x t c b back o says = record {
     activation = at_iteration c 0;
     row = o.head;

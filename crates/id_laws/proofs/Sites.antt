@@ -42,7 +42,8 @@ use Rattle.id_laws.proofs.Opened.{main_first}
 use Rattle.id_laws.proofs.Seats.{paths_apart}
 use Rattle.id_laws.proofs.StartTells.{all_tell, all_speak, opening_live}
 
-same_structure_out : {run : List Event} {t u : Tag} {y z : Structure} (x : FiresAs run t (Out (value.Structure y))) (w : FiresAs run u (Out (value.Structure z)))
+same_structure_out : {run : List Event} {t u : Tag} {y z : Structure} (x : FiresAs run t (Out (value.Structure y)))
+    (w : FiresAs run u (Out (value.Structure z)))
     → fired_event x ≡ fired_event w → y ≡ z
 same_structure_out x w e = cc
 

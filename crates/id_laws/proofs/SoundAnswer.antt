@@ -61,7 +61,8 @@ pub first_is : (name : Structure → Site) (o : Option Value) (v : SourceValue) 
 first_is name None v e = cc
 first_is name (Some w) v e = (w, refl, e)
 
-module _ (S : Source) (known : IsKnown S.checked) (g : Parts) (number : ℕ → ℕ → ℕ) (numbered : Numbered S.checked g number) (count : ℕ) (s : World) (run : List Event) (r : Reach g S.inputs count s run) where
+module _ (S : Source) (known : IsKnown S.checked) (g : Parts) (number : ℕ → ℕ → ℕ) (numbered : Numbered S.checked g number) (count : ℕ) (s : World)
+    (run : List Event) (r : Reach g S.inputs count s run) where
   abbrev P : Checked
   P = S.checked
 
@@ -91,7 +92,8 @@ module _ (S : Source) (known : IsKnown S.checked) (g : Parts) (number : ℕ → 
   pub sound_answer : (v : SourceValue) → shown.answer g s ≡ Some v → Answers S v
   sound_answer v e =
       let first = first_is (shown.structure_in g s.elements) (slice_get (shown.answers (events s)) 0) v e in
-      let event = among_filter_map (λ (u : EventView). shown.brought u.message.payload) (events s) first.0 (Among-from_at first.0 (shown.answers (events s)) 0 first.1) in
+      let event = among_filter_map (λ (u : EventView). shown.brought u.message.payload) (events s) first.0
+      (Among-from_at first.0 (shown.answers (events s)) 0 first.1) in
       let came = brought_is (event.0).message.payload first.0 event.2 in
       let h = message_handled g S.inputs count s run r event.0 event.1 in
       let shows = (answer_tells came.0 first.0 (subst (λ x. Among x (handled run)) came.1 h)).1 in

@@ -131,7 +131,8 @@ stored_twice S x a b j v w h k differ = by (site_cmp_is a b)
         ap_fault Equal is same = absurd (differ same)
         ap_fault Greater is more = subst (λ o. Faulty S (stores_as o x j a b)) (sym is) (record { premises = _; rule = second_store more; hold = (k, (h, tt)) })
 
-module _ (S : Source) (known : IsKnown S.checked) (g : Parts) (number : ℕ → ℕ → ℕ) (numbered : Numbered S.checked g number) (count : ℕ) (s : World) (run : List Event) (r : Reach g S.inputs count s run) where
+module _ (S : Source) (known : IsKnown S.checked) (g : Parts) (number : ℕ → ℕ → ℕ) (numbered : Numbered S.checked g number) (count : ℕ) (s : World)
+    (run : List Event) (r : Reach g S.inputs count s run) where
   abbrev P : Checked
   P = S.checked
 

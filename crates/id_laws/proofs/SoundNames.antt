@@ -1,5 +1,6 @@
 -- What a run of a schemas' graph shows that binders Have, they Have, and it shows one value at most for each path and place.
-use Rattle.std.proofs.Common.{◌≡◌, inl, inr, ℕ, ◌≤◌, ◌<◌, Bool as Truth, true, false, cond, Option, Some, None, List, [], ◌∷◌, length, map, option_map, refl, sym, ◌∙◌, ap}
+use Rattle.std.proofs.Common.{◌≡◌, inl, inr, ℕ, ◌≤◌, ◌<◌, Bool as Truth, true, false, cond, Option, Some, None, List}
+use Rattle.std.proofs.Common.{[], ◌∷◌, length, map, option_map, refl, sym, ◌∙◌, ap}
 use Rattle.std.proofs.Common.{◌+◌, subst, arith}
 use Rattle.std.specs.List.{filter_map, cons_option}
 use Rattle.id_list.specs.List.{Among, AllDiffer}
@@ -103,7 +104,8 @@ shown_differ {B} f (v ∷ vs) same few =
       λ h. let t = among_filter_map f vs y h in
           let k = key_of v.message.payload in
           let first : hit k v.message.payload ≡ 1 = hit_itself k v.message.payload refl in
-          let second = counts k (t.0).message.payload (told vs) (Among-map (λ (u : EventView). u.message.payload) t.0 vs t.1) (sym (same v t.0 y (inl refl) (inr t.1) e t.2)) in
+          let second = counts k (t.0).message.payload (told vs) (Among-map (λ (u : EventView). u.message.payload) t.0 vs t.1)
+          (sym (same v t.0 y (inl refl) (inr t.1) e t.2)) in
           omega (arith, few k, count_cons k v.message.payload (told vs)),
       rest,
     )
@@ -129,7 +131,8 @@ option_some h (Some x) y e = (x, refl, sym (some_is e))
 true_false : true ≡ false → ⊥
 true_false h = cc
 
-module _ (S : Source) (known : IsKnown S.checked) (g : Parts) (number : ℕ → ℕ → ℕ) (numbered : Numbered S.checked g number) (count : ℕ) (s : World) (run : List Event) (r : Reach g S.inputs count s run) where
+module _ (S : Source) (known : IsKnown S.checked) (g : Parts) (number : ℕ → ℕ → ℕ) (numbered : Numbered S.checked g number) (count : ℕ) (s : World)
+    (run : List Event) (r : Reach g S.inputs count s run) where
   abbrev P : Checked
   P = S.checked
 
@@ -151,7 +154,8 @@ module _ (S : Source) (known : IsKnown S.checked) (g : Parts) (number : ℕ → 
     has : (w : SourceValue) → shown.source_value name_of v ≡ Some w → Holds S (Has path (place P b) w)
 
   -- what is told of a name in the region of its label
-  named_label : (b : ℕ) (a : Activation) (v : Value) → b < length (rows P) → is_binder (node P b) ≡ true → Tells S number run a (NameIn (region P (label P b)) b) v
+  named_label : (b : ℕ) (a : Activation) (v : Value) → b < length (rows P) → is_binder (node P b) ≡ true →
+      Tells S number run a (NameIn (region P (label P b)) b) v
       → Label b a Zero v
   named_label b a v within binds w =
       let shown_at = subst (λ d. Shown S number run a d (place P b) v) (label_depth known within binds) w.1 in
@@ -182,7 +186,8 @@ module _ (S : Source) (known : IsKnown S.checked) (g : Parts) (number : ℕ → 
 
       by : (m : Node) → node P b ≡ m → (q : Port) → T a (label P b) (node P (label P b)) q v → Label b a q v
       by (Param x k) is Zero w =
-          named_label b a v within binds (subst (λ z. Tells S number run a (NameIn (region P z) b) v) (sym (label_plain P b (Param x k) is refl)) (own (Param x k) is refl Zero w))
+          named_label b a v within binds (subst (λ z. Tells S number run a (NameIn (region P z) b) v) (sym (label_plain P b (Param x k) is refl))
+          (own (Param x k) is refl Zero w))
       by (Param x k) is One w = absurd (own (Param x k) is refl One w)
       by (Binding x e) is Zero w =
           let u = own (Binding x e) is refl Zero w in
@@ -223,12 +228,15 @@ module _ (S : Source) (known : IsKnown S.checked) (g : Parts) (number : ℕ → 
       let port_is : z.port ≡ y.port = parts.1.0 in
       let token_is : z.value ≡ y.token = parts.1.1 in
       let instr_is : number z.row z.part ≡ (y.tag).instr = ap (λ (t : Tag). t.instr) tag_is in
-      let found = label_binds P known g number numbered (main_is_head S g number numbered known) (main_within S g number numbered known) z.row z.part z.is_part (ap (shown.is_label g) instr_is ∙ y.label) in
+      let found = label_binds P known g number numbered (main_is_head S g number numbered known) (main_within S g number numbered known) z.row z.part
+      z.is_part (ap (shown.is_label g) instr_is ∙ y.label) in
       let b = found.binder in
-      let tells = subst (λ (k : ℕ × ℕ). Tells S number run z.activation (topic_at P k.0 k.1 z.port) z.value) {x = (z.row, z.part)} {y = (label P b, 0)} (λ i. (sym found.is i, found.first i)) z.tells in
+      let tells = subst (λ (k : ℕ × ℕ). Tells S number run z.activation (topic_at P k.0 k.1 z.port) z.value) {x = (z.row, z.part)} {y = (label P b, 0)}
+      (λ i. (sym found.is i, found.first i)) z.tells in
       let at = at_label b found.within found.binds z.activation z.port z.value tells in
       let shown_there : shown.place_of g (y.tag).instr ≡ place P b =
-      ap (shown.place_of g) (sym instr_is ∙ (λ i. number (sym found.is i) (found.first i))) ∙ label_place P known g number numbered b found.within found.binds in
+      ap (shown.place_of g) (sym instr_is ∙ (λ i. number (sym found.is i) (found.first i))) ∙
+      label_place P known g number numbered b found.within found.binds in
       let value_is : n.value ≡ y.value = ap (λ (w : NameValue). w.value) y.shows in
       let path_is : n.path ≡ at.path =
       ap (λ (w : NameValue). w.path) y.shows
@@ -274,7 +282,8 @@ module _ (S : Source) (known : IsKnown S.checked) (g : Parts) (number : ℕ → 
       (shown_differ (λ (u : EventView). option_map site_of (shown.name_in g tag_path name_of u.message.payload)) (events s) one
       (told_once g S.inputs count only s run r))
     where
-      one : (v w : EventView) (y : Site) → Among v (events s) → Among w (events s) → option_map site_of (shown.name_in g tag_path name_of v.message.payload) ≡ Some y
+      one : (v w : EventView) (y : Site) → Among v (events s) → Among w (events s) →
+          option_map site_of (shown.name_in g tag_path name_of v.message.payload) ≡ Some y
           → option_map site_of (shown.name_in g tag_path name_of w.message.payload) ≡ Some y → key_of v.message.payload ≡ key_of w.message.payload
       one v w y h k e f =
           let a = option_some site_of (shown.name_in g tag_path name_of v.message.payload) y e in

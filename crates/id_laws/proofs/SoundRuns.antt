@@ -23,7 +23,8 @@ pub alone : (S : Source) → IsKnown S.checked → (g : Parts) (number : ℕ →
 alone S known g number numbered count = exclusive S g number numbered known count (λ s run r. all_tell S known g number numbered run count s r)
     (λ s run r. all_speak S known g number numbered run count s r)
 
-module _ (S : Source) (known : IsKnown S.checked) (g : Parts) (number : ℕ → ℕ → ℕ) (numbered : Numbered S.checked g number) (count : ℕ) (s : World) (run : List Event) (r : Reach g S.inputs count s run) where
+module _ (S : Source) (known : IsKnown S.checked) (g : Parts) (number : ℕ → ℕ → ℕ) (numbered : Numbered S.checked g number) (count : ℕ) (s : World)
+    (run : List Event) (r : Reach g S.inputs count s run) where
   -- what is shown is sound
   pub sound_at : IsSound S g number s
   sound_at = record {

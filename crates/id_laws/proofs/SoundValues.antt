@@ -45,8 +45,10 @@ use Rattle.id_laws.specs.Activations.{Begins, of_call, of_loop, of_arms, of_turn
 use Rattle.id_laws.proofs.Assumed.{IsKnown}
 use Rattle.id_laws.proofs.Movers.{moved_by}
 use Rattle.id_laws.proofs.Sources.{is_mover}
-use Rattle.id_laws.proofs.Arcs.{sends_in, gives_back, varies, takes_in, moves_on, moves_name, advances, resets, gets_last, allocates, addresses, fetches, gets_reply, stores, part_of}
-use Rattle.id_laws.proofs.Arcs.{Does, starts, returns, enters, constant, unary, binary, turns_on, hands, joins, names, answers, doing, place_shown, opens, passes, gets}
+use Rattle.id_laws.proofs.Arcs.{sends_in, gives_back, varies, takes_in, moves_on, moves_name, advances, resets}
+use Rattle.id_laws.proofs.Arcs.{gets_last, allocates, addresses, fetches, gets_reply, stores, part_of}
+use Rattle.id_laws.proofs.Arcs.{Does, starts, returns, enters, constant, unary, binary, turns_on, hands, joins, names}
+use Rattle.id_laws.proofs.Arcs.{answers, doing, place_shown, opens, passes, gets}
 use Rattle.id_laws.proofs.Tokens.{one_part, told_at}
 use Rattle.id_laws.proofs.Sendings.{is_fetch, is_store}
 use Rattle.id_laws.proofs.Sites.{read_told, written_told}
@@ -127,7 +129,8 @@ expresses P n part o d e gives = go d gives
     go (answers is) h = no is refl
 
 -- an expression is no `back`, no `send` and no `enter`
-no_back : (P : Checked) (number : ℕ → ℕ → ℕ) {n part : ℕ} {o : Form} {k : _} → Does P n part o → is_expression (node P n) ≡ true → op_by number o ≡ op.Back k → ⊥
+no_back : (P : Checked) (number : ℕ → ℕ → ℕ) {n part : ℕ} {o : Form} {k : _} → Does P n part o → is_expression (node P n) ≡ true →
+    op_by number o ≡ op.Back k → ⊥
 no_back P number (starts is) e b = cc
 no_back P number (returns is) e b = let bad : true ≡ false = sym e ∙ ap is_expression is in cc
 no_back P number (enters is) e b = cc
@@ -157,7 +160,8 @@ no_back P number (gets_reply is) e b = cc
 no_back P number (stores is) e b = cc
 no_back P number (answers is) e b = cc
 
-no_send : (P : Checked) (number : ℕ → ℕ → ℕ) {n part : ℕ} {o : Form} {k : _} {m : ℕ} → Does P n part o → is_expression (node P n) ≡ true → op_by number o ≡ op.Send k m → ⊥
+no_send : (P : Checked) (number : ℕ → ℕ → ℕ) {n part : ℕ} {o : Form} {k : _} {m : ℕ} → Does P n part o → is_expression (node P n) ≡ true →
+    op_by number o ≡ op.Send k m → ⊥
 no_send P number (starts is) e b = cc
 no_send P number (returns is) e b = cc
 no_send P number (enters is) e b = cc
@@ -201,7 +205,8 @@ mover_no_expression (Next x k o v) h = refl
 mover_no_expression (Reset v) h = refl
 mover_no_expression _ h = absurd (true_false (sym h))
 
-module _ (S : Source) (known : IsKnown S.checked) (g : Parts) (number : ℕ → ℕ → ℕ) (numbered : Numbered S.checked g number) (count : ℕ) (s : World) (run : List Event) (r : Reach g S.inputs count s run) where
+module _ (S : Source) (known : IsKnown S.checked) (g : Parts) (number : ℕ → ℕ → ℕ) (numbered : Numbered S.checked g number) (count : ℕ) (s : World)
+    (run : List Event) (r : Reach g S.inputs count s run) where
   abbrev P : Checked
   P = S.checked
 

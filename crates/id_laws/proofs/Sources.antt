@@ -14,7 +14,8 @@ use Rattle.id_graph.specs.declared.dests.Port.TheVariants.{Zero, One}
 use Rattle.id_build.specs.declared.arc.Origin.{Origin}
 use Rattle.id_desugar.specs.Ends.{end_of}
 use Rattle.id_desugar.specs.Regions.{imports_of}
-use Rattle.id_build.specs.Rows.{label, label_by, block, node, output, name_in, named_in, origin_of, origin, trigger_of, body_of, turn_row, next_of, entering, entries_row}
+use Rattle.id_build.specs.Rows.{label, label_by, block, node, output, name_in, named_in, origin_of, origin}
+use Rattle.id_build.specs.Rows.{trigger_of, body_of, turn_row, next_of, entering, entries_row}
 use Rattle.id_build.specs.Schemas.{Feeds}
 use Rattle.id_laws.specs.Topics.{of_fetch, of_store, IsPart}
 use Rattle.id_laws.proofs.Assumed.{IsKnown}
@@ -23,7 +24,9 @@ use Rattle.id_build.proofs.LoopsLemmas.{entries_node, entries_stand, entries_wit
 use Rattle.id_laws.proofs.Arcs.{starts, enters, constant, unary, binary, turns_on, hands, joins, opens, gets, names, part_of, fed}
 use Rattle.id_laws.proofs.Arcs.{Arc, to_back, to_literal, to_unary, to_left, to_right, to_test, to_trigger, to_import_test, to_import, to_then, to_else}
 use Rattle.id_laws.proofs.Arcs.{to_enter, to_context, to_argument, to_label, to_loop_context, to_entering, to_head, to_loop_back}
-use Rattle.id_laws.proofs.Arcs.{to_variable, to_entry, to_turn, to_turn_name, to_next, to_reset, to_low, to_high, to_target, to_index, to_fetch, to_store, to_stored, allocates, addresses, gets_reply, gets_last, takes_in, varies, moves_on, moves_name, advances, resets}
+use Rattle.id_laws.proofs.Arcs.{to_variable, to_entry, to_turn, to_turn_name, to_next, to_reset, to_low, to_high}
+use Rattle.id_laws.proofs.Arcs.{to_target, to_index, to_fetch, to_store, to_stored, allocates, addresses, gets_reply}
+use Rattle.id_laws.proofs.Arcs.{gets_last, takes_in, varies, moves_on, moves_name, advances, resets}
 use Rattle.id_laws.proofs.Calls.{arg_at}
 use Rattle.id_laws.proofs.Stores.{address_at}
 use Rattle.id_laws.proofs.Conditionals.{arm_of, conditional, test_at}
@@ -82,8 +85,10 @@ module _ (P : Checked) (known : IsKnown P) where
       own same part other stays = subst (λ z. IsSource P (output z)) (sym same) (record { is_part = part; not_answer = other; stays = stays })
 
       go : (m : Node) → node P b ≡ m → is_binder m ≡ true → IsSource P (output (label P b))
-      go (Param x k) is h = own (ap (label_by (block P b) b) is) (part_of within (enters is)) (λ z. let bad : Param x k ≡ Program = sym is ∙ z in cc) (ap is_mover is)
-      go (Binding x a) is h = own (ap (label_by (block P b) b) is) (part_of within (names is)) (λ z. let bad : Binding x a ≡ Program = sym is ∙ z in cc) (ap is_mover is)
+      go (Param x k) is h = own (ap (label_by (block P b) b) is) (part_of within (enters is)) (λ z. let bad : Param x k ≡ Program = sym is ∙ z in cc)
+          (ap is_mover is)
+      go (Binding x a) is h = own (ap (label_by (block P b) b) is) (part_of within (names is)) (λ z. let bad : Binding x a ≡ Program = sym is ∙ z in cc)
+          (ap is_mover is)
       go (Next x k o v) is h =
           let z = (known.table).next_in b (block P b) k x (record { outer = o; value = v; within = within; block = refl; node = is }) in
           let same : label P b ≡ block P b + 1 + k = ap (label_by (block P b) b) is in
@@ -131,12 +136,33 @@ module _ (P : Checked) (known : IsKnown P) where
           let b = known.bound w x within is in
           let from : origin_of P w (region P w) (Name x) ≡ name_in P (region P w) b.0 = ap (named_in P (region P w) w) b.1 in
           at_node (Name x) is (subst (IsSource P) (sym from) (named_source (region P w) b.0 b.2 b.3 b.4))
-      go (Literal c) is = at_node (Literal c) is (record { is_part = part_of within (constant is); not_answer = λ z. let bad : Literal c ≡ Program = sym is ∙ z in cc; stays = ap is_mover is })
-      go (Unary o x) is = at_node (Unary o x) is (record { is_part = part_of within (unary is); not_answer = λ z. let bad : Unary o x ≡ Program = sym is ∙ z in cc; stays = ap is_mover is })
-      go (Binary o x y) is = at_node (Binary o x y) is (record { is_part = part_of within (binary is); not_answer = λ z. let bad : Binary o x y ≡ Program = sym is ∙ z in cc; stays = ap is_mover is })
-      go (If s x y) is = at_node (If s x y) is (record { is_part = part_of within (joins is); not_answer = λ z. let bad : If s x y ≡ Program = sym is ∙ z in cc; stays = ap is_mover is })
-      go (Call s c) is = at_node (Call s c) is (record { is_part = part_of within (gets is); not_answer = λ z. let bad : Call s c ≡ Program = sym is ∙ z in cc; stays = ap is_mover is })
-      go (Loop g u l) is = at_node (Loop g u l) is (record { is_part = part_of within (gets_last is); not_answer = λ z. let bad : Loop g u l ≡ Program = sym is ∙ z in cc; stays = ap is_mover is })
+      go (Literal c) is = at_node (Literal c) is (record {
+        is_part = part_of within (constant is);
+        not_answer = λ z. let bad : Literal c ≡ Program = sym is ∙ z in cc;
+        stays = ap is_mover is;
+      })
+      go (Unary o x) is = at_node (Unary o x) is (record {
+        is_part = part_of within (unary is);
+        not_answer = λ z. let bad : Unary o x ≡ Program = sym is ∙ z in cc;
+        stays = ap is_mover is;
+      })
+      go (Binary o x y) is = at_node (Binary o x y) is (record
+          { is_part = part_of within (binary is); not_answer = λ z. let bad : Binary o x y ≡ Program = sym is ∙ z in cc; stays = ap is_mover is })
+      go (If s x y) is = at_node (If s x y) is (record {
+        is_part = part_of within (joins is);
+        not_answer = λ z. let bad : If s x y ≡ Program = sym is ∙ z in cc;
+        stays = ap is_mover is;
+      })
+      go (Call s c) is = at_node (Call s c) is (record {
+        is_part = part_of within (gets is);
+        not_answer = λ z. let bad : Call s c ≡ Program = sym is ∙ z in cc;
+        stays = ap is_mover is;
+      })
+      go (Loop g u l) is = at_node (Loop g u l) is (record {
+        is_part = part_of within (gets_last is);
+        not_answer = λ z. let bad : Loop g u l ≡ Program = sym is ∙ z in cc;
+        stays = ap is_mover is;
+      })
       go (Array x y) is =
           at_node (Array x y) is (record {
             is_part = part_of within (allocates is);
@@ -181,9 +207,21 @@ module _ (P : Checked) (known : IsKnown P) where
   trigger_source n within other = let r = region_of known within other in by (region P n) r.below r.head
     where
       by : (r : Region) → r.head < length (rows P) → HeadOf P r → IsSource P (trigger_of r)
-      by r below (of_block is top_is) = record { is_part = part_of below (starts is); not_answer = λ z. true_false (sym is ∙ ap begins_block z); stays = head_stays (node P r.head) is }
-      by r below (of_tests (of_arms {e = t} is)) = record { is_part = part_of below (turns_on (of_arms is)); not_answer = λ z. let bad : Split t ≡ Program = sym is ∙ z in cc; stays = ap is_mover is }
-      by r below (of_tests (of_turns {e = t} is)) = record { is_part = part_of below (turns_on (of_turns is)); not_answer = λ z. let bad : Switches t ≡ Program = sym is ∙ z in cc; stays = ap is_mover is }
+      by r below (of_block is top_is) = record {
+        is_part = part_of below (starts is);
+        not_answer = λ z. true_false (sym is ∙ ap begins_block z);
+        stays = head_stays (node P r.head) is;
+      }
+      by r below (of_tests (of_arms {e = t} is)) = record {
+        is_part = part_of below (turns_on (of_arms is));
+        not_answer = λ z. let bad : Split t ≡ Program = sym is ∙ z in cc;
+        stays = ap is_mover is;
+      }
+      by r below (of_tests (of_turns {e = t} is)) = record {
+        is_part = part_of below (turns_on (of_turns is));
+        not_answer = λ z. let bad : Switches t ≡ Program = sym is ∙ z in cc;
+        stays = ap is_mover is;
+      }
 
   pub begins_other : {n h q : ℕ} → Begins P n h q → node P n ≡ Program → ⊥
   begins_other (of_call {x = x} is) z = let bad : Enter x ≡ Program = sym is ∙ z in cc
@@ -197,7 +235,11 @@ module _ (P : Checked) (known : IsKnown P) where
 
   -- what comes to a row of such a node
   steady : {n : ℕ} {p : Port} {s : Origin} (m : Node) → node P n ≡ m → is_entry m ≡ false → begins_block m ≡ false → IsSource P s → Stays P n p s
-  steady m is no_entry no_head source = record { source = source; no_entry = ap is_entry is ∙ no_entry; at_head = λ b. absurd (true_false (sym b ∙ ap begins_block is ∙ no_head)) }
+  steady m is no_entry no_head source = record {
+    source = source;
+    no_entry = ap is_entry is ∙ no_entry;
+    at_head = λ b. absurd (true_false (sym b ∙ ap begins_block is ∙ no_head));
+  }
 
   at_switches : {n t : ℕ} {p : Port} {s : Origin} → Tests P n t → IsSource P s → Stays P n p s
   at_switches (of_arms {e = t} is) source = steady (Split t) is refl refl source
@@ -224,10 +266,15 @@ module _ (P : Checked) (known : IsKnown P) where
   by_arc {n} within (to_enter is) = inl (at_begin is (trigger_source n within (begins_other is)))
   by_arc {n} within (to_context {e = e} is) =
       let z = arg_at known within is in
-      inl (steady _ is refl refl (record { is_part = part_of z.enter_within (opens (of_call z.enter)); not_answer = λ q. let bad : Enter z.name ≡ Program = sym z.enter ∙ q in cc; stays = ap is_mover z.enter }))
+      inl (steady _ is refl refl (record {
+        is_part = part_of z.enter_within (opens (of_call z.enter));
+        not_answer = λ q. let bad : Enter z.name ≡ Program = sym z.enter ∙ q in cc;
+        stays = ap is_mover z.enter;
+      }))
   by_arc {n} within (to_argument {e = e} {k = k} {v = v} is) = inl (steady _ is refl refl (operand_source n v (Arg e k v) within is (inr refl) refl))
   by_arc {n} within (to_label {x = x} {a = e} is) = inl (steady _ is refl refl (operand_source n e (Binding x e) within is refl refl))
-  by_arc {n} within (to_loop_context k is less) = inl (steady _ is refl refl (record { is_part = part_of within (opens (of_loop is)); not_answer = begins_other (of_loop is); stays = ap is_mover is }))
+  by_arc {n} within (to_loop_context k is less) = inl (steady _ is refl refl
+      (record { is_part = part_of within (opens (of_loop is)); not_answer = begins_other (of_loop is); stays = ap is_mover is }))
   by_arc {n} within (to_entering k is less) =
       let b = get_or (entering P (n + 1)) k 0 in
       let z = known.loop_names n within is b (listed (entering P (n + 1)) k less) in

@@ -84,7 +84,8 @@ module _ (S : Source) (g : Parts) (number : ℕ → ℕ → ℕ) (numbered : Num
   main_is_head = let d = known.main in ((known.table).head_is P.main d.name main d.body d.result d.within d.node).0
 
   pub main_within : main < length (rows P)
-  main_within = let d = known.main in let f = (known.table).formed in omega (arith, d.within, ((f.each P.main d.within).parts main (subst (λ m. Rattle.id_parts.specs.Tables.HasPart m main) (sym d.node) (inl refl))).1)
+  main_within = let d = known.main in let f = (known.table).formed in
+      omega (arith, d.within, ((f.each P.main d.within).parts main (subst (λ m. Rattle.id_parts.specs.Tables.HasPart m main) (sym d.node) (inl refl))).1)
 
   answer_within : answer_row P < length (rows P)
   answer_within = let t = known.table in omega (arith, t.some)
@@ -103,7 +104,8 @@ module _ (S : Source) (g : Parts) (number : ℕ → ℕ → ℕ) (numbered : Num
       by Head is b =
           let d = t.has_def h within is in
           let e = d.1 in
-          let one : d.0 ≡ P.main = (known.apart).apart d.0 P.main e.within m.within (def_thing e.node) (def_thing m.node) (sym (known.head_place d.0 h e) ∙ same) in
+          let one : d.0 ≡ P.main = (known.apart).apart d.0 P.main e.within m.within (def_thing e.node) (def_thing m.node)
+          (sym (known.head_place d.0 h e) ∙ same) in
           one_head (sym e.node ∙ ap (node P) one ∙ m.node)
       by (LoopHead s) is b =
           let l = loop_place P h s within is in
@@ -169,7 +171,8 @@ module _ (S : Source) (g : Parts) (number : ℕ → ℕ → ℕ) (numbered : Num
   pub starting_is : starting g S.inputs ≡ signal_to ∷ way_back_to ∷ inputs_to (params_at (rows P) main) S.inputs
   starting_is =
       ap (λ bs. map (λ (m : Message). m.payload) (block_messages bs S.inputs)) main_block
-      ∙ (λ i. signal_to ∷ Token (tag_in main_activation (sym (numbered.parts_behind main 1) i)) Zero (Continuation (tag_in main_activation (sym numbered.answer_first i)))
+      ∙ (λ i. signal_to ∷ Token (tag_in main_activation (sym (numbered.parts_behind main 1) i)) Zero
+      (Continuation (tag_in main_activation (sym numbered.answer_first i)))
       ∷ inputs_sent 2 (params_at (rows P) main) S.inputs i)
 
   -- the message is there at the start
@@ -205,9 +208,25 @@ module _ (S : Source) (g : Parts) (number : ℕ → ℕ → ℕ) (numbered : Num
   pub started : (x : Payload) → Among x (starting g S.inputs) → Started x
   started x h =
       elim (subst (Among x) starting_is h) [
-        | inl is ↦ record { row = main; part = 0; port = Zero; value = Signal; starts_at = signal; is_part = part_of main_within (starts (ap begins_block main_is_head)); is = is }
+        | inl is ↦ record {
+          row = main;
+          part = 0;
+          port = Zero;
+          value = Signal;
+          starts_at = signal;
+          is_part = part_of main_within (starts (ap begins_block main_is_head));
+          is = is;
+        }
         | inr more ↦ elim more [
-          | inl is ↦ record { row = main; part = 1; port = Zero; value = _; starts_at = way_back; is_part = part_of main_within (returns main_is_head); is = is }
+          | inl is ↦ record {
+            row = main;
+            part = 1;
+            port = Zero;
+            value = _;
+            starts_at = way_back;
+            is_part = part_of main_within (returns main_is_head);
+            is = is;
+          }
           | inr rest ↦
               let b = brings (params_at (rows P) main) S.inputs x rest in
               record {
@@ -278,6 +297,7 @@ module _ (S : Source) (g : Parts) (number : ℕ → ℕ → ℕ) (numbered : Num
       (λ y h same. no_input 1 (part_of main_within (returns main_is_head)) way_back_to y _ refl h same))
       (λ y h same.
       elim h [
-        | inl is ↦ zero_one (one_part numbered (part_of main_within (starts (ap begins_block main_is_head))) (part_of main_within (returns main_is_head)) (number_of_key refl (ap key_of is) same)).1
+        | inl is ↦ zero_one (one_part numbered (part_of main_within (starts (ap begins_block main_is_head))) (part_of main_within (returns main_is_head))
+            (number_of_key refl (ap key_of is) same)).1
         | inr more ↦ no_input 0 (part_of main_within (starts (ap begins_block main_is_head))) signal_to y _ refl more same
       ]))

@@ -80,9 +80,11 @@ module _ (S : Source) (known : IsKnown S.checked) (g : Parts) (number : ℕ → 
 
   tells_at_start : {n part : ℕ} {p : Port} {v : Value} → StartsAt S number n part p v → Tells S number run main_activation (topic_at P n part p) v
   tells_at_start signal =
-      subst (λ m. Tells S number run main_activation (wants P (main_head P) (region P (main_head P)) m 0 Zero) Signal) (sym (main_is_head S g number numbered known)) (refl, at_start)
+      subst (λ m. Tells S number run main_activation (wants P (main_head P) (region P (main_head P)) m 0 Zero) Signal)
+      (sym (main_is_head S g number numbered known)) (refl, at_start)
   tells_at_start way_back =
-      subst (λ m. Tells S number run main_activation (wants P (main_head P) (region P (main_head P)) m 1 Zero) (Continuation (tag_in main_activation (number (answer_row P) 0)))) (sym (main_is_head S g number numbered known))
+      subst (λ m. Tells S number run main_activation (wants P (main_head P) (region P (main_head P)) m 1 Zero)
+      (Continuation (tag_in main_activation (number (answer_row P) 0)))) (sym (main_is_head S g number numbered known))
       (record { caller = main_activation; row = _; is = refl; returns = to_answer; at_first = refl })
   tells_at_start (input b c x) = input_tells b c x
 

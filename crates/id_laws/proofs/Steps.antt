@@ -46,7 +46,8 @@ stepping S g number numbered count s run r tell = record {
       let h = has_fired g S.inputs count s run r x.fires in
       let y = fired_part numbered h in
       let row = (one_part numbered part y.is_part (ap (λ (t : Tag). t.instr) (sym y.at))).0 in
-      subst (λ n. Steps (node S.checked n) a.iteration k) (sym row) (steps_by S.checked number y.does (tag_in a (number o.row o.part)) x.fires.operands y.fresh k v (sym y.is));
+      subst (λ n. Steps (node S.checked n) a.iteration k) (sym row)
+      (steps_by S.checked number y.does (tag_in a (number o.row o.part)) x.fires.operands y.fresh k v (sym y.is));
   ends = λ a o k e v part x is. (let h = has_fired g S.inputs count s run r x.fires in reset_live a o e part is h.handled_are);
 }
   where

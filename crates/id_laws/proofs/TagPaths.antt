@@ -143,7 +143,8 @@ module _ (S : Source) (known : IsKnown S.checked) (g : Parts) (number : ℕ → 
               let x = below.each (Some c) h in
               let e = x.entered in
               let one =
-              (seats S known g number numbered run count s r).one c x.seat q (subst (λ z. SeatOf S number run z x.seat) (sym (some_is e.is)) x.of_context) here in
+              (seats S known g number numbered run count s r).one c x.seat q (subst (λ z. SeatOf S number run z x.seat) (sym (some_is e.is)) x.of_context)
+              here in
               omega (arith, x.low, ap depth one, deep),
           below.differ,
         );
@@ -160,6 +161,7 @@ module _ (S : Source) (known : IsKnown S.checked) (g : Parts) (number : ℕ → 
       subst (λ n. n ≤ length (events s)) y.long (few_entered g S.inputs count s run r y.contexts y.differ (λ o h. (y.each o h).entered))
 
   -- the path of a tag is that of its activation
-  pub path_shown : (t : Tag) (p : Path) {q : Region} → Live S number run (activation_of t) q → PathOf S number run (activation_of t) p → shown.path_in g s.elements t ≡ p
+  pub path_shown : (t : Tag) (p : Path) {q : Region} → Live S number run (activation_of t) q → PathOf S number run (activation_of t) p →
+      shown.path_in g s.elements t ≡ p
   path_shown t p live h =
       path_of-leads g (events s) t (depth h.seat) (path_at h.seat t.iteration).steps (leads h.of_context t refl (first_of live)) (few h.of_context) ∙ sym h.is

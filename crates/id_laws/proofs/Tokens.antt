@@ -40,4 +40,5 @@ told_at S g number run numbered a n k p v part x =
     let ports : p ≡ x.port = parts.1.0 in
     let values : v ≡ x.value = parts.1.1 in
     subst (λ (z : Activation × (ℕ × (ℕ × (Port × Value)))). Tells S number run z.0 (topic_at S.checked z.1.0 z.1.1.0 z.1.1.1.0) z.1.1.1.1)
-    {x = (x.activation, (x.row, (x.part, (x.port, x.value))))} {y = (a, (n, (k, (p, v))))} (λ i. (sym acts i, (sym at.0 i, (sym at.1 i, (sym ports i, sym values i))))) x.tells
+    {x = (x.activation, (x.row, (x.part, (x.port, x.value))))} {y = (a, (n, (k, (p, v))))}
+    (λ i. (sym acts i, (sym at.0 i, (sym at.1 i, (sym ports i, sym values i))))) x.tells

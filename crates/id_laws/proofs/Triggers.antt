@@ -30,7 +30,8 @@ use Rattle.id_runs.specs.Activations.{Activation, main_activation, at_iteration,
 use Rattle.id_runs.specs.Events.{Event}
 use Rattle.id_runs.specs.Runs.{Reach, handled}
 use Rattle.id_runs.specs.OneMessage.{Exclusive}
-use Rattle.id_laws.specs.Activations.{path_at, Begins, Tests, of_call, of_loop, of_arms, of_turns, Live, at_start, on_side, entered, again, PathOf, Speaks, main_head, Opens}
+use Rattle.id_laws.specs.Activations.{path_at, Begins, Tests, of_call, of_loop, of_arms, of_turns, Live, at_start}
+use Rattle.id_laws.specs.Activations.{on_side, entered, again, PathOf, Speaks, main_head, Opens}
 use Rattle.id_laws.specs.Ways.{signal}
 use Rattle.id_laws.proofs.Arcs.{starts, turns_on, hands, imports_fed, opens, makes}
 use Rattle.id_laws.proofs.Assumed.{IsKnown}
@@ -60,7 +61,8 @@ use Rattle.id_runs.proofs.OneMessage.{fired_once}
 use Rattle.id_list.specs.List.{Among}
 use Rattle.id_laws.proofs.Started.{first_sent, second_sent}
 
-module _ (S : Source) (g : Parts) (number : ℕ → ℕ → ℕ) (numbered : Numbered S.checked g number) (known : IsKnown S.checked) (count : ℕ) (only : Exclusive g S.inputs count)
+module _ (S : Source) (g : Parts) (number : ℕ → ℕ → ℕ) (numbered : Numbered S.checked g number) (known : IsKnown S.checked) (count : ℕ)
+    (only : Exclusive g S.inputs count)
     (s : World) (run : List Event) (r : Reach g S.inputs count s run) (quiet : s.flight ≡ []) where
   abbrev P : Checked
   P = S.checked
@@ -72,7 +74,8 @@ module _ (S : Source) (g : Parts) (number : ℕ → ℕ → ℕ) (numbered : Num
   main_is = let d = known.main in ((known.table).head_is P.main d.name main d.body d.result d.within d.node).0
 
   pub main_within : main < length (rows P)
-  main_within = let d = known.main in let f = (known.table).formed in omega (arith, d.within, ((f.each P.main d.within).parts main (subst (λ m. HasPart m main) (sym d.node) (inl refl))).1)
+  main_within = let d = known.main in let f = (known.table).formed in
+      omega (arith, d.within, ((f.each P.main d.within).parts main (subst (λ m. HasPart m main) (sym d.node) (inl refl))).1)
 
   -- two live activations of one path are one
   pub one_activation : {a a' : Activation} {q q' : Region} {p : Path} → Live S number run a q → Live S number run a' q' → PathOf S number run a p
@@ -80,8 +83,10 @@ module _ (S : Source) (g : Parts) (number : ℕ → ℕ → ℕ) (numbered : Num
   one_activation x y h k =
       paths_apart S known g number numbered run (contexts_apart g S.inputs count s run r)
       (fired_once g S.inputs count only s run r)
-      (λ a n i q c within is o. main_first S known number run g numbered (contexts_apart g S.inputs count s run r) (opening_live S known g number numbered run count s r a n i q c within is o)) h k
-      (main_first S known number run g numbered (contexts_apart g S.inputs count s run r) x) (main_first S known number run g numbered (contexts_apart g S.inputs count s run r) y)
+      (λ a n i q c within is o. main_first S known number run g numbered (contexts_apart g S.inputs count s run r)
+      (opening_live S known g number numbered run count s r a n i q c within is o)) h k
+      (main_first S known number run g numbered (contexts_apart g S.inputs count s run r) x)
+      (main_first S known number run g numbered (contexts_apart g S.inputs count s run r) y)
 
   -- what begins a context names the first instruction of its block, and that of where the block's value goes
   opener_names : {n h q : ℕ} → n < length (rows P) → Begins P n h q → op_at g (number n 0) ≡ Some (EnterOp (number h 0) (number q 0))
@@ -113,10 +118,14 @@ module _ (S : Source) (g : Parts) (number : ℕ → ℕ → ℕ) (numbered : Num
 
   -- what feeds the first of a row's switches
   switch_fed : {n t : ℕ} → Tests P n t → n < length (rows P) → Feeds P (origin P t) n 0 Zero × Feeds P (trigger_of (region P n)) n 0 Second
-  switch_fed {n} {t} (of_arms is) within =
-      (fed_as P known (origin P t) n 0 Zero (Split t) within is (inl refl), fed_as P known (trigger_of (region P n)) n 0 Second (Split t) within is (inr (inl refl)))
-  switch_fed {n} {t} (of_turns is) within =
-      (fed_as P known (origin P t) n 0 Zero (Switches t) within is (inl refl), fed_as P known (trigger_of (region P n)) n 0 Second (Switches t) within is (inr (inl refl)))
+  switch_fed {n} {t} (of_arms is) within = (
+    fed_as P known (origin P t) n 0 Zero (Split t) within is (inl refl),
+    fed_as P known (trigger_of (region P n)) n 0 Second (Split t) within is (inr (inl refl)),
+  )
+  switch_fed {n} {t} (of_turns is) within = (
+    fed_as P known (origin P t) n 0 Zero (Switches t) within is (inl refl),
+    fed_as P known (trigger_of (region P n)) n 0 Second (Switches t) within is (inr (inl refl)),
+  )
 
   -- where that of the switches' region has spoken and the predicate has, the trigger of the side speaks
   side_turned : {a : Activation} {n t : ℕ} {b : Truth} → n < length (rows P) → Tests P n t → Speaks S number run a (trigger_of (region P n)) Signal
@@ -142,7 +151,8 @@ module _ (S : Source) (g : Parts) (number : ℕ → ℕ → ℕ) (numbered : Num
       let z = switches_of known within is in
       let side = side_turned within (of_turns is) (live_turned live) says in
       let on = subst (λ w. Speaks S number run (at_iteration c k) (trigger_of (arm_at w true)) Signal) (sym z.switches) side in
-      subst (λ q. Speaks S number run (at_iteration c (suc k)) (trigger_of q) Signal) (sym z.right) (turned_again S g number numbered known count only s run r quiet z.loop c k on)
+      subst (λ q. Speaks S number run (at_iteration c (suc k)) (trigger_of q) Signal) (sym z.right)
+      (turned_again S g number numbered known count only s run r quiet z.loop c k on)
 
   -- what is handed into an arm comes from where the conditional stands
   handed_on : (a : Activation) (n t k : ℕ) (b : Truth) (v : Value) → n < length (rows P) → Tests P n t → k < length (imports_of P n)
@@ -154,8 +164,10 @@ module _ (S : Source) (g : Parts) (number : ℕ → ℕ → ℕ) (numbered : Num
       let feeds = imports_fed P n t k within is less in
       let test = came S g number numbered known count only s run r quiet a (origin P t) n (suc k) Zero (TruthValue b) says feeds.0 in
       let value = came S g number numbered known count only s run r quiet a (name_in P (region P n) o) n (suc k) Second v name feeds.1 in
-      let fired_so = both_fired S g number numbered known count only s run r quiet a n (suc k) (Switch (port_at P o)) (TruthValue b) v within (hands k is less) refl test value in
-      spoken_on S g number numbered known count only s run r quiet a n (suc k) (Switch (port_at P o)) (Two (TruthValue b) v) b v fired_so (λ f. switched (port_at P o) b v fits)
+      let fired_so = both_fired S g number numbered known count only s run r quiet a n (suc k) (Switch (port_at P o)) (TruthValue b) v within
+      (hands k is less) refl test value in
+      spoken_on S g number numbered known count only s run r quiet a n (suc k) (Switch (port_at P o)) (Two (TruthValue b) v) b v fired_so
+      (λ f. switched (port_at P o) b v fits)
 
   -- where the name is bound, as the region sees it: what its label has spoken there, of its kind, comes to the region
   pub record Home (a : Activation) (q : Region) (b : ℕ) : Type 0 where
@@ -315,7 +327,8 @@ module _ (S : Source) (g : Parts) (number : ℕ → ℕ → ℕ) (numbered : Num
   again_home {c} {k} {h} {t} {w} {e} b j x less is within is' same right of_block inside binds few there sees from says home_is =
       let start = start_of_head known less is in
       let deep : loops_between (rows P) (region P w).head b ≡ suc (loops_between (rows P) t b) =
-      ap (λ (q : Region). loops_between (rows P) q.head b) right ∙ ap (λ i. loops_between (rows P) i b) (sym start.2) ∙ loop_between known start.0 start.1 inside binds sees in
+      ap (λ (q : Region). loops_between (rows P) q.head b) right ∙ ap (λ i. loops_between (rows P) i b) (sym start.2) ∙
+      loop_between known start.0 start.1 inside binds sees in
       let among : Among b (imports_of P h) = subst (λ i. Among i (imports_of P h)) there (listed (imports_of P h) j few) in
       record {
         activation = home_is.activation;
@@ -330,9 +343,12 @@ module _ (S : Source) (g : Parts) (number : ℕ → ℕ → ℕ) (numbered : Num
         comes = λ v fits y.
             let ok : same_kind (kind_of v) (port_at P (get_or (imports_of P h) j 0)) ≡ true = ap (λ i. same_kind (kind_of v) (port_at P i)) there ∙ fits in
             let said : Speaks S number run (at_iteration c k) (name_in P (arm_at (x.the).switches true) (get_or (imports_of P h) j 0)) v =
-            subst (λ (z : ℕ × ℕ). Speaks S number run (at_iteration c k) (name_in P (arm_at z.0 true) z.1) v) {x = (w, b)} {y = ((x.the).switches, get_or (imports_of P h) j 0)}
-            (λ i. (sym same i, sym there i)) (side_comes b x less is within is' same right of_block inside binds among sees says v fits (home_is.comes v fits y)) in
-            subst (λ z. Speaks S number run (at_iteration c (suc k)) z v) (sym from) (name_again S g number numbered known count only s run r quiet x c k j v few ok said);
+            subst (λ (z : ℕ × ℕ). Speaks S number run (at_iteration c k) (name_in P (arm_at z.0 true) z.1) v) {x = (w, b)}
+            {y = ((x.the).switches, get_or (imports_of P h) j 0)}
+            (λ i. (sym same i, sym there i)) (side_comes b x less is within is' same right of_block inside binds among sees says v fits
+            (home_is.comes v fits y)) in
+            subst (λ z. Speaks S number run (at_iteration c (suc k)) z v) (sym from)
+            (name_again S g number numbered known count only s run r quiet x c k j v few ok said);
       }
 
   -- each name that a live region sees comes there from its binder's label

@@ -10,7 +10,8 @@ use Rattle.id_parts.specs.declared.row.Node.TheVariants.{Head, Split, If, Call}
 use Rattle.id_parts.specs.declared.row.Node.TheVariants.{Def, Program, Switches, Body, Next, Loop, LoopHead, Address, Store}
 use Rattle.id_parts.specs.Rows.{arm_at, at, top}
 use Rattle.id_parts.specs.Tables.{is_expression, is_top}
-use Rattle.id_parts.specs.Turns.{IsDefOf, operand, left, right, test, argument, body, statement, Root, of_procedure, of_then, of_otherwise, TurnedIn, root, part}
+use Rattle.id_parts.specs.Turns.{IsDefOf, operand, left, right, test, argument, body, statement, Root, of_procedure}
+use Rattle.id_parts.specs.Turns.{of_then, of_otherwise, TurnedIn, root, part}
 use Rattle.id_parts.specs.Turns.{low, high, fetched, fetch_index, address_target, address_index, stored_value, stored}
 use Rattle.id_parts.specs.Turns.{of_test, of_statement, of_store, of_next, of_last}
 use Rattle.id_check.specs.declared.checked.Checked.{Checked}
@@ -22,7 +23,8 @@ use Rattle.id_meaning.specs.declared.SourceValue.TheVariants as source
 use Rattle.id_meaning.specs.declared.Fact.TheVariants.{On, Has}
 use Rattle.id_meaning.specs.Sources.{Source, body_of}
 use Rattle.id_meaning.specs.Facts.{outermost, below, without, Rule, main_on, operand_on, left_on, right_on, test_on, arm_on, argument_on, callee_on}
-use Rattle.id_meaning.specs.Facts.{statement_on, store_on, body_on, bounds_low_on, bounds_high_on, fetch_target_on, fetch_index_on, store_target_on, store_index_on, store_value_on}
+use Rattle.id_meaning.specs.Facts.{statement_on, store_on, body_on, bounds_low_on, bounds_high_on, fetch_target_on}
+use Rattle.id_meaning.specs.Facts.{fetch_index_on, store_target_on, store_index_on, store_value_on}
 use Rattle.id_meaning.specs.Facts.{BodyStores, StoreStands, loop_store_on}
 use Rattle.id_meaning.specs.Rounds.{Every, Rounds, Holds}
 use Rattle.id_build.specs.Rows.{node}
@@ -30,7 +32,8 @@ use Rattle.id_runs.specs.Activations.{Activation}
 use Rattle.id_runs.specs.Events.{Event}
 use Rattle.id_laws.specs.Activations.{Tests, PathOf, Goes, by_test, of_arms, of_turns, of_call, of_loop, Live, at_start, on_side, entered, again}
 use Rattle.id_laws.proofs.Assumed.{IsKnown}
-use Rattle.id_laws.proofs.Loops.{LoopOf, body_at, loop_by, loop_of_row, loop_of_start, loop_stands, next_at, same_loop, start_place, start_region, switches_node, test_row}
+use Rattle.id_laws.proofs.Loops.{LoopOf, body_at, loop_by, loop_of_row, loop_of_start, loop_stands, next_at}
+use Rattle.id_laws.proofs.Loops.{same_loop, start_place, start_region, switches_node, test_row}
 use Rattle.id_laws.proofs.Opened.{InLoop, live_loop, loop_path, next_path}
 use Rattle.id_laws.proofs.Regions.{region_of}
 use Rattle.id_build.specs.Rows.{block}
@@ -159,7 +162,8 @@ module _ (S : Source) (known : IsKnown S.checked) where
       absurd (no_switches (head_of_def x) (ap (λ (r : Region). node P r.head) (sym is ∙ body_at known within def l) ∙ switches_node P known (block P n) l))
   procedure_roots {d} {h} x on is (of_next {m = m} {x = y} {k = k} {o = o} {a = a} within def) =
       let l = loop_of_row known (Next y k o a) within def refl in
-      absurd (no_switches (head_of_def x) (ap (λ (r : Region). node P r.head) (sym is ∙ (next_at known within def l).region) ∙ switches_node P known (block P m) l))
+      absurd (no_switches (head_of_def x) (ap (λ (r : Region). node P r.head) (sym is ∙ (next_at known within def l).region) ∙
+      switches_node P known (block P m) l))
   procedure_roots {d} {h} x on is (of_last {n = n} {h = g} {w = w} {l = e} within def) =
       let c = loop_by known (record { switches = w; last = e; within = within; node = def }) in
       let w_is = (same_loop known (record { switches = w; last = e; within = within; node = def }) c).switches in
@@ -174,7 +178,8 @@ module _ (S : Source) (known : IsKnown S.checked) where
       let side : c ≡ b = ap (λ (r : Region). r.side) is in
       let both : Split z.test ≡ Split t = sym z.node ∙ ap (node P) head ∙ split in
       let test : z.test ≡ t = cc in
-      let has' = subst (λ (y : ℕ × Truth). Holds S (Has p (place P y.0) (source.Bool y.1))) {x = (t, b)} {y = (z.test, c)} (λ i. (sym test i, sym side i)) has in
+      let has' = subst (λ (y : ℕ × Truth). Holds S (Has p (place P y.0) (source.Bool y.1))) {x = (t, b)} {y = (z.test, c)} (λ i. (sym test i, sym side i)) has
+      in
       holds_by S _ _ (arm_on (chosen c (record { within = within; node = def }) (record { within = z.within; node = z.node })))
       (on n within (ap is_expression def) (sym z.region ∙ ap (region P) head), (has', tt))
 
@@ -217,7 +222,12 @@ module _ (S : Source) (known : IsKnown S.checked) where
     where
       turned_loop : {n g : ℕ} (c : IsLoopOf (rows P) n g) → g ≡ h → (l : LoopOf P h) → c.switches ≡ (l.the).switches
       turned_loop {n} {g} c e l =
-          let c' : IsLoopOf (rows P) n h = record { switches = c.switches; last = c.last; within = c.within; node = c.node ∙ ap (λ y. Loop y c.switches c.last) e } in
+          let c' : IsLoopOf (rows P) n h = record {
+            switches = c.switches;
+            last = c.last;
+            within = c.within;
+            node = c.node ∙ ap (λ y. Loop y c.switches c.last) e;
+          } in
           (same_loop known c' l).switches
   loop_roots {h} l on at (of_statement {n = n} inside def st o) =
       let m = loop_of_row known Body inside def refl in
@@ -237,7 +247,8 @@ module _ (S : Source) (known : IsKnown S.checked) where
   statement_within n m less st = let inside = before (at (rows P) n).first n m st.inside in omega (arith, less, inside)
 
   -- what is a root of a side of a loop's switches is On at an iteration's path, where the predicate chooses the side
-  side_roots : {h : ℕ} (l : LoopOf P h) (q : Path) (k : ℕ) {b : Truth} → Holds S (Has (below q (place P (end_of P h)) k) (place P (test_row P known h l)) (source.Bool b))
+  side_roots : {h : ℕ} (l : LoopOf P h) (q : Path) (k : ℕ) {b : Truth} →
+      Holds S (Has (below q (place P (end_of P h)) k) (place P (test_row P known h l)) (source.Bool b))
       → {r : Region} {e : ℕ} → r ≡ arm_at (l.the).switches b → Root (rows P) r e → Holds S (On (below q (place P (end_of P h)) k) (place P e))
   side_roots {h} l q i has at (of_procedure {n = n} {x = y} {h = g} {b = b} {k = k} inside def) =
       absurd (no_switches ((known.table).head_is n y g b k inside def).0 (ap (λ (r : Region). node P r.head) at ∙ switches_node P known h l))
@@ -260,7 +271,8 @@ module _ (S : Source) (known : IsKnown S.checked) where
         statement = st;
         binding = record { within = statement_within n m inside st; node = o };
       } in
-      holds_by S _ _ (loop_statement_on q k (loop_stands P known h l) bind) (subst (λ c. Holds S (Has (below q (place P (end_of P h)) k) (place P (test_row P known h l)) (source.Bool c))) side has, tt)
+      holds_by S _ _ (loop_statement_on q k (loop_stands P known h l) bind)
+      (subst (λ c. Holds S (Has (below q (place P (end_of P h)) k) (place P (test_row P known h l)) (source.Bool c))) side has, tt)
   side_roots {h} l q k {b} has here (of_store {n = n} {m = m} {a = a} {v = x} inside def st o) =
       let c = loop_of_row known Body inside def refl in
       let there = sym (body_at known inside def c) ∙ here in
@@ -286,7 +298,8 @@ module _ (S : Source) (known : IsKnown S.checked) where
       let side : b ≡ true = ap (λ (r : Region). r.side) (sym there) in
       let block_is = one_loop_of c l (ap (λ (r : Region). r.head) there) in
       let stands : NextStands P i h o a = record { name = y; index = j; next = record { within = inside; node = def }; block = block_is } in
-      holds_by S _ _ (next_on q k (loop_stands P known h l) stands) (subst (λ c. Holds S (Has (below q (place P (end_of P h)) k) (place P (test_row P known h l)) (source.Bool c))) side has, tt)
+      holds_by S _ _ (next_on q k (loop_stands P known h l) stands)
+      (subst (λ c. Holds S (Has (below q (place P (end_of P h)) k) (place P (test_row P known h l)) (source.Bool c))) side has, tt)
   side_roots {h} l q k {b} has at (of_last {n = n} {h = g} {w = u} {l = e} inside def) =
       let c : IsLoopOf (rows P) n g = record { switches = u; last = e; within = inside; node = def } in
       let m = loop_by known c in
@@ -295,11 +308,17 @@ module _ (S : Source) (known : IsKnown S.checked) where
       let block_is = one_loop_of m l (sym same.switches ∙ ap (λ (r : Region). r.head) at) in
       let last_is : e ≡ (l.the).last = last_of c block_is l in
       subst (λ i. Holds S (On (below q (place P (end_of P h)) k) (place P i))) (sym last_is)
-      (holds_by S _ _ (last_on q k (loop_stands P known h l)) (subst (λ c. Holds S (Has (below q (place P (end_of P h)) k) (place P (test_row P known h l)) (source.Bool c))) side has, tt))
+      (holds_by S _ _ (last_on q k (loop_stands P known h l))
+      (subst (λ c. Holds S (Has (below q (place P (end_of P h)) k) (place P (test_row P known h l)) (source.Bool c))) side has, tt))
     where
       last_of : {n g : ℕ} (c : IsLoopOf (rows P) n g) → g ≡ h → (l : LoopOf P h) → c.last ≡ (l.the).last
       last_of {n} {g} c e l =
-          let c' : IsLoopOf (rows P) n h = record { switches = c.switches; last = c.last; within = c.within; node = c.node ∙ ap (λ y. Loop y c.switches c.last) e } in
+          let c' : IsLoopOf (rows P) n h = record {
+            switches = c.switches;
+            last = c.last;
+            within = c.within;
+            node = c.node ∙ ap (λ y. Loop y c.switches c.last) e;
+          } in
           (same_loop known c' l).last
 
   -- an arm has the conditional's arm alone as its root, which its predicate turns On
@@ -356,7 +375,8 @@ module _ (S : Source) (known : IsKnown S.checked) where
       let both : Switches t ≡ Switches (test_row P known (block P w) l) = sym is ∙ ap (node P) w_is ∙ switches_node P known (block P w) l in
       record { loop = l; switches = w_is; test = cc; region = (known.table).at_top w within (ap is_top is) }
 
-  live_loop_at : {number : ℕ → ℕ → ℕ} {run : List Event} {a : Activation} {w t : ℕ} → Live S number run a (region P w) → w < length (rows P) → node P w ≡ Switches t
+  live_loop_at : {number : ℕ → ℕ → ℕ} {run : List Event} {a : Activation} {w t : ℕ} → Live S number run a (region P w) → w < length (rows P) →
+      node P w ≡ Switches t
       → InLoop S known number run a (block P w)
   live_loop_at {number} {run} {a} {w} {t} live within is =
       let same = (region_of known within (λ e. let bad : Switches t ≡ Program = sym is ∙ e in cc)).block in
@@ -379,7 +399,8 @@ module _ (S : Source) (known : IsKnown S.checked) where
       let up = loop_path S known number run seats l (live_loop_at live within is) path in
       let goes_on = subst (λ z. Goes S z m b) (one_path seats goes.path_of path) goes.goes in
       let has = test_has (of_turns is) goes_on in
-      let has' = subst (λ (z : Path × ℕ). Holds S (Has z.0 (place P z.1) (source.Bool b))) {x = (p, t)} {y = (below up.path (place P (end_of P (block P m))) a.iteration, test_row P known (block P m) l)} (λ i. (up.is i, s.test i)) has in
+      let has' = subst (λ (z : Path × ℕ). Holds S (Has z.0 (place P z.1) (source.Bool b))) {x = (p, t)}
+      {y = (below up.path (place P (end_of P (block P m))) a.iteration, test_row P known (block P m) l)} (λ i. (up.is i, s.test i)) has in
       subst (λ z. Holds S (On z (place P e))) (sym up.is) (side_roots l up.path a.iteration has' (ap (λ w. arm_at w b) s.switches) x)
   roots_on {number} {run} seats {p = p} (again {c = c} {k = k} {n = m} {e = t} within is live says goes) path e x =
       let s = switch_loop within is in
@@ -388,7 +409,8 @@ module _ (S : Source) (known : IsKnown S.checked) where
       let now = loop_path S known number run seats l inner goes.path_of in
       let then = loop_path S known number run seats l (live_loop_at (again within is live says goes) within is) path in
       let has = test_has (of_turns is) goes.goes in
-      let has' = subst (λ (z : Path × ℕ). Holds S (Has z.0 (place P z.1) (source.Bool true))) {x = (goes.path, t)} {y = (below now.path (place P (end_of P (block P m))) k, test_row P known (block P m) l)} (λ i. (now.is i, s.test i)) has in
+      let has' = subst (λ (z : Path × ℕ). Holds S (Has z.0 (place P z.1) (source.Bool true))) {x = (goes.path, t)}
+      {y = (below now.path (place P (end_of P (block P m))) k, test_row P known (block P m) l)} (λ i. (now.is i, s.test i)) has in
       let on = holds_by S _ _ (turn_on now.path k (loop_stands P known (block P m) l)) (has', tt) in
       let same : below now.path (place P (end_of P (block P m))) (suc k) ≡ p =
       one_path seats (next_path S known number run l inner now (suc k)) path in
@@ -399,10 +421,12 @@ module _ (S : Source) (known : IsKnown S.checked) where
       let back : (m + 1) - 1 ≡ m = omega arith in
       let q = end_of P (m + 1) in
       let stands = start_region P known (m + 1) l in
-      let turned = subst (λ r. TurnedIn (rows P) r q) (sym stands ∙ ap (region P) back) ((known.table).turned q (l.the).within (ap is_expression (l.the).node)) in
+      let turned = subst (λ r. TurnedIn (rows P) r q) (sym stands ∙ ap (region P) back)
+      ((known.table).turned q (l.the).within (ap is_expression (l.the).node)) in
       let on = turned_by (roots_on seats live up.1) turned in
       let test = holds_by S _ _ (loop_test_on (loop_stands P known (m + 1) l)) (on, tt) in
-      let same : below up.0 (place P q) 0 ≡ p = ap (λ z. below up.0 z 0) (sym (start_place P known (m + 1) l) ∙ ap (place P) back) ∙ one_path seats (entered_path 0 within (of_loop is) opened up.1) path in
+      let same : below up.0 (place P q) 0 ≡ p = ap (λ z. below up.0 z 0) (sym (start_place P known (m + 1) l) ∙ ap (place P) back) ∙
+      one_path seats (entered_path 0 within (of_loop is) opened up.1) path in
       loop_roots l (subst (λ z. Holds S (On z (place P (test_row P known (m + 1) l)))) same test) refl x
   roots_on seats {p = p} (entered {n = m} within (of_call is) live opened) path e x =
       let c = call_at known within is in
@@ -411,7 +435,8 @@ module _ (S : Source) (known : IsKnown S.checked) where
       let turned = subst (λ q. TurnedIn (rows P) q (end_of P m)) (sym c.region) ((known.table).turned (end_of P m) c.within (ap is_expression c.node)) in
       let on = turned_by (roots_on seats live up.1) turned in
       let body = holds_by S _ _ (callee_on call_stands c.bound (callee_stands c.def)) (on, tt) in
-      let same : below up.0 (place P (end_of P m)) 0 ≡ p = ap (λ z. below up.0 z 0) (sym c.place) ∙ one_path seats (entered_path 0 within (of_call is) opened up.1) path in
+      let same : below up.0 (place P (end_of P m)) 0 ≡ p = ap (λ z. below up.0 z 0) (sym c.place) ∙
+      one_path seats (entered_path 0 within (of_call is) opened up.1) path in
       procedure_roots c.def (subst (λ z. Holds S (On z (place P (c.def).body))) same body) refl x
 
   -- each expression of a live region is On, at the activation's path

@@ -11,7 +11,9 @@ use Rattle.id_value.specs.declared.UnaryOp.TheVariants as before
 use Rattle.id_parts.specs.declared.row.Row.{Row}
 use Rattle.id_parts.specs.declared.row.Region.{Region}
 use Rattle.id_parts.specs.declared.row.Node.{Node}
-use Rattle.id_parts.specs.declared.row.Node.TheVariants.{Head, Param, Literal, Name, Unary, Binary, Split, If, Block, Binding, Def, Program, Enter, Arg, Call, Array, Fetch, Address, Store}
+use Rattle.id_parts.specs.declared.row.Node.TheVariants.{Head, Param, Literal, Name, Unary, Binary, Split, If, Block}
+use Rattle.id_parts.specs.declared.row.Node.TheVariants.{Binding, Def, Program, Enter, Arg, Call, Array, Fetch}
+use Rattle.id_parts.specs.declared.row.Node.TheVariants.{Address, Store}
 use Rattle.id_parts.specs.declared.row.Node.TheVariants.{Start, LoopHead, Variable, Entries, Switches, Turn, NextUse, Next, Body, Reset, Loop}
 use Rattle.id_parts.specs.Rows.{at}
 use Rattle.id_parts.specs.Tables.{HasPart, HasOperand, begins_block, is_binder, is_block, is_expression}
@@ -30,17 +32,20 @@ use Rattle.id_desugar.specs.Regions.{nexts_of}
 use Rattle.id_build.specs.declared.arc.Origin.{Origin}
 use Rattle.id_desugar.specs.Ends.{end_of, next_of}
 use Rattle.id_desugar.specs.Regions.{imports_of}
-use Rattle.id_build.specs.Rows.{node, port_of, port_at, binary_op, result_of, body_of, output, trigger_of, name_in, named_in, origin_of, origin, op_by, param_of}
+use Rattle.id_build.specs.Rows.{node, port_of, port_at, binary_op, result_of, body_of, output, trigger_of, name_in}
+use Rattle.id_build.specs.Rows.{named_in, origin_of, origin, op_by, param_of}
 use Rattle.id_build.specs.Rows.{block, entering, entries_row, label, first_binder, turn_row}
 use Rattle.id_build.specs.Schemas.{Feeds}
 use Rattle.id_laws.specs.Activations.{Begins, of_call, of_loop, Tests, of_arms, of_turns}
 use Rattle.id_laws.specs.Topics.{Addresses, of_fetch, of_store}
 use Rattle.id_laws.proofs.Stores.{address_at}
 use Rattle.id_laws.proofs.Arcs.{Does, starts, returns, constant, unary, binary, turns_on, hands, joins, names, fed}
-use Rattle.id_laws.proofs.Arcs.{sends_in, gives_back, varies, takes_in, moves_on, moves_name, advances, resets, gets_last, allocates, addresses, fetches, gets_reply, stores, entered_at}
+use Rattle.id_laws.proofs.Arcs.{sends_in, gives_back, varies, takes_in, moves_on, moves_name, advances, resets}
+use Rattle.id_laws.proofs.Arcs.{gets_last, allocates, addresses, fetches, gets_reply, stores, entered_at}
 use Rattle.id_laws.proofs.Arcs.{Arc, to_back, to_literal, to_unary, to_left, to_right, to_test, to_trigger, to_import_test, to_import, to_then, to_else}
 use Rattle.id_laws.proofs.Arcs.{to_label, opens, passes, gets, to_enter, to_context, to_argument, to_loop_context, to_entering, to_head}
-use Rattle.id_laws.proofs.Arcs.{to_loop_back, to_variable, to_entry, to_turn, to_turn_name, to_next, to_reset, to_low, to_high, to_target, to_index, to_fetch, to_store, to_stored}
+use Rattle.id_laws.proofs.Arcs.{to_loop_back, to_variable, to_entry, to_turn, to_turn_name, to_next, to_reset, to_low}
+use Rattle.id_laws.proofs.Arcs.{to_high, to_target, to_index, to_fetch, to_store, to_stored}
 use Rattle.id_build.proofs.EndsLemmas.{end_is, HeadOf, of_procedure, of_arm, region_of}
 use Rattle.id_build.proofs.EndsLemmas as ends
 use Rattle.id_build.proofs.LoopsLemmas.{the_loop, entries_node, entries_stand, entries_within, next_is, reset_is, start_head, turn_block, turn_is}
@@ -201,7 +206,8 @@ module _ (P : Checked) (known : IsKnown P) where
           let z = name_seen P v y x.0 is in
           let b = z.row in
           let bound = bound_name_row P v y (record { within = x.0; node = is }) in
-          let binder : BinderAt P b = subst (BinderAt P) (some_is (sym (bound.1).binder ∙ z.binds)) (record { within = (bound.1).within; binds = (bound.1).is_binder }) in
+          let binder : BinderAt P b = subst (BinderAt P) (some_is (sym (bound.1).binder ∙ z.binds))
+          (record { within = (bound.1).within; binds = (bound.1).is_binder }) in
           let from : origin_of P v (region P v) (node P v) ≡ name_in P (region P v) b =
           ap (origin_of P v (region P v)) is ∙ ap (named_in P (region P v) v) z.binds in
           let same = same_ports P b v (sym (known.name_kind v y b x.0 is z.binds)) in
@@ -339,7 +345,16 @@ module _ (P : Checked) (known : IsKnown P) where
       let h = block P n in
       let c = ((known.table).entries_of n within is).1 in
       let rows_are = (known.table).loop_is _ h c in
-      let low : h < length R = omega (arith, rows_are.before_test.low, rows_are.test.low, rows_are.test.behind, rows_are.body_is.low, rows_are.last_is.low, rows_are.last_is.ends, c.within) in
+      let low : h < length R = omega (
+        arith,
+        rows_are.before_test.low,
+        rows_are.test.low,
+        rows_are.test.behind,
+        rows_are.body_is.low,
+        rows_are.last_is.low,
+        rows_are.last_is.ends,
+        c.within,
+      ) in
       let head = rows_are.before_test.head in
       let t = turn_block P h _ low head in
       let few : k < length (imports_of P (block P (turn_row P h))) = subst (λ g. k < length (imports_of P g)) (sym t.1) less in

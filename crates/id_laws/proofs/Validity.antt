@@ -1,5 +1,6 @@
 -- Every graph that the schemas give a program is valid.
-use Rattle.std.proofs.Common.{◌≡◌, ◌⊎◌, inl, inr, ℕ, zero, suc, ◌+◌, ◌-◌, ◌<◌, ◌≤◌, ◌==◌, ◌&&◌, ◌||◌, Bool, true, false, cond, Option, Some, None, List, [], ◌∷◌}
+use Rattle.std.proofs.Common.{◌≡◌, ◌⊎◌, inl, inr, ℕ, zero, suc, ◌+◌, ◌-◌, ◌<◌, ◌≤◌, ◌==◌, ◌&&◌, ◌||◌, Bool, true}
+use Rattle.std.proofs.Common.{false, cond, Option, Some, None, List, [], ◌∷◌}
 use Rattle.std.proofs.Common.{get_or, length, map, slice_get, option_map, refl, sym, ◌∙◌, ap, subst, arith}
 use Rattle.std.specs.Bool.{IsTrue}
 use Rattle.std.specs.Option.{IsSome, option_and_then}
@@ -13,8 +14,12 @@ use Rattle.id_list.specs.List.{Among, AllDiffer}
 use Rattle.id_list.proofs.AmongLemmas.{Among-map, Among-from_map, Among-left, Among-right, Among-either, Among-from_at}
 use Rattle.id_parts.specs.declared.row.Row.{Row}
 use Rattle.id_parts.specs.declared.row.Node.{Node}
-use Rattle.id_parts.specs.declared.row.Node.TheVariants.{Head, Param, Literal, Unary as UnaryNode, Binary as BinaryNode, Split, If, Binding, Program, Enter as EnterNode, Arg, Call}
-use Rattle.id_parts.specs.declared.row.Node.TheVariants.{Start, LoopHead, Variable, Entries, Switches, Turn, Next as NextNode, Reset as ResetNode, Loop, Def, Array, Fetch, Address, Store}
+use Rattle.id_parts.specs.declared.row.Node.TheVariants.{Head, Param, Literal, Unary as UnaryNode}
+use Rattle.id_parts.specs.declared.row.Node.TheVariants.{Binary as BinaryNode, Split, If, Binding, Program}
+use Rattle.id_parts.specs.declared.row.Node.TheVariants.{Enter as EnterNode, Arg, Call}
+use Rattle.id_parts.specs.declared.row.Node.TheVariants.{Start, LoopHead, Variable, Entries, Switches, Turn}
+use Rattle.id_parts.specs.declared.row.Node.TheVariants.{Next as NextNode, Reset as ResetNode, Loop, Def, Array}
+use Rattle.id_parts.specs.declared.row.Node.TheVariants.{Fetch, Address, Store}
 use Rattle.id_parts.specs.Rows.{at}
 use Rattle.id_parts.specs.Tables.{begins_block, is_param}
 use Rattle.id_parts.specs.Turns.{params_at}
@@ -27,7 +32,9 @@ use Rattle.id_graph.specs.declared.dests.Port.TheVariants.{Zero, One}
 use Rattle.id_graph.specs.declared.dests.Dest.{Dest}
 use Rattle.id_graph.specs.declared.instr.PortKind.TheVariants.{Signal}
 use Rattle.id_graph.specs.declared.instr.Op.{Op}
-use Rattle.id_graph.specs.declared.instr.Op.TheVariants.{Const, Unary, Binary, Merge, Switch, Back, Enter, Send, Next, Reset, Alloc, Address as AddressOp, Fetch as FetchOp, Store as StoreOp}
+use Rattle.id_graph.specs.declared.instr.Op.TheVariants.{Const, Unary, Binary, Merge, Switch, Back, Enter, Send, Next}
+use Rattle.id_graph.specs.declared.instr.Op.TheVariants.{Reset, Alloc, Address as AddressOp, Fetch as FetchOp}
+use Rattle.id_graph.specs.declared.instr.Op.TheVariants.{Store as StoreOp}
 use Rattle.id_graph.specs.declared.instr.Instr.{Instr}
 use Rattle.id_graph.specs.declared.instr.Block.{Block}
 use Rattle.id_graph.specs.Ports.{port_kind, sends, two_sides}
@@ -36,7 +43,8 @@ use Rattle.id_meaning.specs.Sources.{source}
 use Rattle.id_build.specs.declared.arc.Origin.{Origin}
 use Rattle.id_desugar.specs.Ends.{end_of, next_of}
 use Rattle.id_desugar.specs.Regions.{imports_of}
-use Rattle.id_build.specs.Rows.{node, answer_row, body_of, name_in, feed, feeds_of, origin, port_at, port_of, result_of, trigger_of, called, op_by, output, param_of}
+use Rattle.id_build.specs.Rows.{node, answer_row, body_of, name_in, feed, feeds_of, origin, port_at, port_of}
+use Rattle.id_build.specs.Rows.{result_of, trigger_of, called, op_by, output, param_of}
 use Rattle.id_build.specs.Rows.{Entry, block, entering, entries, entry_feeds, import_feeds, loop_entries, param_entry, turn_feeds, turn_row, entries_by}
 use Rattle.id_build.specs.Schemas.{Feeds, HasSide, Numbered, Schemas, Sends, all_heads, block_of}
 use Rattle.id_valid.specs.Roles.{op_at, merge_kind, back_kind, is_first, is_second, is_entry, is_reply, replies_to, same_port, is_dest, arcs_into, needs_no_arc}
@@ -44,7 +52,8 @@ use Rattle.id_valid.specs.Validator.{is_value, IsAnswer, FillsRoles, IsTaken, Is
 use Rattle.id_laws.specs.Activations.{main_head, Tests, of_arms, of_turns, Begins, of_call, of_loop}
 use Rattle.id_laws.specs.Topics.{Addresses, of_fetch, of_store, IsPart}
 use Rattle.id_laws.proofs.Arcs.{Does, starts, returns, enters, constant, unary, binary, turns_on, hands, joins, names, answers, doing, makes, imports_fed}
-use Rattle.id_laws.proofs.Arcs.{sends_in, gives_back, varies, takes_in, moves_on, moves_name, advances, resets, gets_last, allocates, addresses, fetches, gets_reply, stores, import_listed}
+use Rattle.id_laws.proofs.Arcs.{sends_in, gives_back, varies, takes_in, moves_on, moves_name, advances, resets}
+use Rattle.id_laws.proofs.Arcs.{gets_last, allocates, addresses, fetches, gets_reply, stores, import_listed}
 use Rattle.id_laws.proofs.Arcs.{FromArm, one_feed, target_part, opens, passes, gets}
 use Rattle.id_laws.proofs.Blocks.{a_param, all_listed, any_head, param_listed}
 use Rattle.id_laws.proofs.LoopRows.{entered_as, entry_merge, loop_merge}
@@ -254,7 +263,8 @@ module _ (P : Checked) (known : IsKnown P) (g : Parts) (number : ℕ → ℕ →
   -- ---- what is sent is taken
 
   -- the instruction at a number does what its part does
-  does_at : {q part : ℕ} {o : Form} (n : ℕ) (i : Instr) → q < length R → Does P q part o → number q part ≡ n → slice_get g.instrs n ≡ Some i → i.op ≡ op_by number o
+  does_at : {q part : ℕ} {o : Form} (n : ℕ) (i : Instr) → q < length R → Does P q part o → number q part ≡ n → slice_get g.instrs n ≡ Some i →
+      i.op ≡ op_by number o
   does_at {q} {part} {o} n i within d is at =
       let k = numbered.made q part _ _ (makes within d) in
       let both : Some i ≡ Some k.instr = sym at ∙ ap (slice_get g.instrs) (sym is) ∙ k.at in
@@ -334,7 +344,8 @@ module _ (P : Checked) (known : IsKnown P) (g : Parts) (number : ℕ → ℕ →
       let n = number b 0 in
       let h = block P b in
       let z = param_block b x k within is in
-      let listed : Among (param_entry b) (map param_entry (params_at R h)) = Among-map param_entry b (params_at R h) (param_listed R h (length R) b x k within is refl) in
+      let listed : Among (param_entry b) (map param_entry (params_at R h)) = Among-map param_entry b (params_at R h)
+      (param_listed R h (length R) b x k within is refl) in
       let among : Among (param_entry b) (entries P h) = subst (λ m. Among (param_entry b) (entries_by P h m)) (sym z.1) listed in
       let entry : is_entry g n ≡ true = entry_there h (param_entry b) z.0 (ap begins_block z.1) among in
       still (is_reply g n) (third_of (n == 0) (is_first g n) (is_entry g n) (is_second g n && same_port Zero Zero) entry)
@@ -356,7 +367,8 @@ module _ (P : Checked) (known : IsKnown P) (g : Parts) (number : ℕ → ℕ →
       let m = numbered.made e 0 _ _ (makes z.within (opens (of_call z.node))) in
       let op_is : (m.instr).op ≡ Enter (number (called P e) 0) k = m.op ∙ ap (λ q. Enter (number (called P e) 0) (number q 0)) z.ends in
       let reply : is_reply g k ≡ true =
-      any_among (λ (i : Instr). replies_to i.op k) m.instr g.instrs (Among-from_at m.instr g.instrs (number e 0) m.at) (ap (λ o. replies_to o k) op_is ∙ same_number k k refl) in
+      any_among (λ (i : Instr). replies_to i.op k) m.instr g.instrs (Among-from_at m.instr g.instrs (number e 0) m.at)
+      (ap (λ o. replies_to o k) op_is ∙ same_number k k refl) in
       or_last ((k == 0) || is_first g k || is_entry g k || (is_second g k && same_port p Zero)) reply
 
   -- what a loop gives comes as a reply, since its `Start` names it
@@ -372,24 +384,28 @@ module _ (P : Checked) (known : IsKnown P) (g : Parts) (number : ℕ → ℕ →
       let m = numbered.made s 0 _ _ (makes less (opens (of_loop (x.start_of).node))) in
       let op_is : (m.instr).op ≡ Enter (number (s + 1) 0) k = m.op ∙ ap (λ q. Enter (number (s + 1) 0) (number q 0)) ends in
       let reply : is_reply g k ≡ true =
-      any_among (λ (i : Instr). replies_to i.op k) m.instr g.instrs (Among-from_at m.instr g.instrs (number s 0) m.at) (ap (λ o. replies_to o k) op_is ∙ same_number k k refl) in
+      any_among (λ (i : Instr). replies_to i.op k) m.instr g.instrs (Among-from_at m.instr g.instrs (number s 0) m.at)
+      (ap (λ o. replies_to o k) op_is ∙ same_number k k refl) in
       or_last ((k == 0) || is_first g k || is_entry g k || (is_second g k && same_port p Zero)) reply
 
   -- the feeds of a loop's entries, of the sends to these, and of what hands imports on
-  entry_listed : (w j : ℕ) (bs : List ℕ) (k : ℕ) → k < length bs → Among (feed (record { row = w; part = j + k + 1; side = true }) (j + k) Zero) (entry_feeds w j bs)
+  entry_listed : (w j : ℕ) (bs : List ℕ) (k : ℕ) → k < length bs →
+      Among (feed (record { row = w; part = j + k + 1; side = true }) (j + k) Zero) (entry_feeds w j bs)
   entry_listed w j [] k h = absurd (omega (arith, h))
   entry_listed w j (b ∷ bs) zero h =
       let at : j + 0 ≡ j = omega arith in inl (λ i. feed (record { row = w; part = at i + 1; side = true }) (at i) Zero)
   entry_listed w j (b ∷ bs) (suc k) h =
       let at : (j + 1) + k ≡ j + suc k = omega arith in
-      inr (subst (λ m. Among (feed (record { row = w; part = m + 1; side = true }) m Zero) (entry_feeds w (j + 1) bs)) at (entry_listed w (j + 1) bs k (omega (arith, h))))
+      inr (subst (λ m. Among (feed (record { row = w; part = m + 1; side = true }) m Zero) (entry_feeds w (j + 1) bs)) at
+      (entry_listed w (j + 1) bs k (omega (arith, h))))
 
   entry_fed : (n k : ℕ) → n < length R → node P n ≡ Entries → k < length (imports_of P (block P n)) → HasFeed P n k Zero
   entry_fed n k within is less =
       let w = turn_row P (block P n) in
       let at : 0 + k ≡ k = omega arith in
       feeds_at P (record { row = w; part = k + 1; side = true }) n k Zero Entries within is
-      (subst (λ m. Among (feed (record { row = w; part = m + 1; side = true }) m Zero) (entry_feeds w 0 (imports_of P (block P n)))) at (entry_listed w 0 (imports_of P (block P n)) k less))
+      (subst (λ m. Among (feed (record { row = w; part = m + 1; side = true }) m Zero) (entry_feeds w 0 (imports_of P (block P n)))) at
+      (entry_listed w 0 (imports_of P (block P n)) k less))
 
   turn_listed : (r : Region) (j : ℕ) (bs : List ℕ) (k : ℕ) → k < length bs → Among (feed (name_in P r (get_or bs k 0)) (j + k) Zero) (turn_feeds P r j bs)
   turn_listed r j [] k h = absurd (omega (arith, h))
@@ -403,7 +419,8 @@ module _ (P : Checked) (known : IsKnown P) (g : Parts) (number : ℕ → ℕ →
       let bs = imports_of P (block P n) in
       let at : 1 + k ≡ suc k = omega arith in
       feeds_at P (name_in P (region P n) (get_or bs k 0)) n (suc k) Zero Turn within is
-      (inr (subst (λ m. Among (feed (name_in P (region P n) (get_or bs k 0)) m Zero) (turn_feeds P (region P n) 1 bs)) at (turn_listed (region P n) 1 bs k less)))
+      (inr (subst (λ m. Among (feed (name_in P (region P n) (get_or bs k 0)) m Zero) (turn_feeds P (region P n) 1 bs)) at
+      (turn_listed (region P n) 1 bs k less)))
 
   send_fed : (n k : ℕ) (q : Entry) → n < length R → node P n ≡ Start → slice_get (loop_entries P (n + 1)) k ≡ Some q
       → HasFeed P n (suc k) Zero × HasFeed P n (suc k) One
@@ -455,7 +472,8 @@ module _ (P : Checked) (known : IsKnown P) (g : Parts) (number : ℕ → ℕ →
   served {n} within (turns_on {t = t} is) Zero h = inr (test_fed n t within is).0
   served {n} within (turns_on {t = t} is) One h = inr (test_fed n t within is).1
   served {n} within (hands {t = t} k is less) Zero h = inr (record { from = origin P t; feeds = (imports_fed P n t k within is less).0 })
-  served {n} within (hands {t = t} k is less) One h = inr (record { from = name_in P (region P n) (get_or (imports_of P n) k 0); feeds = (imports_fed P n t k within is less).1 })
+  served {n} within (hands {t = t} k is less) One h = inr
+      (record { from = name_in P (region P n) (get_or (imports_of P n) k 0); feeds = (imports_fed P n t k within is less).1 })
   served {n} within (joins {s = s} {x = x} {y = y} is) Zero h = inr (feeds_at P (origin P x) n 0 Zero (If s x y) within is (inl refl))
   served within (joins is) One h = cc
   served {n} within (opens {h = b} {q = q} is) Zero h = inr (begin_fed n b q within is)
@@ -519,29 +537,41 @@ module _ (P : Checked) (known : IsKnown P) (g : Parts) (number : ℕ → ℕ →
   begin_no_if {s = s} {x = x} {y = y} (of_loop is) e = let bad : If s x y ≡ Start = sym e ∙ is in cc
 
   -- a part is fed from one origin at each port, or is a merge
-  one_or_merge : {n part : ℕ} {o : Form} → Does P n part o → IsSome (merge_kind (op_by number o)) ⊎ ((x y : Origin) (p : Port) → Feeds P x n part p → Feeds P y n part p → x ≡ y)
+  one_or_merge : {n part : ℕ} {o : Form} → Does P n part o →
+      IsSome (merge_kind (op_by number o)) ⊎ ((x y : Origin) (p : Port) → Feeds P x n part p → Feeds P y n part p → x ≡ y)
   one_or_merge (starts is) = inl refl
-  one_or_merge (returns is) = inr (λ x y p h k. alone (λ a. let bad : If (a.0).split (a.0).then (a.0).otherwise ≡ Head = sym (a.0).node ∙ is in cc) (one_feed h k))
+  one_or_merge (returns is) = inr (λ x y p h k. alone (λ a. let bad : If (a.0).split (a.0).then (a.0).otherwise ≡ Head = sym (a.0).node ∙ is in cc)
+      (one_feed h k))
   one_or_merge (enters is) = inl refl
-  one_or_merge (constant {c = c} is) = inr (λ x y p h k. alone (λ a. let bad : If (a.0).split (a.0).then (a.0).otherwise ≡ Literal c = sym (a.0).node ∙ is in cc) (one_feed h k))
-  one_or_merge (unary {o = o} {a = e} is) = inr (λ x y p h k. alone (λ a. let bad : If (a.0).split (a.0).then (a.0).otherwise ≡ UnaryNode o e = sym (a.0).node ∙ is in cc) (one_feed h k))
-  one_or_merge (binary {o = o} {a = e} {b = f} is) = inr (λ x y p h k. alone (λ a. let bad : If (a.0).split (a.0).then (a.0).otherwise ≡ BinaryNode o e f = sym (a.0).node ∙ is in cc) (one_feed h k))
+  one_or_merge (constant {c = c} is) = inr (λ x y p h k. alone
+      (λ a. let bad : If (a.0).split (a.0).then (a.0).otherwise ≡ Literal c = sym (a.0).node ∙ is in cc) (one_feed h k))
+  one_or_merge (unary {o = o} {a = e} is) = inr (λ x y p h k. alone
+      (λ a. let bad : If (a.0).split (a.0).then (a.0).otherwise ≡ UnaryNode o e = sym (a.0).node ∙ is in cc) (one_feed h k))
+  one_or_merge (binary {o = o} {a = e} {b = f} is) = inr
+      (λ x y p h k. alone (λ a. let bad : If (a.0).split (a.0).then (a.0).otherwise ≡ BinaryNode o e f = sym (a.0).node ∙ is in cc) (one_feed h k))
   one_or_merge (turns_on is) = inr (λ x y p h k. alone (λ a. test_no_if is (a.0).node) (one_feed h k))
   one_or_merge (hands j is less) = inr (λ x y p h k. alone (λ a. test_no_if is (a.0).node) (one_feed h k))
   one_or_merge (joins is) = inl refl
   one_or_merge (opens is) = inr (λ y z p h k. alone (λ a. begin_no_if is (a.0).node) (one_feed h k))
-  one_or_merge (passes {e = e} {k = i} {v = v} is) = inr (λ y z p h k. alone (λ a. let bad : If (a.0).split (a.0).then (a.0).otherwise ≡ Arg e i v = sym (a.0).node ∙ is in cc) (one_feed h k))
+  one_or_merge (passes {e = e} {k = i} {v = v} is) = inr
+      (λ y z p h k. alone (λ a. let bad : If (a.0).split (a.0).then (a.0).otherwise ≡ Arg e i v = sym (a.0).node ∙ is in cc) (one_feed h k))
   one_or_merge (gets is) = inl refl
   one_or_merge (names is) = inl refl
   one_or_merge (answers is) = inl refl
-  one_or_merge (sends_in j q is at) = inr (λ y z p h k. alone (λ a. let bad : If (a.0).split (a.0).then (a.0).otherwise ≡ Start = sym (a.0).node ∙ is in cc) (one_feed h k))
-  one_or_merge (gives_back {s = s} is) = inr (λ y z p h k. alone (λ a. let bad : If (a.0).split (a.0).then (a.0).otherwise ≡ LoopHead s = sym (a.0).node ∙ is in cc) (one_feed h k))
+  one_or_merge (sends_in j q is at) = inr (λ y z p h k. alone (λ a. let bad : If (a.0).split (a.0).then (a.0).otherwise ≡ Start = sym (a.0).node ∙ is in cc)
+      (one_feed h k))
+  one_or_merge (gives_back {s = s} is) = inr (λ y z p h k. alone
+      (λ a. let bad : If (a.0).split (a.0).then (a.0).otherwise ≡ LoopHead s = sym (a.0).node ∙ is in cc) (one_feed h k))
   one_or_merge (varies is) = inl refl
   one_or_merge (takes_in j is less) = inl refl
-  one_or_merge (moves_on is) = inr (λ y z p h k. alone (λ a. let bad : If (a.0).split (a.0).then (a.0).otherwise ≡ Turn = sym (a.0).node ∙ is in cc) (one_feed h k))
-  one_or_merge (moves_name j is less) = inr (λ y z p h k. alone (λ a. let bad : If (a.0).split (a.0).then (a.0).otherwise ≡ Turn = sym (a.0).node ∙ is in cc) (one_feed h k))
-  one_or_merge (advances {x = x} {k = i} {o = o} {v = v} is) = inr (λ y z p h k. alone (λ a. let bad : If (a.0).split (a.0).then (a.0).otherwise ≡ NextNode x i o v = sym (a.0).node ∙ is in cc) (one_feed h k))
-  one_or_merge (resets {v = v} is) = inr (λ y z p h k. alone (λ a. let bad : If (a.0).split (a.0).then (a.0).otherwise ≡ ResetNode v = sym (a.0).node ∙ is in cc) (one_feed h k))
+  one_or_merge (moves_on is) = inr (λ y z p h k. alone (λ a. let bad : If (a.0).split (a.0).then (a.0).otherwise ≡ Turn = sym (a.0).node ∙ is in cc)
+      (one_feed h k))
+  one_or_merge (moves_name j is less) = inr (λ y z p h k. alone (λ a. let bad : If (a.0).split (a.0).then (a.0).otherwise ≡ Turn = sym (a.0).node ∙ is in cc)
+      (one_feed h k))
+  one_or_merge (advances {x = x} {k = i} {o = o} {v = v} is) = inr
+      (λ y z p h k. alone (λ a. let bad : If (a.0).split (a.0).then (a.0).otherwise ≡ NextNode x i o v = sym (a.0).node ∙ is in cc) (one_feed h k))
+  one_or_merge (resets {v = v} is) = inr (λ y z p h k. alone
+      (λ a. let bad : If (a.0).split (a.0).then (a.0).otherwise ≡ ResetNode v = sym (a.0).node ∙ is in cc) (one_feed h k))
   one_or_merge (gets_last is) = inl refl
   one_or_merge (allocates {a = e} {b = f} is) =
       inr (λ y z p h k. alone (λ a. let bad : If (a.0).split (a.0).then (a.0).otherwise ≡ Array e f = sym (a.0).node ∙ is in cc) (one_feed h k))
@@ -552,7 +582,8 @@ module _ (P : Checked) (known : IsKnown P) (g : Parts) (number : ℕ → ℕ →
   one_or_merge (stores {a = e} {v = f} is) =
       inr (λ y z p h k. alone (λ a. let bad : If (a.0).split (a.0).then (a.0).otherwise ≡ Store e f = sym (a.0).node ∙ is in cc) (one_feed h k))
 
-  module _ (n : ℕ) (p : Port) (row part : ℕ) (here : IsPart P row part) (is : number row part ≡ n) (one : (x y : Origin) → Feeds P x row part p → Feeds P y row part p → x ≡ y) where
+  module _ (n : ℕ) (p : Port) (row part : ℕ) (here : IsPart P row part) (is : number row part ≡ n)
+      (one : (x y : Origin) → Feeds P x row part p → Feeds P y row part p → x ≡ y) where
     -- instructions that send to the port are one, on one side
     one_sender : (m k : ℕ) (b c : Bool) → Sends g m b (dest n p) → Sends g k c (dest n p) → (m ≡ k) × (b ≡ c)
     one_sender m k b c x y =
@@ -584,7 +615,8 @@ module _ (P : Checked) (known : IsKnown P) (g : Parts) (number : ℕ → ℕ →
         let f = is_dest n p in
         let whole = sum_by-append (λ x. cond (f x) 1 0) (arcs_on true i) (false_arcs i) in
         let less = fewer (two_sides i.op) (arcs_on false i) in
-        by (count_by f (arcs_on true i)) (count_by f (arcs_on false i)) (count_by f (false_arcs i)) refl refl whole less (on_side_once m i true at) (on_side_once m i false at)
+        by (count_by f (arcs_on true i)) (count_by f (arcs_on false i)) (count_by f (false_arcs i)) refl refl whole less (on_side_once m i true at)
+        (on_side_once m i false at)
       where
         by : (a b c : ℕ) → count_by (is_dest n p) (arcs_on true i) ≡ a → count_by (is_dest n p) (arcs_on false i) ≡ b
             → count_by (is_dest n p) (arcs i) ≡ a + c → c ≤ b
@@ -636,7 +668,12 @@ module _ (P : Checked) (known : IsKnown P) (g : Parts) (number : ℕ → ℕ →
         ];
         once = λ many. elim (one_or_merge s.does) [
           | inl merges ↦ subst (λ z. IsSome (merge_kind z)) s.op_is merges
-          | inr one ↦ absurd (omega (arith, many, fed_once n p s.row s.part (record { form = _; place = _; makes = makes s.within s.does }) s.is (λ x y. one x y p)))
+          | inr one ↦ absurd (omega (
+            arith,
+            many,
+            fed_once n p s.row s.part (record { form = _; place = _; makes = makes s.within s.does }) s.is
+                (λ x y. one x y p),
+          ))
         ];
       }
 
@@ -655,7 +692,8 @@ module _ (P : Checked) (known : IsKnown P) (g : Parts) (number : ℕ → ℕ →
       ∙ sym (port_is P (end_of P n) (c.def).result (k.call_kind (end_of P n) n c.count x c.callee c.def c.within c.node)) in
       record {
         kind = port_at P (end_of P n);
-        first = any_among (λ (b : Block). b.first == number h 0) (block_of P number h) g.blocks (block_among h head.0 (ap begins_block head.1)) (same_number (number h 0) (number h 0) refl);
+        first = any_among (λ (b : Block). b.first == number h 0) (block_of P number h) g.blocks (block_among h head.0 (ap begins_block head.1))
+            (same_number (number h 0) (number h 0) refl);
         back = ap (op_at g) (sym (numbered.parts_behind h 1)) ∙ op_made head.0 (returns head.1) ∙ ap (λ z. Some (Back z)) result_is;
         reply = op_made c.within (gets c.node);
       }
@@ -685,7 +723,8 @@ module _ (P : Checked) (known : IsKnown P) (g : Parts) (number : ℕ → ℕ →
       let c = the_loop P h n head.0 head.1 in
       record {
         kind = port_at P (end_of P h);
-        first = any_among (λ (b : Block). b.first == number h 0) (block_of P number h) g.blocks (block_among h head.0 (ap begins_block head.1)) (same_number (number h 0) (number h 0) refl);
+        first = any_among (λ (b : Block). b.first == number h 0) (block_of P number h) g.blocks (block_among h head.0 (ap begins_block head.1))
+            (same_number (number h 0) (number h 0) refl);
         back = ap (op_at g) (sym (numbered.parts_behind h 1)) ∙ op_made head.0 (gives_back head.1);
         reply = op_made c.within (gets_last c.node);
       }

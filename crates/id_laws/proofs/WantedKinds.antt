@@ -25,8 +25,10 @@ pub record Operands (P : Checked) (o : BinaryOp) (a b : ℕ) : Type 0 where
 
 module _ (P : Checked) (n a b : ℕ) where
   equals_of : (o : Comparison) → ((kind P a ≡ Some Int) ⊎ (kind P a ≡ Some Bool)) × (kind P b ≡ kind P a)
-      → (operand_kind (binary_op (class.Comparison o) (port_of Int)) ≡ port_of Int) → (operand_kind (binary_op (class.Comparison o) (port_of Bool)) ≡ port_of Bool)
-      → (outcome_kind (binary_op (class.Comparison o) (port_of Int)) ≡ port_of Bool) → (outcome_kind (binary_op (class.Comparison o) (port_of Bool)) ≡ port_of Bool)
+      → (operand_kind (binary_op (class.Comparison o) (port_of Int)) ≡ port_of Int) →
+      (operand_kind (binary_op (class.Comparison o) (port_of Bool)) ≡ port_of Bool)
+      → (outcome_kind (binary_op (class.Comparison o) (port_of Int)) ≡ port_of Bool) →
+      (outcome_kind (binary_op (class.Comparison o) (port_of Bool)) ≡ port_of Bool)
       → Operands P (class.Comparison o) a b
   equals_of o z t u v w = by z.0
     where

@@ -28,7 +28,8 @@ slice_get-image f (y ∷ xs) zero x e = let q : y ≡ x = cc in ap (λ z. Some (
 slice_get-image f (y ∷ xs) (suc k) x e = slice_get-image f xs k x e
 
 -- an element of a list that is read there and added to another
-pub read-and-added : {A : Type 0} (xs ys zs : List A) (i : ℕ) (d : A) → i < length xs → zs ≡ ys ++ (get_or xs i d ∷ []) → (x : A) × (slice_get xs i ≡ Some x) × (zs ≡ ys ++ (x ∷ []))
+pub read-and-added : {A : Type 0} (xs ys zs : List A) (i : ℕ) (d : A) → i < length xs → zs ≡ ys ++ (get_or xs i d ∷ []) →
+    (x : A) × (slice_get xs i ≡ Some x) × (zs ≡ ys ++ (x ∷ []))
 read-and-added xs ys zs i d inside added = (get_or xs i d, slice_get-get_or xs i d inside, added)
 
 -- what stands in a list of which one place was set

@@ -1,5 +1,6 @@
 -- How facts are found by their chains.
-use Rattle.std.proofs.Common.{◌≡◌, ◌⊎◌, ◌||◌, ◌&&◌, ℕ, zero, suc, ◌<◌, nat_lt, Bool as Truth, true, false, List, [], ◌∷◌, ◌++◌, length, inl, inr, refl, ap, sym, ◌∙◌, subst, arith}
+use Rattle.std.proofs.Common.{◌≡◌, ◌⊎◌, ◌||◌, ◌&&◌, ℕ, zero, suc, ◌<◌, nat_lt, Bool as Truth, true, false, List, []}
+use Rattle.std.proofs.Common.{◌∷◌, ◌++◌, length, inl, inr, refl, ap, sym, ◌∙◌, subst, arith}
 use Rattle.std.specs.Prelude.{pos, None, Some, ◌+◌, ◌*◌, ◌%◌}
 use Rattle.std.proofs.Math.ListN.{get_or, get_or-append}
 use Rattle.std.proofs.Math.Nat.{eq-or-lt_of_le, mod-lt}
@@ -143,7 +144,8 @@ adds-named b F c f s e p g h = record {
     named = λ t w m. (
         let q : s ≡ t = cc in
         let P : ℕ → Type 0 = λ x. Leads c.chains (chain_by Named x (pos 0)) (length (items b)) in
-        subst P q (h.added _ (let u = g.wide in let l = chain-low (sort_mark Named + s % 262144 * 40503 + index_mark (pos 0) * 162013) in omega arith) (inl refl)));
+        subst P q (h.added _ (let u = g.wide in let l = chain-low (sort_mark Named + s % 262144 * 40503 + index_mark (pos 0) * 162013) in omega arith)
+        (inl refl)));
   };
 }
 

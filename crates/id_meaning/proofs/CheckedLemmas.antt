@@ -3,7 +3,8 @@ use Rattle.std.proofs.Common.{◌≡◌, ◌<◌, ◌-◌, inl, ℕ, true, lengt
 use Rattle.std.proofs.lemmas.Bool.{false≢true}
 use Rattle.id_parts.specs.declared.row.Row.{Row}
 use Rattle.id_parts.specs.declared.row.Node.{Node}
-use Rattle.id_parts.specs.declared.row.Node.TheVariants.{Param, Literal, Name, Unary, Binary, If, Call, Next, NextUse, Loop, Block, Binding, Array, Fetch, Store}
+use Rattle.id_parts.specs.declared.row.Node.TheVariants.{Param, Literal, Name, Unary, Binary, If, Call, Next, NextUse}
+use Rattle.id_parts.specs.declared.row.Node.TheVariants.{Loop, Block, Binding, Array, Fetch, Store}
 use Rattle.id_parts.specs.Loops.{IsLoopOf, IsNextOf}
 use Rattle.id_parts.specs.Rows.{arm_at, at}
 use Rattle.id_parts.specs.Tables.{AreApart, HasPart, is_binder, is_expression, is_param, is_store, is_thing}

@@ -337,7 +337,14 @@ follows_by {S} F asked (next_has {n = n} {h = g} {w = w} {t = t} {l = l} {m = m}
       follows = inr (record { of = of; outer = q; number = k; path = refl; has = h.0 });
     }
 follows_by F asked (loop_has {n = n} {h = g} {w = w} {t = t} {l = l} q k s) h =
-    record { row = n; node = Loop g w l; stands = s.loop; thing = refl; here = refl; follows = record { head = g; switches = w; test = t; loop = s; number = k; has = h.0 } }
+    record {
+      row = n;
+      node = Loop g w l;
+      stands = s.loop;
+      thing = refl;
+      here = refl;
+      follows = record { head = g; switches = w; test = t; loop = s; number = k; has = h.0 };
+    }
 follows_by F asked (block_has s) h = record { row = _; node = _; stands = s; thing = refl; here = refl; follows = h.1.0 }
 follows_by F asked (binding_has s) h = record { row = _; node = _; stands = s; thing = refl; here = refl; follows = h.0 }
 follows_by F asked (array_has s e) h = record { row = _; node = _; stands = s; thing = refl; here = refl; follows = refl }
@@ -538,7 +545,8 @@ one_store S free s a b j v w h k = elim (site-order a b) [
 ]
 
 -- and one value
-one_value : (S : Source) (x y : ℕ) (m l t u i j : ℕ) → StoreStands S.checked m t i x → StoreStands S.checked l u j y → place S.checked m ≡ place S.checked l → x ≡ y
+one_value : (S : Source) (x y : ℕ) (m l t u i j : ℕ) → StoreStands S.checked m t i x → StoreStands S.checked l u j y → place S.checked m ≡ place S.checked l →
+    x ≡ y
 one_value S x y m l t u i j g h e =
     let R = rows S.checked in
     let q : m ≡ l =

@@ -1,5 +1,6 @@
 -- What follows by a rule of the source, rows give.
-use Rattle.std.proofs.Common.{◌≡◌, ◌⊎◌, inl, inr, ℕ, zero, suc, ◌+◌, ◌≤◌, ◌<◌, ℤ, Bool as Truth, true, false, Some, List, [], ◌∷◌, length, refl, ap, sym, ◌∙◌, subst, arith}
+use Rattle.std.proofs.Common.{◌≡◌, ◌⊎◌, inl, inr, ℕ, zero, suc, ◌+◌, ◌≤◌, ◌<◌, ℤ, Bool as Truth, true, false, Some}
+use Rattle.std.proofs.Common.{List, [], ◌∷◌, length, refl, ap, sym, ◌∙◌, subst, arith}
 use Rattle.id_list.specs.List.{Among}
 use Rattle.id_value.specs.declared.Constant.{Constant}
 use Rattle.id_value.specs.declared.Constant.TheVariants as constant
@@ -406,7 +407,13 @@ module _ (S : Source) (k : ℕ) (fs : List RowFact) (s : IsRound S k fs) where
   truth-within P n j a b t u h =
       let x = in-iteration P n j a (value.Bool b) t u h in
       let F : RowValue → Type 0 = λ w. Among (Has (Below x.number j) a w) fs in
-      record { number = x.number; path = x.path; on = x.on; outer = x.outer; known = subst F (value-constant S fs x.value (constant.Bool b) x.is_value) x.known }
+      record {
+        number = x.number;
+        path = x.path;
+        on = x.on;
+        outer = x.outer;
+        known = subst F (value-constant S fs x.value (constant.Bool b) x.is_value) x.known;
+      }
 
   loop-thing : (n h w t l : ℕ) → LoopStands S.checked n h w t l → IsThing S n
   loop-thing n h w t l st = node-thing S n (node.Loop h w l) st.loop refl
@@ -415,7 +422,8 @@ module _ (S : Source) (k : ℕ) (fs : List RowFact) (s : IsRound S k fs) where
   test-thing n h w t l st = part-thing S w t (node.Switches t) st.switches refl
 
   body-rises : (n h w t l j a : ℕ) (P : Path) → LoopStands S.checked n h w t l → BodyTurns (rows S.checked) w a
-      → Rounds S k (fact.Has (below P (place S.checked n) j) (place S.checked t) (value.Bool true)) → Rises (fact.On (below P (place S.checked n) j) (place S.checked a))
+      → Rounds S k (fact.Has (below P (place S.checked n) j) (place S.checked t) (value.Bool true)) →
+      Rises (fact.On (below P (place S.checked n) j) (place S.checked a))
   body-rises n h w t l j a P st b g =
       let x = truth-within P n j t true (loop-thing n h w t l st) (test-thing n h w t l st) g in
       record {

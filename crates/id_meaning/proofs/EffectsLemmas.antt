@@ -1,5 +1,6 @@
 -- What is found to follow from a fact, rows give from facts that are there.
-use Rattle.std.proofs.Common.{◌≡◌, ◌⊎◌, inl, inr, ℕ, zero, suc, ◌<◌, ℤ, Bool as Truth, true, false, ◌||◌, Option, None, Some, List, [], ◌∷◌, length, if◌then◌else◌}
+use Rattle.std.proofs.Common.{◌≡◌, ◌⊎◌, inl, inr, ℕ, zero, suc, ◌<◌, ℤ, Bool as Truth, true, false, ◌||◌, Option}
+use Rattle.std.proofs.Common.{None, Some, List, [], ◌∷◌, length, if◌then◌else◌}
 use Rattle.std.proofs.Common.{refl, ap, sym, ◌∙◌, subst, arith}
 use Rattle.std.specs.Prelude.{pos}
 use Rattle.std.proofs.lemmas.Bool.{false≢true}
@@ -122,7 +123,8 @@ made-among p n i lo (w ∷ ws) x h = elim (Among-either x (made_by p n i lo w) (
       record { lo = r.lo; hi = r.hi; lowest = r.lowest; highest = inr r.highest; good = r.good; is = r.is }
 ]
   where
-    by : (b : Truth) (hi : ℤ) → are_good lo hi ≡ b → w ≡ Int hi → Among x (if b then Shape i lo hi ∷ Has p n (Name i) ∷ [] else []) → IsMade p n i (Int lo ∷ []) (w ∷ ws) x
+    by : (b : Truth) (hi : ℤ) → are_good lo hi ≡ b → w ≡ Int hi → Among x (if b then Shape i lo hi ∷ Has p n (Name i) ∷ [] else []) →
+        IsMade p n i (Int lo ∷ []) (w ∷ ws) x
     by true hi e q (inl k) = record { lo = lo; hi = hi; lowest = inl refl; highest = inl (sym q); good = e; is = inl k }
     by true hi e q (inr (inl k)) = record { lo = lo; hi = hi; lowest = inl refl; highest = inl (sym q); good = e; is = inr k }
     by true hi e q (inr (inr k)) = absurd k
@@ -201,7 +203,8 @@ module _ (S : Source) (c : Cells) (chained : AreChained c) where
     on = on-there p n i o
 
     literal-given : (k : Constant) (x : RowFact) → (at (rows S.checked) n).node ≡ node.Literal k → Among x (Has p n (row_value k) ∷ []) → Given x
-    literal-given k x e (inl q) = same x (Has p n (row_value k)) q (record { premises = On p n ∷ []; rule = row.literal (stands n (node.Literal k) e refl); known = (on, tt) })
+    literal-given k x e (inl q) = same x (Has p n (row_value k)) q
+        (record { premises = On p n ∷ []; rule = row.literal (stands n (node.Literal k) e refl); known = (on, tt) })
     literal-given k x e (inr h) = absurd h
 
     unary-given : (u : UnaryOp) (a : ℕ) (x : RowFact) → (at (rows S.checked) n).node ≡ node.Unary u a → Among x (unaries p n u (values c g p a)) → Given x
@@ -241,7 +244,8 @@ module _ (S : Source) (c : Cells) (chained : AreChained c) where
         same x (Has p n r.0) r.2
         (record { premises = On p n ∷ Has p b r.0 ∷ []; rule = row.block (stands n (node.Block b) e refl); known = (on, (has g p b r.0 here r.1, tt)) })
 
-    arm-given : (s a b t : ℕ) (v : RowValue) (x : RowFact) → Stands S.checked n (node.If s a b) → Stands S.checked s (node.Split t) → Among (Has p t v) (items c)
+    arm-given : (s a b t : ℕ) (v : RowValue) (x : RowFact) → Stands S.checked n (node.If s a b) → Stands S.checked s (node.Split t) →
+        Among (Has p t v) (items c)
         → Among x (arm_by c g p n a b v) → Given x
     arm-given s a b t (Bool d) x st sp w (inl q) =
         same x (On p (arm_of d a b)) q (record { premises = On p n ∷ Has p t (Bool d) ∷ []; rule = row.arm d st sp; known = (on, (w, tt)) })
@@ -290,7 +294,8 @@ module _ (S : Source) (c : Cells) (chained : AreChained c) where
           })
         ]
 
-    asked-given : (t j s : ℕ) (w : RowValue) (x : RowFact) → Stands S.checked n (node.Fetch t j) → Among (Has p t (Name s)) (items c) → Among (Has p j w) (items c)
+    asked-given : (t j s : ℕ) (w : RowValue) (x : RowFact) → Stands S.checked n (node.Fetch t j) → Among (Has p t (Name s)) (items c) →
+        Among (Has p j w) (items c)
         → Among x (asked_by p n s (shapes c s) w) → Given x
     asked-given t j s (Int k) x st u w h = by (is_in_some (shapes c s) k) refl h
       where
@@ -382,7 +387,8 @@ module _ (S : Source) (c : Cells) (chained : AreChained c) where
         let so = stands n (node.Store a y) e refl in
         let ad : Stands S.checked a (node.Address t j) = record { within = part-within S n a (node.Store a y) so (inl refl); node = f } in
         let st : StoreStands S.checked n t j y = record { address = a; store = so; parts = ad } in
-        stores-given t j y (values c g p t) (values c g p j) (values c g p y) x st (λ v k. has g p t v here k) (λ v k. has g p j v here k) (λ v k. has g p y v here k) h
+        stores-given t j y (values c g p t) (values c g p j) (values c g p y) x st (λ v k. has g p t v here k) (λ v k. has g p j v here k)
+        (λ v k. has g p y v here k) h
     store-at-given a y _ x e f h = absurd h
 
     from-on-given : (z : Node) (x : RowFact) → (at (rows S.checked) n).node ≡ z → Among x (from_on S.checked c g p n i z) → Given x
@@ -393,7 +399,8 @@ module _ (S : Source) (c : Cells) (chained : AreChained c) where
     from-on-given (node.If s a b) x e h = if-given s a b (at (rows S.checked) s).node x e refl h
     from-on-given (node.Block b) x e h = block-given b x e h
     from-on-given (node.Array a b) x e h = array-given a b x e h
-    from-on-given (node.Fetch t j) x e h = fetches-given t j (values c g p t) (values c g p j) x (stands n (node.Fetch t j) e refl) (λ v k. has g p t v here k) (λ v k. has g p j v here k) h
+    from-on-given (node.Fetch t j) x e h = fetches-given t j (values c g p t) (values c g p j) x (stands n (node.Fetch t j) e refl)
+        (λ v k. has g p t v here k) (λ v k. has g p j v here k) h
     from-on-given (node.Store a y) x e h = store-at-given a y (at (rows S.checked) a).node x e refl h
     from-on-given _ x e h = absurd h
 
@@ -404,7 +411,8 @@ module _ (S : Source) (c : Cells) (chained : AreChained c) where
       same x (Has p n r.0) r.2
       (record { premises = Has p a r.0 ∷ []; rule = row.binding (stands n (node.Binding y a) e refl); known = (has g p a r.0 here r.1, tt) })
 
-  found-given : (g : RowFact) (p : Trail) (n : ℕ) (z : Node) (i : Option ℕ) (x : RowFact) → Among g (items c) → (at (rows S.checked) n).node ≡ z → find c p n ≡ i
+  found-given : (g : RowFact) (p : Trail) (n : ℕ) (z : Node) (i : Option ℕ) (x : RowFact) → Among g (items c) → (at (rows S.checked) n).node ≡ z →
+      find c p n ≡ i
       → Among x (from_found S.checked c g p n z i) → Given x
   found-given g p n z None x here e f h = absurd h
   found-given g p n z (Some i) x here e f h = from-on-given g here p n i (find-true c chained p n i f) z x e h

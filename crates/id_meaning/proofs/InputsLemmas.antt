@@ -254,7 +254,8 @@ suits P _ v h e = absurd (false≢true h)
 
 -- one value for each parameter, of its kind
 are-for : (P : Checked) (bs : List ℕ) (vs : List Constant) → ((b : ℕ) → Among b bs → is_param (at (rows P) b).node ≡ true) → length vs ≡ length bs
-    → ((n : ℕ) (p : Wanted) (v : Constant) → slice_get (map (λ b. wanted_of P (at (rows P) b).node) bs) n ≡ Some p → slice_get vs n ≡ Some v → constant_kind v ≡ p.kind) → AreFor P bs vs
+    → ((n : ℕ) (p : Wanted) (v : Constant) → slice_get (map (λ b. wanted_of P (at (rows P) b).node) bs) n ≡ Some p → slice_get vs n ≡ Some v →
+    constant_kind v ≡ p.kind) → AreFor P bs vs
 are-for P [] [] are e h = tt
 are-for P [] (v ∷ vs) are e h = absurd (omega arith)
 are-for P (b ∷ bs) [] are e h = absurd (omega arith)
@@ -282,4 +283,5 @@ module _ (P : Checked) (ps : List Wanted) (ws : List (List ℕ)) (vs : List Cons
       let kinds : (n : ℕ) (p : Wanted) (v : Constant) → slice_get ps n ≡ Some p → slice_get vs n ≡ Some v → constant_kind v ≡ p.kind =
       λ n p v is at. for-kind ps ws n p v is (sym (values n (slice_get_within vs n v at)) ∙ at) in
       are-for P (main_params P) vs (λ b i. (params-among R (head_of (at R P.main).node) (length R) b i).1) (enough ∙ ap length same ∙ wide)
-      (subst (λ (qs : List Wanted). (n : ℕ) (p : Wanted) (v : Constant) → slice_get qs n ≡ Some p → slice_get vs n ≡ Some v → constant_kind v ≡ p.kind) same kinds)
+      (subst (λ (qs : List Wanted). (n : ℕ) (p : Wanted) (v : Constant) → slice_get qs n ≡ Some p → slice_get vs n ≡ Some v → constant_kind v ≡ p.kind) same
+      kinds)

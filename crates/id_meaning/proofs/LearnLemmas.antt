@@ -32,7 +32,8 @@ use Rattle.id_meaning.specs.Sources.{IsInput, Source, main_params}
 use Rattle.id_meaning.specs.Facts.{ask, put, shape, site}
 use Rattle.id_meaning.specs.Rounds.{Rounds}
 use Rattle.id_meaning.specs.Links.{Gains, Leads, far_from, width}
-use Rattle.id_meaning.specs.Cells.{AreBefore, AreHeld, all_learnt, chain_at, chain_by, fact_at, is_among, is_inside, is_path_inside, is_value_inside, learnt, out_of, path_of, row_of}
+use Rattle.id_meaning.specs.Cells.{AreBefore, AreHeld, all_learnt, chain_at, chain_by, fact_at, is_among, is_inside}
+use Rattle.id_meaning.specs.Cells.{is_path_inside, is_value_inside, learnt, out_of, path_of, row_of}
 use Rattle.id_meaning.specs.Cells.{index_mark, mark_of, member_chain, same_fact, same_trail, same_value, value_mark}
 use Rattle.id_meaning.specs.Effects.{all_effects, effects, first_facts, input_fact, input_facts, row_value}
 use Rattle.id_meaning.specs.Listed.{AreFound, BeginsOn, IsArrayOn, IsOfThing, IsPart, IsRound, NamesArray, NamesArrays, fact_of, name_at, path_at}
@@ -643,7 +644,8 @@ input-only : (n : ℕ) (bs : List ℕ) (ks : List Constant) (f : RowFact) → Am
 input-only n [] ks f h = absurd h
 input-only n (d ∷ bs) ks f h = elim (Among-either f (input_fact d (slice_get ks n)) (input_facts (suc n) bs ks) h) [
   | inl i ↦ let r = input-some d (slice_get ks n) f i in let q : n + 0 ≡ n = omega arith in (0, d, r.0, refl, ap (λ j. slice_get ks j) q ∙ r.1, r.2)
-  | inr i ↦ let r = input-only (suc n) bs ks f i in let q : n + suc r.0 ≡ suc n + r.0 = omega arith in (suc r.0, r.1, r.2, r.3, ap (λ j. slice_get ks j) q ∙ r.4, r.5)
+  | inr i ↦ let r = input-only (suc n) bs ks f i in let q : n + suc r.0 ≡ suc n + r.0 = omega arith in
+      (suc r.0, r.1, r.2, r.3, ap (λ j. slice_get ks j) q ∙ r.4, r.5)
 ]
 
 module _ (S : Source) where

@@ -168,7 +168,12 @@ pub record GainsBy (E F : Edges) (o : Option ℕ) (bs : List ℕ) : Type 0 where
 gains-by : (E F : Edges) (o : Option ℕ) (bs : List ℕ) → GainsFrom E F o bs → GainsBy E F o bs
 gains-by E F None bs e =
     let L : (n b : ℕ) → Edges → Type 0 = λ n b G. Leads G n b in
-    record { wide = ap width e; kept = λ n b h. subst (L n b) (sym e) h; added = λ a b k. (let q : None ≡ Some a = k in cc); only = λ n b h. inl (subst (L n b) e h) }
+    record {
+      wide = ap width e;
+      kept = λ n b h. subst (L n b) (sym e) h;
+      added = λ a b k. (let q : None ≡ Some a = k in cc);
+      only = λ n b h. inl (subst (L n b) e h);
+    }
 gains-by E F (Some a) bs g = record {
   wide = g.wide;
   kept = g.kept;
@@ -520,7 +525,8 @@ module _ (R : List Row) (n : ℕ) (E D F : Edges) (ss : List Statement) (w : n <
     rise = o.rise;
   }
 
-  binding-open : (a : ℕ) → turned_by n (at R n).node ≡ Some a → has_statements (at R n).node ≡ false → AreOpen R (suc n) (ss ++ record { row = n; value = a } ∷ [])
+  binding-open : (a : ℕ) → turned_by n (at R n).node ≡ Some a → has_statements (at R n).node ≡ false →
+      AreOpen R (suc n) (ss ++ record { row = n; value = a } ∷ [])
   binding-open a e plain =
       let new : Statement = record { row = n; value = a } in
       record {
@@ -529,7 +535,8 @@ module _ (R : List Row) (n : ℕ) (E D F : Edges) (ss : List Statement) (w : n <
               let k : Some b ≡ Some a = sym f ∙ ap (λ i. turned_by i (at R i).node) q.1 ∙ e in
               let p : a ≡ b = cc in
               (new, Among-right new ss (new ∷ []) (inl refl), sym q.1, p)
-          | inr q ↦ (let s : m < n = let d = q.1 in omega arith in let r = o.all m b s w f (right-before m h) in (r.0, Among-left r.0 ss (new ∷ []) r.1, r.2, r.3))
+          | inr q ↦ (let s : m < n = let d = q.1 in omega arith in let r = o.all m b s w f (right-before m h) in
+              (r.0, Among-left r.0 ss (new ∷ []) r.1, r.2, r.3))
         ];
         only = λ s h. elim (Among-either s ss (new ∷ []) h) [
           | inl i ↦ (let z = o.only s i in (omega (arith, z.0), right-after s.row plain z.1, z.2))
@@ -647,8 +654,12 @@ module _ (R : List Row) (n : ℕ) (E D F : Edges) (ss : List Statement) (w : n <
     only = λ s h.
         let z = o.only s (k.takes.some s h) in
         let c = k.before s h in
-        let u : around R n s.row ≡ false = and-first (nat_le (at R n).first s.row) (nat_lt s.row n) (lt-leb (at R n).first s.row c) in
-        (omega (arith, z.0), both-false (in_block R s.row n) (has_statements (at R n).node && around R n s.row) z.1 (and-late (has_statements (at R n).node) (around R n s.row) u), z.2);
+        let u : around R n s.row ≡ false = and-first (nat_le (at R n).first s.row) (nat_lt s.row n) (lt-leb (at R n).first s.row c) in (
+          omega (arith, z.0),
+          both-false (in_block R s.row n) (has_statements (at R n).node && around R n s.row) z.1
+              (and-late (has_statements (at R n).node) (around R n s.row) u),
+          z.2,
+        );
     rise = k.takes.rise;
   }
 

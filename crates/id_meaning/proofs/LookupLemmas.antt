@@ -1,5 +1,6 @@
 -- What is looked up in cells is what their facts tell.
-use Rattle.std.proofs.Common.{◌≡◌, ◌⊎◌, inl, inr, ℕ, ℤ, Bool as Truth, true, false, ◌&&◌, nat_eq, Option, None, Some, List, [], ◌∷◌, if◌then◌else◌, refl, ap, sym, ◌∙◌, subst}
+use Rattle.std.proofs.Common.{◌≡◌, ◌⊎◌, inl, inr, ℕ, ℤ, Bool as Truth, true, false, ◌&&◌, nat_eq, Option, None, Some}
+use Rattle.std.proofs.Common.{List, [], ◌∷◌, if◌then◌else◌, refl, ap, sym, ◌∙◌, subst}
 use Rattle.std.specs.Ordering.{int_eq}
 use Rattle.std.proofs.lemmas.Bool.{eqb-true, eqb-false, false≢true}
 use Rattle.std.proofs.lemmas.Bool.Decides.{Decides-int_eq}
@@ -202,7 +203,8 @@ module _ (c : Cells) (chained : AreChained c) where
   pub values-true : (g : RowFact) (p : Trail) (n : ℕ) (v : RowValue) → Among g (items c) → Among v (values c g p n) → Among (Has p n v) (items c)
   values-true g p n v here h = go (value_by p n g) refl h
     where
-      go : (o : Option RowValue) → value_by p n g ≡ o → Among v (or_these o (told (value_by p n) (items c) (chain c (chain_at p n)))) → Among (Has p n v) (items c)
+      go : (o : Option RowValue) → value_by p n g ≡ o → Among v (or_these o (told (value_by p n) (items c) (chain c (chain_at p n)))) →
+          Among (Has p n v) (items c)
       go None e k =
           let r = told-among (value_by p n) (items c) (chain c (chain_at p n)) v k in
           fact-there (chain_at p n) r.0 (Has p n v) r.1 (value-true p n v (fact_at (items c) r.0) r.2)

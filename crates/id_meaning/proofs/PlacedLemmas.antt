@@ -105,9 +105,12 @@ rule_placed {S} (param_has {b = b} {c = c} i) h =
       constant-placed S.checked c,
     )
 rule_placed {S} (literal_has {c = c} s) h = (h.0, constant-placed S.checked c)
-rule_placed {S} (operand_on {n = n} {a = a} {o = o} s) h = let p = h.0 in record { path = p.path; place = thing-place S a (part-thing S n a (Unary o a) s refl) }
-rule_placed {S} (left_on {n = n} {a = a} {b = b} {o = o} s) h = let p = h.0 in record { path = p.path; place = thing-place S a (part-thing S n a (Binary o a b) s (inl refl)) }
-rule_placed {S} (right_on {n = n} {a = a} {b = b} {o = o} s) h = let p = h.0 in record { path = p.path; place = thing-place S b (part-thing S n b (Binary o a b) s (inr refl)) }
+rule_placed {S} (operand_on {n = n} {a = a} {o = o} s) h = let p = h.0 in
+    record { path = p.path; place = thing-place S a (part-thing S n a (Unary o a) s refl) }
+rule_placed {S} (left_on {n = n} {a = a} {b = b} {o = o} s) h = let p = h.0 in
+    record { path = p.path; place = thing-place S a (part-thing S n a (Binary o a b) s (inl refl)) }
+rule_placed {S} (right_on {n = n} {a = a} {b = b} {o = o} s) h = let p = h.0 in
+    record { path = p.path; place = thing-place S b (part-thing S n b (Binary o a b) s (inr refl)) }
 rule_placed {S} (unary_has {x = x} c s e) h = (h.0, constant-placed S.checked x)
 rule_placed {S} (binary_has {x = x} c d s e) h = (h.0, constant-placed S.checked x)
 rule_placed (name_has s e) h = (h.0, h.1.0.1)
@@ -120,13 +123,16 @@ rule_placed {S} (arm_on {n = n} {a = a} {b = b} c) h =
     let d = choice c in
     record { path = p.path; place = thing-place S a (part-thing S n a (If d.split d.then d.otherwise) d.stands (arm-among d.then d.otherwise b a d.arm)) }
 rule_placed (conditional_has c) h = (h.0, h.1.1.0.1)
-rule_placed {S} (argument_on {e = e} {m = m} {k = k} {v = v} s t) h = let p = h.0 in record { path = p.path; place = thing-place S v (part-thing S m v (Arg e k v) t refl) }
+rule_placed {S} (argument_on {e = e} {m = m} {k = k} {v = v} s t) h = let p = h.0 in
+    record { path = p.path; place = thing-place S v (part-thing S m v (Arg e k v) t refl) }
 rule_placed {S} (callee_on {n = n} {d = d} {x = x} {h = g} {b = b} {k = k} {p = p} s is def) h =
     record { path = below_steps S p (place S.checked n) 0 h.0; place = thing-place S b (part-thing S d b (Def x g k b) def refl) }
 rule_placed {S} (argument_has {n = n} {h = g} {i = i} {q = q} {p = p} s t is def there) h =
     let R = rows S.checked in
-    let w = params-among R g (length R) q (Among-from_at q (params_at R g) i there) in
-    (record { path = below_steps S p (place S.checked n) 0 h.0; place = thing-place S q (record { within = w.0; thing = thing-param (at R q).node w.1 }) }, h.1.0.1)
+    let w = params-among R g (length R) q (Among-from_at q (params_at R g) i there) in (
+      record { path = below_steps S p (place S.checked n) 0 h.0; place = thing-place S q (record { within = w.0; thing = thing-param (at R q).node w.1 }) },
+      h.1.0.1,
+    )
 rule_placed {S} (call_has s is def) h = (h.0, h.1.0.1)
 rule_placed {S} (loop_test_on {n = n} {w = w} {t = t} {p = p} s) h =
     record { path = below_steps S p (place S.checked n) 0 h.0; place = thing-place S t (part-thing S w t (Switches t) s.switches refl) }
@@ -136,14 +142,23 @@ rule_placed {S} (turn_on {n = n} {h = g} {w = w} {t = t} {l = l} p k s) h =
     iteration_placed S p n (place S.checked t) t k (suc k) (node-thing S n (Loop g w l) s.loop refl) (part-thing S w t (Switches t) s.switches refl) h.0.0
 rule_placed {S} (loop_store_on {m = m} p k s b) h =
     let q = h.0.0 in record { path = q.path; place = thing-place S m (node-thing S m (Store b.address b.value) b.store refl) }
-rule_placed {S} (loop_statement_on {m = m} {a = a} p k s b) h = let q = h.0.0 in record { path = q.path; place = thing-place S a (part-thing S m a (Binding b.name a) b.binding refl) }
-rule_placed {S} (next_on {m = m} {o = o} {v = v} p k s x) h = let q = h.0.0 in record { path = q.path; place = thing-place S v (part-thing S m v (Next x.name x.index o v) x.next refl) }
-rule_placed {S} (next_has {n = n} {h = g} {w = w} {l = l} {m = m} {o = o} {v = v} p k s x) h =
-    (iteration_placed S p n (place S.checked v) m k (suc k) (node-thing S n (Loop g w l) s.loop refl) (node-thing S m (Next x.name x.index o v) x.next refl) h.0.0, h.0.1)
-rule_placed {S} (last_on {n = n} {h = g} {w = w} {l = l} p k s) h = let q = h.0.0 in record { path = q.path; place = thing-place S l (part-thing S n l (Loop g w l) s.loop refl) }
-rule_placed {S} (loop_has {n = n} {h = g} {w = w} {l = l} p k s) h =
-    (record { path = front_placed S p (place S.checked n) k (place S.checked l) h.0.0; place = thing-place S n (node-thing S n (Loop g w l) s.loop refl) }, h.0.1)
-rule_placed {S} (statement_on {m = m} {x = x} {a = a} s i t) h = let p = h.0 in record { path = p.path; place = thing-place S a (part-thing S m a (Binding x a) t refl) }
+rule_placed {S} (loop_statement_on {m = m} {a = a} p k s b) h = let q = h.0.0 in
+    record { path = q.path; place = thing-place S a (part-thing S m a (Binding b.name a) b.binding refl) }
+rule_placed {S} (next_on {m = m} {o = o} {v = v} p k s x) h = let q = h.0.0 in
+    record { path = q.path; place = thing-place S v (part-thing S m v (Next x.name x.index o v) x.next refl) }
+rule_placed {S} (next_has {n = n} {h = g} {w = w} {l = l} {m = m} {o = o} {v = v} p k s x) h = (
+  iteration_placed S p n (place S.checked v) m k (suc k) (node-thing S n (Loop g w l) s.loop refl) (node-thing S m (Next x.name x.index o v) x.next refl)
+      h.0.0,
+  h.0.1,
+)
+rule_placed {S} (last_on {n = n} {h = g} {w = w} {l = l} p k s) h = let q = h.0.0 in
+    record { path = q.path; place = thing-place S l (part-thing S n l (Loop g w l) s.loop refl) }
+rule_placed {S} (loop_has {n = n} {h = g} {w = w} {l = l} p k s) h = (
+  record { path = front_placed S p (place S.checked n) k (place S.checked l) h.0.0; place = thing-place S n (node-thing S n (Loop g w l) s.loop refl) },
+  h.0.1,
+)
+rule_placed {S} (statement_on {m = m} {x = x} {a = a} s i t) h = let p = h.0 in
+    record { path = p.path; place = thing-place S a (part-thing S m a (Binding x a) t refl) }
 rule_placed {S} (body_on {n = n} {b = b} s) h = let p = h.0 in record { path = p.path; place = thing-place S b (part-thing S n b (Block b) s refl) }
 rule_placed (block_has s) h = (h.0, h.1.0.1)
 rule_placed {S} (binding_has {n = n} {x = x} {a = a} s) h =

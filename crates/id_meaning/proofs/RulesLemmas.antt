@@ -1,5 +1,6 @@
 -- The rules by path and row, and that what they give follows by a rule of the source.
-use Rattle.std.proofs.Common.{◌≡◌, inl, inr, ℕ, zero, suc, ◌+◌, ◌<◌, ℤ, Bool as Truth, true, false, Some, List, [], ◌∷◌, length, refl, ap, sym, ◌∙◌, subst, arith}
+use Rattle.std.proofs.Common.{◌≡◌, inl, inr, ℕ, zero, suc, ◌+◌, ◌<◌, ℤ, Bool as Truth, true, false, Some, List, []}
+use Rattle.std.proofs.Common.{◌∷◌, length, refl, ap, sym, ◌∙◌, subst, arith}
 use Rattle.std.specs.Prelude.{slice_get}
 use Rattle.id_list.specs.List.{Among}
 use Rattle.id_list.proofs.AmongLemmas.{Among-from_at}
@@ -432,7 +433,16 @@ module _ (S : Source) (k : ℕ) (fs : List RowFact) (s : IsRound S k fs) where
       fact.On (Of p) (place S.checked m) ∷ fact.Has (Of p) (place S.checked t) (value.Name (name_at S.checked fs x)) ∷ fact.Has (Of p) (place S.checked i)
           (value.Int j) ∷ fact.Has (Of p) (place S.checked y) (value_at S.checked fs v) ∷ shape (name_at S.checked fs x) lo hi ∷ [],
       rule.puts st e,
-      (only (On p m) h.0, (only (Has p t (Name x)) h.1.0, (only (Has p i (Int j)) h.1.1.0, (only (Has p y v) h.1.1.1.0, (only (Shape x lo hi) h.1.1.1.1.0, tt))))),
+      (
+        only (On p m) h.0,
+        (
+          only (Has p t (Name x)) h.1.0,
+          (
+            only (Has p i (Int j)) h.1.1.0,
+            (only (Has p y v) h.1.1.1.0, (only (Shape x lo hi) h.1.1.1.1.0, tt)),
+          ),
+        ),
+      ),
     ),
   )
   sound (asks_argument {p = p} {n = n} {e = e} {m = m} {k = j} {v = v} st t) h =

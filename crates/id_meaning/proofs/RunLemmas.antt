@@ -26,7 +26,8 @@ use Rattle.id_meaning.specs.Waits.{AreWaits, Goes, Waits, width}
 use Rattle.id_meaning.proofs.AllFollowLemmas.{all-follow}
 use Rattle.id_meaning.proofs.CompleteLemmas.{among-inside}
 use Rattle.id_meaning.proofs.GivenLemmas.{all-effects-only}
-use Rattle.id_meaning.proofs.LearnLemmas.{Arises, Learns, arises-old-or-new, first-all, first-arises, first-round, learns-so, learnt-has, learnt-kept, learnt-part, learnt-round, none-round}
+use Rattle.id_meaning.proofs.LearnLemmas.{Arises, Learns, arises-old-or-new, first-all, first-arises, first-round}
+use Rattle.id_meaning.proofs.LearnLemmas.{learns-so, learnt-has, learnt-kept, learnt-part, learnt-round, none-round}
 use Rattle.id_meaning.proofs.ListedLemmas.{more-facts, part}
 use Rattle.id_meaning.proofs.NumbersLemmas.{last-number}
 use Rattle.id_meaning.proofs.PathsLemmas.{path-below}

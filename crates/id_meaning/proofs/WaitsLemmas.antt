@@ -103,7 +103,8 @@ waits-nobody P es V p n u a = record {
 pub each-none : (P : Checked) (es : List RowFact) (V : Queues) (p : Trail) (n : ℕ) → WaitsFor P es V V p n []
 each-none P es V p n = record { wide = refl; kept = λ c x h. h; added = λ u w h. absurd h }
 
-pub each-step : (P : Checked) (es : List RowFact) (V W X : Queues) (p : Trail) (n : ℕ) (us : List ℕ) (i j u d : ℕ) → i < length us → j ≡ suc i → u ≡ get_or us i d
+pub each-step : (P : Checked) (es : List RowFact) (V W X : Queues) (p : Trail) (n : ℕ) (us : List ℕ) (i j u d : ℕ) → i < length us → j ≡ suc i →
+    u ≡ get_or us i d
     → WaitsFor P es V W p n (take i us) → WaitsFor P es W X p n (u ∷ []) → WaitsFor P es V X p n (take j us)
 each-step P es V W X p n us i j u d l q e s t =
     let F : List ℕ → Type 0 = λ xs. WaitsFor P es V X p n xs in

@@ -25,7 +25,8 @@ nothing_each : {X Y : Type 0} (h : X → Option Y) (xs : List X) → filter_map 
 nothing_each h [] e = tt
 nothing_each {Y = Y} h (x ∷ xs) e = at (h x) refl (λ rest. nothing_each h xs rest) e
   where
-    at : (o : Option Y) → h x ≡ o → (filter_map h xs ≡ [] → AllByRecursion (λ w. h w ≡ None) xs) → cons_option o (filter_map h xs) ≡ [] → (h x ≡ None) × AllByRecursion (λ w. h w ≡ None) xs
+    at : (o : Option Y) → h x ≡ o → (filter_map h xs ≡ [] → AllByRecursion (λ w. h w ≡ None) xs) → cons_option o (filter_map h xs) ≡ [] →
+        (h x ≡ None) × AllByRecursion (λ w. h w ≡ None) xs
     at None is rest e = (is, rest e)
     at (Some y) is rest e = cc
 
@@ -53,25 +54,32 @@ given_later {Y = Y} h w xs x given y is = at (h w)
 
 given_each : {X Y : Type 0} (h : X → Option Y) (xs : List X) → AllByRecursion (IsGiven h xs) xs
 given_each h [] = tt
-given_each h (x ∷ xs) =
-    (λ y is. (zero, ap (λ o. slice_get (cons_option o (filter_map h xs)) zero) is), each-weaker (IsGiven h xs) (IsGiven h (x ∷ xs)) (λ w given. given_later h x xs w given) xs (given_each h xs))
+given_each h (x ∷ xs) = (
+  λ y is. (zero, ap (λ o. slice_get (cons_option o (filter_map h xs)) zero) is),
+  each-weaker (IsGiven h xs) (IsGiven h (x ∷ xs)) (λ w given. given_later h x xs w given) xs (given_each h xs),
+)
 
 -- what is given first stands in what another order gives
-first_given : {X Y : Type 0} (h : X → Option Y) (xs ys : List X) (y : Y) → AllByRecursion (IsGiven h xs) ys → slice_get (filter_map h ys) 0 ≡ Some y → (i : ℕ) × (slice_get (filter_map h xs) i ≡ Some y)
+first_given : {X Y : Type 0} (h : X → Option Y) (xs ys : List X) (y : Y) → AllByRecursion (IsGiven h xs) ys → slice_get (filter_map h ys) 0 ≡ Some y →
+    (i : ℕ) × (slice_get (filter_map h xs) i ≡ Some y)
 first_given h xs [] y each is = cc
 first_given {Y = Y} h xs (x ∷ ys) y each is = at (h x) refl (λ later. first_given h xs ys y each.1 later) is
   where
-    at : (o : Option Y) → h x ≡ o → (slice_get (filter_map h ys) 0 ≡ Some y → (i : ℕ) × (slice_get (filter_map h xs) i ≡ Some y)) → slice_get (cons_option o (filter_map h ys)) 0 ≡ Some y → (i : ℕ) × (slice_get (filter_map h xs) i ≡ Some y)
+    at : (o : Option Y) → h x ≡ o → (slice_get (filter_map h ys) 0 ≡ Some y → (i : ℕ) × (slice_get (filter_map h xs) i ≡ Some y)) →
+        slice_get (cons_option o (filter_map h ys)) 0 ≡ Some y → (i : ℕ) × (slice_get (filter_map h xs) i ≡ Some y)
     at None none rest is = rest is
     at (Some z) some rest is = each.0 y (some ∙ is)
 
-pub first-permutation : {X Y : Type 0} (h : X → Option Y) (xs ys : List X) (y : Y) → IsPermutation xs ys → slice_get (filter_map h ys) 0 ≡ Some y → (i : ℕ) × (slice_get (filter_map h xs) i ≡ Some y)
+pub first-permutation : {X Y : Type 0} (h : X → Option Y) (xs ys : List X) (y : Y) → IsPermutation xs ys → slice_get (filter_map h ys) 0 ≡ Some y →
+    (i : ℕ) × (slice_get (filter_map h xs) i ≡ Some y)
 first-permutation h xs ys y same is =
-    first_given h xs ys y (recursion_from_All (IsGiven h xs) ys (All-permutation (IsGiven h xs) xs ys same (All-from_recursion (IsGiven h xs) xs (given_each h xs)))) is
+    first_given h xs ys y (recursion_from_All (IsGiven h xs) ys
+    (All-permutation (IsGiven h xs) xs ys same (All-from_recursion (IsGiven h xs) xs (given_each h xs)))) is
 
 -- the first fault is one of those that the records show
 pub first_is_shown : (g : Parts) (elements : List State) (f : SourceFault) → IsFirstFault g elements f → (i : ℕ) × (slice_get (faults_in g elements) i ≡ Some f)
-first_is_shown g elements f is = first-permutation (λ e. fault_of g (path_in g elements) (structure_in g elements) e.step) (events_of elements) is.order f is.merged.all is.first
+first_is_shown g elements f is = first-permutation (λ e. fault_of g (path_in g elements) (structure_in g elements) e.step) (events_of elements) is.order f
+    is.merged.all is.first
 
 -- the events of elements, by their states
 pub events_of-states : (es : List ElementView) → flat_map (λ e. e.state.events) es ≡ events_of (map (λ e. e.state) es)
@@ -90,7 +98,8 @@ found_first g elements m (Some f) merged is = record { order = m; merged = merge
 pub went_none : (g : Parts) (path : Tag → Path) (name : Structure → Site) (vs : List EventView) → AllWent vs → faults_of g path name vs ≡ []
 went_none g path name vs went =
     nothing_all (λ e. fault_of g path name e.step) vs
-    (each-weaker (λ e. e.step ≡ Went) (λ e. fault_of g path name e.step ≡ None) (λ e is. ap (fault_of g path name) is) vs (recursion_from_All (λ e. e.step ≡ Went) vs went))
+    (each-weaker (λ e. e.step ≡ Went) (λ e. fault_of g path name e.step ≡ None) (λ e is. ap (fault_of g path name) is) vs
+    (recursion_from_All (λ e. e.step ≡ Went) vs went))
 
 -- elements whose events went well show no fault
 faults_none : (g : Parts) (path : Tag → Path) (name : Structure → Site) (es : List ElementView) → AllByRecursion (λ e. AllWent e.state.events) es
@@ -102,4 +111,5 @@ faults_none g path name (e ∷ es) all =
     ∙ faults_none g path name es all.1
 
 pub faults-went : (g : Parts) (es : List ElementView) → All (λ e. AllWent e.state.events) es → faults_in g (map (λ e. e.state) es) ≡ []
-faults-went g es all = faults_none g (path_in g (map (λ e. e.state) es)) (structure_in g (map (λ e. e.state) es)) es (recursion_from_All (λ e. AllWent e.state.events) es all)
+faults-went g es all = faults_none g (path_in g (map (λ e. e.state) es)) (structure_in g (map (λ e. e.state) es)) es
+    (recursion_from_All (λ e. AllWent e.state.events) es all)

@@ -1,5 +1,6 @@
 -- Lemmas on walks that pass over the events of instructions that are not marked.
-use Rattle.std.proofs.Common.{◌≡◌, ℕ, zero, suc, ◌+◌, ◌-◌, ◌<◌, ◌≤◌, Bool, false, Option, Some, None, List, [], ◌∷◌, ◌++◌, map, take, refl, sym, ap, ◌∙◌, append-nil, arith}
+use Rattle.std.proofs.Common.{◌≡◌, ℕ, zero, suc, ◌+◌, ◌-◌, ◌<◌, ◌≤◌, Bool, false, Option, Some, None, List, [], ◌∷◌}
+use Rattle.std.proofs.Common.{◌++◌, map, take, refl, sym, ap, ◌∙◌, append-nil, arith}
 use Rattle.std.specs.Prelude.{if◌then◌else◌, slice_get, option_map}
 use Rattle.std.specs.List.{filter_map, cons_option}
 use Rattle.id_graph.specs.Graph.{Parts}
@@ -11,7 +12,8 @@ use Rattle.id_tag.specs.declared.Payload.{Payload}
 use Rattle.id_tag.specs.declared.Payload.TheVariants.{Token, Read, Write}
 use Rattle.id_record.specs.Events.{AreUnmarked, EventView, is_marked, is_marked_in, tag_of}
 use Rattle.id_observe.specs.Paths.{makings_of, path_by}
-use Rattle.id_observe.specs.Observed.{events_of, is_label, label_marks, made, name_at, name_in, names_of, path_in, shape_at, shape_of, shapes_of, site_at, source_value, structures_in}
+use Rattle.id_observe.specs.Observed.{events_of, is_label, label_marks, made, name_at, name_in, names_of, path_in}
+use Rattle.id_observe.specs.Observed.{shape_at, shape_of, shapes_of, site_at, source_value, structures_in}
 use Rattle.id_element.specs.Replays.{ElementView}
 use Rattle.id_observe.specs.declared.paths.Paths.{Paths}
 use Rattle.id_observe.proofs.ObservedLemmas.{element-from_part, filter_map-next, is_label-from_mark}

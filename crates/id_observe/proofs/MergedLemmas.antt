@@ -1,5 +1,7 @@
 -- Lemmas on specs/Merged.antt.
-use Rattle.std.proofs.Common.{◌≡◌, ◌⊎◌, ℕ, zero, suc, ◌+◌, ◌<◌, ◌≤◌, Bool, true, false, cond, nat_lt, List, [], ◌∷◌, ◌++◌, Option, Some, None, length, map, drop, set, refl, sym, ap, subst, ◌∙◌, inl, inr, append_assoc, add-one, get_or, arith}
+use Rattle.std.proofs.Common.{◌≡◌, ◌⊎◌, ℕ, zero, suc, ◌+◌, ◌<◌, ◌≤◌, Bool, true, false, cond, nat_lt, List, [], ◌∷◌}
+use Rattle.std.proofs.Common.{◌++◌, Option, Some, None, length, map, drop, set, refl, sym, ap, subst, ◌∙◌, inl, inr}
+use Rattle.std.proofs.Common.{append_assoc, add-one, get_or, arith}
 use Rattle.std.specs.Prelude.{slice_get, option_map, option_and_then, MatchOption}
 use Rattle.std.specs.Cmp.{IsTotalOrder}
 use Rattle.std.specs.List.{AllByRecursion, cons_option, flat_map}
@@ -11,13 +13,15 @@ use Rattle.std.proofs.lemmas.Option.{slice_get_within, slice_get_read, slice_get
 use Rattle.std.proofs.lemmas.List.{drop_all, append-nil}
 use Rattle.std.proofs.lemmas.Cmp.{nat_cmp_total, on_total, then_total}
 use Rattle.std.proofs.lemmas.List.Elements.{filter_map-append}
-use Rattle.std.proofs.lemmas.List.Sorted.{IsPermutation-refl, IsPermutation-trans, IsPermutation-append_right, IsPermutation-middle, IsPermutation-pop_more, length_permutation}
+use Rattle.std.proofs.lemmas.List.Sorted.{IsPermutation-refl, IsPermutation-trans, IsPermutation-append_right}
+use Rattle.std.proofs.lemmas.List.Sorted.{IsPermutation-middle, IsPermutation-pop_more, length_permutation}
 use Rattle.id_observe.specs.declared.merge.Candidate.{Candidate}
 use Rattle.id_observe.specs.declared.merge.Head.{Head}
 use Rattle.id_observe.specs.declared.merge.Place.{Place}
 use Rattle.id_record.specs.Events.{EventView}
 use Rattle.id_element.specs.Replays.{ElementView}
-use Rattle.id_observe.specs.Merged.{by_moment, event_at_place, events_at, head_of, AreMerged, AreRecords, IsAfter, IsBelow, IsEarliest, IsFrom, IsMerge, IsPlace, earlier_of}
+use Rattle.id_observe.specs.Merged.{by_moment, event_at_place, events_at, head_of, AreMerged, AreRecords, IsAfter}
+use Rattle.id_observe.specs.Merged.{IsBelow, IsEarliest, IsFrom, IsMerge, IsPlace, earlier_of}
 use Rattle.id_record.proofs.EachLemmas.{each-append, each-weaker, each-get}
 use Rattle.id_observe.proofs.OrderedLemmas.{sorted-between, sorted-front}
 
@@ -39,7 +43,8 @@ length-events_at rs (p ∷ ps) are =
     omega (arith, ap (λ o. length (cons_option o (events_at rs ps))) are.0.1, length-events_at rs ps are.1)
 
 -- the event at each place
-pub events_at-get : (rs : List (List EventView)) (ps : List Place) (k : ℕ) (p : Place) → AllByRecursion (IsPlace rs) ps → slice_get ps k ≡ Some p → slice_get (events_at rs ps) k ≡ event_at_place rs p
+pub events_at-get : (rs : List (List EventView)) (ps : List Place) (k : ℕ) (p : Place) → AllByRecursion (IsPlace rs) ps → slice_get ps k ≡ Some p →
+    slice_get (events_at rs ps) k ≡ event_at_place rs p
 events_at-get rs [] k p are is = cc
 events_at-get rs (q ∷ ps) zero p are is =
     let same : q ≡ p = cc in
@@ -48,7 +53,8 @@ events_at-get rs (q ∷ ps) (suc k) p are is =
     ap (λ o. slice_get (cons_option o (events_at rs ps)) (suc k)) are.0.1 ∙ events_at-get rs ps k p are.1 is
 
 -- one more place is one more event
-pub events_at-push : (rs : List (List EventView)) (ps : List Place) (p : Place) (x : EventView) → event_at_place rs p ≡ Some x → events_at rs (ps ++ p ∷ []) ≡ events_at rs ps ++ x ∷ []
+pub events_at-push : (rs : List (List EventView)) (ps : List Place) (p : Place) (x : EventView) → event_at_place rs p ≡ Some x →
+    events_at rs (ps ++ p ∷ []) ≡ events_at rs ps ++ x ∷ []
 events_at-push rs ps p x is = filter_map-append (event_at_place rs) ps (p ∷ []) ∙ ap (λ o. events_at rs ps ++ cons_option o []) is
 
 -- what is left of each record from its head on
@@ -74,7 +80,8 @@ drop_at r p x is =
 drop_none : (r : List EventView) (p : ℕ) → slice_get r p ≡ None → drop p r ≡ []
 drop_none r p none = drop_all p r (at (slice_get_cases r p))
   where
-    at : (slice_get r p ≡ slice_get r p) × (((x : EventView) × (p < length r) × (slice_get r p ≡ Some x) × (get_or r p x ≡ x)) ⊎ ((length r ≤ p) × (slice_get r p ≡ None))) → length r ≤ p
+    at : (slice_get r p ≡ slice_get r p) × (((x : EventView) × (p < length r) × (slice_get r p ≡ Some x) × (get_or r p x ≡ x)) ⊎
+        ((length r ≤ p) × (slice_get r p ≡ None))) → length r ≤ p
     at (e, inl w) = let some = w.2 in cc
     at (e, inr w) = w.0
 
@@ -91,15 +98,18 @@ within_heads (h ∷ hs) s zero is = omega arith
 within_heads (h ∷ hs) s (suc k) is = omega (arith, within_heads hs s k is.1)
 
 -- the next event of a record has the stamp of its head
-next_event : (r : List EventView) (h : Head) (s : ℕ) → h ≡ head_of r h.position → h.stamp ≡ Some s → (x : EventView) × (slice_get r h.position ≡ Some x) × (x.stamp ≡ s)
+next_event : (r : List EventView) (h : Head) (s : ℕ) → h ≡ head_of r h.position → h.stamp ≡ Some s →
+    (x : EventView) × (slice_get r h.position ≡ Some x) × (x.stamp ≡ s)
 next_event r h s is stamp = at (slice_get r h.position) refl (sym (ap (λ g. g.stamp) is) ∙ stamp)
   where
-    at : (o : Option EventView) → slice_get r h.position ≡ o → option_map (λ e. e.stamp) o ≡ Some s → (x : EventView) × (slice_get r h.position ≡ Some x) × (x.stamp ≡ s)
+    at : (o : Option EventView) → slice_get r h.position ≡ o → option_map (λ e. e.stamp) o ≡ Some s →
+        (x : EventView) × (slice_get r h.position ≡ Some x) × (x.stamp ≡ s)
     at None e f = cc
     at (Some x) e f = (x, e, cc)
 
 -- the earliest head shows an event, whose stamp is the least one
-pub picked : (rs : List (List EventView)) (hs : List Head) (s k : ℕ) (r : List EventView) (h : Head) → AreHeads rs hs → IsEarliest hs s k → slice_get rs k ≡ Some r → slice_get hs k ≡ Some h
+pub picked : (rs : List (List EventView)) (hs : List Head) (s k : ℕ) (r : List EventView) (h : Head) → AreHeads rs hs → IsEarliest hs s k →
+    slice_get rs k ≡ Some r → slice_get hs k ≡ Some h
     → (x : EventView) × (slice_get r h.position ≡ Some x) × (x.stamp ≡ s)
 picked [] hs s k r h are is at_r at_h = cc
 picked (q ∷ rs) [] s k r h are is at_r at_h = absurd are
@@ -112,14 +122,16 @@ picked (q ∷ rs) (g ∷ hs) s zero r h are is at_r at_h =
 picked (q ∷ rs) (g ∷ hs) s (suc k) r h are is at_r at_h = picked rs hs s k r h are.1 is.1 at_r at_h
 
 -- taking the next event of a record takes it from what is left
-pub left_taken : (rs : List (List EventView)) (hs : List Head) (k : ℕ) (r : List EventView) (h : Head) (x : EventView) → AreHeads rs hs → slice_get rs k ≡ Some r → slice_get hs k ≡ Some h → slice_get r h.position ≡ Some x
+pub left_taken : (rs : List (List EventView)) (hs : List Head) (k : ℕ) (r : List EventView) (h : Head) (x : EventView) → AreHeads rs hs →
+    slice_get rs k ≡ Some r → slice_get hs k ≡ Some h → slice_get r h.position ≡ Some x
     → IsPermutation (flat_map (λ l. l) (lefts rs hs)) (x ∷ flat_map (λ l. l) (lefts rs (set hs k (head_of r (h.position + 1)))))
 left_taken [] hs k r h x are at_r at_h there = cc
 left_taken (q ∷ rs) [] k r h x are at_r at_h there = absurd are
 left_taken (q ∷ rs) (g ∷ hs) zero r h x are at_r at_h there =
     let same_r : q ≡ r = cc in
     let same_h : g ≡ h = cc in
-    let here : drop g.position q ≡ x ∷ drop (h.position + 1) q = ap (λ f. drop f.position q) same_h ∙ drop_at q h.position x (ap (λ l. slice_get l h.position) same_r ∙ there) in
+    let here : drop g.position q ≡ x ∷ drop (h.position + 1) q = ap (λ f. drop f.position q) same_h ∙
+    drop_at q h.position x (ap (λ l. slice_get l h.position) same_r ∙ there) in
     rw here (IsPermutation-refl _)
 left_taken (q ∷ rs) (g ∷ hs) (suc k) r h x are at_r at_h there =
     let rest = flat_map (λ l. l) (lefts rs (set hs k (head_of r (h.position + 1)))) in
@@ -128,7 +140,8 @@ left_taken (q ∷ rs) (g ∷ hs) (suc k) r h x are at_r at_h there =
     (IsPermutation-middle (drop g.position q) x rest)
 
 -- the heads stay heads
-heads_set : (rs : List (List EventView)) (hs : List Head) (k p : ℕ) (r : List EventView) → AreHeads rs hs → slice_get rs k ≡ Some r → AreHeads rs (set hs k (head_of r p))
+heads_set : (rs : List (List EventView)) (hs : List Head) (k p : ℕ) (r : List EventView) → AreHeads rs hs → slice_get rs k ≡ Some r →
+    AreHeads rs (set hs k (head_of r p))
 heads_set [] hs k p r are at_r = cc
 heads_set (q ∷ rs) [] k p r are at_r = absurd are
 heads_set (q ∷ rs) (g ∷ hs) zero p r are at_r = let same : r ≡ q = cc in (ap (λ l. head_of l p) same, are.1)
@@ -139,7 +152,8 @@ abbrev pub AreAhead : List EventView → List (List EventView) → Type 0
 AreAhead done ls = AllByRecursion (λ l. IsStrictlySortedBy by_moment (done ++ l)) ls
 
 -- one more merged event before what is left of a record, whose next event is later
-ahead_one : (done : List EventView) (x : EventView) (r : List EventView) (p : ℕ) → IsStrictlySortedBy by_moment (done ++ x ∷ []) → ((y : EventView) → slice_get r p ≡ Some y → by_moment x y ≡ Less)
+ahead_one : (done : List EventView) (x : EventView) (r : List EventView) (p : ℕ) → IsStrictlySortedBy by_moment (done ++ x ∷ []) →
+    ((y : EventView) → slice_get r p ≡ Some y → by_moment x y ≡ Less)
     → IsStrictlySortedBy by_moment (done ++ drop p r) → IsStrictlySortedBy by_moment ((done ++ x ∷ []) ++ drop p r)
 ahead_one done x r p to_x later old = at (slice_get r p) refl
   where
@@ -155,32 +169,38 @@ head_stamp : (r : List EventView) (h : Head) (y : EventView) → h ≡ head_of r
 head_stamp r h y is there = ap (λ f. f.stamp) is ∙ ap (option_map (λ e. e.stamp)) there
 
 -- a head after a stamp, or from it on, has a next event that is later
-after_later : (x y : EventView) (r : List EventView) (h : Head) → h ≡ head_of r h.position → IsAfter x.stamp h → slice_get r h.position ≡ Some y → by_moment x y ≡ Less
+after_later : (x y : EventView) (r : List EventView) (h : Head) → h ≡ head_of r h.position → IsAfter x.stamp h → slice_get r h.position ≡ Some y →
+    by_moment x y ≡ Less
 after_later x y r h is after there =
     earlier_stamp x y (let P : Option ℕ → Type 0 = λ o. MatchOption o (Unit {0}) (λ t. x.stamp < t) in subst P (head_stamp r h y is there) after)
 
-from_later : (x y : EventView) (r : List EventView) (h : Head) → h ≡ head_of r h.position → IsFrom x.stamp h → x.element < y.element → slice_get r h.position ≡ Some y → by_moment x y ≡ Less
+from_later : (x y : EventView) (r : List EventView) (h : Head) → h ≡ head_of r h.position → IsFrom x.stamp h → x.element < y.element →
+    slice_get r h.position ≡ Some y → by_moment x y ≡ Less
 from_later x y r h is from below there =
     earlier_element x y (let P : Option ℕ → Type 0 = λ o. MatchOption o (Unit {0}) (λ t. x.stamp ≤ t) in subst P (head_stamp r h y is there) from) below
 
 -- the records after that of the event
-ahead_from : (done : List EventView) (x : EventView) (rs : List (List EventView)) (hs : List Head) → IsStrictlySortedBy by_moment (done ++ x ∷ []) → AreHeads rs hs → AllByRecursion (IsFrom x.stamp) hs → IsBelow rs x
+ahead_from : (done : List EventView) (x : EventView) (rs : List (List EventView)) (hs : List Head) → IsStrictlySortedBy by_moment (done ++ x ∷ []) →
+    AreHeads rs hs → AllByRecursion (IsFrom x.stamp) hs → IsBelow rs x
     → AreAhead done (lefts rs hs) → AreAhead (done ++ x ∷ []) (lefts rs hs)
 ahead_from done x [] hs to_x are from below old = tt
 ahead_from done x (r ∷ rs) [] to_x are from below old = tt
 ahead_from done x (r ∷ rs) (h ∷ hs) to_x are from below old = (
-  ahead_one done x r h.position to_x (λ y there. from_later x y r h are.0 from.0 (each-get (λ (z : EventView). x.element < z.element) r h.position y below.0 there) there) old.0,
+  ahead_one done x r h.position to_x (λ y there. from_later x y r h are.0 from.0
+      (each-get (λ (z : EventView). x.element < z.element) r h.position y below.0 there) there) old.0,
   ahead_from done x rs hs to_x are.1 from.1 below.1 old.1,
 )
 
 -- a merged event before what is left of its own record
-here_ahead : (done : List EventView) (x : EventView) (r : List EventView) (p : ℕ) → slice_get r p ≡ Some x → IsStrictlySortedBy by_moment (done ++ drop p r) → IsStrictlySortedBy by_moment ((done ++ x ∷ []) ++ drop (p + 1) r)
+here_ahead : (done : List EventView) (x : EventView) (r : List EventView) (p : ℕ) → slice_get r p ≡ Some x → IsStrictlySortedBy by_moment (done ++ drop p r) →
+    IsStrictlySortedBy by_moment ((done ++ x ∷ []) ++ drop (p + 1) r)
 here_ahead done x r p there old =
     let P : List EventView → Type 0 = λ l. IsStrictlySortedBy by_moment l in
     subst P (ap (λ l. done ++ l) (drop_at r p x there) ∙ sym (append_assoc done (x ∷ []) (drop (p + 1) r))) old
 
 -- what is left of the record at an index, after what is merged
-ahead_get : (done : List EventView) (rs : List (List EventView)) (hs : List Head) (k : ℕ) (r : List EventView) (h : Head) → AreHeads rs hs → slice_get rs k ≡ Some r → slice_get hs k ≡ Some h → AreAhead done (lefts rs hs) → IsStrictlySortedBy by_moment (done ++ drop h.position r)
+ahead_get : (done : List EventView) (rs : List (List EventView)) (hs : List Head) (k : ℕ) (r : List EventView) (h : Head) → AreHeads rs hs →
+    slice_get rs k ≡ Some r → slice_get hs k ≡ Some h → AreAhead done (lefts rs hs) → IsStrictlySortedBy by_moment (done ++ drop h.position r)
 ahead_get done [] hs k r h are at_r at_h old = cc
 ahead_get done (q ∷ rs) [] k r h are at_r at_h old = cc
 ahead_get done (q ∷ rs) (g ∷ hs) zero r h are at_r at_h old =
@@ -191,7 +211,9 @@ ahead_get done (q ∷ rs) (g ∷ hs) zero r h are at_r at_h old =
 ahead_get done (q ∷ rs) (g ∷ hs) (suc k) r h are at_r at_h old = ahead_get done rs hs k r h are.1 at_r at_h old.1
 
 -- the records before that of the event, its own, and those after it
-ahead_taken : (done : List EventView) (x : EventView) (rs : List (List EventView)) (hs : List Head) (k : ℕ) (r : List EventView) (h : Head) → IsStrictlySortedBy by_moment ((done ++ x ∷ []) ++ drop (h.position + 1) r) → AreRecords rs → AreHeads rs hs → IsEarliest hs x.stamp k → slice_get rs k ≡ Some r → slice_get hs k ≡ Some h → slice_get r h.position ≡ Some x
+ahead_taken : (done : List EventView) (x : EventView) (rs : List (List EventView)) (hs : List Head) (k : ℕ) (r : List EventView) (h : Head) →
+    IsStrictlySortedBy by_moment ((done ++ x ∷ []) ++ drop (h.position + 1) r) → AreRecords rs → AreHeads rs hs → IsEarliest hs x.stamp k →
+    slice_get rs k ≡ Some r → slice_get hs k ≡ Some h → slice_get r h.position ≡ Some x
     → AreAhead done (lefts rs hs) → AreAhead (done ++ x ∷ []) (lefts rs (set hs k (head_of r (h.position + 1))))
 ahead_taken done x [] hs k r h here records are is at_r at_h there old = tt
 ahead_taken done x (q ∷ rs) [] k r h here records are is at_r at_h there old = absurd are
@@ -216,7 +238,8 @@ pub record IsMerging (rs : List (List EventView)) (hs : List Head) (ps : List Pl
   pub ahead : AreAhead (events_at rs ps) (lefts rs hs)
 
 -- the earliest head's event is merged next
-pub IsMerging-next : (rs : List (List EventView)) (hs : List Head) (ps : List Place) (s k : ℕ) (r : List EventView) (h : Head) → AreRecords rs → IsMerging rs hs ps → IsEarliest hs s k → slice_get rs k ≡ Some r → slice_get hs k ≡ Some h
+pub IsMerging-next : (rs : List (List EventView)) (hs : List Head) (ps : List Place) (s k : ℕ) (r : List EventView) (h : Head) → AreRecords rs →
+    IsMerging rs hs ps → IsEarliest hs s k → slice_get rs k ≡ Some r → slice_get hs k ≡ Some h
     → IsMerging rs (set hs k (head_of r (h.position + 1))) (ps ++ record { index = k; position = h.position } ∷ [])
 IsMerging-next rs hs ps s k r h records old is at_r at_h =
     let event = picked rs hs s k r h old.heads is at_r at_h in
@@ -230,7 +253,8 @@ IsMerging-next rs hs ps s k r h records old is at_r at_h =
       heads = heads_set rs hs k (h.position + 1) r old.heads at_r;
       places = each-append (IsPlace rs) ps (place ∷ []) old.places ((x, there), tt);
       all =
-          let P : List EventView → Type 0 = λ l. IsPermutation (flat_map (λ r. r) rs) (l ++ flat_map (λ r. r) (lefts rs (set hs k (head_of r (h.position + 1))))) in
+          let P : List EventView → Type 0 = λ l. IsPermutation (flat_map (λ r. r) rs)
+          (l ++ flat_map (λ r. r) (lefts rs (set hs k (head_of r (h.position + 1))))) in
           subst P (sym more) (IsPermutation-pop_more _ (events_at rs ps) _ _ x old.all (left_taken rs hs k r h x old.heads at_r at_h event.1));
       sorted = subst (IsStrictlySortedBy by_moment) (sym more) (sorted-front by_moment (events_at rs ps ++ x ∷ []) _ here);
       ahead =
@@ -239,7 +263,8 @@ IsMerging-next rs hs ps s k r h records old is at_r at_h =
     }
 
 -- what is left gets less
-pub fewer_left : (rs : List (List EventView)) (hs : List Head) (s k : ℕ) (r : List EventView) (h : Head) → AreHeads rs hs → IsEarliest hs s k → slice_get rs k ≡ Some r → slice_get hs k ≡ Some h
+pub fewer_left : (rs : List (List EventView)) (hs : List Head) (s k : ℕ) (r : List EventView) (h : Head) → AreHeads rs hs → IsEarliest hs s k →
+    slice_get rs k ≡ Some r → slice_get hs k ≡ Some h
     → length (flat_map (λ l. l) (lefts rs (set hs k (head_of r (h.position + 1))))) < length (flat_map (λ l. l) (lefts rs hs))
 fewer_left rs hs s k r h are is at_r at_h =
     let event = picked rs hs s k r h are is at_r at_h in
@@ -302,11 +327,13 @@ pub place_event : (rs : List (List EventView)) (p : Place) (r : List EventView) 
 place_event rs p r is there = slice_get_within r p.position is.0 (sym (ap (option_and_then (λ l. slice_get l p.position)) there) ∙ is.1)
 
 -- a position of the merged list is one of the list of places
-pub place_there : (rs : List (List EventView)) (ps : List Place) (k : ℕ) (p : Place) → AllByRecursion (IsPlace rs) ps → k < length (events_at rs ps) → p ≡ get_or ps k p → slice_get ps k ≡ Some p
+pub place_there : (rs : List (List EventView)) (ps : List Place) (k : ℕ) (p : Place) → AllByRecursion (IsPlace rs) ps → k < length (events_at rs ps) →
+    p ≡ get_or ps k p → slice_get ps k ≡ Some p
 place_there rs ps k p are below is = slice_get_read ps (length (events_at rs ps)) k p (length-events_at rs ps are) below is
 
 -- the event there is that of the place
-pub event_there : (rs : List (List EventView)) (ps : List Place) (k : ℕ) (p : Place) (r : List EventView) → AllByRecursion (IsPlace rs) ps → slice_get ps k ≡ Some p → slice_get rs p.index ≡ Some r → slice_get (events_at rs ps) k ≡ slice_get r p.position
+pub event_there : (rs : List (List EventView)) (ps : List Place) (k : ℕ) (p : Place) (r : List EventView) → AllByRecursion (IsPlace rs) ps →
+    slice_get ps k ≡ Some p → slice_get rs p.index ≡ Some r → slice_get (events_at rs ps) k ≡ slice_get r p.position
 event_there rs ps k p r are is there = events_at-get rs ps k p are is ∙ ap (option_and_then (λ l. slice_get l p.position)) there
 
 -- one more record
@@ -349,10 +376,12 @@ earliest_new : (hs : List Head) (h : Head) (s : ℕ) → AllByRecursion (IsAfter
 earliest_new [] h s after is = (is, tt)
 earliest_new (g ∷ hs) h s after is = (after.0, earliest_new hs h s after.1 is)
 
-pub IsCandidate-push : (hs : List Head) (first : Option Candidate) (h : Head) → IsCandidate hs first → IsCandidate (hs ++ h ∷ []) (earlier_of first (length hs) h.stamp)
+pub IsCandidate-push : (hs : List Head) (first : Option Candidate) (h : Head) → IsCandidate hs first →
+    IsCandidate (hs ++ h ∷ []) (earlier_of first (length hs) h.stamp)
 IsCandidate-push hs first h old = at first h.stamp refl old
   where
-    choose : (c : Candidate) (s : ℕ) (b : Bool) → nat_lt s c.stamp ≡ b → h.stamp ≡ Some s → IsEarliest hs c.stamp c.index → IsCandidate (hs ++ h ∷ []) (cond b (Some (record { index = length hs; stamp = s })) (Some c))
+    choose : (c : Candidate) (s : ℕ) (b : Bool) → nat_lt s c.stamp ≡ b → h.stamp ≡ Some s → IsEarliest hs c.stamp c.index →
+        IsCandidate (hs ++ h ∷ []) (cond b (Some (record { index = length hs; stamp = s })) (Some c))
     choose c s true lt is best = earliest_new hs h s (after_earliest hs s c.stamp c.index (grind (arith, nat_tests)) best) is
     choose c s false ge is best =
         let le : c.stamp ≤ s = grind (arith, nat_tests) in
@@ -373,13 +402,15 @@ joined_map [] = refl
 joined_map (e ∷ es) = ap (λ l. e.state.events ++ l) (joined_map es)
 
 -- where the heads stand: each index of a head is one of a record
-pub earliest_within : (rs : List (List EventView)) (hs seen : List Head) (ps : List Place) (k : ℕ) → IsMerging rs hs ps → seen ≡ hs → (s : ℕ) × IsEarliest seen s k → (k < length hs) × (k < length rs)
+pub earliest_within : (rs : List (List EventView)) (hs seen : List Head) (ps : List Place) (k : ℕ) → IsMerging rs hs ps → seen ≡ hs →
+    (s : ℕ) × IsEarliest seen s k → (k < length hs) × (k < length rs)
 earliest_within rs hs seen ps k merging same is =
     let within = subst (λ l. k < length l) same (within_heads seen is.0 k is.1) in
     (within, omega (arith, length_heads rs hs merging.heads))
 
 -- one turn of the merge, as the code says it
-pub merging_turn : (rs : List (List EventView)) (hs seen : List Head) (ps : List Place) (k : ℕ) (r : List EventView) (h : Head) → AreRecords rs → IsMerging rs hs ps → seen ≡ hs → (s : ℕ) × IsEarliest seen s k → r ≡ get_or rs k r → h ≡ get_or hs k h
+pub merging_turn : (rs : List (List EventView)) (hs seen : List Head) (ps : List Place) (k : ℕ) (r : List EventView) (h : Head) → AreRecords rs →
+    IsMerging rs hs ps → seen ≡ hs → (s : ℕ) × IsEarliest seen s k → r ≡ get_or rs k r → h ≡ get_or hs k h
     → IsMerging rs (set hs k (head_of r (h.position + 1))) (ps ++ record { index = k; position = h.position } ∷ [])
 merging_turn rs hs seen ps k r h records merging same is at_r at_h =
     let within = earliest_within rs hs seen ps k merging same is in
@@ -387,7 +418,8 @@ merging_turn rs hs seen ps k r h records merging same is at_r at_h =
     IsMerging-next rs hs ps is.0 k r h records merging first (slice_get_read rs _ k r refl within.1 at_r) (slice_get_read hs _ k h refl within.0 at_h)
 
 -- the record has an event at its head
-pub turn_event : (rs : List (List EventView)) (hs seen : List Head) (ps : List Place) (k : ℕ) (r : List EventView) (h : Head) → IsMerging rs hs ps → seen ≡ hs → (s : ℕ) × IsEarliest seen s k → r ≡ get_or rs k r → h ≡ get_or hs k h → h.position < length r
+pub turn_event : (rs : List (List EventView)) (hs seen : List Head) (ps : List Place) (k : ℕ) (r : List EventView) (h : Head) → IsMerging rs hs ps →
+    seen ≡ hs → (s : ℕ) × IsEarliest seen s k → r ≡ get_or rs k r → h ≡ get_or hs k h → h.position < length r
 turn_event rs hs seen ps k r h merging same is at_r at_h =
     let within = earliest_within rs hs seen ps k merging same is in
     let first = subst (λ l. IsEarliest l is.0 k) same is.1 in
@@ -395,7 +427,8 @@ turn_event rs hs seen ps k r h merging same is at_r at_h =
     slice_get_within r h.position event.0 event.1
 
 -- and less is left
-pub turn_smaller : (rs : List (List EventView)) (hs seen : List Head) (ps : List Place) (k : ℕ) (r : List EventView) (h : Head) → IsMerging rs hs ps → seen ≡ hs → (s : ℕ) × IsEarliest seen s k → r ≡ get_or rs k r → h ≡ get_or hs k h
+pub turn_smaller : (rs : List (List EventView)) (hs seen : List Head) (ps : List Place) (k : ℕ) (r : List EventView) (h : Head) → IsMerging rs hs ps →
+    seen ≡ hs → (s : ℕ) × IsEarliest seen s k → r ≡ get_or rs k r → h ≡ get_or hs k h
     → length (flat_map (λ l. l) (lefts rs (set hs k (head_of r (h.position + 1))))) < length (flat_map (λ l. l) (lefts rs hs))
 turn_smaller rs hs seen ps k r h merging same is at_r at_h =
     let within = earliest_within rs hs seen ps k merging same is in

@@ -19,7 +19,8 @@ use Rattle.id_meaning.specs.declared.SourceValue.{SourceValue}
 use Rattle.id_bank.specs.declared.Filled.{Filled}
 use Rattle.id_element.specs.Steps.{State}
 use Rattle.id_element.specs.Replays.{ElementView}
-use Rattle.id_observe.specs.Observed.{events_of, answers, cell_value, cell_value_of, first_value, label_marks, is_label, is_label_of, put_of, site_at, source_value}
+use Rattle.id_observe.specs.Observed.{events_of, answers, cell_value, cell_value_of, first_value, label_marks}
+use Rattle.id_observe.specs.Observed.{is_label, is_label_of, put_of, site_at, source_value}
 
 -- one more element at the end of what was walked over
 pub take-next : {A : Type 0} (xs : List A) (i : ℕ) (x : A) → slice_get xs i ≡ Some x → take (i + 1) xs ≡ take i xs ++ x ∷ []
@@ -29,40 +30,48 @@ take-next xs i x at =
 -- the list as what was walked over, the next element and the rest
 split-next : {A : Type 0} (xs : List A) (i : ℕ) (x : A) → slice_get xs i ≡ Some x → take i xs ++ x ∷ drop (suc i) xs ≡ xs
 split-next xs i x at =
-    let next : drop i xs ≡ x ∷ drop (suc i) xs = drop-cons xs i x (slice_get_within xs i x at) ∙ ap (λ y. y ∷ drop (suc i) xs) (get_or_from_slice_get xs i x x at) in
+    let next : drop i xs ≡ x ∷ drop (suc i) xs = drop-cons xs i x (slice_get_within xs i x at) ∙
+    ap (λ y. y ∷ drop (suc i) xs) (get_or_from_slice_get xs i x x at) in
     ap (λ ys. take i xs ++ ys) (sym next) ∙ take-append-drop i xs
 
 -- a walk goes on by what one element gives
 pub filter_map-more : {A B : Type 0} (h : A → Option B) (xs ys : List A) (x : A) → ys ≡ xs ++ x ∷ [] → filter_map h ys ≡ filter_map h xs ++ cons_option (h x) []
 filter_map-more h xs ys x is = ap (filter_map h) is ∙ filter_map-append h xs (x ∷ [])
 
-pub filter_map-next : {A B : Type 0} (h : A → Option B) (xs : List A) (i : ℕ) (x : A) → slice_get xs i ≡ Some x → filter_map h (take (i + 1) xs) ≡ filter_map h (take i xs) ++ cons_option (h x) []
+pub filter_map-next : {A B : Type 0} (h : A → Option B) (xs : List A) (i : ℕ) (x : A) → slice_get xs i ≡ Some x →
+    filter_map h (take (i + 1) xs) ≡ filter_map h (take i xs) ++ cons_option (h x) []
 filter_map-next h xs i x at = filter_map-more h (take i xs) (take (i + 1) xs) x (take-next xs i x at)
 
 -- the same, where what the element gives was found first
-pub filter_map-at : {A B : Type 0} (h : A → Option B) (xs : List A) (i : ℕ) (d : A) (o : Option B) → i < length xs → o ≡ h (get_or xs i d) → filter_map h (take (i + 1) xs) ≡ filter_map h (take i xs) ++ cons_option o []
+pub filter_map-at : {A B : Type 0} (h : A → Option B) (xs : List A) (i : ℕ) (d : A) (o : Option B) → i < length xs → o ≡ h (get_or xs i d) →
+    filter_map h (take (i + 1) xs) ≡ filter_map h (take i xs) ++ cons_option o []
 filter_map-at h xs i d o lt is =
-    ap (filter_map h) (take_more xs i d lt) ∙ filter_map-append h (take i xs) (get_or xs i d ∷ []) ∙ ap (λ x. filter_map h (take i xs) ++ cons_option x []) (sym is)
+    ap (filter_map h) (take_more xs i d lt) ∙ filter_map-append h (take i xs) (get_or xs i d ∷ []) ∙
+    ap (λ x. filter_map h (take i xs) ++ cons_option x []) (sym is)
 
 -- and so for images
-pub map-at : {A B : Type 0} (h : A → B) (xs : List A) (i : ℕ) (d : A) (y : B) → i < length xs → y ≡ h (get_or xs i d) → map h (take (i + 1) xs) ≡ map h (take i xs) ++ y ∷ []
+pub map-at : {A B : Type 0} (h : A → B) (xs : List A) (i : ℕ) (d : A) (y : B) → i < length xs → y ≡ h (get_or xs i d) →
+    map h (take (i + 1) xs) ≡ map h (take i xs) ++ y ∷ []
 map-at h xs i d y lt is =
     ap (map h) (take_more xs i d lt) ∙ map-append h (take i xs) (get_or xs i d ∷ []) ∙ ap (λ x. map h (take i xs) ++ x ∷ []) (sym is)
 
 -- the first that gives something, after those that gave nothing
-pub filter_map-first : {A B : Type 0} (h : A → Option B) (xs : List A) (i : ℕ) (x : A) (v : B) → slice_get xs i ≡ Some x → filter_map h (take i xs) ≡ [] → h x ≡ Some v → slice_get (filter_map h xs) 0 ≡ Some v
+pub filter_map-first : {A B : Type 0} (h : A → Option B) (xs : List A) (i : ℕ) (x : A) (v : B) → slice_get xs i ≡ Some x → filter_map h (take i xs) ≡ [] →
+    h x ≡ Some v → slice_get (filter_map h xs) 0 ≡ Some v
 filter_map-first h xs i x v at before gives =
     let whole : filter_map h xs ≡ filter_map h (take i xs) ++ cons_option (h x) (filter_map h (drop (suc i) xs)) =
     ap (filter_map h) (sym (split-next xs i x at)) ∙ filter_map-append h (take i xs) (x ∷ drop (suc i) xs) in
     rw (whole, before, gives)
 
 -- the same, where a test says that it gives something
-pub filter_map-found : {A B : Type 0} (h : A → Option B) (xs : List A) (i : ℕ) (x : A) (o : Option B) → slice_get xs i ≡ Some x → filter_map h (take i xs) ≡ [] → h x ≡ o → is_some o ≡ true → o ≡ slice_get (filter_map h xs) 0
+pub filter_map-found : {A B : Type 0} (h : A → Option B) (xs : List A) (i : ℕ) (x : A) (o : Option B) → slice_get xs i ≡ Some x →
+    filter_map h (take i xs) ≡ [] → h x ≡ o → is_some o ≡ true → o ≡ slice_get (filter_map h xs) 0
 filter_map-found h xs i x None at before gives found = cc
 filter_map-found h xs i x (Some v) at before gives found = sym (filter_map-first h xs i x v at before gives)
 
 -- nothing yet, and one more gives nothing
-pub filter_map-nothing : {A B : Type 0} (h : A → Option B) (xs : List A) (i : ℕ) (x : A) (o : Option B) → slice_get xs i ≡ Some x → filter_map h (take i xs) ≡ [] → h x ≡ o → is_some o ≡ false → filter_map h (take (i + 1) xs) ≡ []
+pub filter_map-nothing : {A B : Type 0} (h : A → Option B) (xs : List A) (i : ℕ) (x : A) (o : Option B) → slice_get xs i ≡ Some x →
+    filter_map h (take i xs) ≡ [] → h x ≡ o → is_some o ≡ false → filter_map h (take (i + 1) xs) ≡ []
 filter_map-nothing h xs i x None at before gives missed = rw (filter_map-next h xs i x at, before, gives)
 filter_map-nothing h xs i x (Some v) at before gives missed = cc
 
@@ -76,7 +85,8 @@ parts-next f es i e at =
     ∙ ap (λ ys. flat_map f (map (λ x. x.state) (take i es)) ++ ys) (append-nil (f e.state))
 
 -- the events of elements, one more element after those walked over
-pub events-next : (es : List ElementView) (i : ℕ) (e : ElementView) → slice_get es i ≡ Some e → events_of (map (λ x. x.state) (take (i + 1) es)) ≡ events_of (map (λ x. x.state) (take i es)) ++ e.state.events
+pub events-next : (es : List ElementView) (i : ℕ) (e : ElementView) → slice_get es i ≡ Some e →
+    events_of (map (λ x. x.state) (take (i + 1) es)) ≡ events_of (map (λ x. x.state) (take i es)) ++ e.state.events
 events-next es i e at = parts-next (λ s. s.events) es i e at
 
 -- what a walk over what they hold gives for one more element comes after what it gave before
@@ -92,7 +102,8 @@ images-next f h es i e at =
     ap (map h) (parts-next f es i e at) ∙ map-append h (flat_map f (map (λ x. x.state) (take i es))) (f e.state)
 
 -- what cells hold is that of what is put into them
-pub cell_values-from_puts : (g : Parts) (path : Tag → Path) (name : Structure → Site) (fs : List Filled) → filter_map (cell_value_of name) fs ≡ map cell_value (filter_map (put_of g path name) fs)
+pub cell_values-from_puts : (g : Parts) (path : Tag → Path) (name : Structure → Site) (fs : List Filled) →
+    filter_map (cell_value_of name) fs ≡ map cell_value (filter_map (put_of g path name) fs)
 cell_values-from_puts g path name [] = refl
 cell_values-from_puts g path name (f ∷ fs) = ap (cons_option (cell_value_of name f)) (cell_values-from_puts g path name fs) ∙ one (source_value name f.value)
   where
@@ -101,7 +112,8 @@ cell_values-from_puts g path name (f ∷ fs) = ap (cons_option (cell_value_of na
 
     one : (o : Option SourceValue)
         → cons_option (option_map (λ v. record { name = name f.cell.structure; index = f.cell.index; value = v }) o) (map cell_value puts)
-        ≡ map cell_value (cons_option (option_map (λ v. record { name = name f.cell.structure; index = f.cell.index; value = v; store = site_at g path f.origin }) o) puts)
+        ≡ map cell_value (cons_option (option_map (λ v. record
+        { name = name f.cell.structure; index = f.cell.index; value = v; store = site_at g path f.origin }) o) puts)
     one None = refl
     one (Some v) = refl
 
@@ -179,7 +191,8 @@ element-from_part f None y is = cc
 element-from_part f (Some x) y is = let same : f x ≡ y = cc in (x, refl, same)
 
 -- a walk goes on by what a part of one element gives
-pub filter_map-next_part : {A B C : Type 0} (f : A → C) (h : C → Option B) (xs : List A) (i : ℕ) (y : C) → option_map f (slice_get xs i) ≡ Some y → filter_map (λ x. h (f x)) (take (i + 1) xs) ≡ filter_map (λ x. h (f x)) (take i xs) ++ cons_option (h y) []
+pub filter_map-next_part : {A B C : Type 0} (f : A → C) (h : C → Option B) (xs : List A) (i : ℕ) (y : C) → option_map f (slice_get xs i) ≡ Some y →
+    filter_map (λ x. h (f x)) (take (i + 1) xs) ≡ filter_map (λ x. h (f x)) (take i xs) ++ cons_option (h y) []
 filter_map-next_part f h xs i y at =
     let there = element-from_part f (slice_get xs i) y at in
     filter_map-next (λ x. h (f x)) xs i there.0 there.1 ∙ ap (λ z. filter_map (λ x. h (f x)) (take i xs) ++ cons_option (h z) []) there.2

@@ -26,7 +26,8 @@ sorted-front R [] ys s = tt
 sorted-front R (x ∷ xs) ys s = (each-front (λ y. R x y ≡ Less) xs ys s.0, sorted-front R xs ys s.1)
 
 -- an element between a front and a back that are in order
-pub sorted-between : {X : Type 0} {R : X → X → Ordering} → IsTotalOrder R → (xs : List X) (x y : X) (ys : List X) → IsStrictlySortedBy R (xs ++ x ∷ []) → IsStrictlySortedBy R (xs ++ y ∷ ys) → R x y ≡ Less → IsStrictlySortedBy R ((xs ++ x ∷ []) ++ y ∷ ys)
+pub sorted-between : {X : Type 0} {R : X → X → Ordering} → IsTotalOrder R → (xs : List X) (x y : X) (ys : List X) → IsStrictlySortedBy R (xs ++ x ∷ []) →
+    IsStrictlySortedBy R (xs ++ y ∷ ys) → R x y ≡ Less → IsStrictlySortedBy R ((xs ++ x ∷ []) ++ y ∷ ys)
 unfolding IsStrictlySortedBy
 sorted-between {R = R} o [] x y ys s t less = ((less, each-weaker (λ z. R y z ≡ Less) (λ z. R x z ≡ Less) (λ z m. o.trans x y z less m) ys t.0), t)
 sorted-between {R = R} o (w ∷ ws) x y ys s t less =
@@ -60,7 +61,8 @@ less-both : {X : Type 0} {R : X → X → Ordering} → IsTotalOrder R → (x y 
 less-both {R = R} o x y less more = less-itself o x (o.trans x y x less more)
 
 -- what is among a list and above its first is among the rest
-among-rest : {X : Type 0} {R : X → X → Ordering} → IsTotalOrder R → (x : X) (xs zs : List X) → AllByRecursion (λ z. R x z ≡ Less) zs → AllByRecursion (Among (x ∷ xs)) zs → AllByRecursion (Among xs) zs
+among-rest : {X : Type 0} {R : X → X → Ordering} → IsTotalOrder R → (x : X) (xs zs : List X) → AllByRecursion (λ z. R x z ≡ Less) zs →
+    AllByRecursion (Among (x ∷ xs)) zs → AllByRecursion (Among xs) zs
 among-rest o x xs [] above among = tt
 among-rest {R = R} o x xs (z ∷ zs) above among = (at among.0, among-rest o x xs zs above.1 among.1)
   where
@@ -69,7 +71,8 @@ among-rest {R = R} o x xs (z ∷ zs) above among = (at among.0, among-rest o x x
     at (inr a) = a
 
 -- two lists in order with the same elements are the same list
-same-among : {X : Type 0} {R : X → X → Ordering} → IsTotalOrder R → (xs ys : List X) → IsStrictlySortedBy R xs → IsStrictlySortedBy R ys → AllByRecursion (Among xs) ys → AllByRecursion (Among ys) xs → xs ≡ ys
+same-among : {X : Type 0} {R : X → X → Ordering} → IsTotalOrder R → (xs ys : List X) → IsStrictlySortedBy R xs → IsStrictlySortedBy R ys →
+    AllByRecursion (Among xs) ys → AllByRecursion (Among ys) xs → xs ≡ ys
 unfolding IsStrictlySortedBy
 same-among o [] [] s t a b = refl
 same-among o [] (y ∷ ys) s t a b = absurd a.0
@@ -91,14 +94,17 @@ same-among {R = R} o (x ∷ xs) (y ∷ ys) s t a b = at (λ below above. same-am
 -- what is among one order of a list is among another
 among-through : {X : Type 0} (all xs ys : List X) → IsPermutation all xs → IsPermutation all ys → AllByRecursion (Among xs) ys
 among-through all xs ys p q =
-    recursion_from_All (Among xs) ys (All-permutation (Among xs) all ys q (All-from_recursion (Among xs) all (among-permutation xs all (IsPermutation-sym all xs p))))
+    recursion_from_All (Among xs) ys (All-permutation (Among xs) all ys q
+    (All-from_recursion (Among xs) all (among-permutation xs all (IsPermutation-sym all xs p))))
 
 -- a list has one order
-pub one_order : {X : Type 0} {R : X → X → Ordering} → IsTotalOrder R → (all xs ys : List X) → IsPermutation all xs → IsPermutation all ys → IsStrictlySortedBy R xs → IsStrictlySortedBy R ys → xs ≡ ys
+pub one_order : {X : Type 0} {R : X → X → Ordering} → IsTotalOrder R → (all xs ys : List X) → IsPermutation all xs → IsPermutation all ys →
+    IsStrictlySortedBy R xs → IsStrictlySortedBy R ys → xs ≡ ys
 one_order o all xs ys p q s t = same-among o xs ys s t (among-through all xs ys p q) (among-through all ys xs q p)
 
 -- one more element, above all others
-pub sorted-push : {X : Type 0} (R : X → X → Ordering) (xs : List X) (x : X) → IsStrictlySortedBy R xs → AllByRecursion (λ y. R y x ≡ Less) xs → IsStrictlySortedBy R (xs ++ x ∷ [])
+pub sorted-push : {X : Type 0} (R : X → X → Ordering) (xs : List X) (x : X) → IsStrictlySortedBy R xs → AllByRecursion (λ y. R y x ≡ Less) xs →
+    IsStrictlySortedBy R (xs ++ x ∷ [])
 unfolding IsStrictlySortedBy
 sorted-push R [] x s above = (tt, tt)
 sorted-push R (y ∷ ys) x s above = (each-append (λ z. R y z ≡ Less) ys (x ∷ []) s.0 (above.0, tt), sorted-push R ys x s.1 above.1)

@@ -1,5 +1,7 @@
 -- Lemmas on specs/Paths.antt, in the order of its definitions.
-use Rattle.std.proofs.Common.{◌≡◌, ◌≢◌, ◌⊎◌, inl, inr, ℕ, zero, suc, ◌+◌, ◌-◌, ◌<◌, ◌≤◌, Option, Some, None, List, [], ◌∷◌, ◌++◌, reverse, take, map, length, length-append, slice_get, refl, sym, ap, ◌∙◌, arith}
+use Rattle.std.proofs.Common.{◌≡◌, ◌≢◌, ◌⊎◌, inl, inr, ℕ, zero, suc, ◌+◌, ◌-◌, ◌<◌, ◌≤◌, Option, Some, None, List, []}
+use Rattle.std.proofs.Common.{◌∷◌, ◌++◌, reverse, take, map, length, length-append, slice_get, refl, sym, ap, ◌∙◌}
+use Rattle.std.proofs.Common.{arith}
 use Rattle.std.proofs.lemmas.List.{append-nil, append_assoc, reverse-append}
 use Rattle.id_observe.proofs.ObservedLemmas.{events-next}
 use Rattle.std.specs.HashMap.{get}
@@ -141,24 +143,28 @@ Walks-ends g enter most t taken u passed (inr all) walks =
     walks ∙ ap (λ n. steps_to g enter n u ++ reverse passed) end ∙ ap (λ l. l ++ reverse passed) (steps_to-zero g enter u)
 
 -- tables that tell what the events of elements do give each tag its path by these events
-pub path_by-same : (g : Parts) (es : List EventView) (p : Paths) → p.graph.now ≡ g → ((c : Context) → get same_context p.enters c ≡ enter_in g es c) → p.most ≡ length es
+pub path_by-same : (g : Parts) (es : List EventView) (p : Paths) → p.graph.now ≡ g → ((c : Context) → get same_context p.enters c ≡ enter_in g es c) →
+    p.most ≡ length es
     → path_by p ≡ path_of g es
 path_by-same g es p graph enters most = λ i t. record { steps = steps_to (graph i) (λ c. enters c i) (most i) t }
 
 -- tables that tell what the events of elements do give each structure its name by these events
-pub structure_by-same : (g : Parts) (es : List EventView) (p : Paths) → p.graph.now ≡ g → path_by p ≡ path_of g es → ((s : Structure) → get same_structure p.makers s ≡ maker_in g es s)
+pub structure_by-same : (g : Parts) (es : List EventView) (p : Paths) → p.graph.now ≡ g → path_by p ≡ path_of g es →
+    ((s : Structure) → get same_structure p.makers s ≡ maker_in g es s)
     → structure_by p ≡ (λ s. name_by g (path_of g es) (maker_in g es s))
 structure_by-same g es p graph paths makers = λ i s. name_by (graph i) (paths i) (makers s i)
 
 -- the enters of one more record come after those before
 pub enters-next : (g : Parts) (es : List ElementView) (i : ℕ) (e : ElementView) (c : Context) → slice_get es i ≡ Some e
-    → enter_in g (events_of (map (λ x. x.state) (take (i + 1) es))) c ≡ option_or (enter_in g e.state.events c) (enter_in g (events_of (map (λ x. x.state) (take i es))) c)
+    → enter_in g (events_of (map (λ x. x.state) (take (i + 1) es))) c ≡
+    option_or (enter_in g e.state.events c) (enter_in g (events_of (map (λ x. x.state) (take i es))) c)
 enters-next g es i e c at =
     ap (λ xs. enter_in g xs c) (events-next es i e at) ∙ enter_in-append g (events_of (map (λ x. x.state) (take i es))) e.state.events c
 
 -- so do the structures that it made
 pub makers-next : (g : Parts) (es : List ElementView) (i : ℕ) (e : ElementView) (s : Structure) → slice_get es i ≡ Some e
-    → maker_in g (events_of (map (λ x. x.state) (take (i + 1) es))) s ≡ option_or (maker_in g e.state.events s) (maker_in g (events_of (map (λ x. x.state) (take i es))) s)
+    → maker_in g (events_of (map (λ x. x.state) (take (i + 1) es))) s ≡
+    option_or (maker_in g e.state.events s) (maker_in g (events_of (map (λ x. x.state) (take i es))) s)
 makers-next g es i e s at =
     ap (λ xs. maker_in g xs s) (events-next es i e at) ∙ maker_in-append g (events_of (map (λ x. x.state) (take i es))) e.state.events s
 
@@ -170,21 +176,25 @@ length-next es i e at = ap length (events-next es i e at) ∙ length-append (eve
 -- these steps lead to a tag, so many: none under a context that nothing entered, and one more than to the tag of the `enter`
 pub data Leads (g : Parts) (enter : Context → Option Tag) : Tag → ℕ → List PathStep → Type 0 where
   under_main : (t : Tag) → enter t.context ≡ None → Leads g enter t 0 []
-  under_enter : (t u : Tag) (n : ℕ) (p : List PathStep) → enter t.context ≡ Some u → Leads g enter u n p → Leads g enter t (suc n) (p ++ step_of g u.instr t.iteration ∷ [])
+  under_enter : (t u : Tag) (n : ℕ) (p : List PathStep) → enter t.context ≡ Some u → Leads g enter u n p →
+      Leads g enter t (suc n) (p ++ step_of g u.instr t.iteration ∷ [])
 
 -- the steps that lead to a tag are found where no fewer are allowed
-pub Leads-steps : (g : Parts) (enter : Context → Option Tag) (t : Tag) (n : ℕ) (p : List PathStep) (most : ℕ) → Leads g enter t n p → n ≤ most → steps_to g enter most t ≡ p
+pub Leads-steps : (g : Parts) (enter : Context → Option Tag) (t : Tag) (n : ℕ) (p : List PathStep) (most : ℕ) → Leads g enter t n p → n ≤ most →
+    steps_to g enter most t ≡ p
 Leads-steps g enter t n p most (under_main _ none) less = steps_to-main g enter most t none
 Leads-steps g enter t n p zero (under_enter _ u k q is leads) less = absurd (omega (arith, less))
 Leads-steps g enter t n p (suc most) (under_enter _ u k q is leads) less =
     steps_to-entered g enter most t u is ∙ ap (λ l. l ++ step_of g u.instr t.iteration ∷ []) (Leads-steps g enter u k q most leads (omega (arith, less)))
 
 -- the path of a tag to which the steps lead, where there are no more of them than events
-pub path_of-leads : (g : Parts) (es : List EventView) (t : Tag) (n : ℕ) (p : List PathStep) → Leads g (enter_in g es) t n p → n ≤ length es → path_of g es t ≡ record { steps = p }
+pub path_of-leads : (g : Parts) (es : List EventView) (t : Tag) (n : ℕ) (p : List PathStep) → Leads g (enter_in g es) t n p → n ≤ length es →
+    path_of g es t ≡ record { steps = p }
 path_of-leads g es t n p leads few = λ i. record { steps = Leads-steps g (enter_in g es) t n p (length es) leads few i }
 
 -- what entered a context under one tag alone did so under that tag
-pub enter_in-only : (g : Parts) (es : List EventView) (c : Context) (t : Tag) → ((e : EventView) → Among e es → (enter_of g e c ≡ None) ⊎ (enter_of g e c ≡ Some t))
+pub enter_in-only : (g : Parts) (es : List EventView) (c : Context) (t : Tag) →
+    ((e : EventView) → Among e es → (enter_of g e c ≡ None) ⊎ (enter_of g e c ≡ Some t))
     → (enter_in g es c ≡ None) ⊎ (enter_in g es c ≡ Some t)
 unfolding enter_in
 enter_in-only g [] c t each = inl refl
@@ -203,7 +213,8 @@ enter_in-nothing g [] c each = refl
 enter_in-nothing g (e ∷ es) c each = ap (λ o. option_or o (enter_of g e c)) (enter_in-nothing g es c (λ f h. each f (inr h))) ∙ each e (inl refl)
 
 -- a context that an event entered has been entered
-pub enter_in-something : (g : Parts) (es : List EventView) (c : Context) (e : EventView) (t : Tag) → Among e es → enter_of g e c ≡ Some t → enter_in g es c ≢ None
+pub enter_in-something : (g : Parts) (es : List EventView) (c : Context) (e : EventView) (t : Tag) → Among e es → enter_of g e c ≡ Some t →
+    enter_in g es c ≢ None
 unfolding enter_in
 enter_in-something g [] c e t among is none = absurd among
 enter_in-something g (f ∷ es) c e t (inl here) is none = go (enter_in g es c) none

@@ -30,7 +30,8 @@ IsRising-take g n s m old =
     let above : s.stamp < max s.stamp m.stamp + 1 = omega arith in
     record {
       sorted = sorted-push by_moment s.events (event_of g n s m) old.sorted
-          (each-weaker (λ e. e.stamp ≤ s.stamp) (λ e. by_moment e (event_of g n s m) ≡ Less) (λ e le. earlier_stamp e (event_of g n s m) (omega arith)) s.events old.within);
+          (each-weaker (λ e. e.stamp ≤ s.stamp) (λ e. by_moment e (event_of g n s m) ≡ Less) (λ e le. earlier_stamp e (event_of g n s m) (omega arith))
+          s.events old.within);
       within = each-append (λ (e : EventView). e.stamp ≤ next_stamp s m) s.events (event_of g n s m ∷ [])
           (each-weaker (λ e. e.stamp ≤ s.stamp) (λ e. e.stamp ≤ next_stamp s m) (λ e le. omega arith) s.events old.within)
           (omega arith, tt);
@@ -42,13 +43,15 @@ IsRising-all g n s [] old = old
 IsRising-all g n s (m ∷ ms) old = IsRising-all g n (state_after g n s m) ms (IsRising-take g n s m old)
 
 IsRising-from : (e : ElementView) → Replays e → IsRising e.number e.state
-IsRising-from e replays = subst (IsRising e.number) (sym replays.state) (IsRising-all e.graph e.number fresh (messages e.state.events) (IsRising-fresh e.number))
+IsRising-from e replays = subst (IsRising e.number) (sym replays.state)
+    (IsRising-all e.graph e.number fresh (messages e.state.events) (IsRising-fresh e.number))
 
 number_below : (m n : ℕ) → nat_cmp m n ≡ Less → m < n
 number_below m n less = grind (arith, nat_tests)
 
 -- an event of an element of a lower number is below all of these
-below_elements : (x : EventView) (n : ℕ) (es : List ElementView) → x.element ≡ n → AllByRecursion (λ m. nat_cmp n m ≡ Less) (map (λ e. e.number) es) → AllByRecursion Replays es → IsBelow (map (λ e. e.state.events) es) x
+below_elements : (x : EventView) (n : ℕ) (es : List ElementView) → x.element ≡ n → AllByRecursion (λ m. nat_cmp n m ≡ Less) (map (λ e. e.number) es) →
+    AllByRecursion Replays es → IsBelow (map (λ e. e.state.events) es) x
 below_elements x n [] own above replay = tt
 below_elements x n (e ∷ es) own above replay =
     let lower : n < e.number = number_below n e.number above.0 in (
@@ -57,12 +60,14 @@ below_elements x n (e ∷ es) own above replay =
     )
 
 -- the records of elements whose numbers rise
-pub AreRecords-from : (es : List ElementView) → IsStrictlySortedBy nat_cmp (map (λ e. e.number) es) → AllByRecursion Replays es → AreRecords (map (λ e. e.state.events) es)
+pub AreRecords-from : (es : List ElementView) → IsStrictlySortedBy nat_cmp (map (λ e. e.number) es) → AllByRecursion Replays es →
+    AreRecords (map (λ e. e.state.events) es)
 unfolding IsStrictlySortedBy
 AreRecords-from [] rise replay = tt
 AreRecords-from (e ∷ es) rise replay =
     let rising = IsRising-from e replay.0 in (
       rising.sorted,
-      each-weaker (λ x. x.element ≡ e.number) (IsBelow (map (λ d. d.state.events) es)) (λ x own. below_elements x e.number es own rise.0 replay.1) e.state.events rising.own,
+      each-weaker (λ x. x.element ≡ e.number) (IsBelow (map (λ d. d.state.events) es)) (λ x own. below_elements x e.number es own rise.0 replay.1)
+          e.state.events rising.own,
       AreRecords-from es rise.1 replay.1,
     )

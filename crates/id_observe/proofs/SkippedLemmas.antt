@@ -1,5 +1,6 @@
 -- Lemmas on specs/Paths.antt and specs/Observed.antt: what needs no look at an event, or at any.
-use Rattle.std.proofs.Common.{◌≡◌, ◌≢◌, ℕ, zero, suc, ◌<◌, Bool, true, false, ◌&&◌, Option, Some, None, List, [], ◌∷◌, ◌++◌, map, length, refl, sym, ap, ◌∙◌, arith}
+use Rattle.std.proofs.Common.{◌≡◌, ◌≢◌, ℕ, zero, suc, ◌<◌, Bool, true, false, ◌&&◌, Option, Some, None, List, [], ◌∷◌}
+use Rattle.std.proofs.Common.{◌++◌, map, length, refl, sym, ap, ◌∙◌, arith}
 use Rattle.std.specs.Prelude.{◌==◌, if◌then◌else◌, slice_get, option_map}
 use Rattle.std.specs.List.{filter_map, flat_map, cons_option, AllByRecursion}
 use Rattle.std.specs.FinMap.{empty, entries, len-empty, len-entries}
@@ -24,7 +25,8 @@ use Rattle.id_record.specs.Events.{EventView, tag_of}
 use Rattle.id_element.specs.Replays.{ElementView}
 use Rattle.id_meaning.specs.declared.Path.{Path}
 use Rattle.id_observe.specs.Paths.{enter_of, entered, entered_by, if_made, if_same, is_alloc, is_enter, made_by, maker_of, making_of}
-use Rattle.id_observe.specs.Observed.{HaveNoCells, MakesNone, ask_of, brought, cells_in, events_of, main_tag, path_in, put_of, shape_of, structure_in, structures_in, waiting_in}
+use Rattle.id_observe.specs.Observed.{HaveNoCells, MakesNone, ask_of, brought, cells_in, events_of, main_tag, path_in}
+use Rattle.id_observe.specs.Observed.{put_of, shape_of, structure_in, structures_in, waiting_in}
 
 -- ---- one event
 
@@ -39,7 +41,8 @@ pub part-is : {A B : Type 0} (f : A → B) (o : Option A) (x : A) (y : B) → o 
 part-is f o x y at is = let both : Some (f x) ≡ Some y = ap (option_map f) (sym at) ∙ is in cc
 
 -- what a part of an element gives
-pub image-from_part : {A B C : Type 0} (f : A → B) (h : B → C) (o : Option A) (y : B) (z : C) → option_map f o ≡ Some y → z ≡ h y → option_map (λ x. h (f x)) o ≡ Some z
+pub image-from_part : {A B C : Type 0} (f : A → B) (h : B → C) (o : Option A) (y : B) (z : C) → option_map f o ≡ Some y → z ≡ h y →
+    option_map (λ x. h (f x)) o ≡ Some z
 image-from_part f h None y z is gives = cc
 image-from_part f h (Some x) y z is gives = let same : f x ≡ y = cc in ap (λ w. Some (h w)) same ∙ ap Some (sym gives)
 
@@ -101,19 +104,22 @@ entered-none g (Read c t) ms not = refl
 entered-none g (Write c v t) ms not = refl
 
 -- an event whose instruction is no `enter` entered no context
-pub enter_of-none : (g : Parts) (e : EventView) (o : Option Op) (c : Context) → op_at g (tag_of e.message.payload).instr ≡ o → is_enter o ≡ false → enter_of g e c ≡ None
+pub enter_of-none : (g : Parts) (e : EventView) (o : Option Op) (c : Context) → op_at g (tag_of e.message.payload).instr ≡ o → is_enter o ≡ false →
+    enter_of g e c ≡ None
 enter_of-none g e o c is not =
     ap (if_same (tag_of e.message.payload) c) (entered-none g e.message.payload e.outputs (ap is_enter is ∙ not))
 
 -- one whose instruction is no `alloc` made no structure
-pub maker_of-none : (g : Parts) (e : EventView) (o : Option Op) (s : Structure) → op_at g (tag_of e.message.payload).instr ≡ o → is_alloc o ≡ false → maker_of g e s ≡ None
+pub maker_of-none : (g : Parts) (e : EventView) (o : Option Op) (s : Structure) → op_at g (tag_of e.message.payload).instr ≡ o → is_alloc o ≡ false →
+    maker_of g e s ≡ None
 maker_of-none g e o s is not =
     ap (if_made (tag_of e.message.payload) s) (made_by-none (op_at g (tag_of e.message.payload).instr) e.fired (ap is_alloc is ∙ not))
 
 pub making_of-none : (g : Parts) (e : EventView) → is_alloc (op_at g (tag_of e.message.payload).instr) ≡ false → making_of g e ≡ None
 making_of-none g e not = ap (option_map _) (made_by-none (op_at g (tag_of e.message.payload).instr) e.fired not)
 
-pub shape_of-none : (g : Parts) (path : Tag → Path) (e : EventView) (o : Option Op) → op_at g (tag_of e.message.payload).instr ≡ o → is_alloc o ≡ false → shape_of g path e ≡ None
+pub shape_of-none : (g : Parts) (path : Tag → Path) (e : EventView) (o : Option Op) → op_at g (tag_of e.message.payload).instr ≡ o → is_alloc o ≡ false →
+    shape_of g path e ≡ None
 shape_of-none g path e o is not =
     ap (option_map _) (made_by-none (op_at g (tag_of e.message.payload).instr) e.fired (ap is_alloc is ∙ not))
 
@@ -155,7 +161,8 @@ cells_of-none = ap (flat_map filled_at) no_entries
 deferred_of-none : deferred_of empty ≡ []
 deferred_of-none = ap (flat_map readers_at) no_entries
 
-no_parts : {A : Type 0} (f : Cells → List A) → f empty ≡ [] → (es : List ElementView) → AllByRecursion (λ e. e.state.cells ≡ empty) es → flat_map (λ s. f s.cells) (map (λ e. e.state) es) ≡ []
+no_parts : {A : Type 0} (f : Cells → List A) → f empty ≡ [] → (es : List ElementView) → AllByRecursion (λ e. e.state.cells ≡ empty) es →
+    flat_map (λ s. f s.cells) (map (λ e. e.state) es) ≡ []
 no_parts f none [] all = refl
 no_parts f none (e ∷ es) all =
     ap (λ xs. xs ++ flat_map (λ s. f s.cells) (map (λ x. x.state) es)) (ap f all.0 ∙ none) ∙ no_parts f none es all.1

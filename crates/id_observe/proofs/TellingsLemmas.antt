@@ -1,5 +1,7 @@
 -- Lemmas on the events that tell: in a record that leads to its state, others enter no context, make no structure and bring no answer.
-use Rattle.std.proofs.Common.{◌≡◌, ◌≢◌, ℕ, zero, suc, ◌+◌, ◌<◌, Bool, true, false, ◌||◌, Option, Some, None, List, [], ◌∷◌, ◌++◌, get_or, length, take, refl, sym, ap, subst, ◌∙◌, append_assoc, length-append, arith}
+use Rattle.std.proofs.Common.{◌≡◌, ◌≢◌, ℕ, zero, suc, ◌+◌, ◌<◌, Bool, true, false, ◌||◌, Option, Some, None, List, []}
+use Rattle.std.proofs.Common.{◌∷◌, ◌++◌, get_or, length, take, refl, sym, ap, subst, ◌∙◌, append_assoc, length-append}
+use Rattle.std.proofs.Common.{arith}
 use Rattle.std.specs.Prelude.{◌==◌, All, slice_get, option_map, option_and_then}
 use Rattle.std.specs.List.{AllByRecursion, filter_map, cons_option}
 use Rattle.std.specs.FinMap.{get}
@@ -29,7 +31,8 @@ use Rattle.id_record.specs.Events.{EventView, tag_of}
 use Rattle.id_record.specs.Sends.{numbered}
 use Rattle.id_record.specs.Tellings.{is_telling, makes, tells, told_at, telling_from}
 use Rattle.id_record.proofs.EachLemmas.{each-append, each-weaker}
-use Rattle.id_observe.specs.Paths.{DoAlike, enter_in, enter_of, entered, entered_by, events_at, if_made, if_same, is_alike, last_context, made, made_by, maker_in, maker_of, making_of, makings_of}
+use Rattle.id_observe.specs.Paths.{DoAlike, enter_in, enter_of, entered, entered_by, events_at, if_made, if_same}
+use Rattle.id_observe.specs.Paths.{is_alike, last_context, made, made_by, maker_in, maker_of, making_of, makings_of}
 use Rattle.id_observe.specs.Observed.{answers, brought}
 use Rattle.id_observe.proofs.PathsLemmas.{enter_in-cons, maker_in-cons, or-none}
 use Rattle.id_observe.proofs.SkippedLemmas.{brought-elsewhere, element-at}
@@ -47,7 +50,8 @@ or-second true b is = cc
 or-second false b is = is
 
 -- an instruction enters nothing where its like sent nothing
-entered_by-alike : (o p : Option Op) (ms : List Message) → is_alike o p ≡ true → ((k r : ℕ) → p ≡ Some (Enter k r) → last_context ms ≡ None) → entered_by o ms ≡ None
+entered_by-alike : (o p : Option Op) (ms : List Message) → is_alike o p ≡ true → ((k r : ℕ) → p ≡ Some (Enter k r) → last_context ms ≡ None) →
+    entered_by o ms ≡ None
 entered_by-alike (Some (Enter b r)) (Some (Enter k q)) ms alike none = none k q refl
 entered_by-alike (Some (Enter b r)) p ms alike none = cc
 entered_by-alike o p ms alike none = refl
@@ -78,7 +82,8 @@ enters-nothing : (g h : Parts) → DoAlike g h → (n : ℕ) (s : State) (x : Pa
 enters-nothing g h alike n s (Token t p v) number none not =
     let f = (outcome h (next_numbers n s) s.waiting s.cells (Token t p v)).fired in
     entered_by-alike (op_at g t.instr) (op_at h t.instr) _ (alike t.instr)
-    (λ k r is. ap (λ xs. last_context (number xs)) (enter-sends_nothing h (next_numbers n s) s.waiting s.cells t p v k r is (or-second (t.instr == 0) (makes v f) not)) ∙ none)
+    (λ k r is. ap (λ xs. last_context (number xs)) (enter-sends_nothing h (next_numbers n s) s.waiting s.cells t p v k r is
+    (or-second (t.instr == 0) (makes v f) not)) ∙ none)
 enters-nothing g h alike n s (Read c t) number none not = refl
 enters-nothing g h alike n s (Write c v t) number none not = refl
 
@@ -98,13 +103,15 @@ Hides-event g h alike n s m = record {
   makes = makes-nothing g h alike n s m.payload;
 }
 
-Hides-all : (g h : Parts) → DoAlike g h → (n : ℕ) (s : State) (ms : List Message) → AllByRecursion (Hides g) s.events → AllByRecursion (Hides g) (after_all h n s ms).events
+Hides-all : (g h : Parts) → DoAlike g h → (n : ℕ) (s : State) (ms : List Message) → AllByRecursion (Hides g) s.events →
+    AllByRecursion (Hides g) (after_all h n s ms).events
 Hides-all g h alike n s [] old = old
 Hides-all g h alike n s (m ∷ ms) old =
     Hides-all g h alike n (state_after h n s m) ms (each-append (Hides g) s.events (event_of h n s m ∷ []) old (Hides-event g h alike n s m, tt))
 
 Hides-from : (g : Parts) (e : ElementView) → DoAlike g e.graph → Replays e → AllByRecursion (Hides g) e.state.events
-Hides-from g e alike replays = subst (λ s. AllByRecursion (Hides g) s.events) (sym replays.state) (Hides-all g e.graph alike e.number fresh (messages e.state.events) tt)
+Hides-from g e alike replays = subst (λ s. AllByRecursion (Hides g) s.events) (sym replays.state)
+    (Hides-all g e.graph alike e.number fresh (messages e.state.events) tt)
 
 -- an event that does not tell brought no answer
 brought-untold : (x : Payload) (f : Fired) → is_telling x f ≡ false → brought x ≡ None
@@ -155,7 +162,8 @@ positions-within : (k : ℕ) (es : List EventView) → AllByRecursion (λ j. j <
 positions-within k [] = tt
 positions-within k (e ∷ es) =
     each-append (λ j. j < k + length (e ∷ es)) (told_at (tells e) k) (telling_from (k + 1) es) (from (tells e))
-    (each-weaker (λ j. j < k + 1 + length es) (λ j. j < k + length (e ∷ es)) (λ j lt. omega (arith, lt)) (telling_from (k + 1) es) (positions-within (k + 1) es))
+    (each-weaker (λ j. j < k + 1 + length es) (λ j. j < k + length (e ∷ es)) (λ j lt. omega (arith, lt)) (telling_from (k + 1) es)
+    (positions-within (k + 1) es))
   where
     from : (b : Bool) → AllByRecursion (λ j. j < k + length (e ∷ es)) (told_at b k)
     from true = (omega arith, tt)
@@ -211,7 +219,8 @@ pub makings-told : (g : Parts) (e : ElementView) → DoAlike g e.graph → Repla
 makings-told g e alike replays =
     ap (makings_of g) (events_at-told [] e.state.events)
     ∙ filter_map-told (making_of g) e.state.events
-    (each-weaker (Hides g) (λ x. tells x ≡ false → making_of g x ≡ None) (λ x hides not. ap (option_map _) (hides.makes not)) e.state.events (Hides-from g e alike replays))
+    (each-weaker (Hides g) (λ x. tells x ≡ false → making_of g x ≡ None) (λ x hides not. ap (option_map _) (hides.makes not)) e.state.events
+    (Hides-from g e alike replays))
 
 pub answers-told : (es : List EventView) → answers (events_at es (telling_from 0 es)) ≡ answers es
 answers-told es = ap answers (events_at-told [] es) ∙ filter_map-told (λ e. brought e.message.payload) es (each es)
@@ -230,10 +239,12 @@ pub events_at-next : (es : List EventView) (ks : List ℕ) (i d : ℕ) (e : Even
 events_at-next es ks i d e lt at = filter_map-at (slice_get es) ks i d (Some e) lt (sym at)
 
 -- a walk over positions gives what the events there do
-pub walk-positions : {B : Type 0} (h : EventView → Option B) (es : List EventView) (ks : List ℕ) → filter_map (λ k. option_and_then h (slice_get es k)) ks ≡ filter_map h (events_at es ks)
+pub walk-positions : {B : Type 0} (h : EventView → Option B) (es : List EventView) (ks : List ℕ) →
+    filter_map (λ k. option_and_then h (slice_get es k)) ks ≡ filter_map h (events_at es ks)
 walk-positions h es [] = refl
 walk-positions h es (k ∷ ks) = from (walk-positions h es ks) (slice_get es k)
   where
-    from : filter_map (λ j. option_and_then h (slice_get es j)) ks ≡ filter_map h (events_at es ks) → (o : Option EventView) → cons_option (option_and_then h o) (filter_map (λ j. option_and_then h (slice_get es j)) ks) ≡ filter_map h (cons_option o (events_at es ks))
+    from : filter_map (λ j. option_and_then h (slice_get es j)) ks ≡ filter_map h (events_at es ks) → (o : Option EventView) →
+        cons_option (option_and_then h o) (filter_map (λ j. option_and_then h (slice_get es j)) ks) ≡ filter_map h (cons_option o (events_at es ks))
     from rest None = rest
     from rest (Some e) = ap (cons_option (h e)) rest

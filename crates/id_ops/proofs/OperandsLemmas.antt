@@ -29,7 +29,10 @@ use Rattle.id_ops.specs.declared.Operands.{Operands}
 use Rattle.id_ops.specs.declared.Operands.TheVariants.{One, Two}
 use Rattle.id_ops.specs.declared.Fired.{Fired}
 use Rattle.id_ops.specs.declared.Fired.TheVariants.{Out, Side, Moved, Sent, Failed, Nothing}
-use Rattle.id_ops.specs.Operators.{fired_by, fired_const, fired_unary, fired_binary, fired_merge, fired_switch, fired_back, fired_enter, tag_within, fired_send, fired_next, fired_reset, structure_in, fired_alloc, address_in, fired_address, fired_fetch, fired_store, fired}
+use Rattle.id_ops.specs.Operators.{fired_by, fired_const, fired_unary, fired_binary, fired_merge, fired_switch}
+use Rattle.id_ops.specs.Operators.{fired_back, fired_enter, tag_within, fired_send, fired_next, fired_reset}
+use Rattle.id_ops.specs.Operators.{structure_in, fired_alloc, address_in, fired_address, fired_fetch, fired_store}
+use Rattle.id_ops.specs.Operators.{fired}
 use Rattle.id_ops.specs.Operands.{IsOfKind, Suits}
 
 -- ---- the test of a kind

@@ -1,12 +1,16 @@
 -- Lemmas on specs/Helds.antt: the lines of structures and of cells, joined.
-use Rattle.std.proofs.Common.{◌≡◌, ℕ, zero, suc, ◌+◌, ◌<◌, Bool, true, false, cond, List, [], ◌∷◌, ◌++◌, drop, map, length, get_or, All, Option, Result, Ok, Err, IsErr, append_assoc, refl, sym, ap, subst, ◌∙◌, arith}
+use Rattle.std.proofs.Common.{◌≡◌, ℕ, zero, suc, ◌+◌, ◌<◌, Bool, true, false, cond, List, [], ◌∷◌, ◌++◌, drop, map}
+use Rattle.std.proofs.Common.{length, get_or, All, Option, Result, Ok, Err, IsErr, append_assoc, refl, sym, ap, subst}
+use Rattle.std.proofs.Common.{◌∙◌, arith}
 use Rattle.std.specs.declared.cmp.Ordering.{Ordering}
 use Rattle.std.specs.declared.cmp.Ordering.TheVariants.{Less, Equal, Greater}
 use Rattle.std.specs.Ordering.{is_lt, ordering_then, ordering_reverse}
 use Rattle.std.specs.List.{AllByRecursion}
 use Rattle.std.specs.List.Sorted.{IsPermutation, IsSortedBy}
 use Rattle.std.proofs.lemmas.List.Elements.{All-from_recursion, recursion_from_All}
-use Rattle.std.proofs.lemmas.List.Sorted.{All-permutation, IsPermutation-append, IsPermutation-append_comm, IsPermutation-cons, IsPermutation-map, IsPermutation-refl, IsPermutation-sym, IsPermutation-trans}
+use Rattle.std.proofs.lemmas.List.Sorted.{All-permutation, IsPermutation-append, IsPermutation-append_comm}
+use Rattle.std.proofs.lemmas.List.Sorted.{IsPermutation-cons, IsPermutation-map, IsPermutation-refl}
+use Rattle.std.proofs.lemmas.List.Sorted.{IsPermutation-sym, IsPermutation-trans}
 use Rattle.id_core.specs.Observed.{CellValue}
 use Rattle.id_meaning.specs.declared.Shape.{Shape}
 use Rattle.id_print.specs.declared.report.Held.{Held}
@@ -33,12 +37,14 @@ pub joined-array : (s : Shape) (ss : List Shape) (cs : List CellValue) → is_ce
 joined-array s ss [] e = refl
 joined-array s ss (c ∷ cs) e = ap (λ b. cond b (Cell c ∷ around s (joined ss) cs) (Array s ∷ joined ss (c ∷ cs))) e
 
-pub first_cell : (ss : List Shape) (cs : List CellValue) (c : CellValue) → is_cell_first ss cs ≡ true → get_or cs 0 c ≡ c → joined ss cs ≡ Cell c ∷ joined ss (drop 1 cs)
+pub first_cell : (ss : List Shape) (cs : List CellValue) (c : CellValue) → is_cell_first ss cs ≡ true → get_or cs 0 c ≡ c →
+    joined ss cs ≡ Cell c ∷ joined ss (drop 1 cs)
 first_cell [] [] c e is = cc
 first_cell (s ∷ ss) [] c e is = cc
 first_cell ss (d ∷ cs) c e is = joined-cell ss d cs e ∙ ap (λ f. Cell f ∷ joined ss cs) is
 
-pub first_array : (ss : List Shape) (cs : List CellValue) (s : Shape) → 0 < length ss → is_cell_first ss cs ≡ false → get_or ss 0 s ≡ s → joined ss cs ≡ Array s ∷ joined (drop 1 ss) cs
+pub first_array : (ss : List Shape) (cs : List CellValue) (s : Shape) → 0 < length ss → is_cell_first ss cs ≡ false → get_or ss 0 s ≡ s →
+    joined ss cs ≡ Array s ∷ joined (drop 1 ss) cs
 first_array [] cs s h e is = absurd (omega arith)
 first_array (t ∷ ss) cs s h e is = joined-array t ss cs e ∙ ap (λ u. Array u ∷ joined ss cs) is
 
@@ -59,15 +65,18 @@ pub record IsPartly (old new : Option Told) (text : List ℕ) (all rest : List H
 helds_text-more : (text : List ℕ) (front : List Held) (x : Held) → helds_text text (front ++ x ∷ []) ≡ helds_text text front ++ held_text text x
 helds_text-more text front x = flat_map-append (held_text text) front (x ∷ []) ∙ ap (λ t. helds_text text front ++ t) (append-nil (held_text text x))
 
-pub Partly-more : (old mid new : Option Told) (text : List ℕ) (all rest left : List Held) (x : Held) (u : Unit {0}) → IsPartly old mid text all rest → rest ≡ x ∷ left
+pub Partly-more : (old mid new : Option Told) (text : List ℕ) (all rest left : List Held) (x : Held) (u : Unit {0}) → IsPartly old mid text all rest →
+    rest ≡ x ∷ left
     → Prints mid new (held_text text x) (Ok u) → IsPartly old new text all left
 Partly-more old mid new text all rest left x u h e p = record {
   front = h.front ++ x ∷ [];
   parts = h.parts ∙ ap (λ l. h.front ++ l) e ∙ sym (append_assoc h.front (x ∷ []) left);
-  printed = same_text old new _ _ (Ok tt) (sym (helds_text-more text h.front x)) (Prints-then old mid new (helds_text text h.front) (held_text text x) tt (Ok tt) h.printed p);
+  printed = same_text old new _ _ (Ok tt) (sym (helds_text-more text h.front x))
+      (Prints-then old mid new (helds_text text h.front) (held_text text x) tt (Ok tt) h.printed p);
 }
 
-pub Partly-stop : (old mid new : Option Told) (text : List ℕ) (all rest left : List Held) (x : Held) (e : PrintError) (r : Result (Unit {0}) PrintError) → IsPartly old mid text all rest
+pub Partly-stop : (old mid new : Option Told) (text : List ℕ) (all rest left : List Held) (x : Held) (e : PrintError) (r : Result (Unit {0}) PrintError) →
+    IsPartly old mid text all rest
     → rest ≡ x ∷ left → Prints mid new (held_text text x) (Err e) → IsErr r → Prints old new (helds_text text all) r
 Partly-stop old mid new text all rest left x e r h is p fails =
     let cut : helds_text text all ≡ helds_text text h.front ++ (held_text text x ++ helds_text text left) =
@@ -76,7 +85,8 @@ Partly-stop old mid new text all rest left x e r h is p fails =
     (Prints-then old mid new (helds_text text h.front) _ tt r h.printed (Prints-stop mid new (held_text text x) (helds_text text left) e r p fails))
 
 -- a line that is told with a cursor that stands for the text
-pub Prints-held_at : (k t : List ℕ) (x : Held) (old new : Option Told) (r : Result (Unit {0}) PrintError) → k ≡ t → Prints old new (held_text k x) r → Prints old new (held_text t x) r
+pub Prints-held_at : (k t : List ℕ) (x : Held) (old new : Option Told) (r : Result (Unit {0}) PrintError) → k ≡ t → Prints old new (held_text k x) r →
+    Prints old new (held_text t x) r
 Prints-held_at k t x old new r same one = let P : List ℕ → Type 0 = λ z. Prints old new (held_text z x) r in subst P same one
 
 pub within_first : (size : ℕ) (x : Held) (lines left : List Held) → HeldsWithin size lines → lines ≡ x ∷ left → HeldWithin size x × HeldsWithin size left
@@ -140,9 +150,11 @@ sorted-from_up (x ∷ y ∷ xs) h = at (sorted-from_up (y ∷ xs) h.1)
   where
     at : IsSortedBy lt (y ∷ xs) → IsSortedBy lt (x ∷ y ∷ xs)
     at next zero d low within = h.0
-    at next (suc k) d low within = subst (λ m. lt (get_or (x ∷ y ∷ xs) m d) (get_or (y ∷ xs) k d) ≡ false) (sym (one_more k)) (next k d (omega arith) (omega arith))
+    at next (suc k) d low within = subst (λ m. lt (get_or (x ∷ y ∷ xs) m d) (get_or (y ∷ xs) k d) ≡ false) (sym (one_more k))
+        (next k d (omega arith) (omega arith))
 
-heads_around : (x : Held) (s : Shape) (rest : List CellValue → List Held) (cs : List CellValue) → lt (Array s) x ≡ false → Heads x (map Cell cs) → Heads x (around s rest cs)
+heads_around : (x : Held) (s : Shape) (rest : List CellValue → List Held) (cs : List CellValue) → lt (Array s) x ≡ false → Heads x (map Cell cs) →
+    Heads x (around s rest cs)
 heads_around x s rest [] h g = h
 heads_around x s rest (c ∷ cs) h g = at (is_before c s)
   where
@@ -231,9 +243,11 @@ each_of P (s ∷ ss) cs h = let two = each_of P ss cs h.1 in ((h.0, two.0), two.
 pub All-joined : (P : Held → Type 0) (ss : List Shape) (cs : List CellValue) → All (λ s. P (Array s)) ss → All (λ c. P (Cell c)) cs → All P (joined ss cs)
 All-joined P ss cs h g =
     All-permutation P (map Array ss ++ map Cell cs) (joined ss cs) (same_lines ss cs)
-    (All-from_recursion P _ (each_then P (map Array ss) (map Cell cs) (shapes_each P ss (recursion_from_All _ ss h)) (cells_each P cs (recursion_from_All _ cs g))))
+    (All-from_recursion P _ (each_then P (map Array ss) (map Cell cs) (shapes_each P ss (recursion_from_All _ ss h))
+    (cells_each P cs (recursion_from_All _ cs g))))
 
 pub each-joined : (P : Held → Type 0) (ss : List Shape) (cs : List CellValue) → All P (joined ss cs) → All (λ s. P (Array s)) ss × All (λ c. P (Cell c)) cs
 each-joined P ss cs h =
-    let two = each_of P ss cs (recursion_from_All P _ (All-permutation P (joined ss cs) (map Array ss ++ map Cell cs) (IsPermutation-sym _ _ (same_lines ss cs)) h)) in
+    let two = each_of P ss cs (recursion_from_All P _ (All-permutation P (joined ss cs) (map Array ss ++ map Cell cs)
+    (IsPermutation-sym _ _ (same_lines ss cs)) h)) in
     (All-from_recursion _ ss two.0, All-from_recursion _ cs two.1)

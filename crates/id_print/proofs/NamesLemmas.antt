@@ -1,5 +1,6 @@
 -- Lemmas on specs/Names.antt: lists in order, by a comparison that tells the order.
-use Rattle.std.proofs.Common.{◌≡◌, ℕ, ℤ, ◌<ℤ◌, zero, suc, ◌<◌, Bool, false, List, [], ◌∷◌, length, get_or, Ordering, Less, Equal, Greater, ◌⊎◌, inl, inr, refl, sym, ap, subst, ◌∙◌, arith}
+use Rattle.std.proofs.Common.{◌≡◌, ℕ, ℤ, ◌<ℤ◌, zero, suc, ◌<◌, Bool, false, List, [], ◌∷◌, length, get_or, Ordering}
+use Rattle.std.proofs.Common.{Less, Equal, Greater, ◌⊎◌, inl, inr, refl, sym, ap, subst, ◌∙◌, arith}
 use Rattle.std.proofs.lemmas.Int.{ints}
 use Rattle.std.specs.Prelude.{AllPairs, IsPermutation, Contains}
 use Rattle.std.specs.List.{IsDistinct, AllByRecursion}
@@ -41,7 +42,8 @@ less_lt : {A : Type 0} (c : A → A → Ordering) (B C : A → A → Type 0) →
 less_lt c B C t x y e h = false≢true (sym e ∙ ap is_lt (t.less x y h))
 
 -- what a sort by that test leaves is in order
-pub in_order-from_sort : {A : Type 0} (c : A → A → Ordering) (B C : A → A → Type 0) → Tells c B C → (xs : List A) → IsSortedBy (first_lt c) xs → AllPairs (λ x y. ¬ B y x) xs
+pub in_order-from_sort : {A : Type 0} (c : A → A → Ordering) (B C : A → A → Type 0) → Tells c B C → (xs : List A) → IsSortedBy (first_lt c) xs →
+    AllPairs (λ x y. ¬ B y x) xs
 in_order-from_sort c B C t xs up i j d below within =
     less_lt c B C t (get_or xs j d) (get_or xs i d) (sorted_far (first_lt c) (ranks_by t.total (λ x. x)) xs up i j d (omega arith) within)
 
@@ -77,7 +79,8 @@ ties_differ c B C t (x ∷ xs) differ one = (
 )
 
 -- things in order of which none tie rise
-rise : {A : Type 0} (c : A → A → Ordering) (B C : A → A → Type 0) → Tells c B C → (xs : List A) → AllPairs (λ x y. ¬ B y x) xs → IsDistinct (both_tie c) xs → Rises B xs
+rise : {A : Type 0} (c : A → A → Ordering) (B C : A → A → Type 0) → Tells c B C → (xs : List A) → AllPairs (λ x y. ¬ B y x) xs → IsDistinct (both_tie c) xs →
+    Rises B xs
 unfolding IsDistinct
 rise c B C t [] up apart = tt
 rise c B C t (x ∷ []) up apart = tt
@@ -89,9 +92,11 @@ rise c B C t (x ∷ y ∷ xs) up apart = (at (c x y) refl, rise c B C t (y ∷ x
     at Greater e = absurd (up 0 1 x (omega arith) (omega arith) (t.before y x (t.total.antisymm y x ∙ ap ordering_reverse e)))
 
 -- things that are apart rise where they are sorted
-pub Rises-sorted : {A : Type 0} (c : A → A → Ordering) (B C : A → A → Type 0) → Tells c B C → (sorted xs : List A) → IsOrderOf B sorted xs → AreApartBy C xs → Rises B sorted
+pub Rises-sorted : {A : Type 0} (c : A → A → Ordering) (B C : A → A → Type 0) → Tells c B C → (sorted xs : List A) → IsOrderOf B sorted xs → AreApartBy C xs →
+    Rises B sorted
 Rises-sorted c B C t sorted xs up apart =
-    rise c B C t sorted up.in_order (IsDistinct-IsPermutation (both_tie c) (both_tie-flips c t.total) xs sorted up.same (ties_differ c B C t xs apart.differ apart.one))
+    rise c B C t sorted up.in_order (IsDistinct-IsPermutation (both_tie c) (both_tie-flips c t.total) xs sorted up.same
+    (ties_differ c B C t xs apart.differ apart.one))
 
 -- names that rise by their order
 pub NamesRise-Rises : (ns : List NameValue) → Rises NameBefore ns → NamesRise ns
@@ -110,13 +115,15 @@ site_total = then_total (on_total (λ s. s.path.steps) (lists_total step_total))
 site_less : (s t : Site) → SiteBefore s t → site_cmp s t ≡ Less
 site_less s t (inl h) = ap (λ o. ordering_then o (nat_cmp s.place t.place)) (steps_less s.path.steps t.path.steps h)
 site_less s t (inr h) =
-    ap (λ o. ordering_then o (nat_cmp s.place t.place)) (ap (λ p. slice_cmp step_cmp s.path.steps p.steps) (sym h.0) ∙ tied_itself (lists_total step_total) s.path.steps)
+    ap (λ o. ordering_then o (nat_cmp s.place t.place)) (ap (λ p. slice_cmp step_cmp s.path.steps p.steps) (sym h.0) ∙
+    tied_itself (lists_total step_total) s.path.steps)
     ∙ number_less s.place t.place h.1
 
 less_site : (s t : Site) → site_cmp s t ≡ Less → SiteBefore s t
 less_site s t e = at (then_less (slice_cmp step_cmp s.path.steps t.path.steps) (nat_cmp s.place t.place) e)
   where
-    at : (slice_cmp step_cmp s.path.steps t.path.steps ≡ Less) ⊎ ((slice_cmp step_cmp s.path.steps t.path.steps ≡ Equal) × (nat_cmp s.place t.place ≡ Less)) → SiteBefore s t
+    at : (slice_cmp step_cmp s.path.steps t.path.steps ≡ Less) ⊎ ((slice_cmp step_cmp s.path.steps t.path.steps ≡ Equal) × (nat_cmp s.place t.place ≡ Less)) →
+        SiteBefore s t
     at (inl h) = inl (less_steps s.path.steps t.path.steps h)
     at (inr h) = inr (same_path s.path t.path h.0, less_number s.place t.place h.1)
 

@@ -1,5 +1,6 @@
 -- Lemmas on specs/Told.antt: a text that goes out in several writes.
-use Rattle.std.proofs.Common.{◌≡◌, ℕ, zero, suc, ◌+◌, ◌<◌, List, [], ◌∷◌, ◌++◌, take, drop, length, Option, None, Some, Result, Ok, Err, IsErr, refl, sym, ap, ◌∙◌, append_assoc, arith, add-zero}
+use Rattle.std.proofs.Common.{◌≡◌, ℕ, zero, suc, ◌+◌, ◌<◌, List, [], ◌∷◌, ◌++◌, take, drop, length, Option, None}
+use Rattle.std.proofs.Common.{Some, Result, Ok, Err, IsErr, refl, sym, ap, ◌∙◌, append_assoc, arith, add-zero}
 use Rattle.std.proofs.lemmas.List.{append-nil, take-append-drop}
 use Rattle.std.proofs.lemmas.Bool.{false≢true}
 use Rattle.id_print.specs.declared.sink.SinkFault.{SinkFault}
@@ -24,7 +25,11 @@ Going (Some a) new text rest = IsGoing a new text rest
 -- no text is out before the first write
 pub Going-start : (old : Option Told) (text : List ℕ) → Going old old text text
 Going-start None text = tt
-Going-start (Some a) text = record { front = []; parts = refl; so_far = ap (λ bs. Some (record { bytes = bs; failures = a.failures })) (sym (append-nil a.bytes)) }
+Going-start (Some a) text = record {
+  front = [];
+  parts = refl;
+  so_far = ap (λ bs. Some (record { bytes = bs; failures = a.failures })) (sym (append-nil a.bytes));
+}
 
 -- a write that takes some bytes takes them and fails not
 took-some : (a : Told) (bytes : List ℕ) (n : ℕ) → 0 < n → took a bytes n ≡ grown a (take n bytes)
@@ -42,7 +47,8 @@ grown-grown a front more = ap (λ bs. record { bytes = bs; failures = a.failures
 regrouped : (text front rest : List ℕ) (n : ℕ) → text ≡ front ++ rest → text ≡ (front ++ take n rest) ++ drop n rest
 regrouped text front rest n e = e ∙ ap (λ r. front ++ r) (sym (take-append-drop n rest)) ∙ sym (append_assoc front (take n rest) (drop n rest))
 
-after_some : (a : Told) (mid new : Option Told) (text rest : List ℕ) (n : ℕ) → IsGoing a mid text rest → AfterWrite mid new rest (Ok n) → 0 < n → IsGoing a new text (drop n rest)
+after_some : (a : Told) (mid new : Option Told) (text rest : List ℕ) (n : ℕ) → IsGoing a mid text rest → AfterWrite mid new rest (Ok n) → 0 < n →
+    IsGoing a new text (drop n rest)
 after_some a None new text rest n g w h = let bad : None ≡ Some (grown a g.front) = g.so_far in absurd cc
 after_some a (Some b) new text rest n g w h =
     let same : Some b ≡ Some (grown a g.front) = g.so_far in
@@ -54,7 +60,8 @@ after_some a (Some b) new text rest n g w h =
     }
 
 -- after a write that took some bytes the rest is shorter by them
-pub Going-write : (old mid new : Option Told) (text rest : List ℕ) (n : ℕ) → Going old mid text rest → AfterWrite mid new rest (Ok n) → 0 < n → Going old new text (drop n rest)
+pub Going-write : (old mid new : Option Told) (text rest : List ℕ) (n : ℕ) → Going old mid text rest → AfterWrite mid new rest (Ok n) → 0 < n →
+    Going old new text (drop n rest)
 Going-write None mid new text rest n g w h = tt
 Going-write (Some a) mid new text rest n g w h = after_some a mid new text rest n g w h
 
@@ -79,12 +86,14 @@ empty_write (Some c) new x rest w b h =
     let is : c ≡ b = cc in w ∙ ap Some (took-none c x rest) ∙ ap (λ d. Some (record { bytes = d.bytes; failures = d.failures + 1 })) is
 
 -- a write that answers an error ends the text with a front of it
-pub Prints-err : (old mid new : Option Told) (text rest : List ℕ) (e : SinkFault) (p : PrintError) → Going old mid text rest → AfterWrite mid new rest (Err e) → Prints old new text (Err p)
+pub Prints-err : (old mid new : Option Told) (text rest : List ℕ) (e : SinkFault) (p : PrintError) → Going old mid text rest →
+    AfterWrite mid new rest (Err e) → Prints old new text (Err p)
 Prints-err None mid new text rest e p g w = record { told = tt }
 Prints-err (Some a) mid new text rest e p g w = record { told = failed_front a mid new text rest g (failed_write mid new rest e w) }
 
 -- so does one that takes none of the bytes that are left
-pub Prints-none : (old mid new : Option Told) (text rest : List ℕ) (p : PrintError) → 0 < length rest → Going old mid text rest → AfterWrite mid new rest (Ok 0) → Prints old new text (Err p)
+pub Prints-none : (old mid new : Option Told) (text rest : List ℕ) (p : PrintError) → 0 < length rest → Going old mid text rest →
+    AfterWrite mid new rest (Ok 0) → Prints old new text (Err p)
 Prints-none None mid new text rest p h g w = record { told = tt }
 Prints-none (Some a) mid new text [] p h g w = absurd (omega arith)
 Prints-none (Some a) mid new text (x ∷ rest) p h g w = record { told = failed_front a mid new text (x ∷ rest) g (empty_write mid new x rest w) }
@@ -102,11 +111,13 @@ stops None new front rest e p h = tt
 stops (Some a) new front rest e p h = front_stops a new front rest h
 
 -- a text whose front was cut short was cut short
-pub Prints-stop : (old new : Option Told) (front rest : List ℕ) (e : PrintError) (r : Result (Unit {0}) PrintError) → Prints old new front (Err e) → IsErr r → Prints old new (front ++ rest) r
+pub Prints-stop : (old new : Option Told) (front rest : List ℕ) (e : PrintError) (r : Result (Unit {0}) PrintError) → Prints old new front (Err e) → IsErr r →
+    Prints old new (front ++ rest) r
 Prints-stop old new front rest e (Ok u) h w = absurd (false≢true w)
 Prints-stop old new front rest e (Err p) h w = record { told = stops old new front rest e p h.told }
 
-all_then : (a : Told) (mid new : Option Told) (front rest : List ℕ) (r : Result (Unit {0}) PrintError) → mid ≡ Some (grown a front) → PrintsFrom mid new rest r → PrintsBy a new (front ++ rest) r
+all_then : (a : Told) (mid new : Option Told) (front rest : List ℕ) (r : Result (Unit {0}) PrintError) → mid ≡ Some (grown a front) →
+    PrintsFrom mid new rest r → PrintsBy a new (front ++ rest) r
 all_then a None new front rest r e h = absurd cc
 all_then a (Some b) new front rest (Ok u) e h =
     let is : b ≡ grown a front = cc in
@@ -121,12 +132,14 @@ all_then a (Some b) new front rest (Err p) e h =
           ∙ ap (λ bs. Some (record { bytes = bs; failures = a.failures + 1 })) (append_assoc a.bytes front h.front);
     }
 
-thens : (old mid new : Option Told) (front rest : List ℕ) (u : Unit {0}) (r : Result (Unit {0}) PrintError) → PrintsFrom old mid front (Ok u) → PrintsFrom mid new rest r → PrintsFrom old new (front ++ rest) r
+thens : (old mid new : Option Told) (front rest : List ℕ) (u : Unit {0}) (r : Result (Unit {0}) PrintError) → PrintsFrom old mid front (Ok u) →
+    PrintsFrom mid new rest r → PrintsFrom old new (front ++ rest) r
 thens None mid new front rest u r h k = tt
 thens (Some a) mid new front rest u r h k = all_then a mid new front rest r h.all k
 
 -- a text is printed where its front was printed whole and then its rest is printed
-pub Prints-then : (old mid new : Option Told) (front rest : List ℕ) (u : Unit {0}) (r : Result (Unit {0}) PrintError) → Prints old mid front (Ok u) → Prints mid new rest r → Prints old new (front ++ rest) r
+pub Prints-then : (old mid new : Option Told) (front rest : List ℕ) (u : Unit {0}) (r : Result (Unit {0}) PrintError) → Prints old mid front (Ok u) →
+    Prints mid new rest r → Prints old new (front ++ rest) r
 Prints-then old mid new front rest u r h k = record { told = thens old mid new front rest u r h.told k.told }
 
 same_told : (old : Option Told) → PrintsFrom old old [] (Ok tt)

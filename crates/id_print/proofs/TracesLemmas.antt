@@ -28,13 +28,15 @@ trace_text-cut : (xs : List EventView) (i : ℕ) → trace_text xs ≡ trace_tex
 trace_text-cut xs i = ap trace_text (sym (take-append-drop i xs)) ∙ trace_text-append (take i xs) (drop i xs)
 
 -- one more line is printed
-pub Prints-line : (xs : List EventView) (i : ℕ) (x : EventView) (old mid new : Option Told) (u : Unit {0}) (r : Result (Unit {0}) PrintError) → slice_get xs i ≡ Some x →
+pub Prints-line : (xs : List EventView) (i : ℕ) (x : EventView) (old mid new : Option Told) (u : Unit {0}) (r : Result (Unit {0}) PrintError) →
+    slice_get xs i ≡ Some x →
     Prints old mid (trace_text (take i xs)) (Ok u) → Prints mid new (line_text x) r → Prints old new (trace_text (take (i + 1) xs)) r
 Prints-line xs i x old mid new u r at k l =
     same_text old new _ _ _ (sym (trace_text-more xs i x at)) (Prints-then old mid new _ _ u r k l)
 
 -- a line is cut short
-pub Prints-line_stop : (xs : List EventView) (i : ℕ) (x : EventView) (old mid new : Option Told) (u : Unit {0}) (e : PrintError) (r : Result (Unit {0}) PrintError) → slice_get xs i ≡ Some x →
+pub Prints-line_stop : (xs : List EventView) (i : ℕ) (x : EventView) (old mid new : Option Told) (u : Unit {0}) (e : PrintError)
+    (r : Result (Unit {0}) PrintError) → slice_get xs i ≡ Some x →
     Prints old mid (trace_text (take i xs)) (Ok u) → Prints mid new (line_text x) (Err e) → IsErr r → Prints old new (trace_text xs) r
 Prints-line_stop xs i x old mid new u e r at k l w =
     let here : Prints old new (trace_text (take (i + 1) xs)) (Err e) = Prints-line xs i x old mid new u (Err e) at k l in

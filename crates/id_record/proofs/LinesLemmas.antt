@@ -1,5 +1,6 @@
 -- Lemmas on specs/Lines.antt and specs/Records.antt: a record goes on by one event.
-use Rattle.std.proofs.Common.{◌≡◌, ℕ, zero, suc, ◌+◌, ◌<◌, List, [], ◌∷◌, ◌++◌, Option, None, Some, IfSome, SFits, length, refl, sym, ap, subst, ◌∙◌, length-append, get_or, arith}
+use Rattle.std.proofs.Common.{◌≡◌, ℕ, zero, suc, ◌+◌, ◌<◌, List, [], ◌∷◌, ◌++◌, Option, None, Some, IfSome, SFits}
+use Rattle.std.proofs.Common.{length, refl, sym, ap, subst, ◌∙◌, length-append, get_or, arith}
 use Rattle.std.specs.Prelude.{All, pos, ◌≤◌, ◌*◌, ◌/◌, ◌%◌, ◌^◌, ℤ, true, false, drop, slice_get, option_map, take}
 use Rattle.std.specs.List.{AllByRecursion}
 use Rattle.std.proofs.lemmas.List.{append-nil, drop-append-le, get_or_append_left, length-take, take-append-drop, take-append-le, take_all}
@@ -27,7 +28,10 @@ use Rattle.id_record.specs.Events.{EventView, full_step, tag_of, value_of}
 use Rattle.id_record.specs.Sends.{numbered, replies, sent}
 use Rattle.id_record.specs.declared.line.shooting.NamedTag.{NamedTag}
 use Rattle.id_record.specs.Shootings.{IsHalved, tag_by}
-use Rattle.id_record.specs.Lines.{AreThere, Beside, HasNumbers, IsCelled, IsKept, IsPacked, IsPackedBeside, IsThere, IsWithin, Names, carried_value, cell_at, cell_in, context_of, element_at, high_half, index_of, instr_at, joined, low_half, no_replies, number_of, own, port_at, reaction_of, read, saying, structure_at, tag_at, target_in, told, unpacked}
+use Rattle.id_record.specs.Lines.{AreThere, Beside, HasNumbers, IsCelled, IsKept, IsPacked, IsPackedBeside, IsThere}
+use Rattle.id_record.specs.Lines.{IsWithin, Names, carried_value, cell_at, cell_in, context_of, element_at, high_half}
+use Rattle.id_record.specs.Lines.{index_of, instr_at, joined, low_half, no_replies, number_of, own, port_at}
+use Rattle.id_record.specs.Lines.{reaction_of, read, saying, structure_at, tag_at, target_in, told, unpacked}
 use Rattle.id_record.specs.Records.{event_of_handled, events_from, replies_in, sent_by, sent_for}
 use Rattle.std.specs.Int.{cast_signed, cast_unsigned, w32, w64}
 use Rattle.std.proofs.lemmas.Int.{of_z-to_z, to_z-of_z}
@@ -56,7 +60,8 @@ events_from-push : (g : Parts) (n : ℕ) (ts : List Tag) (k : ℕ) (b : Beside) 
 events_from-push g n ts k b [] l = let here : k ≡ k + 0 = omega arith in ap (λ j. event_of_handled g n ts j (unpacked b l) ∷ []) here
 events_from-push g n ts k b (m ∷ ls) l =
     let there : k + 1 + length ls ≡ k + length (m ∷ ls) = omega arith in
-    ap (λ es. event_of_handled g n ts k (unpacked b m) ∷ es) (events_from-push g n ts (k + 1) b ls l ∙ ap (λ j. events_from g n ts (k + 1) b ls ++ event_of_handled g n ts j (unpacked b l) ∷ []) there)
+    ap (λ es. event_of_handled g n ts k (unpacked b m) ∷ es)
+    (events_from-push g n ts (k + 1) b ls l ∙ ap (λ j. events_from g n ts (k + 1) b ls ++ event_of_handled g n ts j (unpacked b l) ∷ []) there)
 
 -- what stands beside the lines goes on: each line that has its own there has the same
 abbrev pub Goes : Beside → Beside → Type 0
@@ -138,7 +143,8 @@ event_sending n k h xs = record {
 replies_in-append : (ts more : List Tag) (r : Replies) → AreThere ts r → replies_in (ts ++ more) r ≡ replies_in ts r
 replies_in-append ts more r there =
     let first : r.from ≤ length ts = omega (arith, there) in
-    let parts : length (take r.from ts) + length (drop r.from ts) ≡ length ts = sym (length-append (take r.from ts) (drop r.from ts)) ∙ ap length (take-append-drop r.from ts) in
+    let parts : length (take r.from ts) + length (drop r.from ts) ≡ length ts = sym (length-append (take r.from ts) (drop r.from ts)) ∙
+    ap length (take-append-drop r.from ts) in
     let left : r.count ≤ length (drop r.from ts) = omega (arith, there, parts, length-take r.from ts, first) in
     ap (take r.count) (drop-append-le r.from ts more first) ∙ take-append-le r.count (drop r.from ts) more left
 
@@ -157,7 +163,8 @@ events_from-replies g n ts more k b (l ∷ ls) kept =
     let h = unpacked b l in
     let here : event_of_handled g n (ts ++ more) k h ≡ event_of_handled g n ts k h =
     ap (λ us. event_sending n k h (sent_for g h.message.payload h.reaction.fired us)) (replies_in-append ts more h.replies (kept.0).replies) in
-    ap (λ e. e ∷ events_from g n (ts ++ more) (k + 1) b ls) here ∙ ap (λ es. event_of_handled g n ts k h ∷ es) (events_from-replies g n ts more (k + 1) b ls kept.1)
+    ap (λ e. e ∷ events_from g n (ts ++ more) (k + 1) b ls) here ∙
+    ap (λ es. event_of_handled g n ts k h ∷ es) (events_from-replies g n ts more (k + 1) b ls kept.1)
 
 pub kept_replies : (b : Beside) (ts more : List Tag) (ls : List Line) → All (IsKept b ts) ls → All (IsKept b (ts ++ more)) ls
 kept_replies b ts more ls kept =
@@ -180,7 +187,8 @@ aside_last asides cells e l is at =
     ∙ get_or_from_slice_get (asides ++ e ∷ []) (length asides) e (own l value.Signal) (get_last asides e)
 
 -- a line of an event that names a cell
-pub celled-read : (b : Beside) (l : Line) (k : Kind) → IsCelled k → read b l k ≡ saying l (told k (tag_at l) (port_at (l.position / 2 ^ 31)) l.value l.result (cell_in b.cells l))
+pub celled-read : (b : Beside) (l : Line) (k : Kind) → IsCelled k →
+    read b l k ≡ saying l (told k (tag_at l) (port_at (l.position / 2 ^ 31)) l.value l.result (cell_in b.cells l))
 celled-read b l kind.Signal celled = elim celled [ ]
 celled-read b l kind.Int celled = elim celled [ ]
 celled-read b l kind.True celled = elim celled [ ]
@@ -236,7 +244,8 @@ cell_last : (asides : List Handled) (cells : List Cell) (c : Cell) (e : Handled)
 cell_last asides cells c e l packed =
     let d : Beside = record { asides = asides; cells = cells ++ c ∷ [] } in
     let none : Cell = record { structure = record { element = 0; serial = 0; low = pos 0; high = pos 0 }; index = pos 0 } in
-    let named : cell_in (cells ++ c ∷ []) l ≡ c = ap (λ i. get_or (cells ++ c ∷ []) i none) packed.index ∙ get_or_from_slice_get (cells ++ c ∷ []) (length cells) c none (get_last cells c) in
+    let named : cell_in (cells ++ c ∷ []) l ≡ c = ap (λ i. get_or (cells ++ c ∷ []) i none) packed.index ∙
+    get_or_from_slice_get (cells ++ c ∷ []) (length cells) c none (get_last cells c) in
     celled-read d l l.kind packed.kind
     ∙ ap (λ x. saying l (told l.kind (tag_at l) (port_at (l.position / 2 ^ 31)) l.value l.result x)) named
     ∙ packed.is
@@ -247,7 +256,8 @@ pushed : (g : Parts) (n : ℕ) (ts : List Tag) (b d : Beside) (ls : List Line) (
 pushed g n ts b d ls e l goes is kept =
     let at : 0 + length ls ≡ length (events_from g n ts 0 b ls) = omega (arith, length-events_from g n ts 0 b ls) in
     events_from-push g n ts 0 d ls l
-    ∙ ap (λ es. es ++ event_of_handled g n ts (0 + length ls) (unpacked d l) ∷ []) (events_from-goes g n ts 0 b d ls goes (recursion_from_All (IsKept b ts) ls kept))
+    ∙ ap (λ es. es ++ event_of_handled g n ts (0 + length ls) (unpacked d l) ∷ [])
+    (events_from-goes g n ts 0 b d ls goes (recursion_from_All (IsKept b ts) ls kept))
     ∙ ap (λ h. events_from g n ts 0 b ls ++ event_of_handled g n ts (0 + length ls) h ∷ []) is
     ∙ ap (λ j. events_from g n ts 0 b ls ++ event_of_handled g n ts j e ∷ []) at
 
@@ -277,7 +287,8 @@ kept_line b ts ls e l packed there kept = kept_pushed ts b b ls e l (stays b) (p
 pub pushed_aside : (g : Parts) (n : ℕ) (ts : List Tag) (asides : List Handled) (cells : List Cell) (ls : List Line) (e : Handled) (l : Line)
     → l.kind ≡ kind.Aside → index_of l.value ≡ length asides → All (IsKept (record { asides = asides; cells = cells }) ts) ls
     → events_from g n ts 0 (record { asides = asides ++ e ∷ []; cells = cells }) (ls ++ l ∷ [])
-    ≡ events_from g n ts 0 (record { asides = asides; cells = cells }) ls ++ event_of_handled g n ts (length (events_from g n ts 0 (record { asides = asides; cells = cells }) ls)) e ∷ []
+    ≡ events_from g n ts 0 (record { asides = asides; cells = cells }) ls ++
+    event_of_handled g n ts (length (events_from g n ts 0 (record { asides = asides; cells = cells }) ls)) e ∷ []
 pushed_aside g n ts asides cells ls e l is index kept =
     let b : Beside = record { asides = asides; cells = cells } in
     pushed g n ts b (record { asides = asides ++ e ∷ []; cells = cells }) ls e l (aside_goes b e) (aside_last asides cells e l is index) kept
@@ -295,7 +306,8 @@ kept_aside ts asides cells ls e l is index there kept =
 pub pushed_cell : (g : Parts) (n : ℕ) (ts : List Tag) (asides : List Handled) (cells : List Cell) (ls : List Line) (e : Handled) (l : Line) (c : Cell)
     → IsPackedBeside e (length cells) l c → All (IsKept (record { asides = asides; cells = cells }) ts) ls
     → events_from g n ts 0 (record { asides = asides; cells = cells ++ c ∷ [] }) (ls ++ l ∷ [])
-    ≡ events_from g n ts 0 (record { asides = asides; cells = cells }) ls ++ event_of_handled g n ts (length (events_from g n ts 0 (record { asides = asides; cells = cells }) ls)) e ∷ []
+    ≡ events_from g n ts 0 (record { asides = asides; cells = cells }) ls ++
+    event_of_handled g n ts (length (events_from g n ts 0 (record { asides = asides; cells = cells }) ls)) e ∷ []
 pushed_cell g n ts asides cells ls e l c packed kept =
     let b : Beside = record { asides = asides; cells = cells } in
     pushed g n ts b (record { asides = asides; cells = cells ++ c ∷ [] }) ls e l (cell_goes b c) (cell_last asides cells c e l packed) kept
@@ -450,7 +462,8 @@ names-line fired.Nothing (value.Continuation u) t l names named result = target-
 number-line : (f : Fired) (t : Tag) (l : Line) → IsNamed t l → l.result ≡ number_of f t → l.result ≡ number_of f (target_in l)
 number-line (fired.Out (value.Structure s)) t l named result = result ∙ ap (number_of (fired.Out (value.Structure s))) (sym (target-line t l named result))
 number-line (fired.Out w) t l named result = result
-number-line (fired.Side b (value.Structure s)) t l named result = result ∙ ap (number_of (fired.Side b (value.Structure s))) (sym (target-line t l named result))
+number-line (fired.Side b (value.Structure s)) t l named result = result ∙
+    ap (number_of (fired.Side b (value.Structure s))) (sym (target-line t l named result))
 number-line (fired.Side b w) t l named result = result
 number-line (fired.Moved i w) t l named result = result ∙ ap (number_of (fired.Moved i w)) (sym (target-line t l named result))
 number-line (fired.Entered c) t l named result = result ∙ ap (number_of (fired.Entered c)) (sym (target-line t l named result))
@@ -486,7 +499,8 @@ there-carried b t l k v is = cc
 -- an event stands in a line of its value, its numbers and its reaction
 pub packed-line : (e : Handled) (l : Line) (t : Tag) → Names e.reaction.fired (value_of e.message.payload) t
     → ((u : Tag) → Names e.reaction.fired (value_of e.message.payload) u → carried_value u l.kind l.value ≡ Some (value_of e.message.payload))
-    → ((u : Tag) → Names e.reaction.fired (value_of e.message.payload) u → reaction_of l.effect (number_of e.reaction.fired u) u (value_of e.message.payload) ≡ e.reaction)
+    → ((u : Tag) → Names e.reaction.fired (value_of e.message.payload) u →
+    reaction_of l.effect (number_of e.reaction.fired u) u (value_of e.message.payload) ≡ e.reaction)
     → l.result ≡ number_of e.reaction.fired t → IsNamed t l
     → (own l (value_of e.message.payload)).message ≡ e.message → l.stamp ≡ e.stamp → e.replies ≡ no_replies → IsPacked e l
 packed-line e l t names carried effect result named message stamp none =
@@ -507,12 +521,15 @@ packed-line e l t names carried effect result named message stamp none =
       within = λ b. there-carried b u l l.kind v (carried u names_u);
     }
 
-pub packed-narrowed : (e : Handled) (v : Value) (k : Kind) (m : ℤ) (x : Effect) (t : Tag) (o : Option Line) → v ≡ value_of e.message.payload → Names e.reaction.fired v t
+pub packed-narrowed : (e : Handled) (v : Value) (k : Kind) (m : ℤ) (x : Effect) (t : Tag) (o : Option Line) → v ≡ value_of e.message.payload →
+    Names e.reaction.fired v t
     → ((u : Tag) → Names e.reaction.fired v u → carried_value u k m ≡ Some v)
     → ((u : Tag) → Names e.reaction.fired v u → reaction_of x (number_of e.reaction.fired u) u v ≡ e.reaction)
     → IfSome o (λ l. l.kind ≡ k) → IfSome o (λ l. l.value ≡ m) → IfSome o (λ l. l.effect ≡ x) → IfSome o (λ l. l.result ≡ number_of e.reaction.fired t)
-    → IfSome o (λ l. t.context.serial < 2 ^ 32) → IfSome o (λ l. t.iteration < 2 ^ 32) → IfSome o (λ l. element_at l.to ≡ t.context.element) → IfSome o (λ l. instr_at l.to ≡ t.instr)
-    → IfSome o (λ l. (own l (value_of e.message.payload)).message ≡ e.message) → IfSome o (λ l. l.stamp ≡ e.stamp) → IfSome o (λ l. e.replies ≡ no_replies) → IfSome o (λ l. IsPacked e l)
+    → IfSome o (λ l. t.context.serial < 2 ^ 32) → IfSome o (λ l. t.iteration < 2 ^ 32) → IfSome o (λ l. element_at l.to ≡ t.context.element) →
+    IfSome o (λ l. instr_at l.to ≡ t.instr)
+    → IfSome o (λ l. (own l (value_of e.message.payload)).message ≡ e.message) → IfSome o (λ l. l.stamp ≡ e.stamp) → IfSome o (λ l. e.replies ≡ no_replies) →
+    IfSome o (λ l. IsPacked e l)
 packed-narrowed e v k m x t None same names carried effect is_kind is_value is_effect result serial iteration element instr message stamp none = tt
 packed-narrowed e v k m x t (Some l) same names carried effect is_kind is_value is_effect result serial iteration element instr message stamp none =
     let f = e.reaction.fired in

@@ -14,7 +14,9 @@ use Rattle.id_record.specs.declared.line.Handled.{Handled}
 use Rattle.id_record.specs.declared.line.Kind.{Kind}
 use Rattle.id_record.specs.declared.line.Kind.TheVariants as kind
 use Rattle.id_record.specs.declared.line.Line.{Line}
-use Rattle.id_record.specs.Lines.{Beside, IsCelled, IsPacked, IsPackedBeside, IsThere, cell_at, instr_at, message_at, no_replies, port_at, read, saying, tag_at, target_in, token_told, told, given_in, given_to, told_given, told_near, told_passed, unpacked, went, Told}
+use Rattle.id_record.specs.Lines.{Beside, IsCelled, IsPacked, IsPackedBeside, IsThere, cell_at, instr_at, message_at}
+use Rattle.id_record.specs.Lines.{no_replies, port_at, read, saying, tag_at, target_in, token_told, told, given_in}
+use Rattle.id_record.specs.Lines.{given_to, told_given, told_near, told_passed, unpacked, went, Told}
 
 -- the event of a token, by its parts
 said-token : (e : Handled) (l : Line) (t : Tag) (p : Port) (v : Value) (f : Fired)
@@ -86,7 +88,8 @@ packed-given e l x to s t p v f is_kind is_effect target structure tag port told
     }
 
 -- the event of a line that says this, by its parts
-said-of : (e : Handled) (l : Line) (x : Told) → message_at l x.payload ≡ e.message → l.stamp ≡ e.stamp → went x.fired ≡ e.reaction → x.replies ≡ e.replies → saying l x ≡ e
+said-of : (e : Handled) (l : Line) (x : Told) → message_at l x.payload ≡ e.message → l.stamp ≡ e.stamp → went x.fired ≡ e.reaction → x.replies ≡ e.replies →
+    saying l x ≡ e
 said-of e l x message stamp reaction these =
     ap (λ m. record { message = m; stamp = l.stamp; reaction = went x.fired; replies = x.replies }) message
     ∙ ap (λ s. record { message = e.message; stamp = s; reaction = went x.fired; replies = x.replies }) stamp

@@ -118,7 +118,8 @@ abbrev pub numbered_as : ℕ → ℕ → ℕ → ℕ → Payload → Message
 numbered_as n p s k x = record { payload = x; sender = Element n; position = p; output = k; stamp = s }
 
 -- one more payload has the next number
-pub numbered-push : (n p s k : ℕ) (xs : List Payload) (x : Payload) → numbered n p s k (xs ++ x ∷ []) ≡ numbered n p s k xs ++ numbered_as n p s (k + length xs) x ∷ []
+pub numbered-push : (n p s k : ℕ) (xs : List Payload) (x : Payload) →
+    numbered n p s k (xs ++ x ∷ []) ≡ numbered n p s k xs ++ numbered_as n p s (k + length xs) x ∷ []
 numbered-push n p s k [] x = ap (λ j. numbered_as n p s j x ∷ []) (omega arith)
 numbered-push n p s k (y ∷ ys) x =
     let number : k + 1 + length ys ≡ k + length (y ∷ ys) = omega arith in
@@ -132,7 +133,8 @@ numbered-append n p s k (x ∷ xs) ys =
     ap (λ zs. numbered_as n p s k x ∷ zs) (numbered-append n p s (k + 1) xs ys ∙ ap (λ j. numbered n p s (k + 1) xs ++ numbered n p s j ys) number)
 
 -- one more destination has one more token
-pub numbered-more : (n p s : ℕ) (t : Tag) (v : Value) (ds : List Dest) (i : ℕ) (d : Dest) (x : Payload) → i < length ds → x ≡ token_to t v (get_or ds i d) → numbered n p s 0 (map (token_to t v) (take (i + 1) ds)) ≡ numbered n p s 0 (map (token_to t v) (take i ds)) ++ numbered_as n p s i x ∷ []
+pub numbered-more : (n p s : ℕ) (t : Tag) (v : Value) (ds : List Dest) (i : ℕ) (d : Dest) (x : Payload) → i < length ds → x ≡ token_to t v (get_or ds i d) →
+    numbered n p s 0 (map (token_to t v) (take (i + 1) ds)) ≡ numbered n p s 0 (map (token_to t v) (take i ds)) ++ numbered_as n p s i x ∷ []
 numbered-more n p s t v ds i d x lt is =
     let count : 0 + length (map (token_to t v) (take i ds)) ≡ i = omega (arith, length-map (take i ds) (token_to t v), length-take i ds) in
     rw (map_more (token_to t v) ds i d lt, numbered-push n p s 0 (map (token_to t v) (take i ds)) (token_to t v (get_or ds i d)), count, is)
@@ -146,7 +148,8 @@ replies-more n p s v ts i t x lt is =
     rw (map_more to ts i t lt, numbered-push n p s 0 (map to (take i ts)) (to (get_or ts i t)), count, is)
 
 -- one more reply stands behind those so far
-pub reply-added : (old now new ts : List Tag) (i : ℕ) (t : Tag) → i < length ts → now ≡ old ++ take i ts → new ≡ now ++ get_or ts i t ∷ [] → new ≡ old ++ take (i + 1) ts
+pub reply-added : (old now new ts : List Tag) (i : ℕ) (t : Tag) → i < length ts → now ≡ old ++ take i ts → new ≡ now ++ get_or ts i t ∷ [] →
+    new ≡ old ++ take (i + 1) ts
 reply-added old now new ts i t lt is added =
     added ∙ ap (λ xs. xs ++ get_or ts i t ∷ []) is ∙ append_assoc old (take i ts) (get_or ts i t ∷ []) ∙ ap (λ xs. old ++ xs) (sym (take_more ts i t lt))
 
@@ -156,7 +159,8 @@ length-numbered n p s k [] = refl
 length-numbered n p s k (x ∷ xs) = omega (arith, length-numbered n p s (k + 1) xs)
 
 -- the message of each number
-pub numbered-get : (n p s k : ℕ) (xs : List Payload) (i : ℕ) (x : Payload) → slice_get xs i ≡ Some x → slice_get (numbered n p s k xs) i ≡ Some (numbered_as n p s (k + i) x)
+pub numbered-get : (n p s k : ℕ) (xs : List Payload) (i : ℕ) (x : Payload) → slice_get xs i ≡ Some x →
+    slice_get (numbered n p s k xs) i ≡ Some (numbered_as n p s (k + i) x)
 numbered-get n p s k [] i x is = cc
 numbered-get n p s k (y ∷ ys) zero x is =
     let same : y ≡ x = cc in

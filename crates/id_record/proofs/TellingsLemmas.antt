@@ -40,7 +40,8 @@ telling_from-push k (x ∷ es) e =
     ∙ sym (append_assoc (told_at (tells x) k) (telling_from (k + 1) es) (told_at (tells e) (k + length (x ∷ es))))
 
 -- what a record keeps, it keeps with one more line, where its position is added if its event tells
-pub AreKept-push : (g : Parts) (n : ℕ) (ts : List Tag) (b d : Beside) (ls ms : List Line) (ps qs : List ℕ) (h : Handled) (t : Bool) (k : ℕ) → AreKept g n ts b ls ps
+pub AreKept-push : (g : Parts) (n : ℕ) (ts : List Tag) (b d : Beside) (ls ms : List Line) (ps qs : List ℕ) (h : Handled) (t : Bool) (k : ℕ) →
+    AreKept g n ts b ls ps
     → All (IsKept d ts) ms → events_from g n ts 0 d ms ≡ events_from g n ts 0 b ls ++ event_of_handled g n ts (length (events_from g n ts 0 b ls)) h ∷ []
     → t ≡ is_telling h.message.payload h.reaction.fired → k ≡ length ls → qs ≡ ps ++ told_at t k → AreKept g n ts d ms qs
 AreKept-push g n ts b d ls ms ps qs h t k kept lines events is at added =

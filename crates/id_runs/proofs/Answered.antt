@@ -33,7 +33,8 @@ module _ (g : Parts) (vs : List Constant) (count : ℕ) (s : World) (run : List 
       arrived g vs count s run r quiet (Token t Zero v) (inr (record { event = e; among = z.0; sends = z.1 }))
 
   -- so the answer to a read of a cell was handled, where a write of it found no other
-  pub answer_handled : (c : Cell) (t w : Tag) (v : Value) (a : ReadAnswer) (b : WriteAnswer) → ReadBy run c t a → WrittenBy run c v w b → ((x : Tag) → b ≡ Second x → ⊥)
+  pub answer_handled : (c : Cell) (t w : Tag) (v : Value) (a : ReadAnswer) (b : WriteAnswer) → ReadBy run c t a → WrittenBy run c v w b →
+      ((x : Tag) → b ≡ Second x → ⊥)
       → Among (Token t Zero v) (handled run)
   answer_handled c t w v a b x y once =
       let z = answered run (cell_at count s) (cells_exact g vs count s run r) c t w v a b x y once in

@@ -1,5 +1,6 @@
 -- What the banks of all elements list: each cell with its value, and each reply that waits, none twice.
-use Rattle.std.proofs.Common.{◌≡◌, inl, inr, ℕ, zero, suc, ◌≤◌, Bool, true, false, ◌&&◌, cond, Some, List, [], ◌∷◌, ◌++◌, map, slice_get, T, refl, sym, ◌∙◌, ap, subst, arith}
+use Rattle.std.proofs.Common.{◌≡◌, inl, inr, ℕ, zero, suc, ◌≤◌, Bool, true, false, ◌&&◌, cond, Some, List, [], ◌∷◌}
+use Rattle.std.proofs.Common.{◌++◌, map, slice_get, T, refl, sym, ◌∙◌, ap, subst, arith}
 use Rattle.std.specs.List.{flat_map}
 use Rattle.std.proofs.lemmas.List.{map-append}
 use Rattle.std.specs.FinMap.{get, entries, entries_sorted, get-entries}
@@ -103,7 +104,8 @@ Entries = List (Cell × CellState)
 
 below : (c : Cell) (es : Entries) → T (below_all cell_cmp c es) → (e : Cell × CellState) → Among e es → cell_cmp c e.0 ≡ Less
 below c [] h e a = absurd a
-below c (x ∷ es) h e (inl is) = ap (λ (y : Cell × CellState). cell_cmp c y.0) is ∙ is_less (cell_cmp c x.0) (parts_of (is_lt (cell_cmp c x.0)) (below_all cell_cmp c es) h).0
+below c (x ∷ es) h e (inl is) = ap (λ (y : Cell × CellState). cell_cmp c y.0) is ∙
+    is_less (cell_cmp c x.0) (parts_of (is_lt (cell_cmp c x.0)) (below_all cell_cmp c es) h).0
 below c (x ∷ es) h e (inr a) = below c es (parts_of (is_lt (cell_cmp c x.0)) (below_all cell_cmp c es) h).1 e a
 
 not_below : (c d : Cell) → cell_cmp c d ≡ Less → c ≡ d → ⊥
@@ -133,7 +135,8 @@ among_found : (es : Entries) (c : Cell) (x : CellState) → find cell_cmp c es �
 among_found [] c x e = cc
 among_found (y ∷ es) c x e = go (eq_by_cmp cell_cmp c y.0) refl e (among_found es c x)
   where
-    go : (b : Bool) → eq_by_cmp cell_cmp c y.0 ≡ b → cond b (Some y.1) (find cell_cmp c es) ≡ Some x → (find cell_cmp c es ≡ Some x → Among (c, x) es) → Among (c, x) (y ∷ es)
+    go : (b : Bool) → eq_by_cmp cell_cmp c y.0 ≡ b → cond b (Some y.1) (find cell_cmp c es) ≡ Some x → (find cell_cmp c es ≡ Some x → Among (c, x) es) →
+        Among (c, x) (y ∷ es)
     go true is k rest = let same = cell_tie c y.0 is in let value : y.1 ≡ x = cc in inl (λ i. (same i, sym value i))
     go false is k rest = inr (rest k)
 
@@ -179,7 +182,8 @@ reader_among m r h =
           subst (λ (y : Reader). Among y.reply ts) (sym z.2) z.1,
         )
 
-pub among_reader : (m : Cells) (c : Cell) (ts : List Tag) (t : Tag) → get m c ≡ Some (Deferred ts) → Among t ts → Among (record { cell = c; reply = t }) (deferred_of m)
+pub among_reader : (m : Cells) (c : Cell) (ts : List Tag) (t : Tag) → get m c ≡ Some (Deferred ts) → Among t ts →
+    Among (record { cell = c; reply = t }) (deferred_of m)
 among_reader m c ts t e h =
     flat_among readers_at (entries m) (c, Deferred ts) _ (among_found (entries m) c (Deferred ts) (sym (get-entries m c) ∙ e))
     (Among-map (λ (u : Tag). record { cell = c; reply = u }) t ts h)
@@ -199,7 +203,8 @@ cells_differ m =
     key_is (d, Present v w) c (inr none) = absurd none
     key_is (d, Deferred ts) c none = absurd none
 
-    one : (n k : ℕ) (e e' : Cell × CellState) (c : Cell) → slice_get (entries m) n ≡ Some e → slice_get (entries m) k ≡ Some e' → Among c (map (λ (f : Filled). f.cell) (filled_at e))
+    one : (n k : ℕ) (e e' : Cell × CellState) (c : Cell) → slice_get (entries m) n ≡ Some e → slice_get (entries m) k ≡ Some e' →
+        Among c (map (λ (f : Filled). f.cell) (filled_at e))
         → Among c (map (λ (f : Filled). f.cell) (filled_at e')) → n ≡ k
     one n k e e' c h h' a a' =
         differ_at (map (λ (y : Cell × CellState). y.0) (entries m)) n k c (keys_differ (entries m) (entries_sorted m))
@@ -252,7 +257,8 @@ module _ (g : Parts) (vs : List Constant) (count : ℕ) (s : World) (run : List 
       let z = reader_among (t.0).cells x t.2 in
       (z.0, held_in g vs count s run r p.0 t.0 x.cell (Deferred z.0) p.1 z.1, z.2)
 
-  pub held_reader : (c : Cell) (ts : List Tag) (t : Tag) → cell_at count s c ≡ Some (Deferred ts) → Among t ts → Among (record { cell = c; reply = t }) (readers_in s)
+  pub held_reader : (c : Cell) (ts : List Tag) (t : Tag) → cell_at count s c ≡ Some (Deferred ts) → Among t ts →
+      Among (record { cell = c; reply = t }) (readers_in s)
   held_reader c ts t h among =
       let z = held_by count s c (Deferred ts) h in
       flat_among (λ (e : State). deferred_of e.cells) s.elements z.1 _ (Among-from_at z.1 s.elements z.0 z.2) (among_reader (z.1).cells c ts t z.3 among)
@@ -269,7 +275,8 @@ module _ (g : Parts) (vs : List Constant) (count : ℕ) (s : World) (run : List 
           let z = Among-from_map (λ (f : Filled). f.cell) c (cells_of e.cells) a in
           only_home g vs count s run r n e c _ at (ap (get e.cells) z.2 ∙ filled_among e.cells z.0 z.1)
 
-      one : (n m : ℕ) (e e' : State) (c : Cell) → slice_get s.elements n ≡ Some e → slice_get s.elements m ≡ Some e' → Among c (map (λ (f : Filled). f.cell) (cells_of e.cells))
+      one : (n m : ℕ) (e e' : State) (c : Cell) → slice_get s.elements n ≡ Some e → slice_get s.elements m ≡ Some e' →
+          Among c (map (λ (f : Filled). f.cell) (cells_of e.cells))
           → Among c (map (λ (f : Filled). f.cell) (cells_of e'.cells)) → n ≡ m
       one n m e e' c h h' a a' = sym (home n e c h a) ∙ home m e' c h' a'
 
@@ -280,7 +287,8 @@ module _ (g : Parts) (vs : List Constant) (count : ℕ) (s : World) (run : List 
       (flat_differ (λ (e : State). map (λ (x : Reader). x.reply) (deferred_of e.cells)) s.elements inner one)
     where
       -- the cell for which the reply waits
-      waits_for : (c d : Cell) (ts us : List Tag) (t : Tag) → cell_at count s c ≡ Some (Deferred ts) → Among t ts → cell_at count s d ≡ Some (Deferred us) → Among t us → c ≡ d
+      waits_for : (c d : Cell) (ts us : List Tag) (t : Tag) → cell_at count s c ≡ Some (Deferred ts) → Among t ts → cell_at count s d ≡ Some (Deferred us) →
+          Among t us → c ≡ d
       waits_for c d ts us t h a k b =
           let exact = cells_exact g vs count s run r in
           let x = (waits_unfilled run (cell_at count s) exact c t ts h a).0 in
@@ -294,7 +302,8 @@ module _ (g : Parts) (vs : List Constant) (count : ℕ) (s : World) (run : List 
           let y = reader_among e.cells z.0 z.1 in
           ((z.0).cell, y.0, y.1, subst (λ u. Among u y.0) (sym z.2) y.2)
 
-      one : (n m : ℕ) (e e' : State) (t : Tag) → slice_get s.elements n ≡ Some e → slice_get s.elements m ≡ Some e' → Among t (map (λ (x : Reader). x.reply) (deferred_of e.cells))
+      one : (n m : ℕ) (e e' : State) (t : Tag) → slice_get s.elements n ≡ Some e → slice_get s.elements m ≡ Some e' →
+          Among t (map (λ (x : Reader). x.reply) (deferred_of e.cells))
           → Among t (map (λ (x : Reader). x.reply) (deferred_of e'.cells)) → n ≡ m
       one n m e e' t h h' a a' =
           let x = reader_of n e t h a in
@@ -320,9 +329,11 @@ module _ (g : Parts) (vs : List Constant) (count : ℕ) (s : World) (run : List 
               let held = held_in g vs count s run r n e c (Deferred ts) at (has k (c, Deferred ts) h) in
               let empty : Empty run c ts = subst (History run c) held (cells_exact g vs count s run r c) in
               subst AllDiffer (sym (themselves c ts))
-              (distinct ts (λ t. subst (λ us. count_for (AtPort t Zero) (answers Signal us) ≤ 1) (sym empty.waiting) (off_once (AtPort t Zero) Signal c run few)))
+              (distinct ts (λ t. subst (λ us. count_for (AtPort t Zero) (answers Signal us) ≤ 1) (sym empty.waiting)
+              (off_once (AtPort t Zero) Signal c run few)))
 
-          same_entry : (k l : ℕ) (y z : Cell × CellState) (t : Tag) → slice_get (entries e.cells) k ≡ Some y → slice_get (entries e.cells) l ≡ Some z → Among t (replies_at y)
+          same_entry : (k l : ℕ) (y z : Cell × CellState) (t : Tag) → slice_get (entries e.cells) k ≡ Some y → slice_get (entries e.cells) l ≡ Some z →
+              Among t (replies_at y)
               → Among t (replies_at z) → k ≡ l
           same_entry k l (c, Present v w) z t h h' none b = absurd none
           same_entry k l (c, Deferred ts) (d, Present v w) t h h' a none = absurd none

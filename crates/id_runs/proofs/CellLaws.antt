@@ -109,7 +109,8 @@ module _ (run : List Event) where
     pub writes : (c : Cell) (v : Value) (w : Tag) (a : WriteAnswer) → WrittenBy run c v w a
         → ((ts : List Tag) × (a ≡ Readers ts) × WrittenBy run c v w (Readers ts)) ⊎ ((x : Tag) × (u : Value) × (a ≡ Second x) × (cell c ≡ Some (Present u x)))
     writes c v w a y =
-        when_written (((ts : List Tag) × (a ≡ Readers ts) × WrittenBy run c v w (Readers ts)) ⊎ ((x : Tag) × (u : Value) × (a ≡ Second x) × (cell c ≡ Some (Present u x)))) c v w a y
+        when_written (((ts : List Tag) × (a ≡ Readers ts) × WrittenBy run c v w (Readers ts)) ⊎
+        ((x : Tag) × (u : Value) × (a ≡ Second x) × (cell c ≡ Some (Present u x)))) c v w a y
         (λ u x is f. elim (f.writes y.element v w a y.among) [
           | inl same ↦ (let z = (same_write same).1.1 in inl (f.replies, z, subst (WrittenBy run c v w) z y))
           | inr finds ↦ inr (x, u, finds, is)
@@ -134,7 +135,8 @@ module _ (run : List Event) where
     -- ---- a read and a write of one cell
 
     -- where the write found no other, the answer to the read was sent, with its value
-    pub answered : (c : Cell) (t w : Tag) (v : Value) (a : ReadAnswer) (b : WriteAnswer) → ReadBy run c t a → WrittenBy run c v w b → ((x : Tag) → b ≡ Second x → ⊥)
+    pub answered : (c : Cell) (t w : Tag) (v : Value) (a : ReadAnswer) (b : WriteAnswer) → ReadBy run c t a → WrittenBy run c v w b →
+        ((x : Tag) → b ≡ Second x → ⊥)
         → (e : Event) × Replies run t v e
     answered c t w v a b x y quiet =
         when_written ((e : Event) × Replies run t v e) c v w b y
@@ -151,7 +153,8 @@ module _ (run : List Event) where
         let h : Empty run c ts = subst (History run c) is (exact c) in
         (waits_read run c t (subst (Among t) h.waiting among), h.unwritten)
 
-    pub unfilled_waits : (c : Cell) (t : Tag) (a : ReadAnswer) → ReadBy run c t a → ((v : Value) (w : Tag) (ts : List Tag) → WrittenBy run c v w (Readers ts) → ⊥)
+    pub unfilled_waits : (c : Cell) (t : Tag) (a : ReadAnswer) → ReadBy run c t a →
+        ((v : Value) (w : Tag) (ts : List Tag) → WrittenBy run c v w (Readers ts) → ⊥)
         → (ts : List Tag) × (cell c ≡ Some (Waiting ts)) × Among t ts
     unfilled_waits c t a x none =
         elim (reads c t a x) [
@@ -162,7 +165,8 @@ module _ (run : List Event) where
     -- ---- a second store
 
     -- a write that is not the fill finds it
-    pub finds_fill : (c : Cell) (v v' : Value) (w w' : Tag) (ts : List Tag) (a : WriteAnswer) → WrittenBy run c v w (Readers ts) → WrittenBy run c v' w' a → (w ≡ w' → ⊥)
+    pub finds_fill : (c : Cell) (v v' : Value) (w w' : Tag) (ts : List Tag) (a : WriteAnswer) → WrittenBy run c v w (Readers ts) → WrittenBy run c v' w' a →
+        (w ≡ w' → ⊥)
         → a ≡ Second w
     finds_fill c v v' w w' ts a y z differ =
         when_written (a ≡ Second w) c v' w' a z
@@ -249,7 +253,8 @@ module _ (run : List Event) where
 
     -- ---- one answer for each read, where each key was handled once
 
-    pub one_read : Few run → (c c' : Cell) (t : Tag) (a a' : ReadAnswer) (x : ReadBy run c t a) (y : ReadBy run c' t a') → Looked x.element c t a ≡ Looked y.element c' t a'
+    pub one_read : Few run → (c c' : Cell) (t : Tag) (a a' : ReadAnswer) (x : ReadBy run c t a) (y : ReadBy run c' t a') →
+        Looked x.element c t a ≡ Looked y.element c' t a'
     one_read few c c' t a a' x y = one_event (ByFetch t) _ _ run (few (ByFetch t)) x.among y.among refl refl
 
     pub one_reply : Few run → (t : Tag) (v v' : Value) (e e' : Event) → Replies run t v e → Replies run t v' e' → e ≡ e'
@@ -265,5 +270,8 @@ module _ (run : List Event) where
         let y : WrittenBy run c v w (Readers ts) = record { element = n; among = among } in
         let y' : WrittenBy run c' v' w' (Readers ts') = record { element = n'; among = among' } in
         let k = (same_read (one_read few c c' t Deferred Deferred (put_off_by c v w t ts y there) (put_off_by c' v' w' t ts' y' there'))).0 in
-        let y'' : WrittenBy run c v' w' (Readers ts') = record { element = n'; among = subst (λ d. Among (Wrote n' d v' w' (Readers ts')) run) (sym k) among' } in
+        let y'' : WrittenBy run c v' w' (Readers ts') = record {
+          element = n';
+          among = subst (λ d. Among (Wrote n' d v' w' (Readers ts')) run) (sym k) among';
+        } in
         one_fill c v v' w w' ts ts' y y'' ∙ ap (λ d. Wrote n' d v' w' (Readers ts')) k

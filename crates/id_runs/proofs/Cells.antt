@@ -78,15 +78,18 @@ read_waits (e ∷ run) c t x =
 put_off_still : (run : List Event) (c : Cell) (e : Event) → held c e ≡ [] → put_off run c ≡ put_off (e ∷ run) c
 put_off_still run c e is = sym (append-nil (put_off run c)) ∙ ap (λ z. put_off run c ++ z) (sym is)
 
-read_later : {run : List Event} {c : Cell} {t : Tag} {a : ReadAnswer} (e : Event) → ((n : ℕ) → Looked n c t a ≡ e → ⊥) → ReadBy (e ∷ run) c t a → ReadBy run c t a
+read_later : {run : List Event} {c : Cell} {t : Tag} {a : ReadAnswer} (e : Event) → ((n : ℕ) → Looked n c t a ≡ e → ⊥) → ReadBy (e ∷ run) c t a →
+    ReadBy run c t a
 read_later e not x = elim x.among [ inl is ↦ absurd (not x.element is) | inr old ↦ record { element = x.element; among = old } ]
 
-written_later : {run : List Event} {c : Cell} {v : Value} {w : Tag} {a : WriteAnswer} (e : Event) → ((n : ℕ) → Wrote n c v w a ≡ e → ⊥) → WrittenBy (e ∷ run) c v w a
+written_later : {run : List Event} {c : Cell} {v : Value} {w : Tag} {a : WriteAnswer} (e : Event) → ((n : ℕ) → Wrote n c v w a ≡ e → ⊥) →
+    WrittenBy (e ∷ run) c v w a
     → WrittenBy run c v w a
 written_later e not x = elim x.among [ inl is ↦ absurd (not x.element is) | inr old ↦ record { element = x.element; among = old } ]
 
 -- a read is put off
-waits_more : (run : List Event) (e : Event) (c : Cell) (ts : List Tag) (n : ℕ) (t : Tag) → Empty run c ts → e ≡ Looked n c t Deferred → Empty (e ∷ run) c (ts ++ t ∷ [])
+waits_more : (run : List Event) (e : Event) (c : Cell) (ts : List Tag) (n : ℕ) (t : Tag) → Empty run c ts → e ≡ Looked n c t Deferred →
+    Empty (e ∷ run) c (ts ++ t ∷ [])
 waits_more run e c ts n t x is = record {
   waiting = (λ j. x.waiting j ++ sym (held_it c e n t is) j);
   unwritten = λ v w a y. x.unwritten v w a (written_later e (λ m z. let bad = z ∙ is in cc) y);
@@ -97,7 +100,8 @@ waits_more run e c ts n t x is = record {
 }
 
 -- a write fills it
-fills_now : (run : List Event) (e : Event) (c : Cell) (ts : List Tag) (n : ℕ) (v : Value) (w : Tag) → Empty run c ts → e ≡ Wrote n c v w (Readers ts) → Full (e ∷ run) c v w
+fills_now : (run : List Event) (e : Event) (c : Cell) (ts : List Tag) (n : ℕ) (v : Value) (w : Tag) → Empty run c ts → e ≡ Wrote n c v w (Readers ts) →
+    Full (e ∷ run) c v w
 fills_now run e c ts n v w x is = record {
   replies = ts;
   filled = record { element = n; among = inl (sym is) };
@@ -119,7 +123,8 @@ empty_on run e c ts x no_read no_write = record {
 }
 
 -- a full cell stays full: a read gets its value, and a write finds its origin
-full_on : (run : List Event) (e : Event) (c : Cell) (v : Value) (w : Tag) → Full run c v w → ((n : ℕ) (t : Tag) (a : ReadAnswer) → e ≡ Looked n c t a → a ≡ Now v)
+full_on : (run : List Event) (e : Event) (c : Cell) (v : Value) (w : Tag) → Full run c v w →
+    ((n : ℕ) (t : Tag) (a : ReadAnswer) → e ≡ Looked n c t a → a ≡ Now v)
     → ((n : ℕ) (u : Value) (y : Tag) (a : WriteAnswer) → e ≡ Wrote n c u y a → a ≡ Second w) → Full (e ∷ run) c v w
 full_on run e c v w x reads writes = record {
   replies = x.replies;

@@ -196,7 +196,8 @@ module _ (g : Parts) (vs : List Constant) (count : ℕ) (s : World) (run : List 
             ∙ ap (λ o. if_same t c (entered_by (option_map (λ (i : Instr). i.op) o) v.outputs)) y.at
             ∙ ap (if_same t c) none
             )
-        | inr (inl nothing) ↦ inl (silent v t p u c shows.payload (shows.outputs ∙ ap (λ z. sent_on (op_at g t.instr) (dests_at g t.instr) t (Fires ops z)) nothing))
+        | inr (inl nothing) ↦ inl (silent v t p u c shows.payload
+            (shows.outputs ∙ ap (λ z. sent_on (op_at g t.instr) (dests_at g t.instr) t (Fires ops z)) nothing))
         | inr (inr is) ↦ made (y.fresh).context is
       ]
     where

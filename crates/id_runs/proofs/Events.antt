@@ -40,8 +40,10 @@ use Rattle.id_record.specs.declared.step.Step.TheVariants.{Stuck, Fault}
 use Rattle.id_record.specs.declared.step.Fault.TheVariants.{SecondStore}
 use Rattle.id_record.specs.declared.step.Verdict.TheVariants as verdict
 use Rattle.id_record.specs.Events.{full_step}
-use Rattle.id_element.specs.Steps.{State, Outcome, arrival_of, arrival, waiting_after, fired_step, made_by, allocated_by, next_numbers, arriving, at_instr, outcome, fill_verdict}
-use Rattle.id_runs.specs.Events.{Arrival, Waits, Blocked, Fires, Event, Took, Looked, Wrote, payload_of, sent_on, sends_of, fired_on, fired_in, step_on, came_to}
+use Rattle.id_element.specs.Steps.{State, Outcome, arrival_of, arrival, waiting_after, fired_step, made_by}
+use Rattle.id_element.specs.Steps.{allocated_by, next_numbers, arriving, at_instr, outcome, fill_verdict}
+use Rattle.id_runs.specs.Events.{Arrival, Waits, Blocked, Fires, Event, Took, Looked, Wrote, payload_of, sent_on}
+use Rattle.id_runs.specs.Events.{sends_of, fired_on, fired_in, step_on, came_to}
 use Rattle.id_runs.specs.Runs.{fires_on, offered_to, arrival_at, happens}
 
 -- a value that waits at a port
@@ -99,7 +101,8 @@ left_there w t p v x y = get-remove tags_total w t t ∙ ap (λ b. cond b None (
 
 -- ---- what comes of a token
 
--- the token at port p of the tag t, with h under its tag before and h' after: it comes to nothing, it fires alone, it waits, it meets its partner, or its port was filled
+-- the token at port p of the tag t, with h under its tag before and h' after: it comes to nothing, it fires alone, it
+-- waits, it meets its partner, or its port was filled
 pub data Effect (g : Parts) (fresh : Fresh) (t : Tag) (p : Port) (v : Value) (h : Option Half) (a : Arrival) (h' : Option Half) : Type 0 where
   nowhere : slice_get g.instrs t.instr ≡ None → a ≡ Waits → h' ≡ h → Effect g fresh t p v h a h'
   alone : (i : Instr) → slice_get g.instrs t.instr ≡ Some i → two_ports i.op ≡ false → a ≡ fires_on fresh i t (operands.One v) → h' ≡ h
@@ -120,7 +123,8 @@ two_cases g fresh w t p v i at two None e = first i at two refl refl (kept_there
 two_cases g fresh w t p v i at two (Some h) e = by_port h.port h.value p e
   where
     by_port : (q : Port) (u : Value) (r : Port) → get w t ≡ Some (half q u)
-        → Effect g fresh t r v (Some (half q u)) (offered_to fresh i t (answer_at (Some (half q u)) r v)) (get (store_after w t r v (answer_at (Some (half q u)) r v)) t)
+        → Effect g fresh t r v (Some (half q u)) (offered_to fresh i t (answer_at (Some (half q u)) r v))
+        (get (store_after w t r v (answer_at (Some (half q u)) r v)) t)
     by_port Zero u Zero e = again i u at two refl refl e
     by_port Zero u One e = meets i u at two refl refl (left_there w t One v u v)
     by_port One u Zero e = meets i u at two refl refl (left_there w t Zero v v u)
@@ -128,7 +132,8 @@ two_cases g fresh w t p v i at two (Some h) e = by_port h.port h.value p e
 
 effect_at : (g : Parts) (fresh : Fresh) (w : Store) (t : Tag) (p : Port) (v : Value) (i : Instr) (b : Bool) → slice_get g.instrs t.instr ≡ Some i
     → two_ports i.op ≡ b
-    → Effect g fresh t p v (get w t) (cond b (offered_to fresh i t (offer_answer w t p v)) (fires_on fresh i t (operands.One v))) (get (cond b (offer_after w t p v) w) t)
+    → Effect g fresh t p v (get w t) (cond b (offered_to fresh i t (offer_answer w t p v)) (fires_on fresh i t (operands.One v)))
+    (get (cond b (offer_after w t p v) w) t)
 effect_at g fresh w t p v i true at e = two_cases g fresh w t p v i at e (get w t) refl
 effect_at g fresh w t p v i false at e = alone i at e refl refl
 
@@ -165,16 +170,19 @@ record IsOutcome (x : Outcome) (xs : List Payload) (f : Fired) (z : Step) (w : S
 -- of an arrival at an instruction
 abbrev ArrivesAs : Outcome → Option Instr → Tag → Arrival → Store → Cells → Type 0
 ArrivesAs x o t y w b =
-    IsOutcome x (sent_on (option_map (λ i. i.op) o) (λ s. option_map_or (arcs_on s) o []) t y) (fired_on y) (step_on t y) w b (made_in y) (allocated_in (option_map (λ i. i.op) o) y)
+    IsOutcome x (sent_on (option_map (λ i. i.op) o) (λ s. option_map_or (arcs_on s) o []) t y) (fired_on y) (step_on t y) w b (made_in y)
+    (allocated_in (option_map (λ i. i.op) o) y)
 
-same_answer : (n : Fresh) (i : Instr) (t : Tag) (w : Store) (b : Cells) (a : Offered) → ArrivesAs (arriving n i t w b (arrival_of a)) (Some i) t (offered_to n i t a) w b
+same_answer : (n : Fresh) (i : Instr) (t : Tag) (w : Store) (b : Cells) (a : Offered) →
+    ArrivesAs (arriving n i t w b (arrival_of a)) (Some i) t (offered_to n i t a) w b
 same_answer n i t w b Kept = record { sends = refl; fired = refl; step = refl; waiting = refl; cells = refl; made = refl; allocated = refl }
 same_answer n i t w b (Pair v u) = record { sends = refl; fired = refl; step = refl; waiting = refl; cells = refl; made = refl; allocated = refl }
 same_answer n i t w b Taken = record { sends = refl; fired = refl; step = refl; waiting = refl; cells = refl; made = refl; allocated = refl }
 
 -- an operator with one port, as `neg`, fires alone
 same_outcome : (n : Fresh) (i : Instr) (t : Tag) (w w' : Store) (b : Cells) (p : Port) (v : Value) (a : Offered) (c : Bool)
-    → ArrivesAs (arriving n i t w' b (cond c (arrival_of a) (arrival (Unary Neg) w t p v))) (Some i) t (cond c (offered_to n i t a) (fires_on n i t (operands.One v))) w' b
+    → ArrivesAs (arriving n i t w' b (cond c (arrival_of a) (arrival (Unary Neg) w t p v))) (Some i) t
+    (cond c (offered_to n i t a) (fires_on n i t (operands.One v))) w' b
 same_outcome n i t w w' b p v a true = same_answer n i t w' b a
 same_outcome n i t w w' b p v a false = record { sends = refl; fired = refl; step = refl; waiting = refl; cells = refl; made = refl; allocated = refl }
 
@@ -208,7 +216,8 @@ cells_by e (Write c v w) = write_after e.cells c v w
 -- the machine's outcome is that of the event
 happened : (g : Parts) (n : ℕ) (e : State) (x : Payload)
     → let h = happens g n e x in
-    IsOutcome (outcome g (next_numbers n e) e.waiting e.cells x) (sends_of g h) (fired_in h) (came_to h) (waiting_by g e x) (cells_by e x) (made_at h) (allocated_at g h)
+    IsOutcome (outcome g (next_numbers n e) e.waiting e.cells x) (sends_of g h) (fired_in h) (came_to h) (waiting_by g e x) (cells_by e x) (made_at h)
+    (allocated_at g h)
 happened g n e (Token t p v) = by_instr (next_numbers n e) e.waiting e.cells t p v (slice_get g.instrs t.instr)
 happened g n e (Read c t) = record { sends = refl; fired = refl; step = refl; waiting = refl; cells = refl; made = refl; allocated = refl }
 happened g n e (Write c v w) = record { sends = refl; fired = refl; step = refl; waiting = refl; cells = refl; made = refl; allocated = refl }
@@ -299,7 +308,8 @@ taken (of_token new) is = new
 taken {t = t} {p = p} {v = v} (of_cell aside) is = absurd (aside.no_token t p v is)
 
 -- an event on a token handled it
-pub took_token : (g : Parts) (n : ℕ) (e : State) (x : Payload) (m : ℕ) (t : Tag) (p : Port) (v : Value) (a : Arrival) → Took m t p v a ≡ happens g n e x → x ≡ Token t p v
+pub took_token : (g : Parts) (n : ℕ) (e : State) (x : Payload) (m : ℕ) (t : Tag) (p : Port) (v : Value) (a : Arrival) → Took m t p v a ≡ happens g n e x →
+    x ≡ Token t p v
 took_token g n e x m t p v a is = sym (payload_of-happens g n e x) ∙ sym (ap payload_of is)
 
 -- ---- what an event came to

@@ -19,7 +19,8 @@ Passes g vs count happened Q =
     (s : World) (run : List Event) → Reach g vs count s run → (e : Event) → Among e run → ((h : Event) → Among h run → happened h)
     → ((x : Payload) → Among x (handled run) → Q x) → (x : Payload) → Among x (sends_of g e) → Q x
 
-module _ (g : Parts) (vs : List Constant) (count : ℕ) (happened : Event → Type 0) (Q : Payload → Type 0) (starts : (x : Payload) → Among x (starting g vs) → Q x) (passes : Passes g vs count happened Q) where
+module _ (g : Parts) (vs : List Constant) (count : ℕ) (happened : Event → Type 0) (Q : Payload → Type 0)
+    (starts : (x : Payload) → Among x (starting g vs) → Q x) (passes : Passes g vs count happened Q) where
   -- Q holds of what is in flight and of what was handled
   pub every_message : (s : World) (run : List Event) → Reach g vs count s run → ((e : Event) → Among e run → happened e) → (x : Payload) → Moving s run x → Q x
   every_message s run begin known x (inl h) = starts x h

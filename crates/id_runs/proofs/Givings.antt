@@ -67,7 +67,8 @@ gives_sent g t (fires.Out w) b v d gives h = to_each g t b true v w d gives.0 gi
 gives_sent g t (fires.Side c w) b v d gives h = to_each g t b c v w d gives.0 gives.1 h
 gives_sent g t (fires.Moved i w) b v d gives h = absurd gives
 gives_sent g t (fires.Entered c) b v d gives h =
-    Among-left (token_to t v d) (map (token_to t (value.Context c)) (dests_at g t.instr true)) (started (op_at g t.instr) t c) (to_each g t b true v (value.Context c) d gives.0 gives.1 h)
+    Among-left (token_to t v d) (map (token_to t (value.Context c)) (dests_at g t.instr true)) (started (op_at g t.instr) t c)
+    (to_each g t b true v (value.Context c) d gives.0 gives.1 h)
 gives_sent g t (fires.Sent u w) b v d gives h = absurd gives
 gives_sent g t (fires.Asked c u) b v d gives h = absurd gives
 gives_sent g t (fires.Stored c w u) b v d gives h = absurd gives

@@ -1,5 +1,6 @@
 -- How many messages have a key.
-use Rattle.std.proofs.Common.{◌≡◌, inl, inr, ℕ, zero, suc, ◌+◌, ◌≤◌, Bool, true, false, ◌&&◌, cond, Some, List, [], ◌∷◌, ◌++◌, slice_get, refl, sym, ◌∙◌, ap, arith}
+use Rattle.std.proofs.Common.{◌≡◌, inl, inr, ℕ, zero, suc, ◌+◌, ◌≤◌, Bool, true, false, ◌&&◌, cond, Some, List, []}
+use Rattle.std.proofs.Common.{◌∷◌, ◌++◌, slice_get, refl, sym, ◌∙◌, ap, arith}
 use Rattle.std.specs.List.{remove}
 use Rattle.std.proofs.lemmas.List.Sums.{sum_by-cons}
 use Rattle.id_graph.specs.declared.dests.Port.{Port}
@@ -130,7 +131,17 @@ pub one_event : (k : Key) (e f : Event) (run : List Event) → count_for k (hand
 one_event k e f [] few a b c d = absurd a
 one_event k e f (z ∷ run) few (inl a) (inl b) c d = a ∙ sym b
 one_event k e f (z ∷ run) few (inl a) (inr b) c d =
-    absurd (omega (arith, count_cons k (payload_of z) (handled run), hit_itself k (payload_of z) (ap (λ y. key_of (payload_of y)) (sym a) ∙ c), counts k (payload_of f) (handled run) (Among-map payload_of f run b) d))
+    absurd (omega (
+      arith,
+      count_cons k (payload_of z) (handled run),
+      hit_itself k (payload_of z) (ap (λ y. key_of (payload_of y)) (sym a) ∙ c),
+      counts k (payload_of f) (handled run) (Among-map payload_of f run b) d,
+    ))
 one_event k e f (z ∷ run) few (inr a) (inl b) c d =
-    absurd (omega (arith, count_cons k (payload_of z) (handled run), hit_itself k (payload_of z) (ap (λ y. key_of (payload_of y)) (sym b) ∙ d), counts k (payload_of e) (handled run) (Among-map payload_of e run a) c))
+    absurd (omega (
+      arith,
+      count_cons k (payload_of z) (handled run),
+      hit_itself k (payload_of z) (ap (λ y. key_of (payload_of y)) (sym b) ∙ d),
+      counts k (payload_of e) (handled run) (Among-map payload_of e run a) c,
+    ))
 one_event k e f (z ∷ run) few (inr a) (inr b) c d = one_event k e f run (omega (arith, count_cons k (payload_of z) (handled run))) a b c d

@@ -1,5 +1,6 @@
 -- Runs by positions and legal lists of events give each other (specs/Legal.antt).
-use Rattle.std.proofs.Common.{◌≡◌, ℕ, zero, suc, Bool, true, false, cond, Option, Some, None, List, [], ◌∷◌, ◌++◌, slice_get, slice_set, refl, sym, ap, ◌∙◌, subst}
+use Rattle.std.proofs.Common.{◌≡◌, ℕ, zero, suc, Bool, true, false, cond, Option, Some, None, List, [], ◌∷◌, ◌++◌}
+use Rattle.std.proofs.Common.{slice_get, slice_set, refl, sym, ap, ◌∙◌, subst}
 use Rattle.std.specs.List.{cons_option, remove}
 use Rattle.id_graph.specs.Graph.{Parts}
 use Rattle.id_tag.specs.declared.Message.{Message}
@@ -66,7 +67,8 @@ module _ (g : Parts) (count : ℕ) where
   given ks more k w m (Some e) at is = go (is_ended e m) refl
     where
       go : (ended : Bool) → is_ended e m ≡ ended
-          → LeadTo g count w (cons_option (cond ended None (Some (event_of g (route_of m.payload count) e m))) (happened g count ks (cond ended w (taken_from g k w m (route_of m.payload count) e))))
+          → LeadTo g count w (cons_option (cond ended None (Some (event_of g (route_of m.payload count) e m)))
+          (happened g count ks (cond ended w (taken_from g k w m (route_of m.payload count) e))))
           (run g count ks (cond ended w (taken_from g k w m (route_of m.payload count) e)))
       go true h = more w
       go false h =
@@ -123,7 +125,8 @@ module _ (g : Parts) (count : ℕ) where
       let r = lead_run l (delivered g count u p.to) (same_after u w v same f p.to p.there p.rest) in
       record {
         positions = p.to ∷ r.positions;
-        events = ap (λ o. cons_option o (happened g count r.positions (delivered g count u p.to))) (made u w v same f p.to p.there p.rest) ∙ ap (λ ws. v ∷ ws) r.events;
+        events = ap (λ o. cons_option o (happened g count r.positions (delivered g count u p.to))) (made u w v same f p.to p.there p.rest) ∙
+            ap (λ ws. v ∷ ws) r.events;
         end = r.end;
       }
 

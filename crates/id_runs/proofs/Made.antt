@@ -42,7 +42,8 @@ some_none : {X : Type 0} {x : X} → Some x ≡ None → ⊥
 some_none e = cc
 
 -- what events made under one tag alone was made under that tag
-maker_in-only : (g : Parts) (es : List EventView) (s : Structure) (t : Tag) → ((e : EventView) → Among e es → (maker_of g e s ≡ None) ⊎ (maker_of g e s ≡ Some t))
+maker_in-only : (g : Parts) (es : List EventView) (s : Structure) (t : Tag) →
+    ((e : EventView) → Among e es → (maker_of g e s ≡ None) ⊎ (maker_of g e s ≡ Some t))
     → (maker_in g es s ≡ None) ⊎ (maker_in g es s ≡ Some t)
 unfolding maker_in
 maker_in-only g [] s t each = inl refl
@@ -84,7 +85,8 @@ made_by-some (Some op.Alloc) (fires.Out (value.Structure r)) s e = let is : r �
 made_by-some _ _ s e = cc
 
 -- and an event whose instruction gives so makes it
-makes_from : (g : Parts) (h : Event) (s : Structure) → op_at g (tag_of (payload_of h)).instr ≡ Some op.Alloc → fired_in h ≡ fires.Out (value.Structure s) → Makes g h s
+makes_from : (g : Parts) (h : Event) (s : Structure) → op_at g (tag_of (payload_of h)).instr ≡ Some op.Alloc → fired_in h ≡ fires.Out (value.Structure s) →
+    Makes g h s
 makes_from g (Took n t p v Waits) s o f = cc
 makes_from g (Took n t p v Blocked) s o f = cc
 makes_from g (Took n t p v (Fires ops h)) s o f = (o, f)
@@ -117,7 +119,8 @@ module _ (g : Parts) (vs : List Constant) (count : ℕ) (s : World) (run : List 
   -- an event that says that it made a structure, has
   makes_said : (v : EventView) (h : Event) → Shows g v h → (x : Structure) → made g v ≡ Some x → Makes g h x
   makes_said v h shows x e =
-      let z = made_by-some (op_at g (tag_of (payload_of h)).instr) (fired_in h) x ((λ j. made_by (op_at g (tag_of (sym shows.payload j)).instr) (sym shows.fired j)) ∙ e) in
+      let z = made_by-some (op_at g (tag_of (payload_of h)).instr) (fired_in h) x
+      ((λ j. made_by (op_at g (tag_of (sym shows.payload j)).instr) (sym shows.fired j)) ∙ e) in
       makes_from g h x z.0 z.1
 
   -- an event that has not made the structure does not say so

@@ -22,10 +22,12 @@ use Rattle.id_runs.specs.Events.{Arrival, Waits, Blocked, Fires, Event, Took, pa
 use Rattle.id_runs.specs.Keys.{AtPort}
 use Rattle.id_runs.specs.Runs.{fires_on, Reach, begin, deliver, handled, flying}
 use Rattle.id_runs.specs.OneMessage.{Exclusive}
-use Rattle.id_runs.proofs.Events.{half, operands_by, Effect, nowhere, alone as fires_alone, first, meets, again, handling, taken, took_token, payload_of-happens}
+use Rattle.id_runs.proofs.Events.{half, operands_by, Effect, nowhere, alone as fires_alone, first, meets, again}
+use Rattle.id_runs.proofs.Events.{handling, taken, took_token, payload_of-happens}
 use Rattle.id_runs.proofs.Keys.{counts, one_message}
 use Rattle.id_runs.proofs.Messages.{was_flying}
-use Rattle.id_runs.proofs.Waiting.{waited, waited_handled, OperandsHandled, one_handled, two_handled, HasFired, has_fired, FiredOn, FiredWith, BlockedAt, Settled, settled}
+use Rattle.id_runs.proofs.Waiting.{waited, waited_handled, OperandsHandled, one_handled, two_handled, HasFired}
+use Rattle.id_runs.proofs.Waiting.{has_fired, FiredOn, FiredWith, BlockedAt, Settled, settled}
 use Rattle.id_runs.proofs.OneMessage.{few as few_of, at_most_one}
 
 one_instr : (o : Option Instr) {i j : Instr} → o ≡ Some i → o ≡ Some j → i ≡ j
@@ -46,7 +48,12 @@ alone_arrival g fresh t p v o a o' i (again j u z c f n q) at b = absurd (two_di
 fired_later : {g : Parts} {run : List Event} {t : Tag} {i : Instr} (ops : _) (e : Event) → FiredOn g run t i ops → FiredOn g (e ∷ run) t i ops
 fired_later ops e f =
     let x = f.fires in
-    record { fresh = f.fresh; at = f.at; fires = record { element = x.element; port = x.port; value = x.value; operands = x.operands; among = inr x.among }; operands_are = f.operands_are }
+    record {
+      fresh = f.fresh;
+      at = f.at;
+      fires = record { element = x.element; port = x.port; value = x.value; operands = x.operands; among = inr x.among };
+      operands_are = f.operands_are;
+    }
 
 -- a token for an operator of one port fires it
 pub alone : (g : Parts) (vs : List Constant) (count : ℕ) (s : World) (run : List Event) → Reach g vs count s run
@@ -59,7 +66,8 @@ alone g vs count s run (deliver {s = s₀} {run = run₀} k m e r f q) t p v i a
     let same : Token t p v ≡ Token new.tag new.port new.value = is ∙ ap payload_of new.is in
     let tag_is : new.tag ≡ t = cc in
     let value_is : new.value ≡ v = cc in
-    let fires_now = alone_arrival g new.fresh new.tag new.port new.value _ new.arrival _ i new.effect (ap (λ (u : Tag). slice_get g.instrs u.instr) tag_is ∙ at) b in
+    let fires_now = alone_arrival g new.fresh new.tag new.port new.value _ new.arrival _ i new.effect
+    (ap (λ (u : Tag). slice_get g.instrs u.instr) tag_is ∙ at) b in
     record {
       fresh = new.fresh;
       at = at;
@@ -68,11 +76,13 @@ alone g vs count s run (deliver {s = s₀} {run = run₀} k m e r f q) t p v i a
         port = new.port;
         value = v;
         operands = operands.One v;
-        among = inl (sym (new.is ∙ (λ j. Took n (tag_is j) new.port (value_is j) (fires_now j)) ∙ (λ j. Took n t new.port v (fires_on new.fresh i (tag_is j) (operands.One (value_is j))))));
+        among = inl (sym (new.is ∙ (λ j. Took n (tag_is j) new.port (value_is j) (fires_now j)) ∙
+            (λ j. Took n t new.port v (fires_on new.fresh i (tag_is j) (operands.One (value_is j))))));
       };
       operands_are = refl;
     }
-alone g vs count s run (deliver {s = s₀} {run = run₀} k m e r f q) t p v i at b (inr old) = fired_later (operands.One v) _ (alone g vs count s₀ run₀ r t p v i at b old)
+alone g vs count s run (deliver {s = s₀} {run = run₀} k m e r f q) t p v i at b (inr old) = fired_later (operands.One v) _
+    (alone g vs count s₀ run₀ r t p v i at b old)
 
 blocked_waits : (g : Parts) (fresh : Fresh) (t : Tag) (p : Port) (v : Value) (o : Option Half) (a : Arrival) (o' : Option Half)
     → Effect g fresh t p v o a o' → a ≡ Blocked → (u : Value) × (o ≡ Some (half p u))
@@ -95,14 +105,20 @@ module _ (g : Parts) (vs : List Constant) (count : ℕ) (only : Exclusive g vs c
       let before = waited_handled run₀ new.tag new.port w.0 (waited g vs count s₀ run₀ r n₀ e new.tag (half new.port w.0) q w.1) in
       let flies = subst (λ y. Among y (flying s₀)) (ap payload_of new.is) (was_flying g k s₀ m n₀ e f) in
       let j = AtPort new.tag new.port in
-      omega (arith, at_most_one g vs count only s₀ run₀ r j, counts j (Token new.tag new.port new.value) (flying s₀) flies refl, counts j (Token new.tag new.port w.0) (handled run₀) before refl)
+      omega (
+        arith,
+        at_most_one g vs count only s₀ run₀ r j,
+        counts j (Token new.tag new.port new.value) (flying s₀) flies refl,
+        counts j (Token new.tag new.port w.0) (handled run₀) before refl,
+      )
   never_blocked s run (deliver {s = s₀} {run = run₀} k m e r f q) n t p v (inr old) = never_blocked s₀ run₀ r n t p v old
 
   -- what was handled at a port of a tag is one value
   pub one_value : (s : World) (run : List Event) → Reach g vs count s run → (t : Tag) (p : Port) (v w : Value) → Among (Token t p v) (handled run)
       → Among (Token t p w) (handled run) → v ≡ w
   one_value s run r t p v w a b =
-      let same : Token t p v ≡ Token t p w = one_message (AtPort t p) (Token t p v) (Token t p w) (handled run) (few_of g vs count only s run r (AtPort t p)) a b refl refl in
+      let same : Token t p v ≡ Token t p w = one_message (AtPort t p) (Token t p v) (Token t p w) (handled run) (few_of g vs count only s run r (AtPort t p))
+      a b refl refl in
       cc
 
   -- an operator of two ports whose operands were handled has fired on them
@@ -127,7 +143,13 @@ module _ (g : Parts) (vs : List Constant) (count : ℕ) (only : Exclusive g vs c
               record {
                 fresh = y.fresh;
                 at = at;
-                fires = record { element = x.element; port = x.port; value = x.value; operands = x.operands; among = subst (λ z. Among (Took x.element t x.port x.value (Fires x.operands z)) run) is x.among };
+                fires = record {
+                  element = x.element;
+                  port = x.port;
+                  value = x.value;
+                  operands = x.operands;
+                  among = subst (λ z. Among (Took x.element t x.port x.value (Fires x.operands z)) run) is x.among;
+                };
                 operands_are = operands_are;
               }
 

@@ -55,7 +55,8 @@ module _ (g : Parts) (vs : List Constant) (count : ℕ) (only : Exclusive g vs c
       by_waiting : (u : Value) → Waited run t (other_port x.port) u → y.port ≡ other_port x.port → fired_event x ≡ fired_event y
       by_waiting u w b =
           let q = other_port x.port in
-          let same : Took w.element t q u Waits ≡ fired_event y = one_event (AtPort t q) (Took w.element t q u Waits) (fired_event y) run (few (AtPort t q)) w.among y.among refl (ap (AtPort t) b) in
+          let same : Took w.element t q u Waits ≡ fired_event y = one_event (AtPort t q) (Took w.element t q u Waits) (fired_event y) run (few (AtPort t q))
+          w.among y.among refl (ap (AtPort t) b) in
           cc
 
       by : Met run t x.port x.value (two_ports (z.instr).op) x.operands → fired_event x ≡ fired_event y
@@ -72,7 +73,8 @@ module _ (g : Parts) (vs : List Constant) (count : ℕ) (only : Exclusive g vs c
 
   total : (k : ℕ) (s : World) (run : List Event) (m : Message) (n : ℕ) (e : State) (j : Key) → slice_get s.flight k ≡ Some m
       → let new = happens g n e m.payload in
-      count_for j (flying (taken_from g k s m n e)) + count_for j (handled (new ∷ run)) ≡ count_for j (flying s) + count_for j (handled run) + count_for j (sends_of g new)
+      count_for j (flying (taken_from g k s m n e)) + count_for j (handled (new ∷ run)) ≡
+      count_for j (flying s) + count_for j (handled run) + count_for j (sends_of g new)
   total k s run m n e j f =
       let new = happens g n e m.payload in
       omega (
@@ -113,7 +115,8 @@ module _ (g : Parts) (vs : List Constant) (count : ℕ) (only : Exclusive g vs c
       let once = fires_once s' (new ∷ run) r' now in
       elim (origin g vs count s run r y moved) [
         | inl start ↦ only.not_at_start s' (new ∷ run) r' now once new (inl refl) x y out start is
-        | inr by ↦ not_again k s run m n e f few by.event by.among (only.one_sender s' (new ∷ run) r' now once new by.event (inl refl) (inr by.among) x y out by.sends is)
+        | inr by ↦ not_again k s run m n e f few by.event by.among
+            (only.one_sender s' (new ∷ run) r' now once new by.event (inl refl) (inr by.among) x y out by.sends is)
       ]
 
   one_more : (k : ℕ) (s : World) (run : List Event) (m : Message) (e : State) → Reach g vs count s run → slice_get s.flight k ≡ Some m

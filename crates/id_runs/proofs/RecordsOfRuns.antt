@@ -1,5 +1,6 @@
 -- The records of the elements have the events of the run, and no others.
-use Rattle.std.proofs.Common.{◌≡◌, inl, inr, ℕ, zero, suc, ◌+◌, ◌≤◌, Option, Some, None, List, [], ◌∷◌, ◌++◌, map, set, replicate, slice_get, refl, sym, ◌∙◌, ap, subst, arith}
+use Rattle.std.proofs.Common.{◌≡◌, inl, inr, ℕ, zero, suc, ◌+◌, ◌≤◌, Option, Some, None, List, [], ◌∷◌, ◌++◌, map}
+use Rattle.std.proofs.Common.{set, replicate, slice_get, refl, sym, ◌∙◌, ap, subst, arith}
 use Rattle.std.specs.List.{All, filter_map, cons_option}
 use Rattle.std.proofs.lemmas.Bool.{cases_eq}
 use Rattle.std.proofs.lemmas.List.{map-append}
@@ -46,7 +47,12 @@ unrecorded (suc n) (suc m) e v h a = unrecorded n m e v h a
 
 module _ (g : Parts) (vs : List Constant) (count : ℕ) where
   shown_now : (n : ℕ) (e : State) (m : Message) → Shows g (event_of g n e m) (happens g n e m.payload)
-  shown_now n e m = record { payload = sym (payload_of-happens g n e m.payload); fired = outcome_fired g n e m.payload; outputs = sent_payloads g n e m; step = outcome_step g n e m.payload }
+  shown_now n e m = record {
+    payload = sym (payload_of-happens g n e m.payload);
+    fired = outcome_fired g n e m.payload;
+    outputs = sent_payloads g n e m;
+    step = outcome_step g n e m.payload;
+  }
 
   -- each event of a record is one of the run
   pub from_record : (s : World) (run : List Event) → Reach g vs count s run → (v : EventView) → Recorded s v → (h : Event) × Among h run × Shows g v h
@@ -54,7 +60,8 @@ module _ (g : Parts) (vs : List Constant) (count : ℕ) where
   from_record s run (deliver {s = s₀} {run = run₀} k m e r f q) v w =
       let n = route_of m.payload count in
       let new = happens g n e m.payload in
-      let old = λ (y : Recorded s₀ v). (let t = from_record s₀ run₀ r v y in let z : (h : Event) × Among h (new ∷ run₀) × Shows g v h = (t.0, inr t.1, t.2) in z) in
+      let old = λ (y : Recorded s₀ v). (let t = from_record s₀ run₀ r v y in let z : (h : Event) × Among h (new ∷ run₀) × Shows g v h = (t.0, inr t.1, t.2) in
+      z) in
       elim (slice_get-set s₀.elements n w.element (state_after g n e m) w.state w.at) [
         | inl is ↦
             elim (Among-either v e.events (event_of g n e m ∷ []) (subst (λ (y : State). Among v y.events) is.1 w.among)) [
@@ -227,4 +234,5 @@ quiet_went g vs count s run r quiet e among =
     let w = x.1 in
     sym (x.2).step
     ∙ of_all (λ (u : EventView). u.step ≡ Went) (w.state).events x.0
-    (of_all (λ (y : State). All (λ (u : EventView). u.step ≡ Went) y.events) s.elements w.state quiet.went (Among-from_at w.state s.elements w.element w.at)) w.among
+    (of_all (λ (y : State). All (λ (u : EventView). u.step ≡ Went) y.events) s.elements w.state quiet.went (Among-from_at w.state s.elements w.element w.at))
+    w.among

@@ -1,5 +1,6 @@
 -- An event sends at most one message for a key, where the destinations of an instruction on one side differ, and each key was handled once.
-use Rattle.std.proofs.Common.{◌≡◌, inl, inr, ℕ, zero, suc, ◌+◌, ◌≤◌, Bool, true, false, cond, Option, Some, None, List, [], ◌∷◌, ◌++◌, map, refl, sym, ◌∙◌, ap, subst, arith}
+use Rattle.std.proofs.Common.{◌≡◌, inl, inr, ℕ, zero, suc, ◌+◌, ◌≤◌, Bool, true, false, cond, Option, Some, None}
+use Rattle.std.proofs.Common.{List, [], ◌∷◌, ◌++◌, map, refl, sym, ◌∙◌, ap, subst, arith}
 use Rattle.std.proofs.lemmas.List.{map-append}
 use Rattle.id_graph.specs.declared.dests.Dest.{Dest}
 use Rattle.id_graph.specs.declared.dests.Port.{Port}
@@ -121,7 +122,8 @@ apart_lists k xs ys few few' differ = go (count_for k xs) (count_for k ys) refl 
         let b = counted k ys (omega arith) in
         absurd (differ a.0 b.0 a.1 b.1 (a.2 ∙ sym b.2))
 
-entered_apart : (k : Key) (o : Option Op) (u : Tag) (ds : List Dest) (c : Context) → AllDiffer ds → (c ≡ u.context → ⊥) → count_for k (sent o ds u (fires.Entered c)) ≤ 1
+entered_apart : (k : Key) (o : Option Op) (u : Tag) (ds : List Dest) (c : Context) → AllDiffer ds → (c ≡ u.context → ⊥) →
+    count_for k (sent o ds u (fires.Entered c)) ≤ 1
 entered_apart k o u ds c differ elsewhere =
     apart_lists k (map (token_to u (value.Context c)) ds) (started o u c) (dests_apart k u (value.Context c) ds differ) (started_apart k o u c)
     (λ x y a b e.
@@ -170,8 +172,10 @@ held_hits t v c (Looked n d u Deferred) = by (same_cell d c)
 off_hits : (t : Tag) (v : Value) (c : Cell) (run : List Event) → count_for (AtPort t Zero) (answers v (put_off run c)) ≤ count_for (ByFetch t) (handled run)
 off_hits t v c [] = omega (arith, count_none (AtPort t Zero))
 off_hits t v c (e ∷ run) =
-    let parts : count_for (AtPort t Zero) (answers v (put_off run c ++ held c e)) ≡ count_for (AtPort t Zero) (answers v (put_off run c)) + count_for (AtPort t Zero) (answers v (held c e)) =
-    ap (count_for (AtPort t Zero)) (map-append (λ u. Token u Zero v) (put_off run c) (held c e)) ∙ count_append (AtPort t Zero) (answers v (put_off run c)) (answers v (held c e)) in
+    let parts : count_for (AtPort t Zero) (answers v (put_off run c ++ held c e)) ≡
+    count_for (AtPort t Zero) (answers v (put_off run c)) + count_for (AtPort t Zero) (answers v (held c e)) =
+    ap (count_for (AtPort t Zero)) (map-append (λ u. Token u Zero v) (put_off run c) (held c e)) ∙
+    count_append (AtPort t Zero) (answers v (put_off run c)) (answers v (held c e)) in
     omega (arith, parts, off_hits t v c run, held_hits t v c e, count_cons (ByFetch t) (payload_of e) (handled run))
 
 -- an answer has no other key

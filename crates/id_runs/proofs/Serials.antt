@@ -1,5 +1,6 @@
 -- *Serials*: each element numbers its contexts and its structures on, so each of a run is made by one event.
-use Rattle.std.proofs.Common.{◌≡◌, inl, inr, ℕ, ℤ, ◌+◌, ◌≤◌, Bool, true, false, cond, Option, Some, None, List, set, slice_get, refl, sym, ◌∙◌, ap, subst, arith}
+use Rattle.std.proofs.Common.{◌≡◌, inl, inr, ℕ, ℤ, ◌+◌, ◌≤◌, Bool, true, false, cond, Option, Some, None, List, set}
+use Rattle.std.proofs.Common.{slice_get, refl, sym, ◌∙◌, ap, subst, arith}
 use Rattle.std.specs.Prelude.{option_map}
 use Rattle.std.proofs.lemmas.Bool.{cases_eq}
 use Rattle.id_graph.specs.declared.dests.Port.{Port}
@@ -56,7 +57,8 @@ IsNext next s = (s.element ≡ next.element) × (s.serial ≡ next.structure)
 structure_next : (next : Fresh) (lo hi : ℤ) (s : Structure) → structure_in next lo hi ≡ fires.Out (value.Structure s) → IsNext next s
 structure_next next lo hi s e = by (are_good lo hi) e
   where
-    by : (b : Bool) → cond b (fires.Out (value.Structure (record { element = next.element; serial = next.structure; low = lo; high = hi }))) (fires.Failed BadBounds) ≡ fires.Out (value.Structure s)
+    by : (b : Bool) → cond b (fires.Out (value.Structure (record { element = next.element; serial = next.structure; low = lo; high = hi })))
+        (fires.Failed BadBounds) ≡ fires.Out (value.Structure s)
         → IsNext next s
     by true e =
         let is : (record { element = next.element; serial = next.structure; low = lo; high = hi }) ≡ s = cc in
@@ -104,7 +106,8 @@ arrival_next : (next : Fresh) (o : Option Instr) (w : Store) (t : Tag) (p : Port
 arrival_next next None w t p v s is h = let e = h.1 in cc
 arrival_next next (Some i) w t p v s is h = ports_next next i t (offer_answer w t p v) v s (two_ports i.op) (cc) h
 
-by_ports : (next : Fresh) (i : Instr) (t : Tag) (a : Offered) (v : Value) (c : Context) (b : Bool) → EntersBy (cond b (offered_to next i t a) (fires_on next i t (operands.One v))) c
+by_ports : (next : Fresh) (i : Instr) (t : Tag) (a : Offered) (v : Value) (c : Context) (b : Bool) →
+    EntersBy (cond b (offered_to next i t a) (fires_on next i t (operands.One v))) c
     → c ≡ next.context
 by_ports next i t a v c true h = by_offer next i t a c h
 by_ports next i t a v c false h =
@@ -112,7 +115,8 @@ by_ports next i t a v c false h =
     let f : fired i.op t (operands.One v) next ≡ fires.Entered c = cc in
     entered_next i.op t (operands.One v) next c f
 
-by_arrival : (next : Fresh) (o : Option Instr) (w : Store) (t : Tag) (p : Port) (v : Value) (c : Context) → EntersBy (arrival_at next o w t p v) c → c ≡ next.context
+by_arrival : (next : Fresh) (o : Option Instr) (w : Store) (t : Tag) (p : Port) (v : Value) (c : Context) → EntersBy (arrival_at next o w t p v) c →
+    c ≡ next.context
 by_arrival next None w t p v c h = let e = h.1 in cc
 by_arrival next (Some i) w t p v c h = by_ports next i t (offer_answer w t p v) v c (two_ports i.op) h
 
@@ -135,7 +139,8 @@ enters_next g n e (Read d t) c h = absurd h
 enters_next g n e (Write d v w) c h = absurd h
 
 -- and a structure that an event makes takes one
-makes_by : (g : Parts) (n : ℕ) (t : Tag) (p : Port) (v : Value) (a : Arrival) (s : Structure) → Makes g (Took n t p v a) s → (op_at g t.instr ≡ Some Alloc) × GivesBy a s
+makes_by : (g : Parts) (n : ℕ) (t : Tag) (p : Port) (v : Value) (a : Arrival) (s : Structure) → Makes g (Took n t p v a) s →
+    (op_at g t.instr ≡ Some Alloc) × GivesBy a s
 makes_by g n t p v Waits s h = absurd h
 makes_by g n t p v Blocked s h = absurd h
 makes_by g n t p v (Fires ops f) s h = (h.0, (ops, ap (Fires ops) h.1))
@@ -165,7 +170,8 @@ pub record Given (s : World) (c : Context) : Type 0 where
 
 module _ (g : Parts) (vs : List Constant) (count : ℕ) where
   -- a number that was given was given after one more event
-  given_later : (k : ℕ) (s : World) (m : Message) (n : ℕ) (e : State) (c : Context) → slice_get s.elements n ≡ Some e → Given s c → Given (taken_from g k s m n e) c
+  given_later : (k : ℕ) (s : World) (m : Message) (n : ℕ) (e : State) (c : Context) → slice_get s.elements n ≡ Some e → Given s c →
+      Given (taken_from g k s m n e) c
   given_later k s m n e c at w =
       let e' = state_after g n e m in
       elim (cases_eq c.element n) [
@@ -206,7 +212,8 @@ module _ (g : Parts) (vs : List Constant) (count : ℕ) where
       given_later k s₀ m (route_of m.payload count) e c q (given s₀ run₀ r h old c enters)
 
   -- so the newest event enters another context than those before it
-  not_again : (s : World) (run : List Event) → Reach g vs count s run → (m : Message) (n : ℕ) (e : State) → slice_get s.elements n ≡ Some e → (h : Event) → Among h run
+  not_again : (s : World) (run : List Event) → Reach g vs count s run → (m : Message) (n : ℕ) (e : State) → slice_get s.elements n ≡ Some e → (h : Event) →
+      Among h run
       → (c : Context) → Enters (happens g n e m.payload) c → Enters h c → ⊥
   not_again s run r m n e q h old c now before =
       let w = given s run r h old c before in
@@ -219,7 +226,8 @@ module _ (g : Parts) (vs : List Constant) (count : ℕ) where
       omega (arith, serial_is, known)
 
   -- two events that enter one context are one
-  apart : (s : World) (run : List Event) → Reach g vs count s run → (h h' : Event) → Among h run → Among h' run → (c : Context) → Enters h c → Enters h' c → h ≡ h'
+  apart : (s : World) (run : List Event) → Reach g vs count s run → (h h' : Event) → Among h run → Among h' run → (c : Context) → Enters h c → Enters h' c →
+      h ≡ h'
   apart s run begin h h' a b c x y = absurd a
   apart s run (deliver k m e r f q) h h' (inl i) (inl j) c x y = i ∙ sym j
   apart s run (deliver {s = s₀} {run = run₀} k m e r f q) h h' (inl i) (inr b) c x y =
@@ -237,7 +245,8 @@ pub record Made (s : World) (x : Structure) : Type 0 where
   pub counted : x.serial ≤ state.structures
 
 module _ (g : Parts) (vs : List Constant) (count : ℕ) where
-  made_later : (k : ℕ) (s : World) (m : Message) (n : ℕ) (e : State) (x : Structure) → slice_get s.elements n ≡ Some e → Made s x → Made (taken_from g k s m n e) x
+  made_later : (k : ℕ) (s : World) (m : Message) (n : ℕ) (e : State) (x : Structure) → slice_get s.elements n ≡ Some e → Made s x →
+      Made (taken_from g k s m n e) x
   made_later k s m n e x at w =
       let e' = state_after g n e m in
       elim (cases_eq x.element n) [
@@ -267,7 +276,8 @@ module _ (g : Parts) (vs : List Constant) (count : ℕ) where
       made_later k s₀ m (route_of m.payload count) e x q (made_before s₀ run₀ r h old x makes)
 
   -- so the newest event makes another structure than those before it
-  not_made : (s : World) (run : List Event) → Reach g vs count s run → (m : Message) (n : ℕ) (e : State) → slice_get s.elements n ≡ Some e → (h : Event) → Among h run
+  not_made : (s : World) (run : List Event) → Reach g vs count s run → (m : Message) (n : ℕ) (e : State) → slice_get s.elements n ≡ Some e → (h : Event) →
+      Among h run
       → (x y : Structure) → x.element ≡ y.element → x.serial ≡ y.serial → Makes g (happens g n e m.payload) x → Makes g h y → ⊥
   not_made s run r m n e q h old x y one_element one_serial now before =
       let w = made_before s run r h old y before in
@@ -302,6 +312,7 @@ pub all_numbered : Serials
 all_numbered g vs count s run r = record { contexts = contexts_apart g vs count s run r; structures = structures_apart g vs count s run r }
 
 -- so a context is entered by one firing
-pub entered_once : {run : List Event} → ContextsApart run → {t u : Tag} {c : Context} (x : FiresAs run t (fires.Entered c)) (y : FiresAs run u (fires.Entered c))
+pub entered_once : {run : List Event} → ContextsApart run →
+    {t u : Tag} {c : Context} (x : FiresAs run t (fires.Entered c)) (y : FiresAs run u (fires.Entered c))
     → fired_event x ≡ fired_event y
 entered_once contexts {c = c} x y = contexts.one (fired_event x) (fired_event y) x.among y.among c refl refl

@@ -155,7 +155,8 @@ module _ (g : Parts) (vs : List Constant) (count : ℕ) (valid : IsValid g) (tak
           let z = suitable g t i ops events y.at fit y.handled_are in
           let all = sent_fits g z.stamp t i (fired i.op t ops y.fresh) valid y.at (omega (arith, z.in_time))
           (fired_fits g z.stamp t i.op ops y.fresh valid (ap (option_map (λ j. j.op)) y.at) z.in_time z.fit) in
-          let same = ap (λ o. sent (option_map (λ j. j.op) o) (option_map_or (arcs_on (side_of f)) o []) t f) y.at ∙ ap (λ u. sent (Some i.op) (arcs_on (side_of u) i) t u) y.is in
+          let same = ap (λ o. sent (option_map (λ j. j.op) o) (option_map_or (arcs_on (side_of f)) o []) t f) y.at ∙
+          ap (λ u. sent (Some i.op) (arcs_on (side_of u) i) t u) y.is in
           record { stamp = z.stamp; fits = of_all (PayloadFits g z.stamp) _ x all (subst (Among x) same out) }
 
       by : SentFrom g events e x → FitsOnce g x

@@ -1,5 +1,6 @@
 -- What one event of a machine does to one cell, wherever it lies.
-use Rattle.std.proofs.Common.{◌≡◌, ◌⊎◌, inl, inr, ℕ, Bool, true, false, cond, Option, Some, None, List, replicate, set, slice_get, zero, suc, refl, sym, ◌∙◌, ap}
+use Rattle.std.proofs.Common.{◌≡◌, ◌⊎◌, inl, inr, ℕ, Bool, true, false, cond, Option, Some, None, List, replicate}
+use Rattle.std.proofs.Common.{set, slice_get, zero, suc, refl, sym, ◌∙◌, ap}
 use Rattle.std.proofs.lemmas.Bool.{cases_eq}
 use Rattle.std.specs.FinMap.{get, insert, get-insert, get-empty}
 use Rattle.std.specs.Cmp.{eq_by_cmp_equiv}
@@ -86,7 +87,8 @@ module _ (g : Parts) (count : ℕ) (es es' : List State) (n : ℕ) (e e' : State
         | inr other ↦ ap (λ xs. cell_in (slice_get xs (cell_route c count)) c) is ∙ ap (λ o. cell_in o c) (set-elsewhere es n (cell_route c count) e' other)
       ]
 
-touches : (g : Parts) (count : ℕ) (es es' : List State) (x : Payload) (e e' : State) → slice_get es (route_of x count) ≡ Some e → es' ≡ set es (route_of x count) e'
+touches : (g : Parts) (count : ℕ) (es es' : List State) (x : Payload) (e e' : State) → slice_get es (route_of x count) ≡ Some e →
+    es' ≡ set es (route_of x count) e'
     → e'.cells ≡ cells_by e x → (c : Cell)
     → Touch (happens g (route_of x count) e x) c (cell_in (slice_get es (cell_route c count)) c) (cell_in (slice_get es' (cell_route c count)) c)
 touches g count es es' (Token t p v) e e' at is cells c =
@@ -112,12 +114,14 @@ touches g count es es' (Write d v w) e e' at is cells c = by (cell_cases c d)
     n = cell_route d count
 
     by : (c ≡ d) ⊎ ((c ≡ d → ⊥) × (eq_by_cmp cell_cmp c d ≡ false))
-        → Touch (Wrote n d v w (write_answer (get e.cells d))) c (cell_in (slice_get es (cell_route c count)) c) (cell_in (slice_get es' (cell_route c count)) c)
+        → Touch (Wrote n d v w (write_answer (get e.cells d))) c (cell_in (slice_get es (cell_route c count)) c)
+        (cell_in (slice_get es' (cell_route c count)) c)
     by (inl same) =
         let here : cell_route c count ≡ n = ap (λ k. cell_route k count) same in
         let before : cell_in (slice_get es (cell_route c count)) c ≡ get e.cells d = held_before g count es es' n e e' at is c here ∙ ap (get e.cells) same in
         by_write n v w (λ j. Wrote n (sym same j) v w (write_answer (sym before j)))
-        (held_after g count es es' n e e' at is c here ∙ ap (λ m. get m c) cells ∙ put_there e.cells c d _ same ∙ ap (λ o. Some (state_written v w o)) (sym before))
+        (held_after g count es es' n e e' at is c here ∙ ap (λ m. get m c) cells ∙ put_there e.cells c d _ same ∙
+        ap (λ o. Some (state_written v w o)) (sym before))
     by (inr other) =
         elsewhere (λ m u a z. cc) (λ m u x a z. other.0 (sym (wrote_cell z)))
         (held_still g count es es' n e e' at is c (ap (λ m. get m c) cells ∙ left_there e.cells c d _ other.1))
@@ -141,7 +145,8 @@ fresh_at (suc n) (suc m) e h = fresh_at n m e h
 pub nothing_held : (g : Parts) (vs : List Constant) (count : ℕ) (c : Cell) → cell_at count (start g vs count) c ≡ None
 nothing_held g vs count c = by (slice_get (replicate count fresh) (cell_route c count)) refl
   where
-    by : (o : Option State) → slice_get (replicate count fresh) (cell_route c count) ≡ o → cell_in (slice_get (replicate count fresh) (cell_route c count)) c ≡ None
+    by : (o : Option State) → slice_get (replicate count fresh) (cell_route c count) ≡ o →
+        cell_in (slice_get (replicate count fresh) (cell_route c count)) c ≡ None
     by None is = ap (λ o. cell_in o c) is
     by (Some e) is = ap (λ o. cell_in o c) is ∙ ap (λ (x : State). get x.cells c) (fresh_at count (cell_route c count) e is) ∙ get-empty cell_cmp c
 
@@ -172,7 +177,8 @@ only_home g vs count s run (deliver {s = s₀} {run = run₀} k m e₀ r f q) n 
     let n₀ = route_of m.payload count in
     elim (slice_get-set s₀.elements n₀ n (state_after g n₀ e₀ m) e at) [
       | inl new ↦
-          elim (cell_there count m.payload e₀ n c z (sym new.0) (sym (ap (λ y. get y c) (outcome_cells g n₀ e₀ m.payload)) ∙ ap (λ (x : State). get x.cells c) (sym new.1) ∙ h)) [
+          elim (cell_there count m.payload e₀ n c z (sym new.0) (sym (ap (λ y. get y c) (outcome_cells g n₀ e₀ m.payload)) ∙
+          ap (λ (x : State). get x.cells c) (sym new.1) ∙ h)) [
             | inl home ↦ home
             | inr before ↦ only_home g vs count s₀ run₀ r n e₀ c z (ap (slice_get s₀.elements) new.0 ∙ q) before
           ]
@@ -190,6 +196,7 @@ pub held_by : (count : ℕ) (s : World) (c : Cell) (z : CellState) → cell_at c
     → (n : ℕ) × (e : State) × (slice_get s.elements n ≡ Some e) × (get e.cells c ≡ Some z)
 held_by count s c z h = by (slice_get s.elements (cell_route c count)) refl h
   where
-    by : (o : Option State) → slice_get s.elements (cell_route c count) ≡ o → cell_in o c ≡ Some z → (n : ℕ) × (e : State) × (slice_get s.elements n ≡ Some e) × (get e.cells c ≡ Some z)
+    by : (o : Option State) → slice_get s.elements (cell_route c count) ≡ o → cell_in o c ≡ Some z →
+        (n : ℕ) × (e : State) × (slice_get s.elements n ≡ Some e) × (get e.cells c ≡ Some z)
     by None is k = cc
     by (Some e) is k = (cell_route c count, e, is, k)

@@ -1,5 +1,6 @@
 -- Waiting and firing in any run: what waits came by an event, what fired met its partner, and what was handled waits, has fired or was blocked.
-use Rattle.std.proofs.Common.{◌≡◌, ◌⊎◌, inl, inr, ℕ, zero, suc, Bool, true, false, Option, Some, None, List, ◌∷◌, set, replicate, slice_get, refl, sym, ◌∙◌, ap, subst}
+use Rattle.std.proofs.Common.{◌≡◌, ◌⊎◌, inl, inr, ℕ, zero, suc, Bool, true, false, Option, Some, None, List, ◌∷◌, set}
+use Rattle.std.proofs.Common.{replicate, slice_get, refl, sym, ◌∙◌, ap, subst}
 use Rattle.std.proofs.lemmas.Bool.{cases_eq}
 use Rattle.std.specs.FinMap.{get, get-empty}
 use Rattle.id_graph.specs.declared.dests.Port.{Port}
@@ -28,7 +29,9 @@ use Rattle.id_list.proofs.AmongLemmas.{Among-map}
 use Rattle.id_list.proofs.PlacesLemmas.{slice_get-set, set-here, set-elsewhere}
 use Rattle.id_runs.specs.Events.{Arrival, Waits, Blocked, Fires, Event, Took, payload_of, FiresAs}
 use Rattle.id_runs.specs.Runs.{fires_on, happens, Reach, begin, deliver, handled}
-use Rattle.id_runs.proofs.Events.{half, operands_by, tag_cases, Effect, nowhere, alone as fires_alone, first, meets, again, Taking, Aside, Handling, of_token, of_cell, handling, taken, took_token, payload_of-happens}
+use Rattle.id_runs.proofs.Events.{half, operands_by, tag_cases, Effect, nowhere, alone as fires_alone, first, meets}
+use Rattle.id_runs.proofs.Events.{again, Taking, Aside, Handling, of_token, of_cell, handling, taken, took_token}
+use Rattle.id_runs.proofs.Events.{payload_of-happens}
 
 -- ---- what waits came by an event
 
@@ -46,7 +49,8 @@ replicated (suc n) zero e f h = cc
 replicated (suc n) (suc m) e f h = replicated n m e f h
 
 still_waits : (g : Parts) (fresh : Fresh) (n : ℕ) (t : Tag) (p : Port) (v : Value) (o : Option Half) (a : Arrival) (o' : Option Half) (run : List Event)
-    → Effect g fresh t p v o a o' → ((h : Half) → o ≡ Some h → Waited run t h.port h.value) → (h : Half) → o' ≡ Some h → Waited (Took n t p v a ∷ run) t h.port h.value
+    → Effect g fresh t p v o a o' → ((h : Half) → o ≡ Some h → Waited run t h.port h.value) → (h : Half) → o' ≡ Some h →
+    Waited (Took n t p v a ∷ run) t h.port h.value
 still_waits g fresh n t p v o a o' run (nowhere at f q) old h e = waited_later _ (old h (sym q ∙ e))
 still_waits g fresh n t p v o a o' run (fires_alone i at two f q) old h e = waited_later _ (old h (sym q ∙ e))
 still_waits g fresh n t p v o a o' run (first i at two f b q) old h e =
@@ -57,7 +61,8 @@ still_waits g fresh n t p v o a o' run (meets i u at two f b q) old h e = let no
 still_waits g fresh n t p v o a o' run (again i u at two f b q) old h e = waited_later _ (old h (sym q ∙ e))
 
 -- what waits after an event, where what waited before it came by one
-waits_now : (g : Parts) (n : ℕ) (e : State) (x : Payload) (run : List Event) (t : Tag) (h : Half) → ((t' : Tag) (h' : Half) → get e.waiting t' ≡ Some h' → Waited run t' h'.port h'.value)
+waits_now : (g : Parts) (n : ℕ) (e : State) (x : Payload) (run : List Event) (t : Tag) (h : Half) →
+    ((t' : Tag) (h' : Half) → get e.waiting t' ≡ Some h' → Waited run t' h'.port h'.value)
     → Handling g n e x → get (outcome g (next_numbers n e) e.waiting e.cells x).waiting t ≡ Some h → Waited (happens g n e x ∷ run) t h.port h.value
 waits_now g n e x run t h before (of_cell aside) there = waited_later _ (before t h (ap (λ y. get y t) (sym aside.still) ∙ there))
 waits_now g n e x run t h before (of_token new) there =
@@ -79,7 +84,8 @@ waited g vs count s run (deliver {s = s₀} {run = run₀} k m e r f at) n x t h
     let before = waited g vs count s₀ run₀ r in
     let n₀ = route_of m.payload count in
     elim (slice_get-set s₀.elements n₀ n (state_after g n₀ e m) x got) [
-      | inl q ↦ waits_now g n₀ e m.payload run₀ t h (λ t' h' e'. before n₀ e t' h' at e') (handling g n₀ e m.payload) (ap (λ (y : State). get y.waiting t) (sym q.1) ∙ w)
+      | inl q ↦ waits_now g n₀ e m.payload run₀ t h (λ t' h' e'. before n₀ e t' h' at e') (handling g n₀ e m.payload)
+          (ap (λ (y : State). get y.waiting t) (sym q.1) ∙ w)
       | inr old ↦ waited_later _ (before n x t h old w)
     ]
 
@@ -106,7 +112,8 @@ firing_later {run = run} {t = t} {p = p} {v = v} {ops = ops} e x = record { inst
     later (alone b q) = alone b q
     later (with_partner u b q w) = with_partner u b q (waited_later e w)
 
-firing_now : (g : Parts) (fresh : Fresh) (n : ℕ) (t : Tag) (p : Port) (v : Value) (o : Option Half) (a : Arrival) (o' : Option Half) (ops : Operands) (f : Fired) (run : List Event)
+firing_now : (g : Parts) (fresh : Fresh) (n : ℕ) (t : Tag) (p : Port) (v : Value) (o : Option Half) (a : Arrival) (o' : Option Half) (ops : Operands)
+    (f : Fired) (run : List Event)
     → Effect g fresh t p v o a o' → a ≡ Fires ops f → ((h : Half) → o ≡ Some h → Waited run t h.port h.value) → Firing g (Took n t p v a ∷ run) t p v ops f
 firing_now g fresh n t p v o a o' ops f run (nowhere at z q) is old = let bad : Waits ≡ Fires ops f = sym z ∙ is in cc
 firing_now g fresh n t p v o a o' ops f run (fires_alone i at two z q) is old =
@@ -119,7 +126,13 @@ firing_now g fresh n t p v o a o' ops f run (meets i u at two z b q) is old =
     let same : Fires ops f ≡ fires_on fresh i t (operands_by p v u) = sym is ∙ z in
     let ops_is : ops ≡ operands_by p v u = cc in
     let f_is : f ≡ fired i.op t (operands_by p v u) fresh = cc in
-    record { instr = i; fresh = fresh; at = at; is = f_is ∙ ap (λ x. fired i.op t x fresh) (sym ops_is); met = with_partner u two ops_is (waited_later _ (old (half (other_port p) u) b)) }
+    record {
+      instr = i;
+      fresh = fresh;
+      at = at;
+      is = f_is ∙ ap (λ x. fired i.op t x fresh) (sym ops_is);
+      met = with_partner u two ops_is (waited_later _ (old (half (other_port p) u) b));
+    }
 firing_now g fresh n t p v o a o' ops f run (again i u at two z b q) is old = let bad : Blocked ≡ Fires ops f = sym z ∙ is in cc
 
 module _ (g : Parts) (vs : List Constant) (count : ℕ) where
@@ -135,8 +148,10 @@ module _ (g : Parts) (vs : List Constant) (count : ℕ) where
       let port_is : new.port ≡ p = cc in
       let value_is : new.value ≡ v = cc in
       let arrival_is : new.arrival ≡ Fires ops f = cc in
-      subst (λ (z : Event × (Tag × (Port × Value))). Firing g (z.0 ∷ run₀) z.1.0 z.1.1.0 z.1.1.1 ops f) (λ i. (sym new.is i, (tag_is i, (port_is i, value_is i))))
-      (firing_now g new.fresh n₀ new.tag new.port new.value _ new.arrival _ ops f run₀ new.effect arrival_is (λ h w. waited g vs count s₀ run₀ r n₀ e new.tag h at w))
+      subst (λ (z : Event × (Tag × (Port × Value))). Firing g (z.0 ∷ run₀) z.1.0 z.1.1.0 z.1.1.1 ops f)
+      (λ i. (sym new.is i, (tag_is i, (port_is i, value_is i))))
+      (firing_now g new.fresh n₀ new.tag new.port new.value _ new.arrival _ ops f run₀ new.effect arrival_is
+      (λ h w. waited g vs count s₀ run₀ r n₀ e new.tag h at w))
 
 -- the operands of a firing were handled under its tag: the only one at some port, or two at their ports
 pub data OperandsHandled (run : List Event) (t : Tag) (two : Bool) (ops : Operands) : Type 0 where
@@ -178,7 +193,8 @@ module _ (g : Parts) (vs : List Constant) (count : ℕ) where
         fresh = y.fresh;
         at = y.at;
         is = y.is;
-        handled_are = met_handled run t x.port x.value (two_ports (y.instr).op) x.operands (Among-map payload_of (Took x.element t x.port x.value (Fires x.operands f)) run x.among) y.met;
+        handled_are = met_handled run t x.port x.value (two_ports (y.instr).op) x.operands
+            (Among-map payload_of (Took x.element t x.port x.value (Fires x.operands f)) run x.among) y.met;
       }
 
 -- ---- what was handled waits, has fired or was blocked
@@ -225,13 +241,21 @@ later : {run : List Event} {t : Tag} {p : Port} {v : Value} {W : Type 0} (e : Ev
     → FiredWith run t p v ⊎ BlockedAt run t → W ⊎ (FiredWith (e ∷ run) t p v ⊎ BlockedAt (e ∷ run) t)
 later e (inl f) =
     let x = f.fires in
-    inr (inl (record { fired = f.fired; fires = record { element = x.element; port = x.port; value = x.value; operands = x.operands; among = inr x.among }; is = f.is }))
+    inr (inl (record {
+      fired = f.fired;
+      fires = record { element = x.element; port = x.port; value = x.value; operands = x.operands; among = inr x.among };
+      is = f.is;
+    }))
 later e (inr b) = inr (inr (record { element = b.element; port = b.port; value = b.value; among = inr b.among }))
 
 -- the event as a firing on its operands
 new_fired : (n : ℕ) (t : Tag) (q : Port) (w : Value) (a : Arrival) (run : List Event) (ops : Operands) (f : Fired) (p : Port) (v : Value)
     → a ≡ Fires ops f → IsOperand ops p v → FiredWith (Took n t q w a ∷ run) t p v
-new_fired n t q w a run ops f p v e is = record { fired = f; fires = record { element = n; port = q; value = w; operands = ops; among = inl (ap (Took n t q w) (sym e)) }; is = is }
+new_fired n t q w a run ops f p v e is = record {
+  fired = f;
+  fires = record { element = n; port = q; value = w; operands = ops; among = inl (ap (Took n t q w) (sym e)) };
+  is = is;
+}
 
 -- under the tag of the new event, with o under the tag before and o' afterwards: the tokens of before
 settled_here : (g : Parts) (fresh : Fresh) (n : ℕ) (t : Tag) (q : Port) (w : Value) (a : Arrival) (run : List Event) (o o' : Option Half) (p : Port) (v : Value)
@@ -244,7 +268,8 @@ settled_here g fresh n t q w a run o o' p v (first i at two f b z) (inl h) = let
 settled_here g fresh n t q w a run o o' p v (meets i u at two f b z) (inl h) =
     let both : Some (half (other_port q) u) ≡ Some (half p v) = sym b ∙ h in
     let is : half (other_port q) u ≡ half p v = cc in
-    inr (inl (subst (λ (y : Half). FiredWith (Took n t q w a ∷ run) t y.port y.value) is (new_fired n t q w a run (operands_by q w u) _ (other_port q) u f (met_operand q w u))))
+    inr (inl (subst (λ (y : Half). FiredWith (Took n t q w a ∷ run) t y.port y.value) is
+    (new_fired n t q w a run (operands_by q w u) _ (other_port q) u f (met_operand q w u))))
 settled_here g fresh n t q w a run o o' p v (again i u at two f b z) (inl h) = inl (z ∙ h)
 
 -- and its own token
@@ -259,7 +284,8 @@ settled_new g fresh n t p v a run o o' i (fires_alone j z c f q) at b =
     cc
 settled_new g fresh n t p v a run o o' i (first j z c f m q) at b = inl q
 settled_new g fresh n t p v a run o o' i (meets j u z c f m q) at b = inr (inl (new_fired n t p v a run (operands_by p v u) _ p v f (came_operand p v u)))
-settled_new g fresh n t p v a run o o' i (again j u z c f m q) at b = inr (inr (record { element = n; port = p; value = v; among = inl (ap (Took n t p v) (sym f)) }))
+settled_new g fresh n t p v a run o o' i (again j u z c f m q) at b = inr
+    (inr (record { element = n; port = p; value = v; among = inl (ap (Took n t p v) (sym f)) }))
 
 -- what waited under another tag still waits
 waits_on : (count : ℕ) (s s' : World) (n : ℕ) (e e' : State) (t : Tag) (p : Port) (v : Value)
@@ -307,7 +333,8 @@ settled g vs count s run (deliver {s = s₀} {run = run₀} k m e r f q) t p v i
     by_cell aside (inl w) = inl (waits_on count s₀ s' n e e' t p v q refl (ap (λ y. get y t) aside.still) w)
     by_cell aside (inr z) = later (happens g n e m.payload) z
 
-    by_token : Taking g n e m.payload → (Among (Token t p v) (handled run₀) → Settled count s₀ run₀ t p v) → Settled count s' (happens g n e m.payload ∷ run₀) t p v
+    by_token : Taking g n e m.payload → (Among (Token t p v) (handled run₀) → Settled count s₀ run₀ t p v) →
+        Settled count s' (happens g n e m.payload ∷ run₀) t p v
     by_token new before_it = by_tag (tag_cases t new.tag) h before_it
       where
         event : Event
@@ -327,7 +354,8 @@ settled g vs count s run (deliver {s = s₀} {run = run₀} k m e r f q) t p v i
             ap (λ (y : State). get y.waiting new.tag) (sym one) ∙ w.there
 
         there_now : {u : Port} {x : Value}
-            → (get (outcome g (next_numbers n e) e.waiting e.cells m.payload).waiting new.tag ≡ Some (half u x)) ⊎ (FiredWith (event ∷ run₀) new.tag u x ⊎ BlockedAt (event ∷ run₀) new.tag)
+            → (get (outcome g (next_numbers n e) e.waiting e.cells m.payload).waiting new.tag ≡ Some (half u x)) ⊎
+            (FiredWith (event ∷ run₀) new.tag u x ⊎ BlockedAt (event ∷ run₀) new.tag)
             → Settled count s' (event ∷ run₀) new.tag u x
         there_now (inl w) = inl (record { state = e'; at = ap (slice_get (set s₀.elements n e')) (sym here) ∙ set-here s₀.elements n e' e q; there = w })
         there_now (inr z) = inr z
@@ -339,12 +367,15 @@ settled g vs count s run (deliver {s = s₀} {run = run₀} k m e r f q) t p v i
         old_token : t ≡ new.tag → Settled count s₀ run₀ t p v → Settled count s' (event ∷ run₀) t p v
         old_token is x =
             subst (λ u. Settled count s' (event ∷ run₀) u p v) (sym is)
-            (there_now (settled_here g new.fresh n new.tag new.port new.value new.arrival run₀ _ _ p v new.effect (before (subst (λ u. Settled count s₀ run₀ u p v) is x))))
+            (there_now (settled_here g new.fresh n new.tag new.port new.value new.arrival run₀ _ _ p v new.effect
+            (before (subst (λ u. Settled count s₀ run₀ u p v) is x))))
 
         own_token : t ≡ new.tag → p ≡ new.port → v ≡ new.value → Settled count s' (event ∷ run₀) t p v
         own_token is port_is value_is =
-            subst (λ (z : Tag × (Port × Value)). Settled count s' (event ∷ run₀) z.0 z.1.0 z.1.1) {x = (new.tag, (new.port, new.value))} {y = (t, (p, v))} (λ j. (sym is j, (sym port_is j, sym value_is j)))
-            (there_now (settled_new g new.fresh n new.tag new.port new.value new.arrival run₀ _ _ i new.effect (ap (λ (u : Tag). slice_get g.instrs u.instr) (sym is) ∙ at) b))
+            subst (λ (z : Tag × (Port × Value)). Settled count s' (event ∷ run₀) z.0 z.1.0 z.1.1) {x = (new.tag, (new.port, new.value))} {y = (t, (p, v))}
+            (λ j. (sym is j, (sym port_is j, sym value_is j)))
+            (there_now (settled_new g new.fresh n new.tag new.port new.value new.arrival run₀ _ _ i new.effect
+            (ap (λ (u : Tag). slice_get g.instrs u.instr) (sym is) ∙ at) b))
 
         elsewhere : (t ≡ new.tag → ⊥) → Settled count s₀ run₀ t p v → Settled count s' (event ∷ run₀) t p v
         elsewhere other (inl w) = inl (waits_on count s₀ s' n e e' t p v q refl (new.others t other) w)
@@ -361,7 +392,8 @@ settled g vs count s run (deliver {s = s₀} {run = run₀} k m e r f q) t p v i
             absurd (other (cc))
         by_tag (inr other) (inr old) before_it = as_happened (elsewhere other (before_it old))
 
-    by_handling : Handling g n e m.payload → (Among (Token t p v) (handled run₀) → Settled count s₀ run₀ t p v) → Settled count s' (happens g n e m.payload ∷ run₀) t p v
+    by_handling : Handling g n e m.payload → (Among (Token t p v) (handled run₀) → Settled count s₀ run₀ t p v) →
+        Settled count s' (happens g n e m.payload ∷ run₀) t p v
     by_handling (of_token new) before_it = by_token new before_it
     by_handling (of_cell aside) before_it = elim h [
       | inl is ↦ absurd (aside.no_token t p v (sym (is ∙ payload_of-happens g n e m.payload)))

@@ -1,5 +1,7 @@
 -- How the reading of a text goes on, piece by piece, and what its tokens keep.
-use Rattle.std.proofs.Common.{◌≡◌, ◌≢◌, ℕ, ◌+◌, ◌<◌, ◌≤◌, Bool, true, List, [], ◌∷◌, ◌++◌, drop, length, Option, Some, None, refl, sym, ap, ◌∙◌, subst, arith, ⊎_elim, length-append, length-drop, append_assoc, zero-add}
+use Rattle.std.proofs.Common.{◌≡◌, ◌≢◌, ℕ, ◌+◌, ◌<◌, ◌≤◌, Bool, true, List, [], ◌∷◌, ◌++◌, drop, length, Option, Some}
+use Rattle.std.proofs.Common.{None, refl, sym, ap, ◌∙◌, subst, arith, ⊎_elim, length-append, length-drop}
+use Rattle.std.proofs.Common.{append_assoc, zero-add}
 use Rattle.std.specs.List.{prefix_len, AllByRecursion}
 use Rattle.std.specs.Char.{is_ascii_digit}
 use Rattle.std.specs.Prelude.{All}
@@ -138,7 +140,8 @@ within_from (too_large large) = tt
 within_from (bad_byte nothing) = tt
 
 pub within : {text : List ℕ} {ts : List Token} {e : Ending} → Lexes 0 text ts e → All (IsWithin (length text)) ts
-within {text} {ts} read = All-from_recursion (IsWithin (length text)) ts (subst (λ i. AllByRecursion (IsWithin i) ts) (zero-add (length text)) (within_from read))
+within {text} {ts} read = All-from_recursion (IsWithin (length text)) ts
+    (subst (λ i. AllByRecursion (IsWithin i) ts) (zero-add (length text)) (within_from read))
 
 -- a piece that is refused is the refusal of the text
 pub refusal_at : (text : List ℕ) (at : ℕ) (ts : List Token) (x : TextError) → IsReadTo text at ts → IsRefusedAt at (drop at text) x → IsRefusal text x

@@ -1,5 +1,7 @@
 -- A text may be read in one way only.
-use Rattle.std.proofs.Common.{◌≡◌, ◌≢◌, ℕ, ◌+◌, ◌<◌, ◌≤◌, ◌^◌, ◌⊎◌, Bool, true, false, cond, not, ◌||◌, List, [], ◌∷◌, drop, length, Option, Some, None, Ok, Err, Vec, Global, pos, refl, sym, ap, ◌∙◌, subst, inl, inr, arith}
+use Rattle.std.proofs.Common.{◌≡◌, ◌≢◌, ℕ, ◌+◌, ◌<◌, ◌≤◌, ◌^◌, ◌⊎◌, Bool, true, false, cond, not, ◌||◌, List, [], ◌∷◌}
+use Rattle.std.proofs.Common.{drop, length, Option, Some, None, Ok, Err, Vec, Global, pos, refl, sym, ap, ◌∙◌, subst}
+use Rattle.std.proofs.Common.{inl, inr, arith}
 use Rattle.std.specs.Prelude.{take_while, Result, IfOk, IfErr, MatchResult}
 use Rattle.std.specs.List.{prefix_len}
 use Rattle.std.specs.Char.{is_ascii_digit}
@@ -90,7 +92,8 @@ Allows Blank text k n = (k ≡ None) × (n ≡ 1)
 Allows Percent text k n = (k ≡ None) × (n ≡ prefix_len is_comment_byte text)
 Allows Letter text k n = IsKindOfWord (take_while is_name_byte text) k × (n ≡ prefix_len is_name_byte text)
 Allows Digit text k n =
-    (number_of (take_while is_ascii_digit text) < 2 ^ 63) × (k ≡ Some (Number (pos (number_of (take_while is_ascii_digit text))))) × (n ≡ prefix_len is_ascii_digit text)
+    (number_of (take_while is_ascii_digit text) < 2 ^ 63) × (k ≡ Some (Number (pos (number_of (take_while is_ascii_digit text))))) ×
+    (n ≡ prefix_len is_ascii_digit text)
 Allows Other text k n = (s : Symbol) × HasLongestSign text s × (k ≡ Some (Sign s)) × (n ≡ length (sign_of s))
 
 allowed : {text : List ℕ} {k : Option TokenKind} {n : ℕ} → Begins text k n → Allows (class_of text) text k n
@@ -107,7 +110,8 @@ longest_same text s t one other =
     let below = one.longest t other.stands in
     let above = other.longest s one.stands in
     let as_long : length (sign_of t) ≡ length (sign_of s) = omega arith in
-    sign_of_same s t (front_from_sign (length (sign_of s)) text s (one.stands, refl) ∙ sym (front_from_sign (length (sign_of s)) text t (other.stands, as_long)))
+    sign_of_same s t (front_from_sign (length (sign_of s)) text s (one.stands, refl) ∙
+    sym (front_from_sign (length (sign_of s)) text t (other.stands, as_long)))
 
 kind_of_word_one : (w : List ℕ) (k l : Option TokenKind) → IsKindOfWord w k → IsKindOfWord w l → k ≡ l
 kind_of_word_one w k l (inl a) (inl b) = a.2 ∙ ap (λ r. Some (Key r)) (word_of_same a.0 b.0 (sym a.1 ∙ b.1)) ∙ sym b.2
@@ -188,14 +192,16 @@ one_reading {at} {text} (bad_byte b) (too_large l) = absurd (large_not_nothing t
 one_reading (bad_byte b) (bad_byte c) = (refl, refl)
 
 -- a text that is refused is read in no other way
-pub one_refusal : (text : List ℕ) (x : TextError) → IsRefusal text x → (ts : List Token) (e : Ending) → length text ≤ MAX_BYTES → Lexes 0 text ts e → (x ≡ Memory) ⊎ (e ≡ Refused x)
+pub one_refusal : (text : List ℕ) (x : TextError) → IsRefusal text x → (ts : List Token) (e : Ending) → length text ≤ MAX_BYTES → Lexes 0 text ts e →
+    (x ≡ Memory) ⊎ (e ≡ Refused x)
 one_refusal text TooLong refusal ts e short read = absurd (omega arith)
 one_refusal text (BadByte at) refusal ts e short read = inr (sym (one_reading refusal.1 read).1)
 one_refusal text (NumberTooLarge at) refusal ts e short read = inr (sym (one_reading refusal.1 read).1)
 one_refusal text Memory refusal ts e short read = inl refl
 
 -- what came back is what any reading of the text has
-pub one_result : (text : List ℕ) (r : Result (Vec Token Global) TextError) → IfOk r (λ v. Lexes 0 text v.items Whole) → IfErr r (IsRefusal text) → (ts : List Token) (e : Ending) →
+pub one_result : (text : List ℕ) (r : Result (Vec Token Global) TextError) → IfOk r (λ v. Lexes 0 text v.items Whole) → IfErr r (IsRefusal text) →
+    (ts : List Token) (e : Ending) →
     length text ≤ MAX_BYTES → Lexes 0 text ts e → MatchResult r (λ v. (v.items ≡ ts) × (e ≡ Whole)) (λ x. (x ≡ Memory) ⊎ (e ≡ Refused x))
 one_result text (Ok v) tokens refused ts e short read = let same = one_reading tokens read in (same.0, sym same.1)
 one_result text (Err x) tokens refused ts e short read = one_refusal text x refused ts e short read

@@ -1,5 +1,7 @@
 -- What the readers of pieces have found, as pieces.
-use Rattle.std.proofs.Common.{◌≡◌, ◌≢◌, ℕ, ◌-◌, ◌<◌, ◌^◌, Bool, true, List, [], ◌∷◌, take, drop, get_or, length, Some, None, ℤ, pos, sym, ap, ◌∙◌, subst, arith, add-zero, length-drop, length-take, get_or-drop, get_or-take}
+use Rattle.std.proofs.Common.{◌≡◌, ◌≢◌, ℕ, ◌-◌, ◌<◌, ◌^◌, Bool, true, List, [], ◌∷◌, take, drop, get_or, length, Some}
+use Rattle.std.proofs.Common.{None, ℤ, pos, sym, ap, ◌∙◌, subst, arith, add-zero, length-drop, length-take}
+use Rattle.std.proofs.Common.{get_or-drop, get_or-take}
 use Rattle.std.specs.Prelude.{take_while}
 use Rattle.std.specs.List.{prefix_len, AllPass}
 use Rattle.std.specs.Char.{is_ascii_digit}
@@ -19,16 +21,19 @@ opens_by_first p [] some passes = absurd (omega arith)
 opens_by_first p (b ∷ rest) some passes = passes
 
 -- a reserved word that is the text's longest run of name bytes is its first piece
-pub begins_word : (text w : List ℕ) (k : Keyword) → Opens is_letter text → w ≡ take_while is_name_byte text → w ≡ word_of k → Begins text (Some (Key k)) (length w)
+pub begins_word : (text w : List ℕ) (k : Keyword) → Opens is_letter text → w ≡ take_while is_name_byte text → w ≡ word_of k →
+    Begins text (Some (Key k)) (length w)
 begins_word text w k opens run spelled = rw (ap length run ∙ length-prefix_len is_name_byte text) (word k opens (sym run ∙ spelled))
 
 -- a run that is no reserved word is a name
-pub begins_name : (text w : List ℕ) → Opens is_letter text → w ≡ take_while is_name_byte text → ((k : Keyword) → w ≢ word_of k) → Begins text (Some (Name w)) (length w)
+pub begins_name : (text w : List ℕ) → Opens is_letter text → w ≡ take_while is_name_byte text → ((k : Keyword) → w ≢ word_of k) →
+    Begins text (Some (Name w)) (length w)
 begins_name text w opens run other =
     rw run (rw (length-prefix_len is_name_byte text) (name opens (λ k spelled. other k (run ∙ spelled))))
 
 -- a run of digits is its number
-pub begins_number : (text : List ℕ) (n : ℕ) (v : ℤ) → Opens is_ascii_digit text → n ≡ prefix_len is_ascii_digit text → number_of (take n text) < 2 ^ 63 → v ≡ pos (number_of (take n text)) → Begins text (Some (Number v)) n
+pub begins_number : (text : List ℕ) (n : ℕ) (v : ℤ) → Opens is_ascii_digit text → n ≡ prefix_len is_ascii_digit text → number_of (take n text) < 2 ^ 63 →
+    v ≡ pos (number_of (take n text)) → Begins text (Some (Number v)) n
 begins_number text n v opens run fits value = rw (value, run) (number opens (subst (λ i. number_of (take i text) < 2 ^ 63) run fits))
 
 -- the longest sign is the text's first piece
@@ -58,6 +63,7 @@ pub begins_blank : (text rest : List ℕ) → rest ≡ text → 0 < length text 
 begins_blank text rest same some passes = blank (opens_by_first is_blank text some (ap (λ bytes. is_blank (get_or bytes 0 0)) (sym same) ∙ passes))
 
 -- a comment is a piece
-pub begins_comment : (text rest : List ℕ) (n : ℕ) → rest ≡ text → 0 < length text → get_or rest 0 0 ≡ 37 → n ≡ prefix_len is_comment_byte rest → Begins text None n
+pub begins_comment : (text rest : List ℕ) (n : ℕ) → rest ≡ text → 0 < length text → get_or rest 0 0 ≡ 37 → n ≡ prefix_len is_comment_byte rest →
+    Begins text None n
 begins_comment text rest n same some percent len =
     rw (len, same) (comment (opens_by_first is_percent text some (ap (λ bytes. is_percent (get_or bytes 0 0)) (sym same) ∙ ap is_percent percent)))

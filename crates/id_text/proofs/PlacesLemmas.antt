@@ -1,8 +1,11 @@
 -- The starts of lines give lines and columns.
-use Rattle.std.proofs.Common.{◌≡◌, ℕ, zero, suc, ◌+◌, ◌-◌, ◌<◌, ◌≤◌, Bool, true, false, cond, leb, not, List, [], ◌∷◌, take, length, get_or, count_by, refl, sym, ap, ◌∙◌, subst, arith, le-leb, zero-add, one-add, add-one, length-take-le}
+use Rattle.std.proofs.Common.{◌≡◌, ℕ, zero, suc, ◌+◌, ◌-◌, ◌<◌, ◌≤◌, Bool, true, false, cond, leb, not, List, [], ◌∷◌}
+use Rattle.std.proofs.Common.{take, length, get_or, count_by, refl, sym, ap, ◌∙◌, subst, arith, le-leb, zero-add}
+use Rattle.std.proofs.Common.{one-add, add-one, length-take-le}
 use Rattle.std.specs.List.{prefix_len, suffix_len}
 use Rattle.std.specs.List.Sorted.{IsNonDecreasing}
-use Rattle.std.proofs.lemmas.List.Sums.{prefix_len_is, prefix_len-le-length, count_by-le-length, sum_by-cons, count_by_more_yes, count_by_more_no, suffix_len-take_yes, suffix_len-take_no}
+use Rattle.std.proofs.lemmas.List.Sums.{prefix_len_is, prefix_len-le-length, count_by-le-length, sum_by-cons}
+use Rattle.std.proofs.lemmas.List.Sums.{count_by_more_yes, count_by_more_no, suffix_len-take_yes, suffix_len-take_no}
 use Rattle.std.proofs.lemmas.Bool.Decides.{nat_tests}
 use Rattle.id_text.specs.Places.{is_line_end, is_within_line, line_of, column_of, starts_after, line_starts}
 
@@ -42,7 +45,8 @@ pub line_starts_rise : (text : List ℕ) → IsNonDecreasing (line_starts text)
 line_starts_rise text = cons_rises 0 (starts_after 0 text) (λ j d inside. omega arith) (starts_rise 0 text)
 
 -- a place has as many starts up to it as lines end before it
-until_step : (v : Bool) (x at c : ℕ) (rs : List ℕ) → x ≤ at → prefix_len (λ s. leb s at) rs ≡ c → prefix_len (λ s. leb s at) (cond v (x ∷ rs) rs) ≡ cond v 1 0 + c
+until_step : (v : Bool) (x at c : ℕ) (rs : List ℕ) → x ≤ at → prefix_len (λ s. leb s at) rs ≡ c →
+    prefix_len (λ s. leb s at) (cond v (x ∷ rs) rs) ≡ cond v 1 0 + c
 until_step true x at c rs below same = rw (le-leb x at below, same) refl
 until_step false x at c rs below same = same ∙ sym (zero-add c)
 
@@ -52,12 +56,14 @@ none_until n text =
     (λ some. let up = starts_above n text 0 0 some in grind (arith, nat_tests))
 
 starts_until : (n : ℕ) (text : List ℕ) (k : ℕ) → k ≤ length text → prefix_len (λ s. leb s (n + k)) (starts_after n text) ≡ ends_before text k
-starts_until n text zero fits = subst (λ at. prefix_len (λ s. leb s at) (starts_after n text) ≡ 0) (let same : n ≡ n + 0 = omega arith in same) (none_until n text)
+starts_until n text zero fits = subst (λ at. prefix_len (λ s. leb s at) (starts_after n text) ≡ 0) (let same : n ≡ n + 0 = omega arith in same)
+    (none_until n text)
 starts_until n [] (suc k) fits = refl
 starts_until n (b ∷ rest) (suc k) fits =
     let there : n + 1 + k ≡ n + suc k = omega arith in
     let inner = subst (λ at. prefix_len (λ s. leb s at) (starts_after (n + 1) rest) ≡ ends_before rest k) there (starts_until (n + 1) rest k (omega arith)) in
-    until_step (is_line_end b) (n + 1) (n + suc k) (ends_before rest k) (starts_after (n + 1) rest) (omega arith) inner ∙ sym (sum_by-cons (λ x. cond (is_line_end x) 1 0) b (take k rest))
+    until_step (is_line_end b) (n + 1) (n + suc k) (ends_before rest k) (starts_after (n + 1) rest) (omega arith) inner ∙
+    sym (sum_by-cons (λ x. cond (is_line_end x) 1 0) b (take k rest))
 
 pub line_starts_until : (text : List ℕ) (at : ℕ) → at ≤ length text → prefix_len (λ s. leb s at) (line_starts text) ≡ ends_before text at + 1
 line_starts_until text at fits =
@@ -69,7 +75,8 @@ start_step : (v : Bool) (x c : ℕ) (rs : List ℕ) → get_or (cond v (x ∷ rs
 start_step true x c rs = ap (λ i. get_or (x ∷ rs) i 0) (one-add c)
 start_step false x c rs = ap (λ i. get_or rs i 0) (zero-add c)
 
-start_at : (n : ℕ) (text : List ℕ) (k : ℕ) → k < length text → is_line_end (get_or text k 0) ≡ true → get_or (starts_after n text) (ends_before text k) 0 ≡ n + k + 1
+start_at : (n : ℕ) (text : List ℕ) (k : ℕ) → k < length text → is_line_end (get_or text k 0) ≡ true →
+    get_or (starts_after n text) (ends_before text k) 0 ≡ n + k + 1
 start_at n [] k inside ends = absurd (omega arith)
 start_at n (b ∷ rest) zero inside ends = rw ends (omega arith)
 start_at n (b ∷ rest) (suc k) inside ends =
@@ -82,7 +89,8 @@ start_at n (b ∷ rest) (suc k) inside ends =
 abbrev pub start_of : List ℕ → ℕ → ℕ
 start_of text at = get_or (line_starts text) (ends_before text at) 0
 
-column_step : (v : Bool) (text : List ℕ) (at : ℕ) → at < length text → is_line_end (get_or text at 0) ≡ v → start_of text at + suffix_len is_within_line (take at text) ≡ at →
+column_step : (v : Bool) (text : List ℕ) (at : ℕ) → at < length text → is_line_end (get_or text at 0) ≡ v →
+    start_of text at + suffix_len is_within_line (take at text) ≡ at →
     start_of text (at + 1) + suffix_len is_within_line (take (at + 1) text) ≡ at + 1
 column_step true text at inside ends before =
     let back : at + 1 - 1 ≡ at = omega arith in
@@ -92,7 +100,8 @@ column_step true text at inside ends before =
     rw (next, none) (omega arith)
 column_step false text at inside ends before =
     let back : at + 1 - 1 ≡ at = omega arith in
-    let more = suffix_len-take_yes is_within_line text (at + 1) 0 (omega arith) (omega arith) (ap (λ i. is_within_line (get_or text i 0)) back ∙ ap not ends) ∙ ap (λ i. 1 + suffix_len is_within_line (take i text)) back in
+    let more = suffix_len-take_yes is_within_line text (at + 1) 0 (omega arith) (omega arith) (ap (λ i. is_within_line (get_or text i 0)) back ∙ ap not ends)
+    ∙ ap (λ i. 1 + suffix_len is_within_line (take i text)) back in
     let same = ap (λ i. get_or (line_starts text) i 0) (count_by_more_no is_line_end text at 0 inside ends) in
     rw (same, more) (omega arith)
 
@@ -122,7 +131,8 @@ pub record IsFound (text starts : List ℕ) (at line : ℕ) : Type 0 where
   pub start_le : get_or starts (line - 1) 0 ≤ at
   pub is_column : at - get_or starts (line - 1) 0 + 1 ≡ column_of text at
 
-pub found : (text starts : List ℕ) (at line : ℕ) → starts ≡ line_starts text → at ≤ length text → line ≡ prefix_len (λ s. leb s at) starts → IsFound text starts at line
+pub found : (text starts : List ℕ) (at line : ℕ) → starts ≡ line_starts text → at ≤ length text → line ≡ prefix_len (λ s. leb s at) starts →
+    IsFound text starts at line
 found text starts at line those inside counted =
     let is_line : line ≡ line_of text at = counted ∙ ap (prefix_len (λ s. leb s at)) those ∙ line_starts_until text at inside in
     let fits : line ≤ length starts = rw counted (prefix_len-le-length (λ s. leb s at) starts) in

@@ -1,10 +1,15 @@
 -- Signs have one byte or two.
-use Rattle.std.proofs.Common.{◌≡◌, ◌≢◌, ℕ, ◌<◌, ◌≤◌, ◌⊎◌, List, [], ◌∷◌, ◌++◌, take, drop, get_or, length, Option, Some, None, MatchOption, inl, inr, ⊎_elim, refl, sym, ap, ◌∙◌, arith, length-append, take-append-drop, length-take-le}
+use Rattle.std.proofs.Common.{◌≡◌, ◌≢◌, ℕ, ◌<◌, ◌≤◌, ◌⊎◌, List, [], ◌∷◌, ◌++◌, take, drop, get_or, length, Option}
+use Rattle.std.proofs.Common.{Some, None, MatchOption, inl, inr, ⊎_elim, refl, sym, ap, ◌∙◌, arith, length-append}
+use Rattle.std.proofs.Common.{take-append-drop, length-take-le}
 use Rattle.std.proofs.lemmas.List.{take_at}
 use Rattle.id_text.specs.Bytes.{sign_of}
 use Rattle.id_text.specs.Lexes.{HasSign, HasSignOf, HasLongestSign}
 use Rattle.id_text.specs.declared.token.Symbol.{Symbol}
-use Rattle.id_text.specs.declared.token.Symbol.TheVariants.{LeftParen, RightParen, LeftBrace, RightBrace, LeftBracket, RightBracket, Comma, Semicolon, Colon, Becomes, Equal, NotEqual, Less, LessEqual, Greater, GreaterEqual, Arrow, Plus, Minus, Star}
+use Rattle.id_text.specs.declared.token.Symbol.TheVariants.{LeftParen, RightParen, LeftBrace, RightBrace, LeftBracket}
+use Rattle.id_text.specs.declared.token.Symbol.TheVariants.{RightBracket, Comma, Semicolon, Colon, Becomes, Equal}
+use Rattle.id_text.specs.declared.token.Symbol.TheVariants.{NotEqual, Less, LessEqual, Greater, GreaterEqual, Arrow}
+use Rattle.id_text.specs.declared.token.Symbol.TheVariants.{Plus, Minus, Star}
 
 pub length-sign_of : (s : Symbol) → (length (sign_of s) ≡ 1) ⊎ (length (sign_of s) ≡ 2)
 length-sign_of LeftParen = inl refl
@@ -35,7 +40,10 @@ module _ (text : List ℕ) where
 
   -- where no sign of two bytes stands, one of one byte is the longest
   pub longest_single : ((s : Symbol) → ¬ (HasSignOf 2 text s)) → (s : Symbol) → HasSignOf 1 text s → HasLongestSign text s
-  longest_single no_pair s has = record { stands = has.0; longest = λ t other. ⊎_elim (λ one. omega (arith, has.1)) (λ two. absurd (no_pair t (other, two))) (length-sign_of t) }
+  longest_single no_pair s has = record {
+    stands = has.0;
+    longest = λ t other. ⊎_elim (λ one. omega (arith, has.1)) (λ two. absurd (no_pair t (other, two))) (length-sign_of t);
+  }
 
   -- a sign is one of two bytes or of one
   pub no_sign : ((s : Symbol) → ¬ (HasSignOf 2 text s)) → ((s : Symbol) → ¬ (HasSignOf 1 text s)) → (s : Symbol) → ¬ (HasSign text s)
@@ -53,7 +61,9 @@ sign_from_front n text s fits same = (
 )
 
 -- what is said of the first n bytes is said of the text
-pub signs_at : (n : ℕ) (text : List ℕ) (r : Option Symbol) → n ≤ length text → MatchOption r ((s : Symbol) → sign_of s ≢ take n text) (λ s. sign_of s ≡ take n text) → MatchOption r ((s : Symbol) → ¬ (HasSignOf n text s)) (HasSignOf n text)
+pub signs_at : (n : ℕ) (text : List ℕ) (r : Option Symbol) → n ≤ length text →
+    MatchOption r ((s : Symbol) → sign_of s ≢ take n text) (λ s. sign_of s ≡ take n text) →
+    MatchOption r ((s : Symbol) → ¬ (HasSignOf n text s)) (HasSignOf n text)
 signs_at n text None fits none = λ s has. none s (front_from_sign n text s has)
 signs_at n text (Some s) fits same = sign_from_front n text s fits same
 

@@ -4,9 +4,14 @@ use Rattle.std.specs.Str.{bytes_eq}
 use Rattle.id_text.specs.Bytes.{is_other, word_of, sign_of}
 use Rattle.id_text.specs.Lexes.{Opens}
 use Rattle.id_text.specs.declared.token.Keyword.{Keyword}
-use Rattle.id_text.specs.declared.token.Keyword.TheVariants.{Def, If, Then, Else, While, Do, Next, Finally, In, True, False, Int, Bool as BoolWord, Array, Div, Rem, And, Or, Not, For, To}
+use Rattle.id_text.specs.declared.token.Keyword.TheVariants.{Def, If, Then, Else, While, Do, Next, Finally, In, True}
+use Rattle.id_text.specs.declared.token.Keyword.TheVariants.{False, Int, Bool as BoolWord, Array, Div, Rem, And, Or}
+use Rattle.id_text.specs.declared.token.Keyword.TheVariants.{Not, For, To}
 use Rattle.id_text.specs.declared.token.Symbol.{Symbol}
-use Rattle.id_text.specs.declared.token.Symbol.TheVariants.{LeftParen, RightParen, LeftBrace, RightBrace, LeftBracket, RightBracket, Comma, Semicolon, Colon, Becomes, Equal, NotEqual, Less, LessEqual, Greater, GreaterEqual, Arrow, Plus, Minus, Star}
+use Rattle.id_text.specs.declared.token.Symbol.TheVariants.{LeftParen, RightParen, LeftBrace, RightBrace, LeftBracket}
+use Rattle.id_text.specs.declared.token.Symbol.TheVariants.{RightBracket, Comma, Semicolon, Colon, Becomes, Equal}
+use Rattle.id_text.specs.declared.token.Symbol.TheVariants.{NotEqual, Less, LessEqual, Greater, GreaterEqual, Arrow}
+use Rattle.id_text.specs.declared.token.Symbol.TheVariants.{Plus, Minus, Star}
 
 -- the first of the things that is spelled so
 abbrev first_spelled : {K : Type 0} → (K → List ℕ) → List ℕ → List K → Option K
@@ -17,7 +22,8 @@ abbrev all_words : List Keyword
 all_words = Def ∷ If ∷ Then ∷ Else ∷ While ∷ Do ∷ Next ∷ Finally ∷ In ∷ True ∷ False ∷ Int ∷ BoolWord ∷ Array ∷ Div ∷ Rem ∷ And ∷ Or ∷ Not ∷ For ∷ To ∷ []
 
 abbrev all_signs : List Symbol
-all_signs = LeftParen ∷ RightParen ∷ LeftBrace ∷ RightBrace ∷ LeftBracket ∷ RightBracket ∷ Comma ∷ Semicolon ∷ Colon ∷ Becomes ∷ Equal ∷ NotEqual ∷ Less ∷ LessEqual ∷ Greater ∷ GreaterEqual ∷ Arrow ∷ Plus ∷ Minus ∷ Star ∷ []
+all_signs = LeftParen ∷ RightParen ∷ LeftBrace ∷ RightBrace ∷ LeftBracket ∷ RightBracket ∷ Comma ∷ Semicolon ∷ Colon ∷ Becomes ∷ Equal ∷ NotEqual ∷ Less ∷
+    LessEqual ∷ Greater ∷ GreaterEqual ∷ Arrow ∷ Plus ∷ Minus ∷ Star ∷ []
 
 word_found : (k : Keyword) → first_spelled word_of (word_of k) all_words ≡ Some k
 word_found Def = refl

@@ -28,7 +28,8 @@ word_nonempty bytes at before letter =
     omega arith
 
 -- the text may be cut behind the word, since the word's last byte is ASCII
-pub word_boundary : (bytes : List ℕ) (at : ℕ) → IsUtf8 bytes → at < length bytes → is_letter (get_or bytes at 0) ≡ true → IsCharBoundary bytes (at + prefix_len is_name_byte (drop at bytes))
+pub word_boundary : (bytes : List ℕ) (at : ℕ) → IsUtf8 bytes → at < length bytes → is_letter (get_or bytes at 0) ≡ true →
+    IsCharBoundary bytes (at + prefix_len is_name_byte (drop at bytes))
 word_boundary bytes at utf8 before letter =
     let n = prefix_len is_name_byte (drop at bytes) in
     let some : 0 < n = word_nonempty bytes at before letter in

@@ -13,9 +13,11 @@ use Rattle.id_tree.specs.declared.tree.TreeError.{TreeError}
 use Rattle.id_tree.specs.declared.tree.TreeError.TheVariants.{TooDeep}
 use Rattle.id_tree.specs.Tree as tree
 use Rattle.id_tree.specs.Tree.{Tree, fetch, binding}
-use Rattle.id_tree.specs.Grammar.{Unary, Postfix, Atom, Tail, Rest, done, word, part, enclosed, with_statement, statement_of, array_of, fetch_of, store_of, assigned_of, Opens, by_array}
+use Rattle.id_tree.specs.Grammar.{Unary, Postfix, Atom, Tail, Rest, done, word, part, enclosed, with_statement}
+use Rattle.id_tree.specs.Grammar.{statement_of, array_of, fetch_of, store_of, assigned_of, Opens, by_array}
 use Rattle.id_tree.specs.Machine.{opening, Frame, Target, Inside, Want, Have, Next, run}
-use Rattle.id_tree.specs.Readers.{first_kind, first_start, Leads, Fails, Takes, Misses, BeginsWithName, Encloses, Exposes, Adds, Assigns, Misassigns, Indexes, Misindexes}
+use Rattle.id_tree.specs.Readers.{first_kind, first_start, Leads, Fails, Takes, Misses, BeginsWithName, Encloses}
+use Rattle.id_tree.specs.Readers.{Exposes, Adds, Assigns, Misassigns, Indexes, Misindexes}
 use Rattle.id_tree.proofs.RunLemmas.{Unopened, run-bare, run-postfix, run-target, run-fetch, run-fetch-deep, run-chosen, run-done, run-part}
 use Rattle.id_tree.proofs.ReaderLemmas.{EndsBy-at, At, At-opens, first_of, no_word}
 use Rattle.id_tree.proofs.BlockLemmas.{At-statement}

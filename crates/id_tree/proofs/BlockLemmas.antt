@@ -12,9 +12,12 @@ use Rattle.id_tree.specs.declared.tokens.Word.TheVariants as the
 use Rattle.id_tree.specs.declared.tree.Stmt.{Stmt}
 use Rattle.id_tree.specs.declared.tree.TreeError.{TreeError}
 use Rattle.id_tree.specs.Tree.{Tree, stmt_tree, binding, next, none, more}
-use Rattle.id_tree.specs.Grammar.{Atom, Tail, Rest, done, name, part, either, with_statement, statement_of, assigned_of, last_of, block_of, loop_of, Opens, by_braces, by_statement, by_next, by_body, by_last}
+use Rattle.id_tree.specs.Grammar.{Atom, Tail, Rest, done, name, part, either, with_statement, statement_of}
+use Rattle.id_tree.specs.Grammar.{assigned_of, last_of, block_of, loop_of, Opens, by_braces, by_statement, by_next}
+use Rattle.id_tree.specs.Grammar.{by_body, by_last}
 use Rattle.id_tree.specs.Machine.{opening, Inside, Want, Have, name_in, run}
-use Rattle.id_tree.specs.Readers.{first_kind, second_kind, IsRead, IsGathered, Leads, Fails, BeginsWithName, LacksName, Encloses, Exposes, onto, last_word, Adds, Gathers}
+use Rattle.id_tree.specs.Readers.{first_kind, second_kind, IsRead, IsGathered, Leads, Fails, BeginsWithName}
+use Rattle.id_tree.specs.Readers.{LacksName, Encloses, Exposes, onto, last_word, Adds, Gathers}
 use Rattle.id_tree.proofs.RunLemmas.{run-none, run-done, run-part, run-inside}
 use Rattle.id_tree.proofs.ReaderLemmas.{EndsBy-at, At, At-opens, At-chosen, At-left_out, At-enclosed, Fails-enclosed, Leads-done, Leads-at}
 
@@ -86,7 +89,8 @@ Fails-tail {ts = ts} o d f g (inr q) = record {
 }
 
 -- behind a statement the tail is wanted again
-pub Adds-done : {o : Scope} {ts us : List Token} {d h k : ℕ} {s r : Tree} → r ≡ s → k ≡ h → At ts (Tail o) d us (part (Tail o) (λ a. done (with_statement s a))) h → Adds ts o d us r k
+pub Adds-done : {o : Scope} {ts us : List Token} {d h k : ℕ} {s r : Tree} → r ≡ s → k ≡ h →
+    At ts (Tail o) d us (part (Tail o) (λ a. done (with_statement s a))) h → Adds ts o d us r k
 Adds-done {o = o} {us = us} {d = d} {h = h} {s = s} i j p = rw (i, j) (record {
   comes = λ K.
       p.comes K ∙ run-part 200 us (Tail o) (λ a. done (with_statement s a)) h (d + 0) 0 K
@@ -108,7 +112,8 @@ Gathers-none ts o d = record {
 }
 
 -- one statement more
-pub Gathers-add : {ts us vs : List Token} {o : Scope} {d h k : ℕ} {ss : List Stmt} (s : Stmt) → Gathers ts o d us ss h → Adds us o d vs (stmt_tree s) k → Gathers ts o d vs (ss ++ s ∷ []) (max h k)
+pub Gathers-add : {ts us vs : List Token} {o : Scope} {d h k : ℕ} {ss : List Stmt} (s : Stmt) → Gathers ts o d us ss h → Adds us o d vs (stmt_tree s) k →
+    Gathers ts o d vs (ss ++ s ∷ []) (max h k)
 Gathers-add {d = d} {h = h} {k = k} {ss = ss} s g q = record {
   stacks = λ K.
       let t = g.stacks K in
@@ -126,10 +131,12 @@ Gathers-add {d = d} {h = h} {k = k} {ss = ss} s g q = record {
 }
 
 -- a tail of which statements are taken ends as its last tail does
-pub Fails-gathered : {ts us : List Token} {o : Scope} {d h : ℕ} {ss : List Stmt} {x : TreeError} → Gathers ts o d us ss h → Fails us (Tail o) d x → Fails ts (Tail o) d x
+pub Fails-gathered : {ts us : List Token} {o : Scope} {d h : ℕ} {ss : List Stmt} {x : TreeError} → Gathers ts o d us ss h → Fails us (Tail o) d x →
+    Fails ts (Tail o) d x
 Fails-gathered {x = x} g q = record { fails = λ K. EndsBy-at x (g.stacks K).comes (q.fails (g.stacks K).stack) }
 
-pub Leads-gathered : {ts us vs : List Token} {o : Scope} {d h m : ℕ} {ss : List Stmt} {a e : Tree} → Gathers ts o d us ss h → Leads us (Tail o) d vs (more a e) m → Leads ts (Tail o) d vs (more (onto ss a) e) (max h m)
+pub Leads-gathered : {ts us vs : List Token} {o : Scope} {d h m : ℕ} {ss : List Stmt} {a e : Tree} → Gathers ts o d us ss h →
+    Leads us (Tail o) d vs (more a e) m → Leads ts (Tail o) d vs (more (onto ss a) e) (max h m)
 Leads-gathered {vs = vs} {m = m} {a = a} {e = e} g q = record { comes = λ K. (g.stacks K).comes ∙ q.comes (g.stacks K).stack ∙ (g.stacks K).folds vs a e m }
 
 -- the last tail is the last word, and the expression that gives the value

@@ -1,5 +1,6 @@
 -- How the readers' runs are put together behind a name, argument by argument.
-use Rattle.std.proofs.Common.{◌≡◌, ℕ, ◌+◌, ◌≤◌, ◌<◌, max, Bool, true, false, Option, Some, None, List, [], ◌∷◌, ◌++◌, length, refl, sym, ap, ◌∙◌, add-zero, arith}
+use Rattle.std.proofs.Common.{◌≡◌, ℕ, ◌+◌, ◌≤◌, ◌<◌, max, Bool, true, false, Option, Some, None, List, [], ◌∷◌, ◌++◌}
+use Rattle.std.proofs.Common.{length, refl, sym, ap, ◌∙◌, add-zero, arith}
 use Rattle.id_text.specs.Tokens.{EndsOnce}
 use Rattle.id_text.specs.declared.token.Token.{Token}
 use Rattle.id_text.specs.declared.token.TokenKind.{TokenKind}
@@ -12,9 +13,11 @@ use Rattle.id_tree.specs.declared.tree.TreeError.{TreeError}
 use Rattle.id_tree.specs.declared.tree.TreeError.TheVariants.{Unexpected}
 use Rattle.id_tree.specs.Tree as tree
 use Rattle.id_tree.specs.Tree.{Tree, tree_of, call, none, more}
-use Rattle.id_tree.specs.Grammar.{Expression, Atom, Arguments, MoreArguments, Rest, done, part, named_of, argument_of, arguments_of, Opens, no_arguments, last_argument, next_argument}
+use Rattle.id_tree.specs.Grammar.{Expression, Atom, Arguments, MoreArguments, Rest, done, part, named_of, argument_of}
+use Rattle.id_tree.specs.Grammar.{arguments_of, Opens, no_arguments, last_argument, next_argument}
 use Rattle.id_tree.specs.Machine.{opening, Frame, Inside, State, Move, Want, Have, Next, expresses, takes, Refused, run}
-use Rattle.id_tree.specs.Readers.{first_kind, first_start, IsRead, IsGathered, EndsBy, Leads, Fails, begins_expression, no_room_at, Applies, Misapplies, passed, Hands}
+use Rattle.id_tree.specs.Readers.{first_kind, first_start, IsRead, IsGathered, EndsBy, Leads, Fails}
+use Rattle.id_tree.specs.Readers.{begins_expression, no_room_at, Applies, Misapplies, passed, Hands}
 use Rattle.id_tree.proofs.RunLemmas.{Unopened, run-deep, run-none, run-done, run-part, run-inside, run-chosen, run-left_out, run-arguments}
 use Rattle.id_tree.proofs.ReaderLemmas.{EndsBy-at, At, At-opens, Leads-done, first_of, no_word, opens_name}
 
@@ -38,7 +41,8 @@ IsRead-named e q = let l = ap length e in record {
 }
 
 -- no bracket comes behind the name
-pub Applies-name : {ts : List Token} {x : List ℕ} {p : ℕ} (d : ℕ) {a : Tree} {h : ℕ} → (first_kind ts ≡ Sign LeftParen → ⊥) → a ≡ tree.name x p → h ≡ 1 → Applies ts d x p ts a h
+pub Applies-name : {ts : List Token} {x : List ℕ} {p : ℕ} (d : ℕ) {a : Tree} {h : ℕ} → (first_kind ts ≡ Sign LeftParen → ⊥) → a ≡ tree.name x p → h ≡ 1 →
+    Applies ts d x p ts a h
 Applies-name {ts = ts} {x = x} {p = p} d f i j = rw (i, j) (record {
   comes = λ K.
       let n = tree.name x p in
@@ -48,7 +52,8 @@ Applies-name {ts = ts} {x = x} {p = p} d f i j = rw (i, j) (record {
 
 -- a bracket comes, and arguments
 module _ {ts us : List Token} {t : Token} (e : ts ≡ t ∷ us) (q : first_kind ts ≡ Sign LeftParen) (d : ℕ) (x : List ℕ) (p : ℕ) where
-  bracket_comes : (K : List Frame) → run 200 ts (Next (named_of x p) 0 (d + 1) 1 K) ≡ run 200 us (Want Arguments (d + 1) (Inside (λ a. done (call x a p)) 0 (d + 1) 1 ∷ K))
+  bracket_comes : (K : List Frame) → run 200 ts (Next (named_of x p) 0 (d + 1) 1 K) ≡
+      run 200 us (Want Arguments (d + 1) (Inside (λ a. done (call x a p)) 0 (d + 1) 1 ∷ K))
   bracket_comes K =
       let f : Tree → Rest = λ a. done (call x a p) in
       rw e (run-chosen 200 t us (the.Sign LeftParen) (λ _. part Arguments f) (done (tree.name x p)) 0 (d + 1) 1 K (first_of e q)
@@ -133,7 +138,8 @@ module _ {ts us : List Token} {d h : ℕ} {es : List Expr} (g : Hands ts d us es
   comma_comes q w = At-opens whole (opens_next q) d (omega arith)
 
   -- one more
-  pub Hands-add : {vs : List Token} {k : ℕ} (e a : Expr) → a ≡ e → first_kind us ≡ Sign Comma → d + 1 ≤ 200 → Leads ws Expression d vs (tree_of e) k → Hands ts d vs (es ++ a ∷ []) (max h k)
+  pub Hands-add : {vs : List Token} {k : ℕ} (e a : Expr) → a ≡ e → first_kind us ≡ Sign Comma → d + 1 ≤ 200 → Leads ws Expression d vs (tree_of e) k →
+      Hands ts d vs (es ++ a ∷ []) (max h k)
   Hands-add {k = k} e b j i w q = rw j (record {
     passes = λ K.
         let l = g.passes K in
@@ -171,7 +177,8 @@ module _ {ts us : List Token} {d h : ℕ} {es : List Expr} (g : Hands ts d us es
   not_more (Sign RightParen) p f h = absurd (h refl)
   not_more _ p f h = refl
 
-  pub Fails-passed : (x : TreeError) → x ≡ Unexpected (first_start us) → (first_kind us ≡ Sign Comma → ⊥) → (t.kind ≡ Sign RightParen → ⊥) → Fails ts Arguments d x
+  pub Fails-passed : (x : TreeError) → x ≡ Unexpected (first_start us) → (first_kind us ≡ Sign Comma → ⊥) → (t.kind ≡ Sign RightParen → ⊥) →
+      Fails ts Arguments d x
   Fails-passed x j f n = record {
     fails = λ K.
         let l = g.passes K in

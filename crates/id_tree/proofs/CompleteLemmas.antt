@@ -12,10 +12,20 @@ use Rattle.id_tree.specs.declared.tokens.Word.{Word}
 use Rattle.id_tree.specs.declared.tokens.Word.TheVariants as the
 use Rattle.id_value.specs.declared.BinaryOp.{BinaryOp}
 use Rattle.id_tree.specs.Tree.{Tree, none, more}
-use Rattle.id_tree.specs.Grammar.{Phrase, Definition, Parameters, MoreParameters, Expression, Grouped, Negation, Unary, Postfix, Atom, Arguments, MoreArguments, Tail, arguments_of, Rest, part, Opens, by_conditional, denied, negated, number, by_true, by_false, parens, by_name, by_array, by_braces, last_argument, next_argument, operand, left_operand, operator_of, own_height, Derives, opened, unconditional, single, grouped, plain, bare, atomic, fetched, some_arguments, Follows, ended, taken, chosen, left_out, named, kinded, given, Program, empty, defined}
-use Rattle.id_tree.specs.Machine.{opening, is_word, room, Move, pick, ahead, ends, wants, Frame, Left, Right, Target, Inside, Outer, again, State, Begin, Want, Have, Next, Accepted, Refused, run}
+use Rattle.id_tree.specs.Grammar.{Phrase, Definition, Parameters, MoreParameters, Expression, Grouped, Negation}
+use Rattle.id_tree.specs.Grammar.{Unary, Postfix, Atom, Arguments, MoreArguments, Tail, arguments_of, Rest, part}
+use Rattle.id_tree.specs.Grammar.{Opens, by_conditional, denied, negated, number, by_true, by_false, parens, by_name}
+use Rattle.id_tree.specs.Grammar.{by_array, by_braces, last_argument, next_argument, operand, left_operand}
+use Rattle.id_tree.specs.Grammar.{operator_of, own_height, Derives, opened, unconditional, single, grouped, plain}
+use Rattle.id_tree.specs.Grammar.{bare, atomic, fetched, some_arguments, Follows, ended, taken, chosen, left_out}
+use Rattle.id_tree.specs.Grammar.{named, kinded, given, Program, empty, defined}
+use Rattle.id_tree.specs.Machine.{opening, is_word, room, Move, pick, ahead, ends, wants, Frame, Left, Right, Target}
+use Rattle.id_tree.specs.Machine.{Inside, Outer, again, State, Begin, Want, Have, Next, Accepted, Refused, run}
 use Rattle.id_tree.proofs.RowLemmas.{Quiet, Ends, Bars, Parts, valid, not_fetch, Quiet-atom, Quiet-fetch, Quiet-operator, Follows-height, arguments_parts}
-use Rattle.id_tree.proofs.RunLemmas.{First, Unopened, run-done, run-part, run-inside, run-outer, run-right, run-level, run-left, run-unconditional, run-plain, run-bare, run-postfix, run-target, run-fetch, run-word, run-chosen, run-left_out, run-arguments, run-name, run-kind, run-opens, run-operator}
+use Rattle.id_tree.proofs.RunLemmas.{First, Unopened, run-done, run-part, run-inside, run-outer, run-right, run-level}
+use Rattle.id_tree.proofs.RunLemmas.{run-left, run-unconditional, run-plain, run-bare, run-postfix, run-target}
+use Rattle.id_tree.proofs.RunLemmas.{run-fetch, run-word, run-chosen, run-left_out, run-arguments, run-name, run-kind}
+use Rattle.id_tree.proofs.RunLemmas.{run-opens, run-operator}
 
 -- no operator of a level within the phrase begins the tokens
 abbrev Stops : Phrase → List Token → Type 0
@@ -136,12 +146,14 @@ Derives-more : {ts : List Token} {e : Tree} {h : ℕ} → Derives MoreArguments 
 Derives-more (opened o f) P g h us = Opens-more o P g h
 
 -- a part that follows another ends it
-Part-stops : (i : Phrase) (f : Tree → Rest) {ts : List Token} {e : Tree} {h : ℕ} → Derives i ts e h → (s0 s : Phrase) (us : List Token) → Ends s0 s (part i f) → Stops s (ts ++ us)
+Part-stops : (i : Phrase) (f : Tree → Rest) {ts : List Token} {e : Tree} {h : ℕ} → Derives i ts e h → (s0 s : Phrase) (us : List Token) →
+    Ends s0 s (part i f) → Stops s (ts ++ us)
 Part-stops MoreArguments f x s0 s us b = Derives-more x (Quiet s) b.0 b.1 us
 Part-stops _ f x s0 s us b = absurd b
 
 -- what is left of a production ends its last part
-Follows-stops : {r : Rest} {ts : List Token} {e : Tree} {h : ℕ} → Follows r ts e h → (s0 s : Phrase) (us : List Token) → Ends s0 s r → Stops s0 us → Stops s (ts ++ us)
+Follows-stops : {r : Rest} {ts : List Token} {e : Tree} {h : ℕ} → Follows r ts e h → (s0 s : Phrase) (us : List Token) → Ends s0 s r → Stops s0 us →
+    Stops s (ts ++ us)
 Follows-stops ended s0 s us b q = First-weaker (Quiet s0) (Quiet s) b us q
 Follows-stops (taken {w = w} q f) s0 s us b p = rw q b
 Follows-stops (named q f) s0 s us b p = absurd b
@@ -372,7 +384,8 @@ run-first n xs t us level.Sum o a m d K p f = f K (t ∷ us) (Quiet-operator lev
 run-first n xs t us level.Product o a m d K p f = f K (t ∷ us) (Quiet-operator level.Product t.kind o p)
 
 mutual
-  pub run-derives : {s : Phrase} {ts : List Token} {e : Tree} {h : ℕ} → Derives s ts e h → (n d : ℕ) (K : List Frame) (us : List Token) → d + h ≤ n → StopsInside s us → run n (ts ++ us) (Want s d K) ≡ run n us (After s e h d K)
+  pub run-derives : {s : Phrase} {ts : List Token} {e : Tree} {h : ℕ} → Derives s ts e h → (n d : ℕ) (K : List Frame) (us : List Token) → d + h ≤ n →
+      StopsInside s us → run n (ts ++ us) (Want s d K) ≡ run n us (After s e h d K)
   run-derives (opened {s = s} {t = t} {r = r} {ts = ts} {e = e} {h = h} o f) n d K us b q =
       run-opens n t (ts ++ us) s r d K o (omega (arith, Follows-height f (room r) (valid o).needs))
       ∙ run-follows f n 0 (d + own_height s) (own_height s) K us s (omega arith) (valid o).parts (Stops-opens s o us q)
@@ -412,7 +425,8 @@ mutual
       ∙ run-follows f n 0 (d + 0) 0 K us Arguments (omega arith) (arguments_parts Arguments) (Stops-arguments us)
       ∙ ap (λ x. run n us (Have e x K)) (omega arith)
 
-  pub run-follows : {r : Rest} {ts : List Token} {e : Tree} {h : ℕ} → Follows r ts e h → (n m d c : ℕ) (K : List Frame) (us : List Token) (s0 : Phrase) → d + h ≤ n → Parts s0 r → Stops s0 us → run n (ts ++ us) (Next r m d c K) ≡ run n us (Have e (max m h + c) K)
+  pub run-follows : {r : Rest} {ts : List Token} {e : Tree} {h : ℕ} → Follows r ts e h → (n m d c : ℕ) (K : List Frame) (us : List Token) (s0 : Phrase) →
+      d + h ≤ n → Parts s0 r → Stops s0 us → run n (ts ++ us) (Next r m d c K) ≡ run n us (Have e (max m h + c) K)
   run-follows (ended {e = e}) n m d c K us s0 w p q = run-done n us e m d c K ∙ ap (λ x. run n us (Have e (x + c) K)) (omega arith)
   run-follows (taken {w = v} {t = t} {r = r} {ts = ts} i f) n m d c K us s0 w p q =
       run-word n t (ts ++ us) v r m d c K i ∙ run-follows f n m d c K us s0 w p q
@@ -435,11 +449,14 @@ mutual
       ∙ ap (λ x. run n us (Have e x K)) (max-assoc m i j c))
 
 -- where a definition can come, it is wanted at once
-run-begin : (n : ℕ) (t : Token) (ts : List Token) (ds : List Tree) (e : Tree) → run n (t ∷ ts) (Want Definition 0 (Outer ds ∷ [])) ≡ Accepted e → run n (t ∷ ts) (Begin ds) ≡ Accepted e
+run-begin : (n : ℕ) (t : Token) (ts : List Token) (ds : List Tree) (e : Tree) → run n (t ∷ ts) (Want Definition 0 (Outer ds ∷ [])) ≡ Accepted e →
+    run n (t ∷ ts) (Begin ds) ≡ Accepted e
 unfolding run
 run-begin n t ts ds e h = begun (wants t Definition 0 (Outer ds ∷ [])) h
   where
-    begun : (m : Option Move) → pick m (λ m. cond (leb m.need n) (run n ts m.next) (Refused true t.start)) (Refused false t.start) ≡ Accepted e → pick (pick m (λ m. Some m) (ends t.kind (ahead ds none))) (λ m. cond (leb m.need n) (run n ts m.next) (Refused true t.start)) (Refused false t.start) ≡ Accepted e
+    begun : (m : Option Move) → pick m (λ m. cond (leb m.need n) (run n ts m.next) (Refused true t.start)) (Refused false t.start) ≡ Accepted e →
+        pick (pick m (λ m. Some m) (ends t.kind (ahead ds none))) (λ m. cond (leb m.need n) (run n ts m.next) (Refused true t.start)) (Refused false t.start)
+        ≡ Accepted e
     begun None q = cc
     begun (Some m) q = q
 
@@ -460,7 +477,8 @@ unfolding run
 run-defined (empty {t = t} q) n w ds = rw (q, leb-zero n) refl
 run-defined (defined {us = us} {ts = ts} {a = a} {e = e} {m = m} x p) n w ds =
     run-begun n (us ++ ts) ds (ahead ds (more a e))
-    (run-derives x n 0 (Outer ds ∷ []) ts (omega arith) tt ∙ run-outer n ts a m ds ∙ run-defined p n (omega arith) (ds ++ a ∷ []) ∙ ap Accepted (ahead-append ds a e))
+    (run-derives x n 0 (Outer ds ∷ []) ts (omega arith) tt ∙ run-outer n ts a m ds ∙ run-defined p n (omega arith) (ds ++ a ∷ []) ∙
+    ap Accepted (ahead-append ds a e))
 
 -- a program is accepted within its height
 pub run-program : {ts : List Token} {e : Tree} {h : ℕ} → Program ts e h → (n : ℕ) → h ≤ n → run n ts (Begin []) ≡ Accepted e

@@ -5,7 +5,13 @@ use Rattle.id_text.specs.declared.token.TokenKind.{TokenKind}
 use Rattle.id_value.specs.declared.Kind.{Kind}
 use Rattle.id_tree.specs.Tree as tree
 use Rattle.id_tree.specs.Tree.{Tree, literal, unary, binary, conditional, call, block, loop, array, fetch, binding, store, param, define, none, more}
-use Rattle.id_tree.specs.Grammar.{Phrase, Rest, done, word, either, name, of_kind, part, with_statement, with_tail, loop_with_tail, Opens, definition, no_parameters, first_parameter, last_parameter, next_parameter, by_conditional, denied, negated, number, by_true, by_false, parens, by_name, by_array, by_braces, no_arguments, last_argument, next_argument, by_statement, by_next, by_body, by_last, Derives, opened, unconditional, single, grouped, plain, bare, atomic, fetched, some_arguments, Follows, ended, taken, chosen, left_out, named, kinded, given, Program, empty, defined}
+use Rattle.id_tree.specs.Grammar.{Phrase, Rest, done, word, either, name, of_kind, part, with_statement, with_tail}
+use Rattle.id_tree.specs.Grammar.{loop_with_tail, Opens, definition, no_parameters, first_parameter, last_parameter}
+use Rattle.id_tree.specs.Grammar.{next_parameter, by_conditional, denied, negated, number, by_true, by_false, parens}
+use Rattle.id_tree.specs.Grammar.{by_name, by_array, by_braces, no_arguments, last_argument, next_argument}
+use Rattle.id_tree.specs.Grammar.{by_statement, by_next, by_body, by_last, Derives, opened, unconditional, single}
+use Rattle.id_tree.specs.Grammar.{grouped, plain, bare, atomic, fetched, some_arguments, Follows, ended, taken}
+use Rattle.id_tree.specs.Grammar.{chosen, left_out, named, kinded, given, Program, empty, defined}
 use Rattle.id_tree.specs.Distinct.{HasPlace, Apart, Distinct}
 use Rattle.id_tree.proofs.FinishLemmas.{Laid}
 
@@ -55,7 +61,8 @@ Spans-order (more a b) low high q = omega (arith, Spans-order a low q.0 q.1, Spa
 Spans-wider : (e : Tree) (low high below above : ℕ) → below ≤ low → high ≤ above → Spans low e high → Spans below e above
 Spans-wider (literal v p) low high below above u v' q = (omega (arith, q.0), omega (arith, q.1))
 Spans-wider (unary o a p) low high below above u v q = (omega (arith, q.0), Spans-wider a (p + 1) high (p + 1) above (omega arith) v q.1)
-Spans-wider (binary o a b p) low high below above u v q = (Spans-wider a low p below p u (omega arith) q.0, Spans-wider b (p + 1) high (p + 1) above (omega arith) v q.1)
+Spans-wider (binary o a b p) low high below above u v q =
+    (Spans-wider a low p below p u (omega arith) q.0, Spans-wider b (p + 1) high (p + 1) above (omega arith) v q.1)
 Spans-wider (tree.name x p) low high below above u v' q = (omega (arith, q.0), omega (arith, q.1))
 Spans-wider (conditional t x y p) low high below above u v (o, (mid, next, w, s, z)) =
     (omega (arith, o), (mid, next, w, s, Spans-wider y next high next above (omega arith) v z))
@@ -73,7 +80,11 @@ Spans-wider (store t i a p) low high below above u v (o, (mid, s, w)) =
 Spans-wider (param x k p) low high below above u v' q = (omega (arith, q.0), omega (arith, q.1))
 Spans-wider (define x a k b p) low high below above u v (o, (mid, s, t)) = (omega (arith, o), (mid, s, Spans-wider b mid high mid above (omega arith) v t))
 Spans-wider none low high below above u v q = omega arith
-Spans-wider (more a b) low high below above u v q = (q.0, Spans-wider a low q.0 below q.0 u (omega arith) q.1, Spans-wider b q.0 high q.0 above (omega arith) v q.2)
+Spans-wider (more a b) low high below above u v q = (
+  q.0,
+  Spans-wider a low q.0 below q.0 u (omega arith) q.1,
+  Spans-wider b q.0 high q.0 above (omega arith) v q.2,
+)
 
 -- a thing's place is between the two
 Spans-place : (e : Tree) (low high q : ℕ) → Spans low e high → HasPlace e q → (low ≤ q) × (q < high)
@@ -95,8 +106,10 @@ Spans-place (conditional t x y p) low high q (o, (mid, next, u, v, w)) (inr (inr
 Spans-place (call x a p) low high q s (inl h) = (omega (arith, s.0, h), omega (arith, Spans-order a (p + 1) high s.1, h))
 Spans-place (call x a p) low high q s (inr h) = let r = Spans-place a (p + 1) high q s.1 h in (omega (arith, s.0, r.0), r.1)
 Spans-place (block a b p) low high q (o, (mid, s, t)) (inl h) = (omega (arith, o, h), omega (arith, Spans-order a (p + 1) mid s, Spans-order b mid high t, h))
-Spans-place (block a b p) low high q (o, (mid, s, t)) (inr (inl h)) = let r = Spans-place a (p + 1) mid q s h in (omega (arith, o, r.0), omega (arith, r.1, Spans-order b mid high t))
-Spans-place (block a b p) low high q (o, (mid, s, t)) (inr (inr h)) = let r = Spans-place b mid high q t h in (omega (arith, o, r.0, Spans-order a (p + 1) mid s), r.1)
+Spans-place (block a b p) low high q (o, (mid, s, t)) (inr (inl h)) = let r = Spans-place a (p + 1) mid q s h in
+    (omega (arith, o, r.0), omega (arith, r.1, Spans-order b mid high t))
+Spans-place (block a b p) low high q (o, (mid, s, t)) (inr (inr h)) = let r = Spans-place b mid high q t h in
+    (omega (arith, o, r.0, Spans-order a (p + 1) mid s), r.1)
 Spans-place (loop t x y p) low high q (o, (mid, next, u, v, w)) (inl h) =
     (omega (arith, o, h), omega (arith, Spans-order t (p + 1) mid u, Spans-order x mid next v, Spans-order y next high w, h))
 Spans-place (loop t x y p) low high q (o, (mid, next, u, v, w)) (inr (inl h)) =
@@ -126,9 +139,12 @@ Spans-place (store t i a p) low high q (o, (mid, s, w)) (inr (inr (inl h))) =
 Spans-place (store t i a p) low high q (o, (mid, s, w)) (inr (inr (inr h))) =
     let r = Spans-place a mid high q w h in (omega (arith, r.0, Spans-order t low p o, Spans-order i (p + 1) mid s), r.1)
 Spans-place (param x k p) low high q s h = (omega (arith, s.0, h), omega (arith, s.1, h))
-Spans-place (define x a k b p) low high q (o, (mid, s, t)) (inl h) = (omega (arith, o, h), omega (arith, Spans-order a (p + 1) mid s, Spans-order b mid high t, h))
-Spans-place (define x a k b p) low high q (o, (mid, s, t)) (inr (inl h)) = let r = Spans-place a (p + 1) mid q s h in (omega (arith, o, r.0), omega (arith, r.1, Spans-order b mid high t))
-Spans-place (define x a k b p) low high q (o, (mid, s, t)) (inr (inr h)) = let r = Spans-place b mid high q t h in (omega (arith, o, r.0, Spans-order a (p + 1) mid s), r.1)
+Spans-place (define x a k b p) low high q (o, (mid, s, t)) (inl h) =
+    (omega (arith, o, h), omega (arith, Spans-order a (p + 1) mid s, Spans-order b mid high t, h))
+Spans-place (define x a k b p) low high q (o, (mid, s, t)) (inr (inl h)) = let r = Spans-place a (p + 1) mid q s h in
+    (omega (arith, o, r.0), omega (arith, r.1, Spans-order b mid high t))
+Spans-place (define x a k b p) low high q (o, (mid, s, t)) (inr (inr h)) = let r = Spans-place b mid high q t h in
+    (omega (arith, o, r.0, Spans-order a (p + 1) mid s), r.1)
 Spans-place none low high q s h = absurd h
 Spans-place (more a b) low high q s (inl h) = let r = Spans-place a low s.0 q s.1 h in (r.0, omega (arith, r.1, Spans-order b s.0 high s.2))
 Spans-place (more a b) low high q s (inr h) = let r = Spans-place b s.0 high q s.2 h in (omega (arith, r.0, Spans-order a low s.0 s.1), r.1)
@@ -242,7 +258,8 @@ Spans-with_statement b (more a e) from low mid high w u (i, s, t) = (i, (low, u,
 Spans-with_statement b a from low mid high w u s = omega (arith, Spans-order b from low u, Spans-order a low mid s)
 
 -- parameters span what the first one and those behind it do
-Spans-param : (x : List ℕ) (k : Kind) (p : ℕ) (a : Tree) (from low mid high : ℕ) → from ≤ p → p < low → mid ≤ high → Spans low a mid → Spans from (more (param x k p) a) high
+Spans-param : (x : List ℕ) (k : Kind) (p : ℕ) (a : Tree) (from low mid high : ℕ) → from ≤ p → p < low → mid ≤ high → Spans low a mid →
+    Spans from (more (param x k p) a) high
 Spans-param x k p a from low mid high u v w s = (p + 1, (u, omega arith), Spans-wider a low mid (p + 1) high (omega arith) w s)
 
 -- each production keeps this
@@ -277,7 +294,8 @@ Opens-keeps (by_array {p = p}) = λ q1 u1 a m1 s q2 u2 b m2 t q3 u3 high w.
     (omega arith, (q2, Spans-wider a q1 m1 (p + 1) q2 u1 u2 s, Spans-wider b q2 m2 q2 high (omega arith) (omega arith) t))
 Opens-keeps (no_arguments {p = p}) = λ high w. omega arith
 Opens-keeps (last_argument {p = p}) = λ high w. omega arith
-Opens-keeps (next_argument {p = p}) = λ e mid s a next t high w. (mid, Spans-wider e (p + 1) mid p mid (omega arith) (omega arith) s, Spans-wider a mid next mid high (omega arith) w t)
+Opens-keeps (next_argument {p = p}) = λ e mid s a next t high w.
+    (mid, Spans-wider e (p + 1) mid p mid (omega arith) (omega arith) s, Spans-wider a mid next mid high (omega arith) w t)
 Opens-keeps (by_braces {p = p}) = (
   λ a mid s high w. Spans-with_tail a p mid high w s,
   λ q1 u1 e q2 v q3 u2 a mid s high w. Spans-loop_with_tail e a p q3 mid high w (Spans-wider e (q1 + 1) q2 (p + 1) q3 (omega arith) u2 v) s,
@@ -306,7 +324,8 @@ Laid-split (t ∷ us) vs low high p = let q = Laid-split us vs (t.start + 1) hig
 
 mutual
   Derives-spans : {s : Phrase} {ts : List Token} {e : Tree} {h : ℕ} → Derives s ts e h → (low high : ℕ) → Laid low ts high → Spans low e high
-  Derives-spans (opened {t = t} {e = e} o f) low high p = Spans-wider e t.start high low high p.0 (omega arith) (Follows-spans f t.start (t.start + 1) high (Opens-keeps o) p.1)
+  Derives-spans (opened {t = t} {e = e} o f) low high p = Spans-wider e t.start high low high p.0 (omega arith)
+      (Follows-spans f t.start (t.start + 1) high (Opens-keeps o) p.1)
   Derives-spans (unconditional d) low high p = Derives-spans d low high p
   Derives-spans (single d) low high p = Derives-spans d low high p
   Derives-spans (grouped {us = us} {vs = vs} {a = a} x t q y) low high p =
@@ -320,9 +339,11 @@ mutual
       let target = Spans-wider a low l.0 low t.start (omega arith) l.2.0 (Derives-spans x low l.0 l.1) in
       Follows-spans f low (t.start + 1) high (λ i mid s q1 u1 above w.
       (target, Spans-wider i (t.start + 1) mid (t.start + 1) above (omega arith) (omega arith) s)) l.2.1
-  Derives-spans (some_arguments f) low high p = Follows-spans f low low high (λ e mid s a next t high w. (mid, s, Spans-wider a mid next mid high (omega arith) w t)) p
+  Derives-spans (some_arguments f) low high p = Follows-spans f low low high
+      (λ e mid s a next t high w. (mid, s, Spans-wider a mid next mid high (omega arith) w t)) p
 
-  Follows-spans : {r : Rest} {ts : List Token} {e : Tree} {h : ℕ} → Follows r ts e h → (from low high : ℕ) → Keeps from low r → Laid low ts high → Spans from e high
+  Follows-spans : {r : Rest} {ts : List Token} {e : Tree} {h : ℕ} → Follows r ts e h → (from low high : ℕ) → Keeps from low r → Laid low ts high →
+      Spans from e high
   Follows-spans ended from low high k p = k high p
   Follows-spans (taken {t = t} q f) from low high k p = Follows-spans f from (t.start + 1) high (k (t.start + 1) (omega (arith, p.0))) p.1
   Follows-spans (chosen {t = t} q f) from low high k p = Follows-spans f from (t.start + 1) high (k.1 t.start p.0) p.1

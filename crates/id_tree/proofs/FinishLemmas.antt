@@ -12,9 +12,15 @@ use Rattle.id_tree.specs.declared.parser.Scope.{Scope}
 use Rattle.id_tree.specs.declared.parser.Scope.TheVariants as scope
 use Rattle.id_value.specs.declared.Kind.TheVariants as kind
 use Rattle.id_tree.specs.Tree.{Tree, none, more}
-use Rattle.id_tree.specs.Grammar.{Phrase, Definition, Parameters, MoreParameters, Expression, Grouped, Negation, Unary, Postfix, Atom, Arguments, MoreArguments, Tail, kind_of, Rest, done, word, either, name, of_kind, part, last_of, Opens, definition, no_parameters, last_parameter, number, no_arguments, last_argument, by_body, by_last, own_height, Derives, opened, unconditional, single, grouped, plain, bare, atomic, Follows, ended, taken, left_out, named, kinded, given, Program, empty, defined}
+use Rattle.id_tree.specs.Grammar.{Phrase, Definition, Parameters, MoreParameters, Expression, Grouped, Negation}
+use Rattle.id_tree.specs.Grammar.{Unary, Postfix, Atom, Arguments, MoreArguments, Tail, kind_of, Rest, done, word}
+use Rattle.id_tree.specs.Grammar.{either, name, of_kind, part, last_of, Opens, definition, no_parameters}
+use Rattle.id_tree.specs.Grammar.{last_parameter, number, no_arguments, last_argument, by_body, by_last, own_height}
+use Rattle.id_tree.specs.Grammar.{Derives, opened, unconditional, single, grouped, plain, bare, atomic, Follows}
+use Rattle.id_tree.specs.Grammar.{ended, taken, left_out, named, kinded, given, Program, empty, defined}
 use Rattle.id_tree.specs.Machine.{least_height, Frame, State}
-use Rattle.id_tree.specs.Standing.{Roomy, Around, outermost, unconditionally, left, right, plainly, barely, target, atomically, inside, Stands, begun, wanting, having, within, finished}
+use Rattle.id_tree.specs.Standing.{Roomy, Around, outermost, unconditionally, left, right, plainly, barely, target}
+use Rattle.id_tree.specs.Standing.{atomically, inside, Stands, begun, wanting, having, within, finished}
 
 -- the starts rise from the first number on and stay below the second
 abbrev pub Laid : ℕ → List Token → ℕ → Type 0
@@ -116,7 +122,8 @@ least_definition from body = record {
       ),
     ),
   );
-  derives = opened definition (named refl (taken refl (given (opened no_parameters ended) (taken refl (kinded refl (taken refl (given body.derives (taken refl ended))))))));
+  derives = opened definition (named refl (taken refl (given (opened no_parameters ended)
+      (taken refl (kinded refl (taken refl (given body.derives (taken refl ended))))))));
 }
 
 least_tail : (o : Scope) (k : Keyword) (from : ℕ) → Opens (Tail o) (Key k) from last_of → Least Expression (from + 1) → Least (Tail o) from
@@ -132,19 +139,45 @@ least : (s : Phrase) (from : ℕ) → Least s from
 least Atom from = least_number from
 least Postfix from = let l = least_number from in record { tokens = l.tokens; tree = l.tree; to = l.to; laid = l.laid; derives = atomic l.derives }
 least Unary from = least_unary from
-least (Grouped level.Product) from = let l = least_unary from in record { tokens = l.tokens; tree = l.tree; to = l.to; laid = l.laid; derives = single l.derives }
+least (Grouped level.Product) from = let l = least_unary from in
+    record { tokens = l.tokens; tree = l.tree; to = l.to; laid = l.laid; derives = single l.derives }
 least (Grouped level.Sum) from = least_sum from
 least (Grouped level.Comparison) from =
     let l = least_sum from in record { tokens = l.tokens; tree = l.tree; to = l.to; laid = l.laid; derives = single l.derives }
-least (Grouped level.And) from = let l = least_negation from in record { tokens = l.tokens; tree = l.tree; to = l.to; laid = l.laid; derives = single l.derives }
+least (Grouped level.And) from = let l = least_negation from in
+    record { tokens = l.tokens; tree = l.tree; to = l.to; laid = l.laid; derives = single l.derives }
 least Expression from = least_expression from
 least (Grouped level.Or) from = least_or from
 least Negation from = least_negation from
-least Parameters from = record { tokens = token (Sign RightParen) from ∷ []; tree = _; to = from + 1; laid = (omega arith, omega arith); derives = opened no_parameters ended }
-least MoreParameters from = record { tokens = token (Sign RightParen) from ∷ []; tree = _; to = from + 1; laid = (omega arith, omega arith); derives = opened last_parameter ended }
+least Parameters from = record {
+  tokens = token (Sign RightParen) from ∷ [];
+  tree = _;
+  to = from + 1;
+  laid = (omega arith, omega arith);
+  derives = opened no_parameters ended;
+}
+least MoreParameters from = record {
+  tokens = token (Sign RightParen) from ∷ [];
+  tree = _;
+  to = from + 1;
+  laid = (omega arith, omega arith);
+  derives = opened last_parameter ended;
+}
 least Definition from = least_definition from (least_expression (from + 7))
-least Arguments from = record { tokens = token (Sign RightParen) from ∷ []; tree = _; to = from + 1; laid = (omega arith, omega arith); derives = opened no_arguments ended }
-least MoreArguments from = record { tokens = token (Sign RightParen) from ∷ []; tree = _; to = from + 1; laid = (omega arith, omega arith); derives = opened last_argument ended }
+least Arguments from = record {
+  tokens = token (Sign RightParen) from ∷ [];
+  tree = _;
+  to = from + 1;
+  laid = (omega arith, omega arith);
+  derives = opened no_arguments ended;
+}
+least MoreArguments from = record {
+  tokens = token (Sign RightParen) from ∷ [];
+  tree = _;
+  to = from + 1;
+  laid = (omega arith, omega arith);
+  derives = opened last_argument ended;
+}
 least (Tail scope.Block) from = least_tail scope.Block In from by_body (least_expression (from + 1))
 least (Tail scope.Loop) from = least_tail scope.Loop Finally from by_last (least_expression (from + 1))
 
@@ -163,20 +196,52 @@ finish : (r : Rest) (n d from : ℕ) → d ≤ n → Roomy n d r → Finish n d 
 finish (done e) n d from w roomy = record { tokens = []; tree = e; height = 0; to = from; laid = omega arith; follows = ended; fits = omega arith }
 finish (word v r) n d from w roomy =
     let f = finish r n d (from + 1) w roomy in
-    record { tokens = token (kind_of v) from ∷ f.tokens; tree = f.tree; height = f.height; to = f.to; laid = (omega arith, f.laid); follows = taken refl f.follows; fits = f.fits }
+    record {
+      tokens = token (kind_of v) from ∷ f.tokens;
+      tree = f.tree;
+      height = f.height;
+      to = f.to;
+      laid = (omega arith, f.laid);
+      follows = taken refl f.follows;
+      fits = f.fits;
+    }
 finish (either v r o) n d from w roomy =
     let f = finish o n d from w roomy.1 in
     record { tokens = f.tokens; tree = f.tree; height = f.height; to = f.to; laid = f.laid; follows = left_out f.follows; fits = f.fits }
 finish (name g) n d from w roomy =
     let f = finish (g [] from) n d (from + 1) w (roomy [] from) in
-    record { tokens = token (Name []) from ∷ f.tokens; tree = f.tree; height = f.height; to = f.to; laid = (omega arith, f.laid); follows = named refl f.follows; fits = f.fits }
+    record {
+      tokens = token (Name []) from ∷ f.tokens;
+      tree = f.tree;
+      height = f.height;
+      to = f.to;
+      laid = (omega arith, f.laid);
+      follows = named refl f.follows;
+      fits = f.fits;
+    }
 finish (of_kind g) n d from w roomy =
     let f = finish (g kind.Int) n d (from + 1) w (roomy kind.Int) in
-    record { tokens = token (Key Int) from ∷ f.tokens; tree = f.tree; height = f.height; to = f.to; laid = (omega arith, f.laid); follows = kinded refl f.follows; fits = f.fits }
+    record {
+      tokens = token (Key Int) from ∷ f.tokens;
+      tree = f.tree;
+      height = f.height;
+      to = f.to;
+      laid = (omega arith, f.laid);
+      follows = kinded refl f.follows;
+      fits = f.fits;
+    }
 finish (part s g) n d from w roomy =
     let l = least s from in
     let f = finish (g l.tree) n d l.to w (roomy.1 l.tree) in
-    record { tokens = l.tokens ++ f.tokens; tree = f.tree; height = max (least_height s) f.height; to = f.to; laid = Laid-append l.tokens f.tokens from l.to f.to l.laid f.laid; follows = given l.derives f.follows; fits = omega (arith, f.fits, roomy.0) }
+    record {
+      tokens = l.tokens ++ f.tokens;
+      tree = f.tree;
+      height = max (least_height s) f.height;
+      to = f.to;
+      laid = Laid-append l.tokens f.tokens from l.to f.to l.laid f.laid;
+      follows = given l.derives f.follows;
+      fits = omega (arith, f.fits, roomy.0);
+    }
 
 -- the tokens go on to a program of at most this height
 pub record Completed (n from : ℕ) (us : List Token) : Type 0 where
@@ -214,7 +279,8 @@ Around-completed (outermost {us = us} {h = k} p v) vs e h from x w = record {
   height = max k (max h 0);
   to = from + 1;
   laid = (omega arith, omega arith);
-  derives = Program-at (sym (append_assoc us vs (token End from ∷ []))) (p.completes (vs ++ token End from ∷ []) (more e none) (max h 0) (defined x (empty refl)));
+  derives = Program-at (sym (append_assoc us vs (token End from ∷ [])))
+      (p.completes (vs ++ token End from ∷ []) (more e none) (max h 0) (defined x (empty refl)));
   fits = omega arith;
 }
 Around-completed (left a) vs e h from x w = Around-completed a vs e h from (single x) w
@@ -229,8 +295,10 @@ Around-completed (atomically a) vs e h from x w = Around-completed a vs e h from
 Around-completed {n = n} (inside {s = s} {f = f} {d = d} {h = h} {us = us} {vs = vs} a b fit roomy) ws e k from x w =
     let g = finish (f e) n (d + own_height s) from (omega arith) (roomy e) in
     Completed-more n from g.to ((us ++ vs) ++ ws) g.tokens g.laid
-    (Completed-at (sym (append_assoc us (vs ++ ws) g.tokens ∙ ap (λ xs. us ++ xs) (append_assoc vs ws g.tokens)) ∙ ap (λ xs. xs ++ g.tokens) (sym (append_assoc us vs ws)))
-    (Around-completed a (vs ++ (ws ++ g.tokens)) g.tree (max h (max k g.height) + own_height s) g.to (b.completes (ws ++ g.tokens) g.tree (max k g.height) (given x g.follows)) (omega (arith, g.fits))))
+    (Completed-at (sym (append_assoc us (vs ++ ws) g.tokens ∙ ap (λ xs. us ++ xs) (append_assoc vs ws g.tokens)) ∙
+    ap (λ xs. xs ++ g.tokens) (sym (append_assoc us vs ws)))
+    (Around-completed a (vs ++ (ws ++ g.tokens)) g.tree (max h (max k g.height) + own_height s) g.to
+    (b.completes (ws ++ g.tokens) g.tree (max k g.height) (given x g.follows)) (omega (arith, g.fits))))
 
 -- what stands is gone on to a program
 pub Stands-completed : {n : ℕ} {S : State} {us : List Token} → Stands n S us → (from : ℕ) → Completed n from us
@@ -252,4 +320,5 @@ Stands-completed {n = n} (within {s = s} {r = r} {d = d} {h = h} {us = us} {vs =
     Completed-more n from g.to (us ++ vs) g.tokens g.laid
     (Completed-at (sym (append_assoc us vs g.tokens))
     (Around-completed a (vs ++ g.tokens) g.tree (max h g.height + own_height s) g.to (b.completes g.tokens g.tree g.height g.follows) (omega (arith, g.fits))))
-Stands-completed (finished {us = us} {h = h} p w) from = record { behind = []; tree = _; height = h; to = from; laid = omega arith; derives = Program-at (sym (append-nil us)) p; fits = w }
+Stands-completed (finished {us = us} {h = h} p w) from = record
+    { behind = []; tree = _; height = h; to = from; laid = omega arith; derives = Program-at (sym (append-nil us)) p; fits = w }

@@ -9,9 +9,13 @@ use Rattle.id_tree.specs.declared.tree.Param.{Param}
 use Rattle.id_tree.specs.declared.tree.TreeError.{TreeError}
 use Rattle.id_tree.specs.declared.tree.TreeError.TheVariants.{Unexpected}
 use Rattle.id_tree.specs.Tree.{Tree, param, params_tree, none, more}
-use Rattle.id_tree.specs.Grammar.{Definition, Parameters, MoreParameters, Rest, done, name, of_kind, part, sign, kind_named, parameter_of, Opens, no_parameters, first_parameter, last_parameter, next_parameter}
+use Rattle.id_tree.specs.Grammar.{Definition, Parameters, MoreParameters, Rest, done, name, of_kind, part, sign}
+use Rattle.id_tree.specs.Grammar.{kind_named, parameter_of, Opens, no_parameters, first_parameter, last_parameter}
+use Rattle.id_tree.specs.Grammar.{next_parameter}
 use Rattle.id_tree.specs.Machine.{opening, Frame, Inside, Want, Have, Next, name_in, run}
-use Rattle.id_tree.specs.Readers.{first_kind, first_start, IsBehind, Leads, Fails, Takes, Misses, BeginsWithName, LacksName, Types, Untypes, Declares, Undeclares, listed, Counts, heading, Heads, Beheads}
+use Rattle.id_tree.specs.Readers.{first_kind, first_start, IsBehind, Leads, Fails, Takes, Misses, BeginsWithName}
+use Rattle.id_tree.specs.Readers.{LacksName, Types, Untypes, Declares, Undeclares, listed, Counts, heading, Heads}
+use Rattle.id_tree.specs.Readers.{Beheads}
 use Rattle.id_tree.proofs.RunLemmas.{run-none, run-kind, run-done, run-part, run-inside}
 use Rattle.id_tree.proofs.ReaderLemmas.{EndsBy-at, At, At-opens, At-name, Fails-name, Leads-done}
 
@@ -24,7 +28,8 @@ module _ {ts us : List Token} (colon : Takes (sign Colon) ts us) where
         colon.comes (of_kind f) h d c K ∙ rw e (run-kind 200 t vs k f h d c K i);
   }
 
-  pub Untypes-kind : {vs : List Token} {t : Token} (x : TreeError) → us ≡ t ∷ vs → x ≡ Unexpected (first_start us) → kind_named (first_kind us) ≡ None → Untypes ts x
+  pub Untypes-kind : {vs : List Token} {t : Token} (x : TreeError) → us ≡ t ∷ vs → x ≡ Unexpected (first_start us) → kind_named (first_kind us) ≡ None →
+      Untypes ts x
   Untypes-kind {vs = vs} {t = t} x e j q = record {
     fails = λ f h d c K.
         let i : kind_named t.kind ≡ None = ap (λ xs. kind_named (first_kind xs)) (sym e) ∙ q in
@@ -49,7 +54,8 @@ abbrev before : Param → Tree → Rest
 before x a = done (more (param x.name x.kind x.place) a)
 
 -- behind a name the rest of a parameter comes
-run-typed : {ts us : List Token} (x : Param) → Types ts us x.kind → (K : List Frame) → run 200 ts (Next (parameter_of x.name x.place) 0 0 0 K) ≡ run 200 us (Want MoreParameters 0 (Inside (before x) 0 0 0 ∷ K))
+run-typed : {ts us : List Token} (x : Param) → Types ts us x.kind → (K : List Frame) →
+    run 200 ts (Next (parameter_of x.name x.place) 0 0 0 K) ≡ run 200 us (Want MoreParameters 0 (Inside (before x) 0 0 0 ∷ K))
 run-typed {us = us} x q K =
     q.comes (λ k. part MoreParameters (λ a. done (more (param x.name k x.place) a))) 0 0 0 K ∙ run-part 200 us MoreParameters (before x) 0 0 0 K
 
@@ -67,7 +73,8 @@ At-comma : {ts us : List Token} {t : Token} → ts ≡ t ∷ us → first_kind t
 At-comma e q = At-opens e (opens_next q) 0 (omega arith)
 
 -- a parameter that has come is put before those behind it
-folds_before : (x : Param) (K : List Frame) (vs : List Token) (a : Tree) → run 200 vs (Have a 0 (Inside (before x) 0 0 0 ∷ K)) ≡ run 200 vs (Have (more (param x.name x.kind x.place) a) 0 K)
+folds_before : (x : Param) (K : List Frame) (vs : List Token) (a : Tree) →
+    run 200 vs (Have a 0 (Inside (before x) 0 0 0 ∷ K)) ≡ run 200 vs (Have (more (param x.name x.kind x.place) a) 0 K)
 folds_before x K vs a = run-inside 200 vs a 0 (before x) 0 0 0 K ∙ run-done 200 vs (more (param x.name x.kind x.place) a) 0 0 0 K
 
 pub Counts-first : {ts us : List Token} (x : Param) → Declares ts us x → Counts ts us (x ∷ [])
@@ -84,7 +91,8 @@ listed-append [] x a = refl
 listed-append (p ∷ ps) x a = ap (λ b. more (param p.name p.kind p.place) b) (listed-append ps x a)
 
 -- one parameter more
-pub Counts-add : {ts us ws vs : List Token} {t : Token} {ps : List Param} (x : Param) → Counts ts us ps → us ≡ t ∷ ws → first_kind us ≡ Sign Comma → Declares ws vs x → Counts ts vs (ps ++ x ∷ [])
+pub Counts-add : {ts us ws vs : List Token} {t : Token} {ps : List Param} (x : Param) → Counts ts us ps → us ≡ t ∷ ws → first_kind us ≡ Sign Comma →
+    Declares ws vs x → Counts ts vs (ps ++ x ∷ [])
 Counts-add {ps = ps} x g e i q = record {
   lists = λ K.
       let l = g.lists K in
@@ -130,7 +138,8 @@ module _ {ts us vs : List Token} {t : Token} {ps : List Param} (g : Counts ts us
   not_more (Sign RightParen) p f h = absurd (h refl)
   not_more _ p f h = refl
 
-  pub Fails-listed : (x : TreeError) → x ≡ Unexpected (first_start us) → (first_kind us ≡ Sign Comma → ⊥) → (t.kind ≡ Sign RightParen → ⊥) → Fails ts Parameters 0 x
+  pub Fails-listed : (x : TreeError) → x ≡ Unexpected (first_start us) → (first_kind us ≡ Sign Comma → ⊥) → (t.kind ≡ Sign RightParen → ⊥) →
+      Fails ts Parameters 0 x
   Fails-listed x j f h = record {
     fails = λ K.
         let l = g.lists K in
@@ -176,7 +185,8 @@ module _ {ts us : List Token} (opens : Takes (sign LeftParen) ts us) where
   }
 
   module _ {vs : List Token} {a : Tree} (leads : Leads us Parameters 0 vs a 0) where
-    heading_comes : (f : Tree → Kind → Rest) (K : List Frame) → run 200 ts (Next (heading f) 0 0 0 K) ≡ run 200 vs (Next (sign Colon (of_kind (λ k. sign Becomes (f a k)))) 0 0 0 K)
+    heading_comes : (f : Tree → Kind → Rest) (K : List Frame) →
+        run 200 ts (Next (heading f) 0 0 0 K) ≡ run 200 vs (Next (sign Colon (of_kind (λ k. sign Becomes (f a k)))) 0 0 0 K)
     heading_comes f K =
         let g : Tree → Rest = λ a. sign Colon (of_kind (λ k. sign Becomes (f a k))) in
         opens.comes (part Parameters g) 0 0 0 K ∙ run-part 200 us Parameters g 0 0 0 K ∙ leads.comes (Inside g 0 0 0 ∷ K) ∙ run-inside 200 vs a 0 g 0 0 0 K
@@ -186,7 +196,10 @@ module _ {ts us : List Token} (opens : Takes (sign LeftParen) ts us) where
 
     module _ {ws : List Token} {k : Kind} (types : Types vs ws k) where
       pub Beheads-sign : {x : TreeError} → Misses (sign Becomes) ws x → Beheads ts x
-      Beheads-sign {x = x} q = record { fails = λ f K. EndsBy-at x (heading_comes f K ∙ types.comes (λ k. sign Becomes (f a k)) 0 0 0 K) (q.fails (f a k) 0 0 0 K) }
+      Beheads-sign {x = x} q = record {
+        fails = λ f K. EndsBy-at x (heading_comes f K ∙ types.comes (λ k. sign Becomes (f a k)) 0 0 0 K)
+            (q.fails (f a k) 0 0 0 K);
+      }
 
       pub Heads-done : {xs : List Token} → Takes (sign Becomes) ws xs → Heads ts xs a k
       Heads-done q = record { comes = λ f K. heading_comes f K ∙ types.comes (λ k. sign Becomes (f a k)) 0 0 0 K ∙ q.comes (f a k) 0 0 0 K }
@@ -195,7 +208,8 @@ pub Beheads-paren : {ts : List Token} {x : TreeError} → Misses (sign LeftParen
 Beheads-paren q = record { fails = λ f K. q.fails (part Parameters (λ a. sign Colon (of_kind (λ k. sign Becomes (f a k))))) 0 0 0 K }
 
 -- a definition whose heading has come
-pub At-heading : {ts us vs : List Token} {a : Tree} {k : Kind} (f : Tree → Kind → Rest) → At ts Definition 0 us (heading f) 0 → Heads us vs a k → At ts Definition 0 vs (f a k) 0
+pub At-heading : {ts us vs : List Token} {a : Tree} {k : Kind} (f : Tree → Kind → Rest) → At ts Definition 0 us (heading f) 0 → Heads us vs a k →
+    At ts Definition 0 vs (f a k) 0
 At-heading f p q = record { comes = λ K. p.comes K ∙ q.comes f K }
 
 pub Fails-heading : {ts us : List Token} {x : TreeError} (f : Tree → Kind → Rest) → At ts Definition 0 us (heading f) 0 → Beheads us x → Fails ts Definition 0 x

@@ -1,5 +1,6 @@
 -- How the readers' runs are put together, for each production and each way out of it.
-use Rattle.std.proofs.Common.{◌≡◌, ℕ, ℤ, ◌+◌, ◌≤◌, ◌<◌, max, inl, inr, cond, Option, Some, None, List, [], ◌∷◌, ◌++◌, true, false, Bool, refl, sym, ap, ◌∙◌, subst, arith, zero-le}
+use Rattle.std.proofs.Common.{◌≡◌, ℕ, ℤ, ◌+◌, ◌≤◌, ◌<◌, max, inl, inr, cond, Option, Some, None, List, [], ◌∷◌, ◌++◌}
+use Rattle.std.proofs.Common.{true, false, Bool, refl, sym, ap, ◌∙◌, subst, arith, zero-le}
 use Rattle.id_text.specs.Tokens.{EndsOnce}
 use Rattle.id_text.specs.declared.token.Token.{Token}
 use Rattle.id_text.specs.declared.token.TokenKind.{TokenKind}
@@ -7,7 +8,8 @@ use Rattle.id_text.specs.declared.token.TokenKind.TheVariants.{Name, Number, Key
 use Rattle.id_text.specs.declared.token.Keyword.{Keyword}
 use Rattle.id_text.specs.declared.token.Keyword.TheVariants.{Def, If, True, False, Array, Not, Or, And, Div, Rem}
 use Rattle.id_text.specs.declared.token.Symbol.{Symbol}
-use Rattle.id_text.specs.declared.token.Symbol.TheVariants.{LeftParen, RightParen, LeftBrace, Minus, Plus, Star, Equal, NotEqual, Less, LessEqual, Greater, GreaterEqual}
+use Rattle.id_text.specs.declared.token.Symbol.TheVariants.{LeftParen, RightParen, LeftBrace, Minus, Plus, Star}
+use Rattle.id_text.specs.declared.token.Symbol.TheVariants.{Equal, NotEqual, Less, LessEqual, Greater, GreaterEqual}
 use Rattle.id_tree.specs.declared.parser.Level.{Level}
 use Rattle.id_tree.specs.declared.parser.Level.TheVariants as level
 use Rattle.id_tree.specs.declared.tokens.Word.{Word}
@@ -20,11 +22,22 @@ use Rattle.id_tree.specs.declared.tree.Def.{Def as Definition_}
 use Rattle.id_tree.specs.declared.tree.TreeError.{TreeError}
 use Rattle.id_tree.specs.declared.tree.TreeError.TheVariants.{Unexpected, TooDeep}
 use Rattle.id_tree.specs.Tree.{Tree, def_tree, defs_tree, literal, unary, binary, none, more}
-use Rattle.id_tree.specs.Grammar.{Phrase, Definition, Expression, Grouped, Negation, Unary, Atom, kind_of, Rest, done, word, name, part, enclosed, definition_of, named_of, conditional_of, either, Opens, definition, by_conditional, denied, negated, number, by_true, by_false, parens, by_name, operand, operator_of, own_height}
-use Rattle.id_tree.specs.Machine.{opening, room, Frame, Left, Right, Inside, Outer, again, Move, State, Begin, Want, Have, Next, Finished, is_word, name_in, takes, ahead, ends, wants, Outcome, Accepted, Refused, run}
-use Rattle.id_tree.specs.Readers.{first_kind, first_start, truth_in, IsBehind, IsRead, EndsBy, IsPrefix, Leads, Fails, Defines, Grows, Stunts, Takes, Misses, BeginsWithName, NoName, LacksName, Encloses, Exposes, def_trees, Amasses, is_within, rung, beyond, ladder, may_deny, open_behind, operator_in, kept_within, operator_within, Rises}
+use Rattle.id_tree.specs.Grammar.{Phrase, Definition, Expression, Grouped, Negation, Unary, Atom, kind_of, Rest, done}
+use Rattle.id_tree.specs.Grammar.{word, name, part, enclosed, definition_of, named_of, conditional_of, either, Opens}
+use Rattle.id_tree.specs.Grammar.{definition, by_conditional, denied, negated, number, by_true, by_false, parens}
+use Rattle.id_tree.specs.Grammar.{by_name, operand, operator_of, own_height}
+use Rattle.id_tree.specs.Machine.{opening, room, Frame, Left, Right, Inside, Outer, again, Move, State, Begin, Want}
+use Rattle.id_tree.specs.Machine.{Have, Next, Finished, is_word, name_in, takes, ahead, ends, wants, Outcome}
+use Rattle.id_tree.specs.Machine.{Accepted, Refused, run}
+use Rattle.id_tree.specs.Readers.{first_kind, first_start, truth_in, IsBehind, IsRead, EndsBy, IsPrefix, Leads, Fails}
+use Rattle.id_tree.specs.Readers.{Defines, Grows, Stunts, Takes, Misses, BeginsWithName, NoName, LacksName, Encloses}
+use Rattle.id_tree.specs.Readers.{Exposes, def_trees, Amasses, is_within, rung, beyond, ladder, may_deny, open_behind}
+use Rattle.id_tree.specs.Readers.{operator_in, kept_within, operator_within, Rises}
 use Rattle.id_tree.proofs.RowLemmas.{opening-from_opens, same-is_word}
-use Rattle.id_tree.proofs.RunLemmas.{First, Unopened, run-step, run-deep, run-none, run-word, run-name, run-chosen, run-left_out, run-opens, run-opens-deep, run-operator, run-done, run-part, run-inside, run-outer, run-right, run-level, run-left, run-unconditional, run-plain}
+use Rattle.id_tree.proofs.RunLemmas.{First, Unopened, run-step, run-deep, run-none, run-word, run-name, run-chosen}
+use Rattle.id_tree.proofs.RunLemmas.{run-left_out, run-opens, run-opens-deep, run-operator, run-done, run-part}
+use Rattle.id_tree.proofs.RunLemmas.{run-inside, run-outer, run-right, run-level, run-left, run-unconditional}
+use Rattle.id_tree.proofs.RunLemmas.{run-plain}
 
 pub EndsBy-at : {o p : Outcome} (x : TreeError) → o ≡ p → EndsBy p x → EndsBy o x
 EndsBy-at x e q = subst (λ r. EndsBy r x) (sym e) q
@@ -43,7 +56,10 @@ module _ {ts us : List Token} {t : Token} (e : ts ≡ t ∷ us) where
   Word-missed w false i q = i
 
   pub Misses-word : (w : Word) (x : TreeError) → x ≡ Unexpected (first_start ts) → (t.kind ≡ kind_of w → ⊥) → Misses (word w) ts x
-  Misses-word w x j q = record { fails = λ r h d c K. let i = Word-missed w (is_word w t.kind) refl q in rw (j, e) (run-none 200 t us (Next (word w r) h d c K) (rw i refl)) }
+  Misses-word w x j q = record {
+    fails = λ r h d c K. let i = Word-missed w (is_word w t.kind) refl q in
+        rw (j, e) (run-none 200 t us (Next (word w r) h d c K) (rw i refl));
+  }
 
   pub BeginsWithName-one : (x : List ℕ) → t.kind ≡ Name x → BeginsWithName ts x t.start us
   BeginsWithName-one x q = record { token = t; whole = e; kind = q; place = refl }
@@ -97,15 +113,20 @@ module _ {ts us : List Token} {s : Phrase} {d h : ℕ} where
   }
 
   pub At-name : {f : List ℕ → ℕ → Rest} {x : List ℕ} {p : ℕ} {vs : List Token} → At ts s d us (name f) h → BeginsWithName us x p vs → At ts s d vs (f x p) h
-  At-name {f = f} {x = x} {vs = vs} p q = record { comes = λ K. p.comes K ∙ rw (q.whole, ← q.place) (run-name 200 q.token vs x f h (d + own_height s) (own_height s) K q.kind) }
+  At-name {f = f} {x = x} {vs = vs} p q = record {
+    comes = λ K. p.comes K ∙
+        rw (q.whole, ← q.place) (run-name 200 q.token vs x f h (d + own_height s) (own_height s) K q.kind);
+  }
 
   pub Fails-name : {f : List ℕ → ℕ → Rest} {x : TreeError} → At ts s d us (name f) h → LacksName us x → Fails ts s d x
   Fails-name p (inl e) = rw e (record { fails = λ K. tt })
   Fails-name {f = f} {x = x} p (inr q) = record {
-    fails = λ K. let i = q.kind in EndsBy-at x (p.comes K) (rw (q.error, q.whole) (run-none 200 q.token q.behind (Next (name f) h (d + own_height s) (own_height s) K) (rw i refl)));
+    fails = λ K. let i = q.kind in EndsBy-at x (p.comes K)
+        (rw (q.error, q.whole) (run-none 200 q.token q.behind (Next (name f) h (d + own_height s) (own_height s) K) (rw i refl)));
   }
 
-  pub At-part : {i : Phrase} {f : Tree → Rest} {vs : List Token} {a : Tree} {m : ℕ} → At ts s d us (part i f) h → Leads us i (d + own_height s) vs a m → At ts s d vs (f a) (max h m)
+  pub At-part : {i : Phrase} {f : Tree → Rest} {vs : List Token} {a : Tree} {m : ℕ} → At ts s d us (part i f) h → Leads us i (d + own_height s) vs a m →
+      At ts s d vs (f a) (max h m)
   At-part {i = i} {f = f} {vs = vs} {a = a} {m = m} p q = record {
     comes = λ K.
         p.comes K ∙ run-part 200 us i f h (d + own_height s) (own_height s) K ∙ q.comes (Inside f h (d + own_height s) (own_height s) ∷ K)
@@ -430,18 +451,22 @@ Right-deep {ts = t ∷ us} w l o i d a m x j h = record {
 }
 
 -- an operator and its right operand
-module _ {ts us : List Token} {t : Token} (e : ts ≡ t ∷ us) (l : Level) (o : BinaryOp) (i : operator_of l (first_kind ts) ≡ Some o) (d : ℕ) (a : Tree) (m : ℕ) where
-  operator_is : operator_of l t.kind ≡ Some o
-  operator_is = ap (λ xs. operator_of l (first_kind xs)) (sym e) ∙ i
+module _ {ts us : List Token} {t : Token} (e : ts ≡ t ∷ us) (l : Level) (o : BinaryOp) (i : operator_of l (first_kind ts) ≡ Some o) (d : ℕ) (a : Tree) (m : ℕ)
+  where
+    operator_is : operator_of l t.kind ≡ Some o
+    operator_is = ap (λ xs. operator_of l (first_kind xs)) (sym e) ∙ i
 
-  right_wanted : d + m + 1 ≤ 200 → (K : List Frame) → run 200 ts (Have a m (Left l d ∷ K)) ≡ run 200 us (Want (operand l) (d + 1) (Right l o a m t.start d ∷ K))
-  right_wanted w K = rw e (run-operator 200 t us l o a m d K operator_is w)
+    right_wanted : d + m + 1 ≤ 200 → (K : List Frame) → run 200 ts (Have a m (Left l d ∷ K)) ≡
+        run 200 us (Want (operand l) (d + 1) (Right l o a m t.start d ∷ K))
+    right_wanted w K = rw e (run-operator 200 t us l o a m d K operator_is w)
 
-  pub Right-fails : {x : TreeError} → d + m + 1 ≤ 200 → Fails us (operand l) (d + 1) x → Stunts ts l d a m x
-  Right-fails {x = x} w f = record { fails = λ K. EndsBy-at x (right_wanted w K) (f.fails (Right l o a m t.start d ∷ K)) }
+    pub Right-fails : {x : TreeError} → d + m + 1 ≤ 200 → Fails us (operand l) (d + 1) x → Stunts ts l d a m x
+    Right-fails {x = x} w f = record { fails = λ K. EndsBy-at x (right_wanted w K) (f.fails (Right l o a m t.start d ∷ K)) }
 
-  pub Right-grows : {vs : List Token} {b f : Tree} {k h : ℕ} → d + m + 1 ≤ 200 → Leads us (operand l) (d + 1) vs b k → f ≡ binary o a b t.start → h ≡ max m k + 1 → Grows ts l d a m vs f h
-  Right-grows {vs = vs} {b = b} {k = k} w q u v = record { comes = λ K. rw (u, v) (right_wanted w K ∙ q.comes (Right l o a m t.start d ∷ K) ∙ run-right 200 vs b k l o a m t.start d K) }
+    pub Right-grows : {vs : List Token} {b f : Tree} {k h : ℕ} → d + m + 1 ≤ 200 → Leads us (operand l) (d + 1) vs b k → f ≡ binary o a b t.start →
+        h ≡ max m k + 1 → Grows ts l d a m vs f h
+    Right-grows {vs = vs} {b = b} {k = k} w q u v = record
+        { comes = λ K. rw (u, v) (right_wanted w K ∙ q.comes (Right l o a m t.start d ∷ K) ∙ run-right 200 vs b k l o a m t.start d K) }
 
 -- Without `if` operands of `or` are read, and without `not` a comparison is.
 no_if : (ts : List Token) → (first_kind ts ≡ Key If → ⊥) → Unopened Expression ts
@@ -526,13 +551,15 @@ ends-none End e f = absurd (f refl)
 ends-none _ e f = refl
 
 -- the end is the last token
-run-last : (ts : List Token) (S : State) (e : Tree) → EndsOnce ts → first_kind ts ≡ End → ((t : Token) → t.kind ≡ End → takes t S ≡ Some (record { need = 0; next = Finished e })) → run 200 ts S ≡ Accepted e
+run-last : (ts : List Token) (S : State) (e : Tree) → EndsOnce ts → first_kind ts ≡ End →
+    ((t : Token) → t.kind ≡ End → takes t S ≡ Some (record { need = 0; next = Finished e })) → run 200 ts S ≡ Accepted e
 unfolding run
 run-last [] S e w q f = absurd w
 run-last (t ∷ []) S e w q f = run-step 200 t [] S (record { need = 0; next = Finished e }) (f t q) zero-le
 run-last (t ∷ u ∷ ts) S e w q f = absurd (w.0 q)
 
-run-early : (ts : List Token) (S : State) → EndsOnce ts → ((t : Token) → t.kind ≡ first_kind ts → takes t S ≡ None) → run 200 ts S ≡ Refused false (first_start ts)
+run-early : (ts : List Token) (S : State) → EndsOnce ts → ((t : Token) → t.kind ≡ first_kind ts → takes t S ≡ None) →
+    run 200 ts S ≡ Refused false (first_start ts)
 run-early [] S w f = absurd w
 run-early (t ∷ ts) S w f = run-none 200 t ts S (f t refl)
 
@@ -558,7 +585,8 @@ Begin-def [] ds q = cc
 Begin-def (t ∷ us) ds q =
     let r : Rest = name definition_of in
     let o : Opens Definition t.kind t.start r = rw q definition in
-    run-step 200 t us (Begin ds) (record { need = 1; next = Next r 0 0 0 (Outer ds ∷ []) }) (rw (opening-from_opens o) refl) (omega arith) ∙ sym (run-opens 200 t us Definition r 0 (Outer ds ∷ []) o (omega arith))
+    run-step 200 t us (Begin ds) (record { need = 1; next = Next r 0 0 0 (Outer ds ∷ []) }) (rw (opening-from_opens o) refl) (omega arith) ∙
+    sym (run-opens 200 t us Definition r 0 (Outer ds ∷ []) o (omega arith))
 
 -- no definition yet
 pub Amasses-none : (ts : List Token) → EndsOnce ts → Amasses ts ts []
@@ -579,7 +607,8 @@ module _ {ts us : List Token} {ds : List Definition_} (g : Amasses ts us ds) whe
   Amasses-fails {x = x} q f = EndsBy-at x (g.comes ∙ Begin-def us (def_trees ds) q) (f.fails (Outer (def_trees ds) ∷ []))
 
   -- neither a definition comes nor the end
-  pub Amasses-stops : (x : TreeError) → (first_kind us ≡ Key Def → ⊥) → (first_kind us ≡ End → ⊥) → x ≡ Unexpected (first_start us) → EndsBy (run 200 ts (Begin [])) x
+  pub Amasses-stops : (x : TreeError) → (first_kind us ≡ Key Def → ⊥) → (first_kind us ≡ End → ⊥) → x ≡ Unexpected (first_start us) →
+      EndsBy (run 200 ts (Begin [])) x
   Amasses-stops x q f j = EndsBy-at x g.comes (rw j (run-early us (Begin (def_trees ds)) g.ends (λ t i.
       let n : wants t Definition 0 (Outer (def_trees ds) ∷ []) ≡ None = wants-none t (first_kind us) (def_trees ds) i q in
       rw (n, ends-none t.kind (ahead (def_trees ds) none) (λ k. f (sym i ∙ k))) refl)))

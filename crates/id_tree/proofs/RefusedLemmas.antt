@@ -1,5 +1,7 @@
 -- From a refused run to the first token after which nothing goes on.
-use Rattle.std.proofs.Common.{◌≡◌, ℕ, ◌+◌, ◌≤◌, ◌<◌, Bool, true, false, cond, leb, Option, Some, None, List, [], ◌∷◌, ◌++◌, refl, sym, ap, ◌∙◌, subst, append_assoc, append-nil, arith, leb-true, leb-false, zero-le}
+use Rattle.std.proofs.Common.{◌≡◌, ℕ, ◌+◌, ◌≤◌, ◌<◌, Bool, true, false, cond, leb, Option, Some, None, List, [], ◌∷◌}
+use Rattle.std.proofs.Common.{◌++◌, refl, sym, ap, ◌∙◌, subst, append_assoc, append-nil, arith, leb-true, leb-false}
+use Rattle.std.proofs.Common.{zero-le}
 use Rattle.id_text.specs.Tokens.{Rises}
 use Rattle.id_text.specs.declared.token.Token.{Token}
 use Rattle.id_tree.specs.Tree.{Tree}
@@ -9,7 +11,8 @@ use Rattle.id_tree.specs.Readers.{EndsBy}
 use Rattle.id_tree.specs.Grammar.{Phrase, Rest, done, word, either, name, of_kind, part, own_height, Program}
 use Rattle.id_tree.specs.Accepted.{Accepts, GoesOn, GoesOnDeeper, StopsAt, RefusedBy, IsMemory}
 use Rattle.id_tree.specs.Machine.{Move, pick, takes, Frame, State, Begin, Want, Have, Next, Finished, Accepted, Refused, run}
-use Rattle.id_tree.specs.Standing.{Around, outermost, unconditionally, left, right, plainly, barely, target, atomically, inside, Stands, begun, wanting, having, within, finished, Roomy}
+use Rattle.id_tree.specs.Standing.{Around, outermost, unconditionally, left, right, plainly, barely, target}
+use Rattle.id_tree.specs.Standing.{atomically, inside, Stands, begun, wanting, having, within, finished, Roomy}
 use Rattle.id_tree.proofs.RunLemmas.{run-step, run-none, run-deep}
 use Rattle.id_tree.proofs.CompleteLemmas.{run-program}
 use Rattle.id_tree.proofs.SoundLemmas.{Moves, Moves-takes, Defined-none}
@@ -44,7 +47,8 @@ Stands-at : {n : ℕ} {S : State} {us vs : List Token} → us ≡ vs → Stands 
 Stands-at {n = n} {S = S} e h = subst (λ xs. Stands n S xs) e h
 
 -- a run stops at its first token
-Stopped-here : (n : ℕ) (S : State) (us : List Token) (t : Token) (ts : List Token) (deep given : Bool) (at : ℕ) → Stands n S us → Why n given (takes t S) → Refused given t.start ≡ Refused deep at → Stopped n S us (t ∷ ts) deep at
+Stopped-here : (n : ℕ) (S : State) (us : List Token) (t : Token) (ts : List Token) (deep given : Bool) (at : ℕ) → Stands n S us → Why n given (takes t S) →
+    Refused given t.start ≡ Refused deep at → Stopped n S us (t ∷ ts) deep at
 Stopped-here n S us t ts deep given at st why q = record {
   front = [];
   token = t;
@@ -58,7 +62,8 @@ Stopped-here n S us t ts deep given at st why q = record {
 }
 
 -- a run stops behind its first token
-Stopped-later : (n : ℕ) (S : State) (us : List Token) (t : Token) (ts : List Token) (deep : Bool) (at : ℕ) (m : Move) → takes t S ≡ Some m → m.need ≤ n → Stopped n m.next (us ++ t ∷ []) ts deep at → Stopped n S us (t ∷ ts) deep at
+Stopped-later : (n : ℕ) (S : State) (us : List Token) (t : Token) (ts : List Token) (deep : Bool) (at : ℕ) (m : Move) → takes t S ≡ Some m → m.need ≤ n →
+    Stopped n m.next (us ++ t ∷ []) ts deep at → Stopped n S us (t ∷ ts) deep at
 Stopped-later n S us t ts deep at m q w r = record {
   front = t ∷ r.front;
   token = r.token;
@@ -74,13 +79,15 @@ Stopped-later n S us t ts deep at m q w r = record {
 -- the first token's move, where the run behind it stops if it is refused
 module _ (n : ℕ) (S : State) (us : List Token) (t : Token) (ts : List Token) (deep : Bool) (at : ℕ) (st : Stands n S us)
     (later : (T : State) (vs : List Token) → Stands n T vs → run n ts T ≡ Refused deep at → Stopped n T vs ts deep at) where
-  Stopped-test : (m : Move) → takes t S ≡ Some m → (b : Bool) → leb m.need n ≡ b → cond b (run n ts m.next) (Refused true t.start) ≡ Refused deep at → Stopped n S us (t ∷ ts) deep at
+  Stopped-test : (m : Move) → takes t S ≡ Some m → (b : Bool) → leb m.need n ≡ b → cond b (run n ts m.next) (Refused true t.start) ≡ Refused deep at →
+      Stopped n S us (t ∷ ts) deep at
   Stopped-test m e true i r =
       let w = leb-true m.need n i in
       Stopped-later n S us t ts deep at m e w (later m.next (us ++ t ∷ []) ((subst (λ o. Moves n (us ++ t ∷ []) o) e (Moves-takes n t st)) w) r)
   Stopped-test m e false i r = Stopped-here n S us t ts deep true at st (m, e, leb-false m.need n i) r
 
-  Stopped-move : (o : Option Move) → takes t S ≡ o → pick o (λ m. cond (leb m.need n) (run n ts m.next) (Refused true t.start)) (Refused false t.start) ≡ Refused deep at → Stopped n S us (t ∷ ts) deep at
+  Stopped-move : (o : Option Move) → takes t S ≡ o → pick o (λ m. cond (leb m.need n) (run n ts m.next) (Refused true t.start)) (Refused false t.start) ≡
+      Refused deep at → Stopped n S us (t ∷ ts) deep at
   Stopped-move None e r = Stopped-here n S us t ts deep false at st e r
   Stopped-move (Some m) e r = Stopped-test m e (leb m.need n) refl r
 
@@ -107,14 +114,16 @@ Around-wider (plainly a) m w = plainly (Around-wider a m w)
 Around-wider (barely a) m w = barely (Around-wider a m w)
 Around-wider (target a) m w = target (Around-wider a m w)
 Around-wider (atomically a) m w = atomically (Around-wider a m w)
-Around-wider {n = n} (inside {s = s} {f = f} {d = d} a b fit roomy) m w = inside (Around-wider a m w) b (omega arith) (λ e. Roomy-wider n m (d + own_height s) (f e) w (roomy e))
+Around-wider {n = n} (inside {s = s} {f = f} {d = d} a b fit roomy) m w = inside (Around-wider a m w) b (omega arith)
+    (λ e. Roomy-wider n m (d + own_height s) (f e) w (roomy e))
 
 -- what stands within n stands within more
 Stands-wider : {n : ℕ} {S : State} {us : List Token} → Stands n S us → (m : ℕ) → n ≤ m → Stands m S us
 Stands-wider (begun p v) m w = begun p (omega arith)
 Stands-wider (wanting a v) m w = wanting (Around-wider a m w) (omega arith)
 Stands-wider (having a x v) m w = having (Around-wider a m w) x (omega arith)
-Stands-wider {n = n} (within {s = s} {r = r} {d = d} a b v roomy) m w = within (Around-wider a m w) b (omega arith) (Roomy-wider n m (d + own_height s) r w roomy)
+Stands-wider {n = n} (within {s = s} {r = r} {d = d} a b v roomy) m w = within (Around-wider a m w) b (omega arith)
+    (Roomy-wider n m (d + own_height s) r w roomy)
 Stands-wider (finished p v) m w = finished p (omega arith)
 
 -- what stands and rises goes on, to a list that rises
@@ -123,18 +132,30 @@ goes_on us vs S q st =
     let l = Laid-rises (us ++ vs) q in
     let f = Laid-front us vs 0 l.0 l.1 in
     let c = Stands-completed st f.0 in
-    record { behind = c.behind; tree = c.tree; rises = Rises-laid (us ++ c.behind) 0 c.to (Laid-append us c.behind 0 f.0 c.to f.1 c.laid); accepts = record { height = c.height; derives = c.derives; fits = c.fits } }
+    record {
+      behind = c.behind;
+      tree = c.tree;
+      rises = Rises-laid (us ++ c.behind) 0 c.to (Laid-append us c.behind 0 f.0 c.to f.1 c.laid);
+      accepts = record { height = c.height; derives = c.derives; fits = c.fits };
+    }
 
 goes_deeper : (n : ℕ) (us vs : List Token) (S : State) → Rises (us ++ vs) → Stands n S us → GoesOnDeeper us
 goes_deeper n us vs S q st =
     let l = Laid-rises (us ++ vs) q in
     let f = Laid-front us vs 0 l.0 l.1 in
     let c = Stands-completed st f.0 in
-    record { behind = c.behind; tree = c.tree; height = c.height; rises = Rises-laid (us ++ c.behind) 0 c.to (Laid-append us c.behind 0 f.0 c.to f.1 c.laid); derives = c.derives }
+    record {
+      behind = c.behind;
+      tree = c.tree;
+      height = c.height;
+      rises = Rises-laid (us ++ c.behind) 0 c.to (Laid-append us c.behind 0 f.0 c.to f.1 c.laid);
+      derives = c.derives;
+    }
 
 module _ (ts : List Token) (rises : Rises ts) (at : ℕ) where
   -- what a token refuses is refused whatever stands behind it
-  refuses : (deep : Bool) (r : Stopped 200 (Begin []) [] ts deep at) (vs : List Token) → run 200 (r.front ++ r.token ∷ vs) (Begin []) ≡ Refused deep r.token.start
+  refuses : (deep : Bool) (r : Stopped 200 (Begin []) [] ts deep at) (vs : List Token) →
+      run 200 (r.front ++ r.token ∷ vs) (Begin []) ≡ Refused deep r.token.start
   refuses false r vs = r.alike 200 (omega arith) (r.token ∷ vs) ∙ run-none 200 r.token vs r.last r.why
   refuses true r vs = r.alike 200 (omega arith) (r.token ∷ vs) ∙ run-deep 200 r.token vs r.last r.why.0 r.why.1 r.why.2
 
@@ -195,11 +216,13 @@ Whole-end {n = n} (finished {us = us} {e = f} {h = h} p w) e q = let i : f ≡ e
 
 module _ (n : ℕ) (us : List Token) (t : Token) (ts : List Token) (e : Tree)
     (later : (T : State) → Stands n T (us ++ t ∷ []) → run n ts T ≡ Accepted e → IsWhole n (us ++ t ∷ ts) e) where
-  Whole-test : (m : Move) → (m.need ≤ n → Stands n m.next (us ++ t ∷ [])) → (b : Bool) → leb m.need n ≡ b → cond b (run n ts m.next) (Refused true t.start) ≡ Accepted e → IsWhole n (us ++ t ∷ ts) e
+  Whole-test : (m : Move) → (m.need ≤ n → Stands n m.next (us ++ t ∷ [])) → (b : Bool) → leb m.need n ≡ b →
+      cond b (run n ts m.next) (Refused true t.start) ≡ Accepted e → IsWhole n (us ++ t ∷ ts) e
   Whole-test m st true i q = later m.next (st (leb-true m.need n i)) q
   Whole-test m st false i q = cc
 
-  Whole-move : (o : Option Move) → Moves n (us ++ t ∷ []) o → pick o (λ m. cond (leb m.need n) (run n ts m.next) (Refused true t.start)) (Refused false t.start) ≡ Accepted e → IsWhole n (us ++ t ∷ ts) e
+  Whole-move : (o : Option Move) → Moves n (us ++ t ∷ []) o →
+      pick o (λ m. cond (leb m.need n) (run n ts m.next) (Refused true t.start)) (Refused false t.start) ≡ Accepted e → IsWhole n (us ++ t ∷ ts) e
   Whole-move None st q = cc
   Whole-move (Some m) st q = Whole-test m st (leb m.need n) refl q
 

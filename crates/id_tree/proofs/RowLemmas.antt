@@ -7,7 +7,9 @@ use Rattle.id_text.specs.declared.token.Token.{Token}
 use Rattle.id_text.specs.declared.token.TokenKind.{TokenKind}
 use Rattle.id_text.specs.declared.token.TokenKind.TheVariants.{Key, Sign}
 use Rattle.id_text.specs.declared.token.Keyword.TheVariants.{While, And, Or}
-use Rattle.id_text.specs.declared.token.Symbol.TheVariants.{LeftParen, RightParen, LeftBracket, Comma, Equal, NotEqual, Less, LessEqual, Greater, GreaterEqual, Plus, Minus}
+use Rattle.id_text.specs.declared.token.Symbol.TheVariants.{LeftParen, RightParen, LeftBracket, Comma, Equal}
+use Rattle.id_text.specs.declared.token.Symbol.TheVariants.{NotEqual, Less, LessEqual, Greater, GreaterEqual, Plus}
+use Rattle.id_text.specs.declared.token.Symbol.TheVariants.{Minus}
 use Rattle.id_tree.specs.declared.tokens.Word.{Word}
 use Rattle.id_tree.specs.declared.tokens.Word.TheVariants as the
 use Rattle.id_value.specs.declared.BinaryOp.{BinaryOp}
@@ -18,7 +20,15 @@ use Rattle.id_tree.specs.declared.parser.Level.TheVariants as level
 use Rattle.id_tree.specs.declared.parser.Scope.TheVariants as scope
 use Rattle.id_tree.specs.Tree as tree
 use Rattle.id_tree.specs.Tree.{Tree, binding, store}
-use Rattle.id_tree.specs.Grammar.{Phrase, Definition, Parameters, MoreParameters, Expression, Grouped, Negation, Unary, Postfix, Atom, Arguments, MoreArguments, Tail, kind_of, arguments_of, statement_of, last_of, Rest, done, word, either, name, of_kind, part, Opens, definition, no_parameters, first_parameter, last_parameter, next_parameter, by_conditional, denied, negated, number, by_true, by_false, parens, by_name, by_array, by_braces, no_arguments, last_argument, next_argument, by_statement, by_next, by_body, by_last, operand, left_operand, operator_of, own_height, Derives, opened, unconditional, single, grouped, plain, bare, atomic, fetched, some_arguments, Follows, ended, taken, chosen, left_out, named, kinded, given}
+use Rattle.id_tree.specs.Grammar.{Phrase, Definition, Parameters, MoreParameters, Expression, Grouped, Negation}
+use Rattle.id_tree.specs.Grammar.{Unary, Postfix, Atom, Arguments, MoreArguments, Tail, kind_of, arguments_of}
+use Rattle.id_tree.specs.Grammar.{statement_of, last_of, Rest, done, word, either, name, of_kind, part, Opens}
+use Rattle.id_tree.specs.Grammar.{definition, no_parameters, first_parameter, last_parameter, next_parameter}
+use Rattle.id_tree.specs.Grammar.{by_conditional, denied, negated, number, by_true, by_false, parens, by_name}
+use Rattle.id_tree.specs.Grammar.{by_array, by_braces, no_arguments, last_argument, next_argument, by_statement}
+use Rattle.id_tree.specs.Grammar.{by_next, by_body, by_last, operand, left_operand, operator_of, own_height, Derives}
+use Rattle.id_tree.specs.Grammar.{opened, unconditional, single, grouped, plain, bare, atomic, fetched}
+use Rattle.id_tree.specs.Grammar.{some_arguments, Follows, ended, taken, chosen, left_out, named, kinded, given}
 use Rattle.id_tree.specs.Machine.{opening, least_height, room, is_word}
 use Rattle.id_tree.specs.Standing.{Roomy}
 

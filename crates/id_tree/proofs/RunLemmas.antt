@@ -12,8 +12,12 @@ use Rattle.id_tree.specs.declared.tokens.Word.TheVariants as the
 use Rattle.id_value.specs.declared.Kind.{Kind}
 use Rattle.id_value.specs.declared.BinaryOp.{BinaryOp}
 use Rattle.id_tree.specs.Tree.{Tree, binary}
-use Rattle.id_tree.specs.Grammar.{Phrase, Definition, Parameters, MoreParameters, Expression, Grouped, Negation, Unary, Postfix, Atom, Arguments, MoreArguments, Tail, kind_of, fetch_of, arguments_of, Rest, done, word, either, name, of_kind, part, kind_named, Opens, operand, operator_of, own_height}
-use Rattle.id_tree.specs.Machine.{opening, room, Frame, Left, Right, Target, Inside, Outer, again, State, Begin, Want, Have, Next, Move, is_word, takes, Refused, run}
+use Rattle.id_tree.specs.Grammar.{Phrase, Definition, Parameters, MoreParameters, Expression, Grouped, Negation}
+use Rattle.id_tree.specs.Grammar.{Unary, Postfix, Atom, Arguments, MoreArguments, Tail, kind_of, fetch_of}
+use Rattle.id_tree.specs.Grammar.{arguments_of, Rest, done, word, either, name, of_kind, part, kind_named, Opens}
+use Rattle.id_tree.specs.Grammar.{operand, operator_of, own_height}
+use Rattle.id_tree.specs.Machine.{opening, room, Frame, Left, Right, Target, Inside, Outer, again, State, Begin, Want}
+use Rattle.id_tree.specs.Machine.{Have, Next, Move, is_word, takes, Refused, run}
 use Rattle.id_tree.proofs.RowLemmas.{opening-from_opens, is_word-same}
 
 module _ (n : ℕ) (t : Token) (ts : List Token) where
@@ -34,7 +38,8 @@ module _ (n : ℕ) (t : Token) (ts : List Token) where
 
   -- a fixed token
   pub run-word : (w : Word) (r : Rest) (h d c : ℕ) (K : List Frame) → t.kind ≡ kind_of w → run n (t ∷ ts) (Next (word w r) h d c K) ≡ run n ts (Next r h d c K)
-  run-word w r h d c K q = let b = is_word-same w t.kind q in run-step (Next (word w r) h d c K) (record { need = 0; next = Next r h d c K }) (rw b refl) zero-le
+  run-word w r h d c K q = let b = is_word-same w t.kind q in
+      run-step (Next (word w r) h d c K) (record { need = 0; next = Next r h d c K }) (rw b refl) zero-le
 
   -- a word that may be left out
   pub run-chosen : (w : Word) (r : ℕ → Rest) (o : Rest) (h d c : ℕ) (K : List Frame) → t.kind ≡ kind_of w →
@@ -44,15 +49,18 @@ module _ (n : ℕ) (t : Token) (ts : List Token) where
       run-step (Next (either w r o) h d c K) (record { need = 0; next = Next (r t.start) h d c K }) (rw b refl) zero-le
 
   -- a name
-  pub run-name : (x : List ℕ) (f : List ℕ → ℕ → Rest) (h d c : ℕ) (K : List Frame) → t.kind ≡ Name x → run n (t ∷ ts) (Next (name f) h d c K) ≡ run n ts (Next (f x t.start) h d c K)
+  pub run-name : (x : List ℕ) (f : List ℕ → ℕ → Rest) (h d c : ℕ) (K : List Frame) → t.kind ≡ Name x →
+      run n (t ∷ ts) (Next (name f) h d c K) ≡ run n ts (Next (f x t.start) h d c K)
   run-name x f h d c K q = run-step (Next (name f) h d c K) (record { need = 0; next = Next (f x t.start) h d c K }) (rw q refl) zero-le
 
   -- a kind
-  pub run-kind : (k : Kind) (f : Kind → Rest) (h d c : ℕ) (K : List Frame) → kind_named t.kind ≡ Some k → run n (t ∷ ts) (Next (of_kind f) h d c K) ≡ run n ts (Next (f k) h d c K)
+  pub run-kind : (k : Kind) (f : Kind → Rest) (h d c : ℕ) (K : List Frame) → kind_named t.kind ≡ Some k →
+      run n (t ∷ ts) (Next (of_kind f) h d c K) ≡ run n ts (Next (f k) h d c K)
   run-kind k f h d c K q = run-step (Next (of_kind f) h d c K) (record { need = 0; next = Next (f k) h d c K }) (rw q refl) zero-le
 
   -- a token that begins a production
-  pub run-opens : (s : Phrase) (r : Rest) (d : ℕ) (K : List Frame) → Opens s t.kind t.start r → d + own_height s + room r ≤ n → run n (t ∷ ts) (Want s d K) ≡ run n ts (Next r 0 (d + own_height s) (own_height s) K)
+  pub run-opens : (s : Phrase) (r : Rest) (d : ℕ) (K : List Frame) → Opens s t.kind t.start r → d + own_height s + room r ≤ n →
+      run n (t ∷ ts) (Want s d K) ≡ run n ts (Next r 0 (d + own_height s) (own_height s) K)
   run-opens Definition r d K o h = run-step (Want Definition d K) _ (rw (opening-from_opens o) refl) h
   run-opens Parameters r d K o h = run-step (Want Parameters d K) _ (rw (opening-from_opens o) refl) h
   run-opens MoreParameters r d K o h = run-step (Want MoreParameters d K) _ (rw (opening-from_opens o) refl) h
@@ -66,24 +74,34 @@ module _ (n : ℕ) (t : Token) (ts : List Token) where
   run-opens (Tail j) r d K o h = run-step (Want (Tail j) d K) _ (rw (opening-from_opens o) refl) h
   run-opens (Grouped l) r d K o h = elim o [ ]
 
-  pub run-opens-deep : (s : Phrase) (r : Rest) (d : ℕ) (K : List Frame) → Opens s t.kind t.start r → n < d + own_height s + room r → run n (t ∷ ts) (Want s d K) ≡ Refused true t.start
-  run-opens-deep Definition r d K o h = run-deep (Want Definition d K) (record { need = d + 0 + room r; next = Next r 0 (d + 0) 0 K }) (rw (opening-from_opens o) refl) h
-  run-opens-deep Parameters r d K o h = run-deep (Want Parameters d K) (record { need = d + 0 + room r; next = Next r 0 (d + 0) 0 K }) (rw (opening-from_opens o) refl) h
-  run-opens-deep MoreParameters r d K o h = run-deep (Want MoreParameters d K) (record { need = d + 0 + room r; next = Next r 0 (d + 0) 0 K }) (rw (opening-from_opens o) refl) h
+  pub run-opens-deep : (s : Phrase) (r : Rest) (d : ℕ) (K : List Frame) → Opens s t.kind t.start r → n < d + own_height s + room r →
+      run n (t ∷ ts) (Want s d K) ≡ Refused true t.start
+  run-opens-deep Definition r d K o h = run-deep (Want Definition d K) (record { need = d + 0 + room r; next = Next r 0 (d + 0) 0 K })
+      (rw (opening-from_opens o) refl) h
+  run-opens-deep Parameters r d K o h = run-deep (Want Parameters d K) (record { need = d + 0 + room r; next = Next r 0 (d + 0) 0 K })
+      (rw (opening-from_opens o) refl) h
+  run-opens-deep MoreParameters r d K o h = run-deep (Want MoreParameters d K) (record { need = d + 0 + room r; next = Next r 0 (d + 0) 0 K })
+      (rw (opening-from_opens o) refl) h
   run-opens-deep Expression r d K o h =
       run-deep (Want Expression d K) (record { need = d + 1 + room r; next = Next r 0 (d + 1) 1 K }) (rw (opening-from_opens o) refl) h
-  run-opens-deep Negation r d K o h = run-deep (Want Negation d K) (record { need = d + 1 + room r; next = Next r 0 (d + 1) 1 K }) (rw (opening-from_opens o) refl) h
+  run-opens-deep Negation r d K o h = run-deep (Want Negation d K) (record { need = d + 1 + room r; next = Next r 0 (d + 1) 1 K })
+      (rw (opening-from_opens o) refl) h
   run-opens-deep Unary r d K o h = run-deep (Want Unary d K) (record { need = d + 1 + room r; next = Next r 0 (d + 1) 1 K }) (rw (opening-from_opens o) refl) h
   run-opens-deep Postfix r d K o h = elim o [ ]
   run-opens-deep Atom r d K o h = run-deep (Want Atom d K) (record { need = d + 1 + room r; next = Next r 0 (d + 1) 1 K }) (rw (opening-from_opens o) refl) h
-  run-opens-deep Arguments r d K o h = run-deep (Want Arguments d K) (record { need = d + 0 + room r; next = Next r 0 (d + 0) 0 K }) (rw (opening-from_opens o) refl) h
-  run-opens-deep MoreArguments r d K o h = run-deep (Want MoreArguments d K) (record { need = d + 0 + room r; next = Next r 0 (d + 0) 0 K }) (rw (opening-from_opens o) refl) h
-  run-opens-deep (Tail j) r d K o h = run-deep (Want (Tail j) d K) (record { need = d + 0 + room r; next = Next r 0 (d + 0) 0 K }) (rw (opening-from_opens o) refl) h
+  run-opens-deep Arguments r d K o h = run-deep (Want Arguments d K) (record { need = d + 0 + room r; next = Next r 0 (d + 0) 0 K })
+      (rw (opening-from_opens o) refl) h
+  run-opens-deep MoreArguments r d K o h = run-deep (Want MoreArguments d K) (record { need = d + 0 + room r; next = Next r 0 (d + 0) 0 K })
+      (rw (opening-from_opens o) refl) h
+  run-opens-deep (Tail j) r d K o h = run-deep (Want (Tail j) d K) (record { need = d + 0 + room r; next = Next r 0 (d + 0) 0 K })
+      (rw (opening-from_opens o) refl) h
   run-opens-deep (Grouped l) r d K o h = elim o [ ]
 
   -- an operator of a level
-  pub run-operator : (l : Level) (o : BinaryOp) (a : Tree) (m d : ℕ) (K : List Frame) → operator_of l t.kind ≡ Some o → d + m + 1 ≤ n → run n (t ∷ ts) (Have a m (Left l d ∷ K)) ≡ run n ts (Want (operand l) (d + 1) (Right l o a m t.start d ∷ K))
-  run-operator l o a m d K q h = run-step (Have a m (Left l d ∷ K)) (record { need = d + m + 1; next = Want (operand l) (d + 1) (Right l o a m t.start d ∷ K) }) (rw q refl) h
+  pub run-operator : (l : Level) (o : BinaryOp) (a : Tree) (m d : ℕ) (K : List Frame) → operator_of l t.kind ≡ Some o → d + m + 1 ≤ n →
+      run n (t ∷ ts) (Have a m (Left l d ∷ K)) ≡ run n ts (Want (operand l) (d + 1) (Right l o a m t.start d ∷ K))
+  run-operator l o a m d K q h = run-step (Have a m (Left l d ∷ K))
+      (record { need = d + m + 1; next = Want (operand l) (d + 1) (Right l o a m t.start d ∷ K) }) (rw q refl) h
 
   -- the bracket of a fetch
   run-bracket : (a : Tree) (m d : ℕ) (K : List Frame) → t.kind ≡ Sign LeftBracket →
@@ -104,12 +122,14 @@ unfolding run
 run-done n [] e h d c K = refl
 run-done n (t ∷ ts) e h d c K = refl
 
-pub run-part : (n : ℕ) (ts : List Token) (s : Phrase) (f : Tree → Rest) (h d c : ℕ) (K : List Frame) → run n ts (Next (part s f) h d c K) ≡ run n ts (Want s d (Inside f h d c ∷ K))
+pub run-part : (n : ℕ) (ts : List Token) (s : Phrase) (f : Tree → Rest) (h d c : ℕ) (K : List Frame) →
+    run n ts (Next (part s f) h d c K) ≡ run n ts (Want s d (Inside f h d c ∷ K))
 unfolding run
 run-part n [] s f h d c K = refl
 run-part n (t ∷ ts) s f h d c K = refl
 
-pub run-inside : (n : ℕ) (ts : List Token) (e : Tree) (h : ℕ) (f : Tree → Rest) (m d c : ℕ) (K : List Frame) → run n ts (Have e h (Inside f m d c ∷ K)) ≡ run n ts (Next (f e) (max m h) d c K)
+pub run-inside : (n : ℕ) (ts : List Token) (e : Tree) (h : ℕ) (f : Tree → Rest) (m d c : ℕ) (K : List Frame) →
+    run n ts (Have e h (Inside f m d c ∷ K)) ≡ run n ts (Next (f e) (max m h) d c K)
 unfolding run
 run-inside n [] e h f m d c K = refl
 run-inside n (t ∷ ts) e h f m d c K = refl
@@ -190,7 +210,8 @@ run-arguments n [] d K q = refl
 run-arguments n (t ∷ ts) d K q = rw q refl
 
 -- a level ends where no operator of it stands
-pub run-left : (n : ℕ) (ts : List Token) (l : Level) (e : Tree) (h d : ℕ) (K : List Frame) → First (λ k. operator_of l k ≡ None) ts → run n ts (Have e h (Left l d ∷ K)) ≡ run n ts (Have e h K)
+pub run-left : (n : ℕ) (ts : List Token) (l : Level) (e : Tree) (h d : ℕ) (K : List Frame) → First (λ k. operator_of l k ≡ None) ts →
+    run n ts (Have e h (Left l d ∷ K)) ≡ run n ts (Have e h K)
 unfolding run
 run-left n [] l e h d K q = refl
 run-left n (t ∷ ts) l e h d K q = rw q refl

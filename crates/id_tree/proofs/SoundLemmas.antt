@@ -1,5 +1,6 @@
 -- A step of the machine keeps that the tokens so far begin a program.
-use Rattle.std.proofs.Common.{◌≡◌, ℕ, ◌+◌, ◌≤◌, max, Bool, true, false, cond, Option, Some, None, List, [], ◌∷◌, ◌++◌, refl, sym, ap, ◌∙◌, subst, append_assoc, append-nil, arith, zero-le}
+use Rattle.std.proofs.Common.{◌≡◌, ℕ, ◌+◌, ◌≤◌, max, Bool, true, false, cond, Option, Some, None, List, [], ◌∷◌, ◌++◌}
+use Rattle.std.proofs.Common.{refl, sym, ap, ◌∙◌, subst, append_assoc, append-nil, arith, zero-le}
 use Rattle.id_text.specs.declared.token.Token.{Token}
 use Rattle.id_text.specs.declared.token.TokenKind.{TokenKind}
 use Rattle.id_text.specs.declared.token.TokenKind.TheVariants.{Name, End}
@@ -8,9 +9,18 @@ use Rattle.id_tree.specs.declared.tokens.Word.TheVariants as the
 use Rattle.id_tree.specs.declared.parser.Level.{Level}
 use Rattle.id_tree.specs.declared.parser.Level.TheVariants as level
 use Rattle.id_tree.specs.Tree.{Tree, binary, none, more}
-use Rattle.id_tree.specs.Grammar.{Phrase, Definition, Parameters, MoreParameters, Expression, Grouped, Negation, Unary, Postfix, Atom, Arguments, MoreArguments, Tail, argument_of, Rest, done, word, either, name, of_kind, part, kind_named, operand, left_operand, operator_of, own_height, Derives, opened, unconditional, single, grouped, plain, bare, atomic, fetched, some_arguments, ended, taken, chosen, left_out, named, kinded, given, Program, empty, defined}
-use Rattle.id_tree.specs.Machine.{opening, Move, pick, is_word, name_in, ahead, ends, defines, enters, points, multiplies, sums, negates, expresses, wants, operates, repeats, indexes, nexts, closes, takes, Frame, Left, Inside, Outer, State}
-use Rattle.id_tree.specs.Standing.{Begins, Defined, Roomy, Around, outermost, unconditionally, left, right, plainly, barely, target, atomically, inside, Stands, begun, wanting, having, within, finished}
+use Rattle.id_tree.specs.Grammar.{Phrase, Definition, Parameters, MoreParameters, Expression, Grouped, Negation}
+use Rattle.id_tree.specs.Grammar.{Unary, Postfix, Atom, Arguments, MoreArguments, Tail, argument_of, Rest, done, word}
+use Rattle.id_tree.specs.Grammar.{either, name, of_kind, part, kind_named, operand, left_operand, operator_of}
+use Rattle.id_tree.specs.Grammar.{own_height, Derives, opened, unconditional, single, grouped, plain, bare, atomic}
+use Rattle.id_tree.specs.Grammar.{fetched, some_arguments, ended, taken, chosen, left_out, named, kinded, given}
+use Rattle.id_tree.specs.Grammar.{Program, empty, defined}
+use Rattle.id_tree.specs.Machine.{opening, Move, pick, is_word, name_in, ahead, ends, defines, enters, points}
+use Rattle.id_tree.specs.Machine.{multiplies, sums, negates, expresses, wants, operates, repeats, indexes, nexts}
+use Rattle.id_tree.specs.Machine.{closes, takes, Frame, Left, Inside, Outer, State}
+use Rattle.id_tree.specs.Standing.{Begins, Defined, Roomy, Around, outermost, unconditionally, left, right, plainly}
+use Rattle.id_tree.specs.Standing.{barely, target, atomically, inside, Stands, begun, wanting, having, within}
+use Rattle.id_tree.specs.Standing.{finished}
 use Rattle.id_tree.proofs.RowLemmas.{valid, least-most, left_operand-least, Derives-height}
 use Rattle.id_tree.proofs.RowLemmas.{same-is_word}
 use Rattle.id_tree.proofs.CompleteLemmas.{ahead-append}
@@ -20,7 +30,8 @@ abbrev pub Moves : ℕ → List Token → Option Move → Type 0
 Moves n us None = Unit {0}
 Moves n us (Some m) = m.need ≤ n → Stands n m.next us
 
-Moves-pick : {A : Type 0} (n : ℕ) (us : List Token) (o : Option A) (f : A → Option Move) (d : Option Move) → ((a : A) → o ≡ Some a → Moves n us (f a)) → Moves n us d → Moves n us (pick o f d)
+Moves-pick : {A : Type 0} (n : ℕ) (us : List Token) (o : Option A) (f : A → Option Move) (d : Option Move) → ((a : A) → o ≡ Some a → Moves n us (f a)) →
+    Moves n us d → Moves n us (pick o f d)
 Moves-pick n us None f d p q = q
 Moves-pick n us (Some a) f d p q = p a refl
 
@@ -78,15 +89,18 @@ Around-at {n = n} {s = s} {d = d} {K = K} q a = subst (λ xs. Around n s d K xs)
 -- round the first argument stand those behind it
 Around-argument : {n d : ℕ} {K : List Frame} {us : List Token} → Around n Arguments d K us → Around n Expression (d + 0) (Inside argument_of 0 (d + 0) 0 ∷ K) us
 Around-argument {us = us} a = Around-at (append-nil us)
-    (inside a (record { completes = λ ts e m f. Derives-of (omega arith) (some_arguments f) }) (omega (arith, Around-fits a)) (λ e. (omega (arith, Around-fits a), λ b. tt)))
+    (inside a (record { completes = λ ts e m f. Derives-of (omega arith) (some_arguments f) }) (omega (arith, Around-fits a))
+    (λ e. (omega (arith, Around-fits a), λ b. tt)))
 
 Program-of : {us vs : List Token} {e f : Tree} {h k : ℕ} → us ≡ vs → e ≡ f → h ≡ k → Program us e h → Program vs f k
 Program-of p q r x = rw (← p, ← q, ← r) x
 
 -- one definition more
-Defined-add : {ds : List Tree} {us vs : List Token} {e : Tree} {h k : ℕ} → Defined ds us h → Derives Definition vs e k → Defined (ds ++ e ∷ []) (us ++ vs) (max h k)
+Defined-add : {ds : List Tree} {us vs : List Token} {e : Tree} {h k : ℕ} → Defined ds us h → Derives Definition vs e k →
+    Defined (ds ++ e ∷ []) (us ++ vs) (max h k)
 Defined-add {ds = ds} {us = us} {vs = vs} {e = e} {h = h} {k = k} p x = record {
-  completes = λ ts f m q. Program-of (sym (append_assoc us vs ts)) (sym (ahead-append ds e f)) (omega arith) (p.completes (vs ++ ts) (more e f) (max k m) (defined x q));
+  completes = λ ts f m q. Program-of (sym (append_assoc us vs ts)) (sym (ahead-append ds e f)) (omega arith)
+      (p.completes (vs ++ ts) (more e f) (max k m) (defined x q));
 }
 
 -- no definition yet
@@ -95,9 +109,11 @@ Defined-none = record { completes = λ ts e m q. Program-of refl refl (omega ari
 
 module _ (n : ℕ) (t : Token) where
   -- a token begins a production, or else moves
-  Moves-enters : {s : Phrase} {d : ℕ} {K : List Frame} {us : List Token} (other : Option Move) → Around n s d K us → Moves n (us ++ t ∷ []) other → Moves n (us ++ t ∷ []) (enters t s d K other)
+  Moves-enters : {s : Phrase} {d : ℕ} {K : List Frame} {us : List Token} (other : Option Move) → Around n s d K us → Moves n (us ++ t ∷ []) other →
+      Moves n (us ++ t ∷ []) (enters t s d K other)
   Moves-enters {s = s} {d = d} {K = K} {us = us} other a other_moves = Moves-pick n (us ++ t ∷ []) (opening s t.kind t.start) _ other (λ row q fits.
-      within a (record { completes = λ ts e m f. Derives-of (omega arith) (opened row.opens f) }) (omega arith) ((valid row.opens).roomy n (d + own_height s) fits)) other_moves
+      within a (record { completes = λ ts e m f. Derives-of (omega arith) (opened row.opens f) }) (omega arith)
+      ((valid row.opens).roomy n (d + own_height s) fits)) other_moves
 
   Moves-points : {d : ℕ} {K : List Frame} {us : List Token} → Around n Postfix d K us → Moves n (us ++ t ∷ []) (points t d K)
   Moves-points a = Moves-enters None (atomically (target a)) tt
@@ -174,7 +190,8 @@ module _ (n : ℕ) (t : Token) where
       (within a (record { completes = λ ts e m f. Derives-at (sym (snoc-at vs ts t)) (b.completes (t ∷ ts) e m (taken (same-is_word v t.kind q) f)) }) w roomy))
   Moves-nexts {s = s} {us = us} {vs = vs} (name g) h close a b w roomy closing = Moves-pick n _ (name_in t.kind) _ None (λ x q fits.
       Stands-at (sym (append_assoc us vs (t ∷ [])))
-      (within a (record { completes = λ ts e m f. Derives-at (sym (snoc-at vs ts t)) (b.completes (t ∷ ts) e m (named (name-from_in t.kind x q) f)) }) w (roomy x t.start))) tt
+      (within a (record { completes = λ ts e m f. Derives-at (sym (snoc-at vs ts t)) (b.completes (t ∷ ts) e m (named (name-from_in t.kind x q) f)) }) w
+      (roomy x t.start))) tt
   Moves-nexts {s = s} {us = us} {vs = vs} (of_kind g) h close a b w roomy closing = Moves-pick n _ (kind_named t.kind) _ None (λ k q fits.
       Stands-at (sym (append_assoc us vs (t ∷ [])))
       (within a (record { completes = λ ts e m f. Derives-at (sym (snoc-at vs ts t)) (b.completes (t ∷ ts) e m (kinded q f)) }) w (roomy k))) tt
@@ -182,7 +199,8 @@ module _ (n : ℕ) (t : Token) where
       Moves-if n _ (is_word v t.kind) _ (nexts t o h (d + own_height s) (own_height s) K close)
       (λ q fits.
       Stands-at (sym (append_assoc us vs (t ∷ [])))
-      (within a (record { completes = λ ts f m g. Derives-at (sym (snoc-at vs ts t)) (b.completes (t ∷ ts) f m (chosen (same-is_word v t.kind q) g)) }) w (roomy.0 t.start)))
+      (within a (record { completes = λ ts f m g. Derives-at (sym (snoc-at vs ts t)) (b.completes (t ∷ ts) f m (chosen (same-is_word v t.kind q) g)) }) w
+      (roomy.0 t.start)))
       (Moves-nexts o h close a (record { completes = λ ts f m g. b.completes ts f m (left_out g) }) w roomy.1 closing)
   Moves-nexts (part i g) h close a b w roomy closing = Moves-wants (inside a b w roomy.1)
 

@@ -1,7 +1,10 @@
 -- The statements of a block and of a loop, and the arguments of a call, as a list and as its row.
 use Rattle.std.proofs.Common.{◌≡◌, ℕ, List, Vec, Box, Global, refl, ap, ◌∙◌}
 use mathlib.Core.Former.{Count}
-use Rattle.id_tree.specs.declared.tree.Expr.{Expr, Call, Call', Block, Block', Loop, Loop', Row_of-Expr, end_of-Expr, more_of-Expr, items-the_row-Expr, items_hidden-the_row-Expr-0, Row_of-Stmt, end_of-Stmt, more_of-Stmt, items-the_row-Stmt, items_hidden-the_row-Stmt-1}
+use Rattle.id_tree.specs.declared.tree.Expr.{Expr, Call, Call', Block, Block', Loop, Loop', Row_of-Expr, end_of-Expr}
+use Rattle.id_tree.specs.declared.tree.Expr.{more_of-Expr, items-the_row-Expr, items_hidden-the_row-Expr-0}
+use Rattle.id_tree.specs.declared.tree.Expr.{Row_of-Stmt, end_of-Stmt, more_of-Stmt, items-the_row-Stmt}
+use Rattle.id_tree.specs.declared.tree.Expr.{items_hidden-the_row-Stmt-1}
 use Rattle.id_tree.specs.declared.tree.Call.{Call as Passing}
 use Rattle.id_tree.specs.declared.tree.Block.{Block as Inner}
 use Rattle.id_tree.specs.declared.tree.Loop.{Loop as Round}

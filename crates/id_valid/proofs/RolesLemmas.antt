@@ -1,5 +1,6 @@
 -- Lemmas on specs/Roles.antt, in the order of its definitions.
-use Rattle.std.proofs.Common.{false, ◌≡◌, ℕ, ◌+◌, ◌<◌, Bool, true, List, [], ◌∷◌, ◌++◌, length, take, drop, get_or, filter, arith, ap, sym, ◌∙◌, length-append, refl, ◌==◌}
+use Rattle.std.proofs.Common.{false, ◌≡◌, ℕ, ◌+◌, ◌<◌, Bool, true, List, [], ◌∷◌, ◌++◌, length, take, drop, get_or}
+use Rattle.std.proofs.Common.{filter, arith, ap, sym, ◌∙◌, length-append, refl, ◌==◌}
 use Rattle.std.specs.List.{list_any}
 use Rattle.std.proofs.lemmas.Bool.Decides.{nat_tests}
 use Rattle.id_graph.specs.declared.instr.Block.{Block}
@@ -15,7 +16,8 @@ is_second-zero (b ∷ bs) =
     in rw head (is_second-zero bs)
 
 -- where an element passes after one that passed, the list has not one alone that passes
-pub filter-not_one : {X : Type 0} (p : X → Bool) (xs : List X) (i : ℕ) (d a b : X) → i < length xs → filter p (take i xs) ≡ a ∷ [] → p (get_or xs i d) ≡ true → filter p xs ≡ b ∷ [] → ⊥
+pub filter-not_one : {X : Type 0} (p : X → Bool) (xs : List X) (i : ℕ) (d a b : X) → i < length xs → filter p (take i xs) ≡ a ∷ [] →
+    p (get_or xs i d) ≡ true → filter p xs ≡ b ∷ [] → ⊥
 filter-not_one p xs i d a b within one passes alone =
     let parts : filter p (take (i + 1) xs) ++ filter p (drop (i + 1) xs) ≡ b ∷ [] =
     sym (filter-append p (take (i + 1) xs) (drop (i + 1) xs)) ∙ ap (λ l. filter p l) (take-append-drop (i + 1) xs) ∙ alone

@@ -1,7 +1,8 @@
 //! Numbers that share a field of a line: the halves of 64 bits, an element with an instruction, a port with a position.
 
 ghost use Rattle.std.specs.Prelude.{◌≡◌, ◌<◌, ◌%◌, ◌/◌, ◌^◌};
-ghost use Rattle.id_record.specs.Lines.{context_of, element_at, high_half, index_of, instr_at, joined, low_half, port_at};
+ghost use Rattle.id_record.specs.Lines.{context_of, element_at, high_half, index_of, instr_at, joined, low_half};
+ghost use Rattle.id_record.specs.Lines.{port_at};
 
 use id_graph::Port;
 use id_tag::Context;

@@ -14,9 +14,13 @@ invariant_of-result c =
       c.in_ok-pages.ensures.fits,
       c.in_ok-count.ensures
           ∙ ap (λ es. length (flat_map filled_at (flat_map (λ e. page_cells (e.0, e.1.now)) es))) c.deref.ensures.value
-          ∙ ap (λ es. length (flat_map filled_at es)) (sym (flat_map-map page_cells (λ e. (e.0, e.1.now)) pages) ∙ sym (cells_left-all (map (λ e. (e.0, e.1.now)) pages))),
+          ∙ ap (λ es. length (flat_map filled_at es)) (sym (flat_map-map page_cells (λ e. (e.0, e.1.now)) pages) ∙
+          sym (cells_left-all (map (λ e. (e.0, e.1.now)) pages))),
     )
 
 pub returns : goal.returns
 returns c =
-    record { items = ap (flat_map filled_at) (cells_left-all (map (λ e. (e.0, e.1.now)) c.in_ok-pages.pages.items) ∙ c.in_ok-pages.ensures.listed) ∙ ap cells_of c.self.view_is }
+    record {
+      items = ap (flat_map filled_at) (cells_left-all (map (λ e. (e.0, e.1.now)) c.in_ok-pages.pages.items) ∙ c.in_ok-pages.ensures.listed) ∙
+          ap cells_of c.self.view_is;
+    }

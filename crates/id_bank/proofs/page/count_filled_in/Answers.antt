@@ -23,10 +23,12 @@ loop-offset-preserved c =
     elim c.if-is_none.branch [
       | then-is_none w ↦ record {
         bound = omega (arith, known.bound, w.count-is);
-        counted = λ p. w.count-is ∙ filled-next n c.loop-offset.count p c.args.slots.now (sym c.expected_in.ensures ∙ none_then _ _ c.is_none.ensures w.if-is_none.true) (known.counted p);
+        counted = λ p. w.count-is ∙ filled-next n c.loop-offset.count p c.args.slots.now
+            (sym c.expected_in.ensures ∙ none_then _ _ c.is_none.ensures w.if-is_none.true) (known.counted p);
       }
       | else-is_none w ↦ record {
         bound = omega (arith, known.bound, w.count-is);
-        counted = λ p. w.count-is ∙ filled-same n c.loop-offset.count p c.args.slots.now (λ is. some_else _ _ c.is_none.ensures w.if-is_none.false (c.expected_in.ensures ∙ is)) (known.counted p);
+        counted = λ p. w.count-is ∙ filled-same n c.loop-offset.count p c.args.slots.now
+            (λ is. some_else _ _ c.is_none.ensures w.if-is_none.false (c.expected_in.ensures ∙ is)) (known.counted p);
       }
     ]

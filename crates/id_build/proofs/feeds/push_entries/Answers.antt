@@ -22,7 +22,9 @@ loop-part-preserved c =
     let to : c.number_by-first.result + k ≡ number_by F n k =
     omega (arith, c.number_by-first.ensures.number ∙ ap (λ (f : List ℕ). number_by f n 0) c.as_slice.ensures.value) in
     let turn = ap (λ z. record { row = z; part = k + 1; side = true }) c.turn_row-turn.ensures in
-    let one = c.in_ok-push.ensures.list ∙ ap (λ z. xs ++ z ∷ []) (arc_is F c.loop-part.arcs.firsts.items n k (c.number_by-first.result + k) (record { row = m; part = k + 1; side = true }) _ Zero c.loop-part.invariant.firsts to turn) in
+    let one = c.in_ok-push.ensures.list ∙ ap (λ z. xs ++ z ∷ [])
+    (arc_is F c.loop-part.arcs.firsts.items n k (c.number_by-first.result + k) (record { row = m; part = k + 1; side = true }) _ Zero
+    c.loop-part.invariant.firsts to turn) in
     record {
       list = entry_feeds-next F n m k bs xs ys _ less c.loop-part.invariant.list one;
       firsts = c.in_ok-push.ensures.firsts ∙ c.loop-part.invariant.firsts;

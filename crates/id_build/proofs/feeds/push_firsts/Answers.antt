@@ -18,7 +18,8 @@ loop-next-preserved c =
     let ys = c.push_two.new.self.list.items in
     let to : c.loop-next.to ≡ number_by F n (1 + i) = omega (arith, c.loop-next.invariant.to) in
     let here = c.name_in.ensures.origin ∙ ap (name_in P r) c.first_binder-binder.ensures in
-    let two = two_are F c.loop-next.arcs.firsts.items n (1 + i) c.loop-next.to (output n) c.output.result (name_in P r (first_binder P (get_or ms i 0))) c.name_in.result xs ys
+    let two = two_are F c.loop-next.arcs.firsts.items n (1 + i) c.loop-next.to (output n) c.output.result (name_in P r (first_binder P (get_or ms i 0)))
+    c.name_in.result xs ys
     c.loop-next.invariant.firsts to c.output.ensures here c.in_ok-push_two.ensures.list in
     record {
       list = first_feeds-next P F n (output n) r 1 i ms xs ys _ c.loop-next-test.true c.loop-next.invariant.list two;

@@ -23,7 +23,9 @@ loop-binder-preserved c =
     let ys = c.push-in-loop-binder.new.self.list.items in
     let to : c.loop-binder.to + 1 ≡ number_by F n (1 + i) = omega (arith, c.loop-binder.invariant.to) in
     let here : c.name_in.result ≡ name_in P r (get_or bs i 0) = c.name_in.ensures.origin ∙ ap (λ (l : List ℕ). name_in P r (get_or l i 0)) list in
-    let one = c.in_ok-push-2.ensures.list ∙ ap (λ z. xs ++ z ∷ []) (arc_is F c.loop-binder.arcs.firsts.items n (1 + i) (c.loop-binder.to + 1) (name_in P r (get_or bs i 0)) c.name_in.result Zero c.loop-binder.invariant.firsts to here) in
+    let one = c.in_ok-push-2.ensures.list ∙ ap (λ z. xs ++ z ∷ [])
+    (arc_is F c.loop-binder.arcs.firsts.items n (1 + i) (c.loop-binder.to + 1) (name_in P r (get_or bs i 0)) c.name_in.result Zero
+    c.loop-binder.invariant.firsts to here) in
     record {
       list = turn_feeds-next P F n r 1 i bs xs ys _ less c.loop-binder.invariant.list one;
       firsts = c.in_ok-push-2.ensures.firsts ∙ c.loop-binder.invariant.firsts;

@@ -38,7 +38,8 @@ returns-clause-schemas c =
     let F = c.in_ok-numbers.numbers.firsts.items in
     let G = graph_by P order F in
     let whole = Schemas-graph_by P order F (IsBuildable-checked P) (is_order P order c.requires.order) c.in_ok-numbers.ensures.firsts in
-    let bs : c.in_ok-blocks.blocks.items ≡ G.blocks = c.in_ok-blocks.ensures.blocks ∙ ap (λ f. map (block_of P (number_by f)) (all_heads P)) c.as_slice.ensures.value in
+    let bs : c.in_ok-blocks.blocks.items ≡ G.blocks = c.in_ok-blocks.ensures.blocks ∙
+    ap (λ f. map (block_of P (number_by f)) (all_heads P)) c.as_slice.ensures.value in
     let is = c.in_ok-instrs.ensures.instrs in
     let A : List Block → Type 0 = λ x. Schemas P (parts x c.in_ok-instrs.instrs.items) in
     let B : List Instr → Type 0 = λ x. Schemas P (parts G.blocks x) in
@@ -57,4 +58,5 @@ blocks-requires-clause-fit c =
     let P = c.args.checked.now in
     let order = c.args.order.now in
     let few : length (pieces_in P order) ≤ 1000000 = omega (arith, c.in_ok-numbers.ensures.small) in
-    subst (EntriesFit P) (sym c.as_slice.ensures.value) (entries_fit P order c.in_ok-numbers.numbers.firsts.items (is_order P order c.requires.order) c.in_ok-numbers.ensures.firsts few)
+    subst (EntriesFit P) (sym c.as_slice.ensures.value) (entries_fit P order c.in_ok-numbers.numbers.firsts.items (is_order P order c.requires.order)
+    c.in_ok-numbers.ensures.firsts few)

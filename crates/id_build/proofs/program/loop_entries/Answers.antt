@@ -33,7 +33,8 @@ loop-variable-preserved c =
     let less : i < length (nexts_of P h) = omega (arith, low, high) in
     let up : (v + 1) - (h + 1) ≡ i + 1 = omega (arith, low) in
     let row : h + 1 + i ≡ v = omega (arith, low) in
-    let pushed = c.in_ok-push.ensures.items ∙ ap (λ n. c.loop-variable.entries.items ++ n ∷ []) (c.number_by.ensures.number ∙ ap (λ k. number_by F k 0) (sym row)) in
+    let pushed = c.in_ok-push.ensures.items ∙ ap (λ n. c.loop-variable.entries.items ++ n ∷ [])
+    (c.number_by.ensures.number ∙ ap (λ k. number_by F k 0) (sym row)) in
     variable_entries-next f (h + 1) i ((v + 1) - (h + 1)) (nexts_of P h) c.loop-variable.entries.items c.push.new.self.items
     (map f (variable_entries (h + 1) (nexts_of P h))) less up c.loop-variable.invariant pushed
 
@@ -49,7 +50,8 @@ loop-part-preserved c =
     let first = c.number_by-first.ensures.number ∙ ap (λ r. number_by F r 0) c.entries_row-imported.ensures in
     let number : c.number_by-first.result + k ≡ number_by F e k = omega (arith, first) in
     let pushed = c.in_ok-push-2.ensures.items ∙ ap (λ n. c.loop-part.entries.items ++ n ∷ []) number in
-    import_entries-next f e k (imports_of P h) c.loop-part.entries.items c.push-in-loop-part.new.self.items (map f (loop_entries P h)) less c.loop-part.invariant pushed
+    import_entries-next f e k (imports_of P h) c.loop-part.entries.items c.push-in-loop-part.new.self.items (map f (loop_entries P h)) less
+    c.loop-part.invariant pushed
 
 pub returns-clause-entries : goal.returns-clause-entries
 returns-clause-entries c =

@@ -46,7 +46,8 @@ loop-n-preserved c =
     record {
       count = omega (arith, c.loop-n.invariant.count, count_in-next P order i h, c.made_count-count.ensures.count);
       many = omega (arith, length-set {A = ℕ});
-      firsts = first_in-next P order c.loop-n.firsts.items i c.loop-n.count c.requires.differ h (omega (arith, low, many)) c.loop-n.invariant.count c.loop-n.invariant.firsts;
+      firsts = first_in-next P order c.loop-n.firsts.items i c.loop-n.count c.requires.differ h (omega (arith, low, many)) c.loop-n.invariant.count
+          c.loop-n.invariant.firsts;
       few = omega arith;
     }
 

@@ -19,7 +19,8 @@ loop-n-preserved c =
     let P = c.args.checked.now in
     let F = c.args.firsts.now in
     entries_next P F c.loop-n.entries.items c.push_param.new.entries.items c.args.head c.loop-n.n c.loop-n.invariant
-    (c.in_ok-push_param.ensures.entries ∙ ap (λ r. c.loop-n.entries.items ++ cond (is_param r.node && nat_eq r.block c.args.head) (number_by F c.loop-n.n 0 ∷ []) []) c.row_at.ensures)
+    (c.in_ok-push_param.ensures.entries ∙ ap (λ r. c.loop-n.entries.items ++
+    cond (is_param r.node && nat_eq r.block c.args.head) (number_by F c.loop-n.n 0 ∷ []) []) c.row_at.ensures)
 
 pub returns-clause-entries : goal.returns-clause-entries
 returns-clause-entries c =

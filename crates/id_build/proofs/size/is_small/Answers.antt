@@ -16,8 +16,11 @@ loop-n-preserved c =
 pub returns-then-size-gt1000000 : goal.returns-then-size-gt1000000
 returns-then-size-gt1000000 c =
     let P = c.args.kernel.now.checked.now in
-    let more = size_below-within P c.loop-n.n (omega (arith, c.loop-n-test.true, c.len-n-end.ensures)) in
-    ((λ h. cc), λ small. (let no : ⊥ = omega (arith, small, more, c.loop-n.invariant.is, c.made_count-size.ensures.count, c.if-size-gt1000000.true) in absurd no))
+    let more = size_below-within P c.loop-n.n (omega (arith, c.loop-n-test.true, c.len-n-end.ensures)) in (
+      (λ h. cc),
+      λ small. (let no : ⊥ = omega (arith, small, more, c.loop-n.invariant.is, c.made_count-size.ensures.count, c.if-size-gt1000000.true) in
+          absurd no),
+    )
 
 pub returns : goal.returns
 returns c =

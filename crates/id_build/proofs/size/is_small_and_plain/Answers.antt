@@ -26,7 +26,8 @@ pub returns-then-size-gt1000000 : goal.returns-then-size-gt1000000
 returns-then-size-gt1000000 c =
     let P = c.args.checked.now in
     let n = c.loop-n.n in
-    let makes : c.in-Some.count ≡ length (made P n) = sym (c.in-Some.ensures.some P n (place P n)) ∙ ap (λ r. length (made_of P n (place P n) r.node)) c.row_at.ensures in
+    let makes : c.in-Some.count ≡ length (made P n) = sym (c.in-Some.ensures.some P n (place P n)) ∙
+    ap (λ r. length (made_of P n (place P n) r.node)) c.row_at.ensures in
     let more = size_below-within P n (omega (arith, c.loop-n-test.true, c.len-n-end.ensures)) in
     ((λ h. cc), λ both. (let no : ⊥ = omega (arith, both.1, more, c.loop-n.invariant.is, makes, c.if-size-gt1000000.true) in absurd no))
 

@@ -34,18 +34,36 @@ returns-in-Start-clause-count c =
     let P = c.args.checked.now in
     let n = c.args.n in
     let is : node P n ≡ Start = ap (λ r. r.node) (sym c.row_at-row.ensures) ∙ c.in-Start.is in
-    omega (arith, ap length c.imports-in-Start.ensures, length-start P n (place P n), ap (λ m. length (made_of P n (place P n) m)) is, ap length c.nexts_at-nexts.ensures.nexts)
+    omega (
+      arith,
+      ap length c.imports-in-Start.ensures,
+      length-start P n (place P n),
+      ap (λ m. length (made_of P n (place P n) m)) is,
+      ap length c.nexts_at-nexts.ensures.nexts,
+    )
 
 pub returns-in-Entries-clause-count : goal.returns-in-Entries-clause-count
 returns-in-Entries-clause-count c =
     let P = c.args.checked.now in
     let n = c.args.n in
     let is : node P n ≡ Entries = ap (λ r. r.node) (sym c.row_at-row.ensures) ∙ c.in-Entries.is in
-    omega (arith, ap length c.imports-in-Entries.ensures, length-entries P n (place P n), ap (λ m. length (made_of P n (place P n) m)) is, ap (λ (r : Row). length (imports_of P r.block)) c.row_at-row.ensures)
+    omega (
+      arith,
+      ap length c.imports-in-Entries.ensures,
+      length-entries P n (place P n),
+      ap (λ m. length (made_of P n (place P n) m)) is,
+      ap (λ (r : Row). length (imports_of P r.block)) c.row_at-row.ensures,
+    )
 
 pub returns-in-Turn-clause-count : goal.returns-in-Turn-clause-count
 returns-in-Turn-clause-count c =
     let P = c.args.checked.now in
     let n = c.args.n in
     let is : node P n ≡ Turn = ap (λ r. r.node) (sym c.row_at-row.ensures) ∙ c.in-Turn.is in
-    omega (arith, ap length c.imports-in-Turn.ensures, length-turn P n (place P n), ap (λ m. length (made_of P n (place P n) m)) is, ap (λ (r : Row). length (imports_of P r.block)) c.row_at-row.ensures)
+    omega (
+      arith,
+      ap length c.imports-in-Turn.ensures,
+      length-turn P n (place P n),
+      ap (λ m. length (made_of P n (place P n) m)) is,
+      ap (λ (r : Row). length (imports_of P r.block)) c.row_at-row.ensures,
+    )

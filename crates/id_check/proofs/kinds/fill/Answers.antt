@@ -19,7 +19,8 @@ same_but ks js p i k less (inr h) (inr c) = inr (get_or-set_other ks p i k Nowhe
 
 pub index_mut-requires : goal.index_mut-requires
 index_mut-requires c =
-    let less = last_below c.loop-p.passed.items c.pop.new.self.items c.in-Some.p (length c.loop-p.links.items) c.in-Some.ensures.items c.loop-p.invariant.below in
+    let less = last_below c.loop-p.passed.items c.pop.new.self.items c.in-Some.p (length c.loop-p.links.items) c.in-Some.ensures.items
+    c.loop-p.invariant.below in
     omega arith
 
 pub loop-p-preserved : goal.loop-p-preserved

@@ -16,7 +16,8 @@ loop-i-init c =
       targets = λ i j b e.
           let less = subst (λ n. i < n) going.long b in
           subst (λ n. j < n) (sym going.long)
-          (link_below R β c.requires.formed c.requires.within i j less (targets_state (link_at R β) 0 i j (get_or c.in_ok-links.links.items i Nowhere) (going.states i less) e));
+          (link_below R β c.requires.formed c.requires.within i j less
+          (targets_state (link_at R β) 0 i j (get_or c.in_ok-links.links.items i Nowhere) (going.states i less) e));
       going = going;
       long = ap length c.in_ok-kinds.ensures.items;
       kinds = λ i b. absurd (omega arith);
@@ -34,8 +35,10 @@ loop-i-preserved c =
     let less = c.loop-i-test.true in
     let going : IsGoing l (length R) (i + 1) ks =
     subst (λ n. IsGoing l n (i + 1) ks) long (step.going l (subst (λ n. IsGoing l n i c.loop-i.links.items) (sym long) h.going)) in
-    let read : c.index.result.now ≡ get_or ks i Nowhere = c.index.ensures ∙ get_or_default ks i c.index.result.now Nowhere (subst (λ n. i < n) (sym going.long) less) in
-    let kind : IsKind l i c.kind_of.result = subst (IsKind l i) (sym (c.kind_of.ensures ∙ ap kind_of read)) (kind_settled l i (get_or ks i Nowhere) (going.states i less)) in
+    let read : c.index.result.now ≡ get_or ks i Nowhere = c.index.ensures ∙
+    get_or_default ks i c.index.result.now Nowhere (subst (λ n. i < n) (sym going.long) less) in
+    let kind : IsKind l i c.kind_of.result = subst (IsKind l i) (sym (c.kind_of.ensures ∙ ap kind_of read))
+    (kind_settled l i (get_or ks i Nowhere) (going.states i less)) in
     record {
       passed = step.passed;
       targets = step.targets;

@@ -43,10 +43,13 @@ loop-next-preserved c =
     record {
       long = same ∙ h.long;
       at = subst (λ n. c.in-To.next < n) (sym same) less;
-      below = λ p a. subst (λ n. p < n) (sym same) (below_push c.loop-next.passed.items q p (length ks) h.below h.at (subst (Among p) c.in_ok-push.ensures.items a));
+      below = λ p a. subst (λ n. p < n) (sym same) (below_push c.loop-next.passed.items q p (length ks) h.below h.at
+          (subst (Among p) c.in_ok-push.ensures.items a));
       targets = λ i j b g. subst (λ n. j < n) (sym same) (targets_set ks q (length ks) h.targets h.at i j (subst (λ n. i < n) same b) (cases_eq i q) g);
-      passing = λ f g. subst (λ ps. IsPassing f (length c.args.links.now.items) c.args.start ps c.in-To.next (set ks q (Fixed Int))) (sym c.in_ok-push.ensures.items)
-          (passing_step f (length c.args.links.now.items) c.args.start c.loop-next.passed.items q c.in-To.next ks (h.passing f g) e (subst (λ n. c.in-To.next < n) h.long less));
+      passing = λ f g. subst (λ ps. IsPassing f (length c.args.links.now.items) c.args.start ps c.in-To.next (set ks q (Fixed Int)))
+          (sym c.in_ok-push.ensures.items)
+          (passing_step f (length c.args.links.now.items) c.args.start c.loop-next.passed.items q c.in-To.next ks (h.passing f g) e
+          (subst (λ n. c.in-To.next < n) h.long less));
     }
 
 pub returns : goal.returns
@@ -55,17 +58,20 @@ returns c =
     let q = c.loop-next.at in
     let h = c.loop-next.invariant in
     let n = length c.args.links.now.items in
-    let t : IsEnd (get_or ks q Nowhere) = is_end (get_or ks q Nowhere) (λ j e. c.in_default.not-To j (sym (stands ks q c.index.result.now h.at c.index.ensures) ∙ e)) in
+    let t : IsEnd (get_or ks q Nowhere) = is_end (get_or ks q Nowhere)
+    (λ j e. c.in_default.not-To j (sym (stands ks q c.index.result.now h.at c.index.ensures) ∙ e)) in
     let e : get_or ks q Nowhere ≡ c.index-end.result.now = stands ks q c.index-end.result.now h.at c.index-end.ensures in
     let long = c.fill.ensures.long ∙ h.long in
     record {
       passed = c.fill.ensures.passed;
       long = long;
-      targets = λ i j b g. subst (λ m. j < m) (sym c.fill.ensures.long) (targets_fill c.fill.new.links.items ks c.index-end.result.now (length ks) i j (subst IsEnd e t) h.targets
+      targets = λ i j b g. subst (λ m. j < m) (sym c.fill.ensures.long)
+          (targets_fill c.fill.new.links.items ks c.index-end.result.now (length ks) i j (subst IsEnd e t) h.targets
           (subst (λ m. i < m) c.fill.ensures.long b) (c.fill.ensures.same i) g);
       going = λ f g. filling_end f n (c.args.start + 1) c.index-end.result.now c.fill.new.links.items
           (c.fill.ensures.filling f n (c.args.start + 1)
-          (subst (λ k. IsFilling f n (c.args.start + 1) c.loop-next.passed.items k ks) e (filling_start f n c.args.start c.loop-next.passed.items q ks (h.passing f g) t)));
+          (subst (λ k. IsFilling f n (c.args.start + 1) c.loop-next.passed.items k ks) e
+          (filling_start f n c.args.start c.loop-next.passed.items q ks (h.passing f g) t)));
     }
 
 pub loop-next-init : goal.loop-next-init

@@ -12,7 +12,8 @@ invariant-loop-next l = record {
   at : l.at < length l.links.items;
   below : (p : ℕ) → Among p l.passed.items → p < length l.links.items;
   targets : (i j : ℕ) → i < length l.links.items → get_or l.links.items i Nowhere ≡ To j → j < length l.links.items;
-  passing : (f : ℕ → Link) → IsGoing f (length l.initial.links.items) l.start l.initial.links.items → IsPassing f (length l.initial.links.items) l.start l.passed.items l.at l.links.items;
+  passing : (f : ℕ → Link) → IsGoing f (length l.initial.links.items) l.start l.initial.links.items →
+      IsPassing f (length l.initial.links.items) l.start l.passed.items l.at l.links.items;
 }
 
 abbrev pub decreases-loop-next : goal.decreases-loop-next

@@ -7,7 +7,8 @@ use Rattle.id_check.proofs.program.find_columns.Goals as goal
 
 pub returns-clause-kinded : goal.returns-clause-kinded
 returns-clause-kinded c =
-    subst (λ os. AreKinds c.args.rows.now (λ i. get_or os i None) (λ i. get_or c.in_ok-kinds.kinds.items i None)) c.as_slice.ensures.value c.in_ok-kinds.ensures.kinds
+    subst (λ os. AreKinds c.args.rows.now (λ i. get_or os i None) (λ i. get_or c.in_ok-kinds.kinds.items i None)) c.as_slice.ensures.value
+    c.in_ok-kinds.ensures.kinds
 
 pub returns-clause-first : goal.returns-clause-first
 returns-clause-first c =

@@ -26,13 +26,15 @@ pub returns-in-Some-in_scope-clause-first : goal.returns-in-Some-in_scope-clause
 returns-in-Some-in_scope-clause-first c =
     let d = (goal.at.returns-in-Some-in_scope-clause-first c).After-in_scope in
     subst (λ cs. Notes c.args.first.now cs c.note_second.new.first)
-    (sym (again-bound c.args.rows.now c.args.s c.args.b c.in-Some.name c.args.bound.now.items _ (sym c.bound_name.ensures ∙ c.in-Some.is) c.in-Some-in_scope.earlier (looked d ∙ c.in-Some-in_scope.is)))
+    (sym (again-bound c.args.rows.now c.args.s c.args.b c.in-Some.name c.args.bound.now.items _ (sym c.bound_name.ensures ∙ c.in-Some.is)
+    c.in-Some-in_scope.earlier (looked d ∙ c.in-Some-in_scope.is)))
     c.note_second.ensures
 
 pub returns-in-Some-in_scope-clause-binders : goal.returns-in-Some-in_scope-clause-binders
 returns-in-Some-in_scope-clause-binders c = λ i less.
     let d = (goal.at.returns-in-Some-in_scope-clause-binders c).After-in_scope in
-    newly-bound c.args.rows.now c.args.s c.args.b c.in-Some.name c.args.bound.now.items _ (sym c.bound_name.ensures ∙ c.in-Some.is) c.in-Some-in_scope.earlier (looked d ∙ c.in-Some-in_scope.is) i
+    newly-bound c.args.rows.now c.args.s c.args.b c.in-Some.name c.args.bound.now.items _ (sym c.bound_name.ensures ∙ c.in-Some.is) c.in-Some-in_scope.earlier
+    (looked d ∙ c.in-Some-in_scope.is) i
     (get_or c.args.uses.now.binders.items i None)
 
 pub returns-in-Some-sought-clause-binders : goal.returns-in-Some-sought-clause-binders
@@ -40,7 +42,8 @@ returns-in-Some-sought-clause-binders c = λ i less.
     let d = (goal.at.returns-in-Some-sought-clause-binders c).After-in_scope in
     c.resolve.ensures.binders i less
     ∙ ap (option_or (get_or c.args.uses.now.binders.items i None))
-    (sym (newly-given c.args.rows.now c.args.s c.args.b c.in-Some.name c.args.bound.now.items _ (sym c.bound_name.ensures ∙ c.in-Some.is) (looked d ∙ c.in_default-in_scope.is)
+    (sym (newly-given c.args.rows.now c.args.s c.args.b c.in-Some.name c.args.bound.now.items _ (sym c.bound_name.ensures ∙ c.in-Some.is)
+    (looked d ∙ c.in_default-in_scope.is)
     c.in-Some-sought.key i (sym c.sought.ensures ∙ c.in-Some-sought.is)))
 
 none : (o : Option ℕ) → ((k : ℕ) → o ≡ Some k → ⊥) → o ≡ None
@@ -50,5 +53,6 @@ none (Some k) h = absurd (h k refl)
 pub returns-in_default-sought-clause-binders : goal.returns-in_default-sought-clause-binders
 returns-in_default-sought-clause-binders c = λ i less.
     let d = (goal.at.returns-in_default-sought-clause-binders c).After-in_scope in
-    newly-free c.args.rows.now c.args.s c.args.b c.in-Some.name c.args.bound.now.items _ (sym c.bound_name.ensures ∙ c.in-Some.is) (looked d ∙ c.in_default-in_scope.is) i
+    newly-free c.args.rows.now c.args.s c.args.b c.in-Some.name c.args.bound.now.items _ (sym c.bound_name.ensures ∙ c.in-Some.is)
+    (looked d ∙ c.in_default-in_scope.is) i
     (get_or c.args.uses.now.binders.items i None) (sym c.sought.ensures ∙ none c.sought.result c.in_default-sought.not-Some)

@@ -15,7 +15,8 @@ loop-k-init c =
 
 pub close_row-requires-clause-taken : goal.close_row-requires-clause-taken
 close_row-requires-clause-taken c =
-    subst (λ n. AreTaken c.args.rows.now c.args.s n c.loop-k.held.items) (get_or_default c.args.untaken.now c.loop-k.k c.args.s 0 c.loop-k-test.true) c.loop-k.invariant
+    subst (λ n. AreTaken c.args.rows.now c.args.s n c.loop-k.held.items) (get_or_default c.args.untaken.now c.loop-k.k c.args.s 0 c.loop-k-test.true)
+    c.loop-k.invariant
 
 pub loop-k-preserved : goal.loop-k-preserved
 loop-k-preserved c =

@@ -22,7 +22,8 @@ loop-k-init c =
       taking = taking_gap R s 0 (get_or ps k s) c.args.bound.now.items c.args.uses.now.binders.items (omega arith) shut
           (taking_start R s c.args.bound.now.items c.args.uses.now.binders.items c.requires.fresh c.requires.binders);
       waiting = c.requires.waiting;
-      first = subst (λ cs. Notes c.args.first.now cs c.args.first.now) (sym (seconds_gap R s 0 (get_or ps k s) (omega arith) shut)) (Notes-none c.args.first.now);
+      first = subst (λ cs. Notes c.args.first.now cs c.args.first.now) (sym (seconds_gap R s 0 (get_or ps k s) (omega arith) shut))
+          (Notes-none c.args.first.now);
     }
 
 pub enter_row-requires-clause-taking : goal.enter_row-requires-clause-taking
@@ -45,8 +46,10 @@ loop-k-preserved c =
     record {
       long = c.enter_row.ensures.long ∙ c.loop-k.invariant.long;
       taking = taking_gap R s (b + 1) (get_or ps (k + 1) s) c.enter_row.new.bound.items c.enter_row.new.uses.binders.items more shut c.enter_row.ensures.taking;
-      waiting = subst (λ n. AreWaiting R s n c.enter_row.new.uses.binders.items c.enter_row.new.uses.last.items c.enter_row.new.uses.earlier.items) (ap keys c.loop-k.invariant.long) c.enter_row.ensures.waiting;
-      first = subst (λ cs. Notes c.args.first.now cs c.enter_row.new.first) (sym (seconds_gap R s (b + 1) (get_or ps (k + 1) s) more shut ∙ ap (seconds R s) (add-one b)))
+      waiting = subst (λ n. AreWaiting R s n c.enter_row.new.uses.binders.items c.enter_row.new.uses.last.items c.enter_row.new.uses.earlier.items)
+          (ap keys c.loop-k.invariant.long) c.enter_row.ensures.waiting;
+      first = subst (λ cs. Notes c.args.first.now cs c.enter_row.new.first)
+          (sym (seconds_gap R s (b + 1) (get_or ps (k + 1) s) more shut ∙ ap (seconds R s) (add-one b)))
           (Notes-append c.args.first.now c.loop-k.first c.enter_row.new.first (seconds R s b) (second R s b (bound_name (at R b).node))
           (subst (λ n. Notes c.args.first.now (seconds R s n) c.loop-k.first) here c.loop-k.invariant.first) c.enter_row.ensures.first);
     }

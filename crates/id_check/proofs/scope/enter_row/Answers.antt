@@ -26,8 +26,10 @@ returns-then-takes-clause-taking c =
     let less : b < length R = omega arith in
     let bare : held R b s ≡ false = sym (c.requires.held.each b less) ∙ c.if-not-held-b.true in
     let is = keeps_inside R s b (sym c.takes.ensures ∙ c.if-takes.true) c.requires.behind inside in
-    taking_open R s b (length c.args.bound.now.items) c.args.bound.now.items c.bind.new.bound.items c.args.uses.now.binders.items c.bind.new.uses.binders.items less is bare
-    c.requires.names refl c.bind.ensures.long c.requires.taking c.bind.ensures.bound c.bind.ensures.later c.bind.ensures.waiting.long_binders c.bind.ensures.binders
+    taking_open R s b (length c.args.bound.now.items) c.args.bound.now.items c.bind.new.bound.items c.args.uses.now.binders.items
+    c.bind.new.uses.binders.items less is bare
+    c.requires.names refl c.bind.ensures.long c.requires.taking c.bind.ensures.bound c.bind.ensures.later c.bind.ensures.waiting.long_binders
+    c.bind.ensures.binders
 
 -- the scope does not take the row
 shut : (c : Joined-else-not-held-b) → IsShut c.args.rows.now c.args.s c.args.b
@@ -70,4 +72,5 @@ returns-then-takes-clause-first c =
     let less : b < length R = omega arith in
     let bare : held R b s ≡ false = sym (c.requires.held.each b less) ∙ c.if-not-held-b.true in
     let is = keeps_inside R s b (sym c.takes.ensures ∙ c.if-takes.true) c.requires.behind inside in
-    subst (λ cs. Notes c.args.first.now cs c.bind.new.first) (again-second R s b c.args.bound.now.items is bare (λ x e. c.requires.names.bound b x less e) c.requires.taking.bound) c.bind.ensures.first
+    subst (λ cs. Notes c.args.first.now cs c.bind.new.first)
+    (again-second R s b c.args.bound.now.items is bare (λ x e. c.requires.names.bound b x less e) c.requires.taking.bound) c.bind.ensures.first

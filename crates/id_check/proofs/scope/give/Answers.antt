@@ -8,7 +8,8 @@ use Rattle.id_check.proofs.scope.give.Goals.{After-index-arg-1}
 next : (c : After-index-arg-1) → IsNextUse c.args.rows.now c.args.s c.args.key c.args.u c.args.behind c.args.uses.now.binders.items
 next c =
     let v = c.args.uses.now in
-    next_use c.args.rows.now c.args.s (length v.last.items) c.args.key c.args.u c.args.behind v.binders.items v.last.items v.earlier.items c.requires.key c.requires.waiting c.requires.behind c.requires.next
+    next_use c.args.rows.now c.args.s (length v.last.items) c.args.key c.args.u c.args.behind v.binders.items v.last.items v.earlier.items c.requires.key
+    c.requires.waiting c.requires.behind c.requires.next
 
 pub index-earlier-requires : goal.index-earlier-requires
 index-earlier-requires c =
@@ -45,7 +46,8 @@ returns-in-Some-clause-waiting c =
     let row = c.requires.row in
     let behind = subst (IsBehind R v.binders.items s x) c.in-Some.is c.requires.behind in
     let here = subst (λ o. use_before v.last.items v.earlier.items x o ≡ Some u) c.in-Some.is c.requires.next in
-    subst (λ o. AreWaiting R s m (set v.binders.items u (Some c.args.b)) v.last.items (set v.earlier.items l o)) (sym (read d c.index-earlier.result.now c.index-earlier.ensures))
+    subst (λ o. AreWaiting R s m (set v.binders.items u (Some c.args.b)) v.last.items (set v.earlier.items l o))
+    (sym (read d c.index-earlier.result.now c.index-earlier.ensures))
     (waiting_cut R s m x u c.args.b l v.binders.items v.last.items v.earlier.items (omega arith) c.requires.key behind.0 behind.1 here c.requires.waiting)
 
 pub returns-in-None-clause-waiting : goal.returns-in-None-clause-waiting
@@ -59,5 +61,6 @@ returns-in-None-clause-waiting c =
     let m = length v.last.items in
     let row = c.requires.row in
     let here = subst (λ o. use_before v.last.items v.earlier.items x o ≡ Some u) c.in-None.is c.requires.next in
-    subst (λ o. AreWaiting R s m (set v.binders.items u (Some c.args.b)) (set v.last.items x o) v.earlier.items) (sym (read d c.index-earlier.result.now c.index-earlier.ensures))
+    subst (λ o. AreWaiting R s m (set v.binders.items u (Some c.args.b)) (set v.last.items x o) v.earlier.items)
+    (sym (read d c.index-earlier.result.now c.index-earlier.ensures))
     (waiting_set R s m x u c.args.b v.binders.items v.last.items v.earlier.items (omega arith) c.requires.key here c.requires.waiting)

@@ -34,7 +34,9 @@ ended : (c : After-loop-s) → c.loop-s.s ≡ length c.args.rows.now
 ended c = omega (arith, c.loop-s.auto.s-end, c.loop-s-test.false)
 
 pub returns-clause-binders : goal.returns-clause-binders
-returns-clause-binders c = subst (λ n. AreBound c.args.rows.now n c.loop-s.uses.binders.items) (ended (goal.at.returns-clause-binders c).After-loop-s) c.loop-s.invariant.binders
+returns-clause-binders c = subst (λ n. AreBound c.args.rows.now n c.loop-s.uses.binders.items) (ended (goal.at.returns-clause-binders c).After-loop-s)
+    c.loop-s.invariant.binders
 
 pub returns-clause-first : goal.returns-clause-first
-returns-clause-first c = subst (λ n. IsFirstOf c.loop-s.first (duplicates c.args.rows.now n)) (ended (goal.at.returns-clause-first c).After-loop-s) c.loop-s.invariant.first
+returns-clause-first c = subst (λ n. IsFirstOf c.loop-s.first (duplicates c.args.rows.now n)) (ended (goal.at.returns-clause-first c).After-loop-s)
+    c.loop-s.invariant.first

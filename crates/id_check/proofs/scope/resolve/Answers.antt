@@ -9,7 +9,8 @@ use Rattle.id_check.proofs.scope.resolve.Goals.{In-Some}
 
 -- what comes next
 found : (c : In-Some)
-    → (use_before c.loop-u.uses.last.items c.loop-u.uses.earlier.items c.args.key c.loop-u.behind ≡ Some c.in-Some.u) × ((at c.args.rows.now c.args.s).first ≤ c.in-Some.u)
+    → (use_before c.loop-u.uses.last.items c.loop-u.uses.earlier.items c.args.key c.loop-u.behind ≡ Some c.in-Some.u) ×
+    ((at c.args.rows.now c.args.s).first ≤ c.in-Some.u)
 found c =
     let f = (at c.args.rows.now c.args.s).first in
     not_before-some f c.in-Some.u (use_before c.loop-u.uses.last.items c.loop-u.uses.earlier.items c.args.key c.loop-u.behind)
@@ -18,7 +19,8 @@ found c =
 next : (c : In-Some) → IsNextUse c.args.rows.now c.args.s c.args.key c.in-Some.u c.loop-u.behind c.loop-u.uses.binders.items
 next c =
     let h = c.loop-u.invariant in
-    next_use c.args.rows.now c.args.s (length c.args.uses.now.last.items) c.args.key c.in-Some.u c.loop-u.behind c.loop-u.uses.binders.items c.loop-u.uses.last.items c.loop-u.uses.earlier.items
+    next_use c.args.rows.now c.args.s (length c.args.uses.now.last.items) c.args.key c.in-Some.u c.loop-u.behind c.loop-u.uses.binders.items
+    c.loop-u.uses.last.items c.loop-u.uses.earlier.items
     c.requires.key h.waiting h.behind (found c).0
 
 pub is_outside-requires-clause-row : goal.is_outside-requires-clause-row
@@ -80,7 +82,8 @@ loop-u-smaller-then-is_outside c =
     let row = c.requires.row in
     let same = sym c.give.ensures.binders in
     let waiting = subst (λ k. AreWaiting R s k n.binders.items n.last.items n.earlier.items) h.waiting.long_last c.give.ensures.waiting in
-    let behind = subst (λ qs. IsBehind R qs s x o) same (waiting_out R s m x u b o os ls es (omega arith) c.requires.key h.behind (found d).0 h.waiting (next d)) in
+    let behind = subst (λ qs. IsBehind R qs s x o) same (waiting_out R s m x u b o os ls es (omega arith) c.requires.key h.behind (found d).0 h.waiting
+    (next d)) in
     let last = next_last R s m x o n.binders.items n.last.items n.earlier.items c.requires.key waiting behind in
     let less : reach (last_of (is_waiting R n.binders.items x) (limit s o)) < reach (Some u) =
     subst (λ qs. reach (last_of (is_waiting R qs x) (limit s o)) < reach (Some u)) same (reach_out R s x u b o os (in_binders d) (next d)) in
@@ -125,5 +128,6 @@ returns-clause-binders c = λ i k.
     let x = c.args.key in
     let end : not_before f (use_before c.loop-u.uses.last.items c.loop-u.uses.earlier.items x c.loop-u.behind) ≡ None =
     sym (c.not_before.ensures ∙ ap (not_before f) c.use_before.ensures) ∙ none c.not_before.result c.in_default.not-Some in
-    given_all R c.args.s (length c.args.uses.now.last.items) x c.args.b i c.loop-u.behind c.args.uses.now.binders.items c.loop-u.uses.binders.items c.loop-u.uses.last.items
+    given_all R c.args.s (length c.args.uses.now.last.items) x c.args.b i c.loop-u.behind c.args.uses.now.binders.items c.loop-u.uses.binders.items
+    c.loop-u.uses.last.items
     c.loop-u.uses.earlier.items c.requires.key h.waiting h.behind h.passed end (h.binders i k)

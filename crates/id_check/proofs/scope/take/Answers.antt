@@ -40,5 +40,6 @@ returns-then-is_scope-clause-untaken c =
     subst (IsOpen R s (s + 1)) (sym c.truncate.ensures.items)
     (open_kept R s k hs ps c.requires.row c.close.ensures (subst (λ qs. k ≤ length qs) rows c.kept-kept.ensures.long)
     (subst (λ qs. (j : ℕ) → k ≤ j → j < length qs → get_or hs (get_or qs j 0) false ≡ true) rows
-    (subst (λ gs. (j : ℕ) → k ≤ j → j < length c.as_slice-then-is_scope-3.result.now → get_or gs (get_or c.as_slice-then-is_scope-3.result.now j 0) false ≡ true) held c.kept-kept.ensures.behind))
+    (subst (λ gs. (j : ℕ) → k ≤ j → j < length c.as_slice-then-is_scope-3.result.now →
+    get_or gs (get_or c.as_slice-then-is_scope-3.result.now j 0) false ≡ true) held c.kept-kept.ensures.behind))
     c.requires.untaken)

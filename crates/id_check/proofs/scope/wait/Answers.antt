@@ -17,7 +17,8 @@ returns-in-Some-clause-waiting c =
     let uses = sym c.key_of.ensures ∙ c.in-Some.is in
     let less : x < length ls = c.requires.key x uses in
     let read : get_or ls x None ≡ c.index.result.now = sym (c.index.ensures ∙ get_or_default ls x c.index.result.now None less) in
-    subst (λ o. AreWaiting R (s + 1) (length ls) os (set ls x (Some s)) (set es s o)) read (waiting_more R s (length ls) x os ls es c.requires.row less uses c.requires.none c.requires.waiting)
+    subst (λ o. AreWaiting R (s + 1) (length ls) os (set ls x (Some s)) (set es s o)) read
+    (waiting_more R s (length ls) x os ls es c.requires.row less uses c.requires.none c.requires.waiting)
 
 none : (o : Option ℕ) → ((k : ℕ) → o ≡ Some k → ⊥) → o ≡ None
 none None h = refl

@@ -15,4 +15,5 @@ loop-i-preserved c =
     let β : ℕ → Option ℕ = λ k. get_or c.args.binders.now k None in
     let κ : ℕ → Option Kind = λ k. get_or c.args.kinds.now k None in
     subst (λ n. Notes c.args.first.now (causes_below R β κ n) c.note_row.new.first) (sym (add-one i))
-    (Notes-append c.args.first.now c.loop-i.first c.note_row.new.first (causes_below R β κ i) (causes_in R κ (β (user_of i (at R i).node)) (at R i).place (at R i).node) c.loop-i.invariant c.note_row.ensures)
+    (Notes-append c.args.first.now c.loop-i.first c.note_row.new.first (causes_below R β κ i)
+    (causes_in R κ (β (user_of i (at R i).node)) (at R i).place (at R i).node) c.loop-i.invariant c.note_row.ensures)

@@ -16,10 +16,12 @@ returns-then-entries-values c =
     let block = c.main_block.result.now in
     let P : Block → Type 0 = λ b. AreTaken g b.entries vs in (
       λ yes.
-          let all : AreTaken g block.entries vs = rw (← c.graph.ensures.value, ← c.as_slice-entries.ensures, ← c.as_slice-values.ensures) (c.are_taken.ensures.0 yes) in
+          let all : AreTaken g block.entries vs = rw (← c.graph.ensures.value, ← c.as_slice-entries.ensures, ← c.as_slice-values.ensures)
+          (c.are_taken.ensures.0 yes) in
           record { taken = λ b main. subst P (same_first block b _ c.main_block.ensures.main main) all },
       λ takes.
-          c.are_taken.ensures.1 (rw (c.graph.ensures.value, c.as_slice-entries.ensures, c.as_slice-values.ensures) (takes.taken block c.main_block.ensures.main)),
+          c.are_taken.ensures.1 (rw (c.graph.ensures.value, c.as_slice-entries.ensures, c.as_slice-values.ensures)
+          (takes.taken block c.main_block.ensures.main)),
     )
 
 pub returns-else-entries-values : goal.returns-else-entries-values

@@ -17,5 +17,11 @@ loop-number-preserved c =
       omega arith,
       omega arith,
       rw c.push_reserved.ensures.items (AreElements-push c.args.graph.now c.args.count items c.new.result c.loop-number.invariant.3 made),
-      rw (c.push_reserved.ensures.items, map_push (λ e. e.state) items c.new.result, c.loop-number.invariant.4, ap (λ v. v.state) c.new.ensures, replicate_more),
+      rw (
+        c.push_reserved.ensures.items,
+        map_push (λ e. e.state) items c.new.result,
+        c.loop-number.invariant.4,
+        ap (λ v. v.state) c.new.ensures,
+        replicate_more,
+      ),
     )

@@ -21,7 +21,8 @@ pub returns-clause-fit : goal.returns-clause-fit
 returns-clause-fit c =
     let block = c.main_block-block.result.now in
     rw (messages c)
-    (start_fits c.args.graph.now block c.args.inputs.now.values c.main_block-block.ensures.main c.main_block-block.ensures.kept (c.requires.taken block c.main_block-block.ensures.main))
+    (start_fits c.args.graph.now block c.args.inputs.now.values c.main_block-block.ensures.main c.main_block-block.ensures.kept
+    (c.requires.taken block c.main_block-block.ensures.main))
 
 pub add_inputs-requires : goal.add_inputs-requires
 add_inputs-requires c =

@@ -18,7 +18,8 @@ returns-in-Entered c =
     let tokens = map (token_to c.args.tag (value.Context x)) ds in
     let starts = started o c.args.tag x in
     let many : 0 + length tokens ≡ length ds = omega (arith, length-map ds (token_to c.args.tag (value.Context x))) in
-    let apart : numbered e.number e.position e.stamp 0 (tokens ++ starts) ≡ numbered e.number e.position e.stamp 0 tokens ++ numbered e.number e.position e.stamp (length ds) starts =
+    let apart : numbered e.number e.position e.stamp 0 (tokens ++ starts) ≡ numbered e.number e.position e.stamp 0 tokens ++
+    numbered e.number e.position e.stamp (length ds) starts =
     numbered-append e.number e.position e.stamp 0 tokens starts
     ∙ ap (λ k. numbered e.number e.position e.stamp 0 tokens ++ numbered e.number e.position e.stamp k starts) many in
     let whole : sent o ds c.args.tag (Entered x) ≡ sent o (arcs_on (side_of c.args.fired.now) c.args.instr.now) c.args.tag c.args.fired.now =

@@ -20,8 +20,10 @@ returns-in-Enter-Some-Some c =
     let t = tag_in e in
     let here = c.in-Enter-Some-Some in
     let x : Context = context_of here.name in
-    let same : x ≡ c.args.context = context_same (element_of here.name) (serial_of here.name) c.args.context (grind (arith, common_steps)) (grind (arith, common_steps)) in
-    let own : context_of here.own ≡ t.context = context_same (element_of here.own) (serial_of here.own) t.context (grind (arith, common_steps)) (grind (arith, common_steps)) in
+    let same : x ≡ c.args.context = context_same (element_of here.name) (serial_of here.name) c.args.context (grind (arith, common_steps))
+    (grind (arith, common_steps)) in
+    let own : context_of here.own ≡ t.context = context_same (element_of here.own) (serial_of here.own) t.context (grind (arith, common_steps))
+    (grind (arith, common_steps)) in
     let o = Some (Enter here.block here.reply) in
     let ds = c.as_slice-dests.result.now in
     let tokens = map (token_to t (value.Context x)) ds in
@@ -30,7 +32,8 @@ returns-in-Enter-Some-Some c =
     ≡ numbered e.sender e.position e.stamp 0 tokens ++ numbered e.sender e.position e.stamp (length ds) (started o t x) =
     numbered-append e.sender e.position e.stamp 0 tokens (started o t x)
     ∙ ap (λ k. numbered e.sender e.position e.stamp 0 tokens ++ numbered e.sender e.position e.stamp k (started o t x)) many in
-    let whole : c.push_plain_reserved-in-Enter-Some-Some.new.self.messages ≡ c.args.outputs.now.messages ++ numbered e.sender e.position e.stamp 0 (tokens ++ started o t x) =
+    let whole : c.push_plain_reserved-in-Enter-Some-Some.new.self.messages ≡ c.args.outputs.now.messages ++
+    numbered e.sender e.position e.stamp 0 (tokens ++ started o t x) =
     rw (
       c.push_plain_reserved-in-Enter-Some-Some.ensures.messages,
       c.push_plain_reserved.ensures.messages,
@@ -42,7 +45,10 @@ returns-in-Enter-Some-Some c =
       append_assoc,
       append_assoc,
     ) refl in
-    let as_sent = whole ∙ ap (λ ds. c.args.outputs.now.messages ++ numbered e.sender e.position e.stamp 0 (map (token_to t (value.Context x)) ds ++ started o t x)) c.as_slice-dests.ensures
-    ∙ ap (λ p. c.args.outputs.now.messages ++ numbered e.sender e.position e.stamp 0 (map (token_to t (value.Context x)) c.args.instr.now.dests ++ started (Some p) t x)) (sym here.is-0) in
+    let as_sent = whole ∙ ap (λ ds. c.args.outputs.now.messages ++
+    numbered e.sender e.position e.stamp 0 (map (token_to t (value.Context x)) ds ++ started o t x)) c.as_slice-dests.ensures
+    ∙ ap (λ p. c.args.outputs.now.messages ++ numbered e.sender e.position e.stamp 0
+    (map (token_to t (value.Context x)) c.args.instr.now.dests ++ started (Some p) t x)) (sym here.is-0) in
     subst (λ (y : Context). c.push_plain_reserved-in-Enter-Some-Some.new.self.messages
-    ≡ c.args.outputs.now.messages ++ numbered e.sender e.position e.stamp 0 (map (token_to t (value.Context y)) (arcs_on true c.args.instr.now) ++ started (Some c.args.instr.now.op) t y)) same as_sent
+    ≡ c.args.outputs.now.messages ++ numbered e.sender e.position e.stamp 0
+    (map (token_to t (value.Context y)) (arcs_on true c.args.instr.now) ++ started (Some c.args.instr.now.op) t y)) same as_sent

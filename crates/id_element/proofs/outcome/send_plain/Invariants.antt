@@ -7,4 +7,5 @@ use Rattle.id_element.proofs.outcome.send_plain.Given as goal
 abbrev pub invariant-loop-number : goal.invariant-loop-number
 invariant-loop-number l =
     (l.fn.outputs.room ≤ l.outputs.room + l.number)
-    × (l.outputs.messages ≡ l.fn.outputs.messages ++ numbered l.like.sender l.like.position l.like.stamp 0 (map (token_to (tag_in l.like) (whole l.like.value)) (take l.number l.dests)))
+    × (l.outputs.messages ≡ l.fn.outputs.messages ++ numbered l.like.sender l.like.position l.like.stamp 0
+    (map (token_to (tag_in l.like) (whole l.like.value)) (take l.number l.dests)))

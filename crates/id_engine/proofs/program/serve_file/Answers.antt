@@ -16,4 +16,5 @@ pub returns-in-Err : goal.returns-in-Err
 returns-in-Err g c =
     let told = g.S.Source.told c.args.source.now in
     Drives-unread (told (file_of c.args.request.now)) c.args.request.now _ _ _ c.in-Err.fault c.of_source_fault.result c.refuse_plainly.result
-    (subst (λ (n : List ℕ). IsUnread (told n) c.in-Err.fault) c.file_of.ensures c.in-Err.ensures) c.of_source_fault.ensures c.refuse_plainly.ensures.status c.refuse_plainly.ensures.printed
+    (subst (λ (n : List ℕ). IsUnread (told n) c.in-Err.fault) c.file_of.ensures c.in-Err.ensures) c.of_source_fault.ensures c.refuse_plainly.ensures.status
+    c.refuse_plainly.ensures.printed

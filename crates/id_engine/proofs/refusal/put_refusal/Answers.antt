@@ -21,4 +21,5 @@ returns-in_err-put_detail g c =
 
 pub returns : goal.returns
 returns g c =
-    Prints-then _ _ _ _ _ _ _ c.in_ok-put.ensures (Prints-then _ _ _ _ _ _ _ c.in_ok-put_cause.ensures (Prints-then _ _ _ _ _ _ _ c.in_ok-put_detail.ensures c.put-2.ensures))
+    Prints-then _ _ _ _ _ _ _ c.in_ok-put.ensures (Prints-then _ _ _ _ _ _ _ c.in_ok-put_cause.ensures
+    (Prints-then _ _ _ _ _ _ _ c.in_ok-put_detail.ensures c.put-2.ensures))

@@ -8,7 +8,8 @@ returns-in_err-put_cause_number g c =
 
 pub returns-in_err-put : goal.returns-in_err-put
 returns-in_err-put g c =
-    Prints-then _ _ _ _ _ _ _ c.in_ok-put_cause_number.ensures (Prints-stop _ _ _ c.args.row.now.name.now _ _ c.in_err-put.ensures c.from_residual-in_err-put.ensures.0)
+    Prints-then _ _ _ _ _ _ _ c.in_ok-put_cause_number.ensures
+    (Prints-stop _ _ _ c.args.row.now.name.now _ _ c.in_err-put.ensures c.from_residual-in_err-put.ensures.0)
 
 pub returns : goal.returns
 returns g c = Prints-then _ _ _ _ _ _ _ c.in_ok-put_cause_number.ensures (Prints-then _ _ _ _ _ _ _ c.in_ok-put.ensures c.put-2.ensures)

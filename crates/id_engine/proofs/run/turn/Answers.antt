@@ -16,7 +16,11 @@ returns-in-Some-clause-some c so =
     let h = c.args.hand.now in
     let ms = c.args.machine.now.world.flight in
     let others : IsBehindOthers ms h.position (Some h.context) =
-    elim c.else-hand.branch [ else-hand-via-then-hand+else-is_in_front w ↦ w.is_in_front.ensures.behind w.if-is_in_front.false | else-hand-via-else-hand w ↦ c.requires.behind w.if-hand.false ] in
+    elim c.else-hand.branch [
+      | else-hand-via-then-hand+else-is_in_front w ↦ w.is_in_front.ensures.behind w.if-is_in_front.false
+      | else-hand-via-else-hand w ↦
+          c.requires.behind w.if-hand.false
+    ] in
     let first : IsFirstOf h.context ms h.position c.in-Some.position =
     subst (λ (fl : List Message). IsFirstOf h.context fl h.position c.in-Some.position) c.in_flight.ensures.value c.in-Some.ensures in
     IsNextHand-behind ms h c.in-Some.position others first
@@ -26,7 +30,11 @@ returns-in-None-clause-some c so =
     let h = c.args.hand.now in
     let ms = c.args.machine.now.world.flight in
     let others : IsBehindOthers ms h.position (Some h.context) =
-    elim c.else-hand.branch [ else-hand-via-then-hand+else-is_in_front w ↦ w.is_in_front.ensures.behind w.if-is_in_front.false | else-hand-via-else-hand w ↦ c.requires.behind w.if-hand.false ] in
+    elim c.else-hand.branch [
+      | else-hand-via-then-hand+else-is_in_front w ↦ w.is_in_front.ensures.behind w.if-is_in_front.false
+      | else-hand-via-else-hand w ↦
+          c.requires.behind w.if-hand.false
+    ] in
     let all : AreOthers ms h.position (length ms) (Some h.context) =
     subst (λ (fl : List Message). AreOthers fl h.position (length fl) (Some h.context)) c.in_flight.ensures.value c.in-None.ensures in
     IsNextHand-last ms h c.turn_to_last.new.hand others all (c.turn_to_last.ensures.some so)

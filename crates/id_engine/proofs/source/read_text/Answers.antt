@@ -21,7 +21,8 @@ module _ {A : Type 0} where
   of_all items bytes (Err File) e h = tt
   of_all items bytes (Err Memory) e h = tt
 
-  of_some : (o : Option (List ℕ)) (items : List ℕ) (r : Result (String A) SourceFault) → IfSome o (λ bytes. items ≡ take 1048577 bytes) → IsTextOf items r → IfSome o (λ bytes. IsReadOf bytes r)
+  of_some : (o : Option (List ℕ)) (items : List ℕ) (r : Result (String A) SourceFault) → IfSome o (λ bytes. items ≡ take 1048577 bytes) → IsTextOf items r →
+      IfSome o (λ bytes. IsReadOf bytes r)
   of_some None items r e h = tt
   of_some (Some bytes) items r e h = of_all items bytes r e h
 

@@ -6,15 +6,18 @@ use Rattle.id_meaning.proofs.links.add_parts.Goals as goal
 
 pub returns-in_ok-add-in-Binary : goal.returns-in_ok-add-in-Binary
 returns-in_ok-add-in-Binary c =
-    rw c.in-Binary.is (on_ok_weaker c.add-in-Binary-2.result (λ g. gains-both _ _ _ c.args.n (c.in-Binary.left ∷ []) (c.in-Binary.right ∷ []) c.in_ok-add-in-Binary.ensures.gains g) c.add-in-Binary-2.ensures.gains)
+    rw c.in-Binary.is (on_ok_weaker c.add-in-Binary-2.result
+    (λ g. gains-both _ _ _ c.args.n (c.in-Binary.left ∷ []) (c.in-Binary.right ∷ []) c.in_ok-add-in-Binary.ensures.gains g) c.add-in-Binary-2.ensures.gains)
 
 pub returns-in_ok-add-in-Array : goal.returns-in_ok-add-in-Array
 returns-in_ok-add-in-Array c =
-    rw c.in-Array.is (on_ok_weaker c.add-in-Array-2.result (λ g. gains-both _ _ _ c.args.n (c.in-Array.low ∷ []) (c.in-Array.high ∷ []) c.in_ok-add-in-Array.ensures.gains g) c.add-in-Array-2.ensures.gains)
+    rw c.in-Array.is (on_ok_weaker c.add-in-Array-2.result
+    (λ g. gains-both _ _ _ c.args.n (c.in-Array.low ∷ []) (c.in-Array.high ∷ []) c.in_ok-add-in-Array.ensures.gains g) c.add-in-Array-2.ensures.gains)
 
 pub returns-in_ok-add-in-Fetch : goal.returns-in_ok-add-in-Fetch
 returns-in_ok-add-in-Fetch c =
-    rw c.in-Fetch.is (on_ok_weaker c.add-in-Fetch-2.result (λ g. gains-both _ _ _ c.args.n (c.in-Fetch.target ∷ []) (c.in-Fetch.index ∷ []) c.in_ok-add-in-Fetch.ensures.gains g) c.add-in-Fetch-2.ensures.gains)
+    rw c.in-Fetch.is (on_ok_weaker c.add-in-Fetch-2.result
+    (λ g. gains-both _ _ _ c.args.n (c.in-Fetch.target ∷ []) (c.in-Fetch.index ∷ []) c.in_ok-add-in-Fetch.ensures.gains g) c.add-in-Fetch-2.ensures.gains)
 
 pub returns-in_ok-add_some-in-Store-2 : goal.returns-in_ok-add_some-in-Store-2
 returns-in_ok-add_some-in-Store-2 c =

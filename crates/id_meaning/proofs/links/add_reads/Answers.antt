@@ -7,7 +7,8 @@ use Rattle.id_meaning.proofs.links.add_reads.Goals as goal
 
 pub returns-in_ok-add_read-in-If : goal.returns-in_ok-add_read-in-If
 returns-in_ok-add_read-in-If c =
-    rw c.in-If.is (on_ok_weaker c.add_both-in-If.result (λ g. gains_to-both _ _ _ (some_row c.args.beyond) (c.in-If.then ∷ c.in-If.otherwise ∷ []) c.args.n c.in_ok-add_read-in-If.ensures g) c.add_both-in-If.ensures)
+    rw c.in-If.is (on_ok_weaker c.add_both-in-If.result (λ g. gains_to-both _ _ _ (some_row c.args.beyond) (c.in-If.then ∷ c.in-If.otherwise ∷ []) c.args.n
+    c.in_ok-add_read-in-If.ensures g) c.add_both-in-If.ensures)
 
 pub returns-in_ok-add_read-in-Store-2 : goal.returns-in_ok-add_read-in-Store-2
 returns-in_ok-add_read-in-Store-2 c =

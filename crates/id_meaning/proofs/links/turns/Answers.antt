@@ -12,7 +12,8 @@ pub loop-n-preserved : goal.loop-n-preserved
 loop-n-preserved c =
     let n = c.loop-n.n in
     let next : n + 1 ≡ suc n = omega arith in
-    let t = turns-step c.args.rows.now n (n + 1) _ _ _ _ _ _ _ next c.loop-n-test.true refl c.loop-n.invariant.turns c.loop-n.invariant.waiting c.in_ok-add_parts.ensures c.in_ok-add_next.ensures c.in_ok-add_statements.ensures in
+    let t = turns-step c.args.rows.now n (n + 1) _ _ _ _ _ _ _ next c.loop-n-test.true refl c.loop-n.invariant.turns c.loop-n.invariant.waiting
+    c.in_ok-add_parts.ensures c.in_ok-add_next.ensures c.in_ok-add_statements.ensures in
     record { turns = t.0; waiting = t.1 }
 
 pub returns : goal.returns

@@ -11,4 +11,5 @@ returns-in-Name c =
     let P = c.args.checked.now in
     let l = c.args.links.now in
     let e = ap (λ z. users_of l c.in-On.row z) (sym c.node_of.ensures ∙ c.in-Name.is) in
-    rw c.in-On.is (on_ok_weaker c.wait_for.result (λ g. waits-on P l (items c.args.cells.now) _ _ c.in-On.path c.in-On.row (c.in-On.row ∷ []) e g) c.wait_for.ensures)
+    rw c.in-On.is (on_ok_weaker c.wait_for.result (λ g. waits-on P l (items c.args.cells.now) _ _ c.in-On.path c.in-On.row (c.in-On.row ∷ []) e g)
+    c.wait_for.ensures)

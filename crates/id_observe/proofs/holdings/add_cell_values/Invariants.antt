@@ -7,7 +7,8 @@ use Rattle.id_observe.proofs.holdings.add_cell_values.Given as goal
 abbrev pub invariant-loop-cell : goal.invariant-loop-cell
 invariant-loop-cell l = record {
   named : IsNamed l.paths l.at_hand;
-  values : l.values.items ++ filter_map (cell_value_of (structure_by l.paths)) l.cells ≡ l.fn.values.items ++ filter_map (cell_value_of (structure_by l.paths)) l.fn.cells;
+  values : l.values.items ++ filter_map (cell_value_of (structure_by l.paths)) l.cells ≡ l.fn.values.items ++
+      filter_map (cell_value_of (structure_by l.paths)) l.fn.cells;
 }
 
 abbrev pub decreases-loop-cell : goal.decreases-loop-cell

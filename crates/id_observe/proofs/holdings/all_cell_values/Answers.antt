@@ -27,4 +27,5 @@ pub returns : goal.returns
 returns c =
     let name = structure_by c.args.paths.now in
     c.loop-element.invariant
-    ∙ ap (λ es. filter_map (cell_value_of name) (flat_map (λ e. cells_of e.cells) (map (λ e. e.state) es))) (take_all c.loop-element.element-index c.args.elements.now c.loop-element-test.false)
+    ∙ ap (λ es. filter_map (cell_value_of name) (flat_map (λ e. cells_of e.cells) (map (λ e. e.state) es)))
+    (take_all c.loop-element.element-index c.args.elements.now c.loop-element-test.false)

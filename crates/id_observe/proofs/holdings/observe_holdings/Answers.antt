@@ -12,7 +12,8 @@ returns-then-hold_nothing-clause-structures c =
 
 pub returns-then-hold_nothing-clause-cells : goal.returns-then-hold_nothing-clause-cells
 returns-then-hold_nothing-clause-cells c =
-    c.no_holdings.ensures.cells ∙ sym (ap (map cell_value) (cells-none c.args.graph.now c.args.elements.now (c.hold_nothing.ensures.0 c.if-hold_nothing.true).1))
+    c.no_holdings.ensures.cells ∙ sym (ap (map cell_value)
+    (cells-none c.args.graph.now c.args.elements.now (c.hold_nothing.ensures.0 c.if-hold_nothing.true).1))
 
 pub returns-then-hold_nothing-clause-waiting : goal.returns-then-hold_nothing-clause-waiting
 returns-then-hold_nothing-clause-waiting c =

@@ -5,4 +5,5 @@ use Rattle.id_observe.specs.Paths.{path_by}
 use Rattle.id_observe.proofs.observe.add_asks.Given as goal
 
 abbrev pub invariant-loop-reader : goal.invariant-loop-reader
-invariant-loop-reader l = l.asks.items ≡ l.fn.asks.items ++ map (ask_of l.paths.graph.now (path_by l.paths) (structure_by l.paths)) (take l.reader-index l.readers)
+invariant-loop-reader l = l.asks.items ≡ l.fn.asks.items ++
+    map (ask_of l.paths.graph.now (path_by l.paths) (structure_by l.paths)) (take l.reader-index l.readers)

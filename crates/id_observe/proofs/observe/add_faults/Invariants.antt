@@ -5,4 +5,5 @@ use Rattle.id_observe.specs.Paths.{path_by}
 use Rattle.id_observe.proofs.observe.add_faults.Given as goal
 
 abbrev pub invariant-loop-position : goal.invariant-loop-position
-invariant-loop-position l = l.faults.items ≡ l.fn.faults.items ++ faults_of l.paths.graph.now (path_by l.paths) (structure_by l.paths) (take l.position l.events)
+invariant-loop-position l = l.faults.items ≡ l.fn.faults.items ++
+    faults_of l.paths.graph.now (path_by l.paths) (structure_by l.paths) (take l.position l.events)

@@ -15,7 +15,8 @@ pub loop-element-preserved : goal.loop-element-preserved
 loop-element-preserved c =
     let es = c.args.elements.now in
     let at : slice_get es c.loop-element.element-index ≡ Some c.element-item.result = slice_get_read es _ _ _ refl c.loop-element-test.true c.element-item.is in
-    let next = walk-next (λ s. cells_of s.cells) (put_of c.args.paths.now.graph.now (path_by c.args.paths.now) (structure_by c.args.paths.now)) es c.loop-element.element-index c.element-item.result at in
+    let next = walk-next (λ s. cells_of s.cells) (put_of c.args.paths.now.graph.now (path_by c.args.paths.now) (structure_by c.args.paths.now)) es
+    c.loop-element.element-index c.element-item.result at in
     rw (c.in_ok-add_puts.ensures, c.loop-element.invariant, c.in_ok-cells.ensures, next)
 
 pub returns-in_err-cells : goal.returns-in_err-cells
@@ -29,4 +30,5 @@ returns c =
     let name = structure_by c.args.paths.now in
     let put = put_of c.args.paths.now.graph.now (path_by c.args.paths.now) name in
     c.loop-element.invariant
-    ∙ ap (λ es. filter_map put (flat_map (λ e. cells_of e.cells) (map (λ e. e.state) es))) (take_all c.loop-element.element-index c.args.elements.now c.loop-element-test.false)
+    ∙ ap (λ es. filter_map put (flat_map (λ e. cells_of e.cells) (map (λ e. e.state) es)))
+    (take_all c.loop-element.element-index c.args.elements.now c.loop-element-test.false)

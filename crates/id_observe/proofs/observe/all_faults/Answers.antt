@@ -13,7 +13,8 @@ pub loop-element-preserved : goal.loop-element-preserved
 loop-element-preserved c =
     let es = c.args.elements.now in
     let at : slice_get es c.loop-element.element-index ≡ Some c.element-item.result = slice_get_read es _ _ _ refl c.loop-element-test.true c.element-item.is in
-    let next = walk-next (λ s. s.events) (λ v. fault_of c.args.paths.now.graph.now (path_by c.args.paths.now) (structure_by c.args.paths.now) v.step) es c.loop-element.element-index c.element-item.result at in
+    let next = walk-next (λ s. s.events) (λ v. fault_of c.args.paths.now.graph.now (path_by c.args.paths.now) (structure_by c.args.paths.now) v.step) es
+    c.loop-element.element-index c.element-item.result at in
     rw (c.in_ok-add_element_faults.ensures, c.loop-element.invariant, next)
 
 pub returns-in_err-add_element_faults : goal.returns-in_err-add_element_faults
@@ -23,4 +24,5 @@ pub returns : goal.returns
 returns c =
     let name = structure_by c.args.paths.now in
     c.loop-element.invariant
-    ∙ ap (λ es. faults_of c.args.paths.now.graph.now (path_by c.args.paths.now) name (events_of (map (λ e. e.state) es))) (take_all c.loop-element.element-index c.args.elements.now c.loop-element-test.false)
+    ∙ ap (λ es. faults_of c.args.paths.now.graph.now (path_by c.args.paths.now) name (events_of (map (λ e. e.state) es)))
+    (take_all c.loop-element.element-index c.args.elements.now c.loop-element-test.false)

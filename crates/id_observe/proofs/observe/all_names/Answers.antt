@@ -11,7 +11,8 @@ pub loop-element-preserved : goal.loop-element-preserved
 loop-element-preserved c =
     let es = c.args.elements.now in
     let at : slice_get es c.loop-element.element-index ≡ Some c.element-item.result = slice_get_read es _ _ _ refl c.loop-element-test.true c.element-item.is in
-    let next = walk-next (λ s. s.events) (λ v. name_in c.args.paths.now.graph.now (path_by c.args.paths.now) (structure_by c.args.paths.now) v.message.payload) es c.loop-element.element-index c.element-item.result at in
+    let next = walk-next (λ s. s.events) (λ v. name_in c.args.paths.now.graph.now (path_by c.args.paths.now) (structure_by c.args.paths.now)
+    v.message.payload) es c.loop-element.element-index c.element-item.result at in
     record {
       names = rw (c.in_ok-add_names.ensures, c.loop-element.invariant.names, c.events.ensures.value, next);
       marks = c.loop-element.invariant.marks;

@@ -7,4 +7,5 @@ use Rattle.id_observe.specs.Paths.{path_by}
 use Rattle.id_observe.proofs.observe.all_waiting.Given as goal
 
 abbrev pub invariant-loop-element : goal.invariant-loop-element
-invariant-loop-element l = l.asks.items ≡ map (ask_of l.paths.graph.now (path_by l.paths) (structure_by l.paths)) (flat_map (λ e. deferred_of e.cells) (map (λ e. e.state) (take l.element-index l.elements)))
+invariant-loop-element l = l.asks.items ≡ map (ask_of l.paths.graph.now (path_by l.paths) (structure_by l.paths))
+    (flat_map (λ e. deferred_of e.cells) (map (λ e. e.state) (take l.element-index l.elements)))

@@ -44,5 +44,6 @@ returns c =
     let es = c.args.events.now in
     let ks = c.telling-position-items.result.now in
     let all : take c.loop-position.position-index ks ≡ ks = take_all _ _ (omega (arith, c.loop-position-test.false)) in
-    let none : answers es ≡ [] = sym (all-told es ks c.telling-position-items.ensures) ∙ ap (filter_map (brought_at es)) (sym all) ∙ c.loop-position.invariant in
+    let none : answers es ≡ [] = sym (all-told es ks c.telling-position-items.ensures) ∙ ap (filter_map (brought_at es)) (sym all) ∙
+    c.loop-position.invariant in
     ap (λ vs. slice_get vs 0) (sym none)

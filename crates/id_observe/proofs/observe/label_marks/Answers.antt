@@ -20,4 +20,5 @@ pub returns : goal.returns
 returns c =
     let g = c.args.graph.now in
     let is = c.instrs-instr-items.result.now in
-    c.loop-instr.invariant ∙ ap (map (λ i. is_label_of g (Some i))) (take_all c.loop-instr.instr-index is c.loop-instr-test.false ∙ c.instrs-instr-items.ensures.value)
+    c.loop-instr.invariant ∙ ap (map (λ i. is_label_of g (Some i)))
+    (take_all c.loop-instr.instr-index is c.loop-instr-test.false ∙ c.instrs-instr-items.ensures.value)

@@ -42,7 +42,13 @@ loop-position-preserved c =
       makings =
           rw (c.in_ok-add_events.ensures.makings, one, c.loop-position.invariant.makings, filter_map-next (making_of g) es i e there.1, append_assoc);
       values =
-          rw (c.in_ok-add_events.ensures.values, one, c.loop-position.invariant.values, filter_map-next (λ x. brought x.message.payload) es i e there.1, append_assoc);
+          rw (
+            c.in_ok-add_events.ensures.values,
+            one,
+            c.loop-position.invariant.values,
+            filter_map-next (λ x. brought x.message.payload) es i e there.1,
+            append_assoc,
+          );
     }
 
 -- an error tells nothing

@@ -39,7 +39,12 @@ loop-position-preserved c =
       makings =
           rw (c.in_ok-add_maker_at.ensures.makings e there.1, c.loop-position.invariant.makings, filter_map-more (making_of g) _ _ e more, append_assoc);
       values =
-          rw (c.in_ok-add_value_at.ensures e there.1, c.loop-position.invariant.values, filter_map-more (λ x. brought x.message.payload) _ _ e more, append_assoc);
+          rw (
+            c.in_ok-add_value_at.ensures e there.1,
+            c.loop-position.invariant.values,
+            filter_map-more (λ x. brought x.message.payload) _ _ e more,
+            append_assoc,
+          );
     }
 
 -- an error tells nothing

@@ -14,5 +14,6 @@ loop-number-preserved c =
     let h = c.args.other.now in
     let k = c.loop-number.number in
     let here : is_alike (op_at g k) (op_at h k) ≡ true =
-    ap (λ o. is_alike o (op_at h k)) (sym c.op_in.ensures) ∙ ap (is_alike c.op_in.result) (sym c.op_in-in-loop-number.ensures) ∙ sym c.is_alike.ensures ∙ c.if-not-is_alike.false in
+    ap (λ o. is_alike o (op_at h k)) (sym c.op_in.ensures) ∙ ap (is_alike c.op_in.result) (sym c.op_in-in-loop-number.ensures) ∙ sym c.is_alike.ensures ∙
+    c.if-not-is_alike.false in
     below_more (λ (n : ℕ). is_alike (op_at g n) (op_at h n) ≡ true) k c.loop-number.invariant here

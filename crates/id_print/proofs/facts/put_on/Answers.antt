@@ -12,4 +12,5 @@ returns-clause-prints g c = Prints-then _ _ _ _ _ _ _ c.in_ok-put.ensures (Print
 
 pub returns-in_err-put_point-clause-prints : goal.returns-in_err-put_point-clause-prints
 returns-in_err-put_point-clause-prints g c =
-    Prints-then _ _ _ _ _ _ _ c.in_ok-put.ensures (Prints-stop _ _ _ (codes "\n") _ _ c.in_err-put_point.ensures.prints c.from_residual-in_err-put_point.ensures.0)
+    Prints-then _ _ _ _ _ _ _ c.in_ok-put.ensures (Prints-stop _ _ _ (codes "\n") _ _ c.in_err-put_point.ensures.prints
+    c.from_residual-in_err-put_point.ensures.0)

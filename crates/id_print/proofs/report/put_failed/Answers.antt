@@ -9,7 +9,8 @@ returns-in_err-put_fault_head-clause-prints g c =
 
 pub returns-in_err-put_site-clause-prints : goal.returns-in_err-put_site-clause-prints
 returns-in_err-put_site-clause-prints g c =
-    Prints-then _ _ _ _ _ _ _ c.in_ok-put_fault_head.ensures (Prints-stop _ _ _ (codes "\n") _ _ c.in_err-put_site.ensures.prints c.from_residual-in_err-put_site.ensures.0)
+    Prints-then _ _ _ _ _ _ _ c.in_ok-put_fault_head.ensures
+    (Prints-stop _ _ _ (codes "\n") _ _ c.in_err-put_site.ensures.prints c.from_residual-in_err-put_site.ensures.0)
 
 pub returns-clause-prints : goal.returns-clause-prints
 returns-clause-prints g c =

@@ -20,10 +20,12 @@ loop-shapes-preserved-then-is_cell_first g c =
     let ss = c.loop-shapes.shapes.now in
     let cs = c.loop-shapes.cells.now in
     let x = c.index-cells-0.result in
-    let first = first_cell ss cs x (sym c.is_cell_first.ensures ∙ c.if-is_cell_first.true) (sym c.index-cells-0.is) ∙ ap (λ l. Cell x ∷ joined ss l) (sym c.behind_first-cells.ensures) in
+    let first = first_cell ss cs x (sym c.is_cell_first.ensures ∙ c.if-is_cell_first.true) (sym c.index-cells-0.is) ∙
+    ap (λ l. Cell x ∷ joined ss l) (sym c.behind_first-cells.ensures) in
     record {
       within = (within_first (length c.args.cursor.now) (Cell x) _ _ c.loop-shapes.invariant.within first).1;
-      partly = Partly-more _ _ _ c.args.cursor.now _ _ _ (Cell x) _ c.loop-shapes.invariant.partly first (Prints-held_at _ c.args.cursor.now (Cell x) _ _ _ c.loop-shapes.invariant.same c.in_ok-put_present.ensures.prints);
+      partly = Partly-more _ _ _ c.args.cursor.now _ _ _ (Cell x) _ c.loop-shapes.invariant.partly first
+          (Prints-held_at _ c.args.cursor.now (Cell x) _ _ _ c.loop-shapes.invariant.same c.in_ok-put_present.ensures.prints);
       same = c.in_ok-put_present.ensures.same ∙ c.loop-shapes.invariant.same;
     }
 
@@ -34,7 +36,8 @@ put_array-requires g c =
     let x = c.index-shapes-0.result in
     let no_cell = sym c.is_cell_first.ensures ∙ c.if-is_cell_first.false in
     let first = first_array ss cs x (has_array ss cs (c.has_lines.ensures.0 c.loop-shapes-test.true) no_cell) no_cell (sym c.index-shapes-0.is) in
-    subst (λ k. SiteWithin (length k) x.name) (sym c.loop-shapes.invariant.same) (within_first (length c.args.cursor.now) (Array x) _ _ c.loop-shapes.invariant.within first).0
+    subst (λ k. SiteWithin (length k) x.name) (sym c.loop-shapes.invariant.same)
+    (within_first (length c.args.cursor.now) (Array x) _ _ c.loop-shapes.invariant.within first).0
 
 pub returns-in_err-put_array-clause-prints : goal.returns-in_err-put_array-clause-prints
 returns-in_err-put_array-clause-prints g c =
@@ -44,7 +47,8 @@ returns-in_err-put_array-clause-prints g c =
     let no_cell = sym c.is_cell_first.ensures ∙ c.if-is_cell_first.false in
     let first = first_array ss cs x (has_array ss cs (c.has_lines.ensures.0 c.loop-shapes-test.true) no_cell) no_cell (sym c.index-shapes-0.is) in
     Partly-stop _ _ _ c.args.cursor.now _ _ (joined (drop 1 ss) cs) (Array x) _ _ c.loop-shapes.invariant.partly first
-    (Prints-held_at _ c.args.cursor.now (Array x) _ _ _ c.loop-shapes.invariant.same c.in_err-put_array.ensures.prints) c.from_residual-in_err-put_array.ensures.0
+    (Prints-held_at _ c.args.cursor.now (Array x) _ _ _ c.loop-shapes.invariant.same c.in_err-put_array.ensures.prints)
+    c.from_residual-in_err-put_array.ensures.0
 
 pub loop-shapes-preserved : goal.loop-shapes-preserved
 loop-shapes-preserved g c =
@@ -52,9 +56,11 @@ loop-shapes-preserved g c =
     let cs = c.loop-shapes.cells.now in
     let x = c.index-shapes-0.result in
     let no_cell = sym c.is_cell_first.ensures ∙ c.if-is_cell_first.false in
-    let first = first_array ss cs x (has_array ss cs (c.has_lines.ensures.0 c.loop-shapes-test.true) no_cell) no_cell (sym c.index-shapes-0.is) ∙ ap (λ l. Array x ∷ joined l cs) (sym c.behind_first-shapes.ensures) in
+    let first = first_array ss cs x (has_array ss cs (c.has_lines.ensures.0 c.loop-shapes-test.true) no_cell) no_cell (sym c.index-shapes-0.is) ∙
+    ap (λ l. Array x ∷ joined l cs) (sym c.behind_first-shapes.ensures) in
     record {
       within = (within_first (length c.args.cursor.now) (Array x) _ _ c.loop-shapes.invariant.within first).1;
-      partly = Partly-more _ _ _ c.args.cursor.now _ _ _ (Array x) _ c.loop-shapes.invariant.partly first (Prints-held_at _ c.args.cursor.now (Array x) _ _ _ c.loop-shapes.invariant.same c.in_ok-put_array.ensures.prints);
+      partly = Partly-more _ _ _ c.args.cursor.now _ _ _ (Array x) _ c.loop-shapes.invariant.partly first
+          (Prints-held_at _ c.args.cursor.now (Array x) _ _ _ c.loop-shapes.invariant.same c.in_ok-put_array.ensures.prints);
       same = c.in_ok-put_array.ensures.same ∙ c.loop-shapes.invariant.same;
     }

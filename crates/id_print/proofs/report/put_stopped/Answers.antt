@@ -4,7 +4,8 @@ use Rattle.id_print.proofs.report.put_stopped.Goals as goal
 
 pub returns-in_err-put-clause-prints : goal.returns-in_err-put-clause-prints
 returns-in_err-put-clause-prints g c =
-    Prints-stop _ _ _ (shown_text c.args.cursor.now c.args.report.now.answer c.args.names.now c.args.report.now.structures) _ _ c.in_err-put.ensures c.from_residual.ensures.0
+    Prints-stop _ _ _ (shown_text c.args.cursor.now c.args.report.now.answer c.args.names.now c.args.report.now.structures) _ _ c.in_err-put.ensures
+    c.from_residual.ensures.0
 
 pub returns-clause-prints : goal.returns-clause-prints
 returns-clause-prints g c = Prints-then _ _ _ _ _ _ _ c.in_ok-put.ensures c.put_shown.ensures.prints

@@ -7,18 +7,26 @@ use Rattle.id_print.proofs.texts.put_ask.Goals as goal
 
 pub returns-in_err-put_site-clause-prints : goal.returns-in_err-put_site-clause-prints
 returns-in_err-put_site-clause-prints g c =
-    Prints-stop _ _ _ (codes " of " ++ (cell_text c.args.cursor.now c.args.ask.now.name c.args.ask.now.index ++ codes "\n")) _ _ c.in_err-put_site.ensures.prints c.from_residual.ensures.0
+    Prints-stop _ _ _ (codes " of " ++ (cell_text c.args.cursor.now c.args.ask.now.name c.args.ask.now.index ++ codes "\n")) _ _
+    c.in_err-put_site.ensures.prints c.from_residual.ensures.0
 
 pub returns-in_err-put-clause-prints : goal.returns-in_err-put-clause-prints
 returns-in_err-put-clause-prints g c =
-    Prints-then _ _ _ _ _ _ _ c.in_ok-put_site.ensures.prints (Prints-stop _ _ _ (cell_text c.args.cursor.now c.args.ask.now.name c.args.ask.now.index ++ codes "\n") _ _ c.in_err-put.ensures c.from_residual-in_err-put.ensures.0)
+    Prints-then _ _ _ _ _ _ _ c.in_ok-put_site.ensures.prints
+    (Prints-stop _ _ _ (cell_text c.args.cursor.now c.args.ask.now.name c.args.ask.now.index ++ codes "\n") _ _ c.in_err-put.ensures
+    c.from_residual-in_err-put.ensures.0)
 
 pub returns-in_err-put_cell_behind-clause-prints : goal.returns-in_err-put_cell_behind-clause-prints
 returns-in_err-put_cell_behind-clause-prints g c =
     let index_fits : SFits w64 c.args.ask.now.index = search rules in
-    Prints-then _ _ _ _ _ _ _ c.in_ok-put_site.ensures.prints (Prints-then _ _ _ _ _ _ _ c.in_ok-put.ensures (Prints-stop _ _ _ (codes "\n") _ _ (rw (to_z-of_z w64 c.args.ask.now.index index_fits) at (rw c.in_ok-put_site.ensures.same at c.in_err-put_cell_behind.ensures.prints)) c.from_residual-in_err-put_cell_behind.ensures.0))
+    Prints-then _ _ _ _ _ _ _ c.in_ok-put_site.ensures.prints
+    (Prints-then _ _ _ _ _ _ _ c.in_ok-put.ensures (Prints-stop _ _ _ (codes "\n") _ _
+    (rw (to_z-of_z w64 c.args.ask.now.index index_fits) at (rw c.in_ok-put_site.ensures.same at c.in_err-put_cell_behind.ensures.prints))
+    c.from_residual-in_err-put_cell_behind.ensures.0))
 
 pub returns-clause-prints : goal.returns-clause-prints
 returns-clause-prints g c =
     let index_fits : SFits w64 c.args.ask.now.index = search rules in
-    Prints-then _ _ _ _ _ _ _ c.in_ok-put_site.ensures.prints (Prints-then _ _ _ _ _ _ _ c.in_ok-put.ensures (Prints-then _ _ _ _ _ _ _ (rw (to_z-of_z w64 c.args.ask.now.index index_fits) at (rw c.in_ok-put_site.ensures.same at c.in_ok-put_cell_behind.ensures.prints)) c.put-2.ensures))
+    Prints-then _ _ _ _ _ _ _ c.in_ok-put_site.ensures.prints
+    (Prints-then _ _ _ _ _ _ _ c.in_ok-put.ensures (Prints-then _ _ _ _ _ _ _
+    (rw (to_z-of_z w64 c.args.ask.now.index index_fits) at (rw c.in_ok-put_site.ensures.same at c.in_ok-put_cell_behind.ensures.prints)) c.put-2.ensures))

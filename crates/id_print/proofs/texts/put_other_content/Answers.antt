@@ -8,14 +8,17 @@ use Rattle.id_print.proofs.texts.put_other_content.Goals as goal
 pub returns-in_err-put_index-clause-prints : goal.returns-in_err-put_index-clause-prints
 returns-in_err-put_index-clause-prints g c =
     let index_fits : SFits w64 c.args.index = search rules in
-    Prints-stop _ _ _ (equal_text c.args.cursor.now c.args.value.now ++ codes "\n") _ _ (rw (to_z-of_z w64 c.args.index index_fits) at c.in_err-put_index.ensures) c.from_residual.ensures.0
+    Prints-stop _ _ _ (equal_text c.args.cursor.now c.args.value.now ++ codes "\n") _ _
+    (rw (to_z-of_z w64 c.args.index index_fits) at c.in_err-put_index.ensures) c.from_residual.ensures.0
 
 pub returns-in_err-put_equal-clause-prints : goal.returns-in_err-put_equal-clause-prints
 returns-in_err-put_equal-clause-prints g c =
     let index_fits : SFits w64 c.args.index = search rules in
-    Prints-then _ _ _ _ _ _ _ (rw (to_z-of_z w64 c.args.index index_fits) at c.in_ok-put_index.ensures) (Prints-stop _ _ _ (codes "\n") _ _ c.in_err-put_equal.ensures.prints c.from_residual-in_err-put_equal.ensures.0)
+    Prints-then _ _ _ _ _ _ _ (rw (to_z-of_z w64 c.args.index index_fits) at c.in_ok-put_index.ensures)
+    (Prints-stop _ _ _ (codes "\n") _ _ c.in_err-put_equal.ensures.prints c.from_residual-in_err-put_equal.ensures.0)
 
 pub returns-clause-prints : goal.returns-clause-prints
 returns-clause-prints g c =
     let index_fits : SFits w64 c.args.index = search rules in
-    Prints-then _ _ _ _ _ _ _ (rw (to_z-of_z w64 c.args.index index_fits) at c.in_ok-put_index.ensures) (Prints-then _ _ _ _ _ _ _ c.in_ok-put_equal.ensures.prints c.put.ensures)
+    Prints-then _ _ _ _ _ _ _ (rw (to_z-of_z w64 c.args.index index_fits) at c.in_ok-put_index.ensures)
+    (Prints-then _ _ _ _ _ _ _ c.in_ok-put_equal.ensures.prints c.put.ensures)

@@ -5,7 +5,8 @@ use Rattle.id_print.proofs.texts.put_point.Goals as goal
 
 pub returns-in_err-put_steps-clause-prints : goal.returns-in_err-put_steps-clause-prints
 returns-in_err-put_steps-clause-prints g c =
-    rw c.as_slice.ensures at (Prints-stop _ _ _ (codes "@" ++ place_text c.args.cursor.now c.args.place) _ _ c.in_err-put_steps.ensures.prints c.from_residual.ensures.0)
+    rw c.as_slice.ensures at (Prints-stop _ _ _ (codes "@" ++ place_text c.args.cursor.now c.args.place) _ _ c.in_err-put_steps.ensures.prints
+    c.from_residual.ensures.0)
 
 pub returns-clause-prints : goal.returns-clause-prints
 returns-clause-prints g c =

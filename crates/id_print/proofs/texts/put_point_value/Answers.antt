@@ -9,8 +9,10 @@ returns-in_err-put_point-clause-prints g c =
 
 pub returns-in_err-put_equal-clause-prints : goal.returns-in_err-put_equal-clause-prints
 returns-in_err-put_equal-clause-prints g c =
-    Prints-then _ _ _ _ _ _ _ c.in_ok-put_point.ensures.prints (Prints-stop _ _ _ (codes "\n") _ _ (rw c.in_ok-put_point.ensures.same at c.in_err-put_equal.ensures.prints) c.from_residual-in_err-put_equal.ensures.0)
+    Prints-then _ _ _ _ _ _ _ c.in_ok-put_point.ensures.prints
+    (Prints-stop _ _ _ (codes "\n") _ _ (rw c.in_ok-put_point.ensures.same at c.in_err-put_equal.ensures.prints) c.from_residual-in_err-put_equal.ensures.0)
 
 pub returns-clause-prints : goal.returns-clause-prints
 returns-clause-prints g c =
-    Prints-then _ _ _ _ _ _ _ c.in_ok-put_point.ensures.prints (Prints-then _ _ _ _ _ _ _ (rw c.in_ok-put_point.ensures.same at c.in_ok-put_equal.ensures.prints) c.put.ensures)
+    Prints-then _ _ _ _ _ _ _ c.in_ok-put_point.ensures.prints
+    (Prints-then _ _ _ _ _ _ _ (rw c.in_ok-put_point.ensures.same at c.in_ok-put_equal.ensures.prints) c.put.ensures)

@@ -11,10 +11,13 @@ returns-in_err-put_site-clause-prints g c =
 
 pub returns-in_err-put-clause-prints : goal.returns-in_err-put-clause-prints
 returns-in_err-put-clause-prints g c =
-    Prints-then _ _ _ _ _ _ _ c.in_ok-put_site.ensures.prints (Prints-stop _ _ _ (bounds_text c.args.shape.now.low c.args.shape.now.high) _ _ c.in_err-put.ensures c.from_residual-in_err-put.ensures.0)
+    Prints-then _ _ _ _ _ _ _ c.in_ok-put_site.ensures.prints
+    (Prints-stop _ _ _ (bounds_text c.args.shape.now.low c.args.shape.now.high) _ _ c.in_err-put.ensures c.from_residual-in_err-put.ensures.0)
 
 pub returns-clause-prints : goal.returns-clause-prints
 returns-clause-prints g c =
     let low_fits : SFits w64 c.args.shape.now.low = search rules in
     let high_fits : SFits w64 c.args.shape.now.high = search rules in
-    Prints-then _ _ _ _ _ _ _ c.in_ok-put_site.ensures.prints (Prints-then _ _ _ _ _ _ _ c.in_ok-put.ensures (rw (to_z-of_z w64 c.args.shape.now.high high_fits) at (rw (to_z-of_z w64 c.args.shape.now.low low_fits) at c.put_bounds.ensures)))
+    Prints-then _ _ _ _ _ _ _ c.in_ok-put_site.ensures.prints
+    (Prints-then _ _ _ _ _ _ _ c.in_ok-put.ensures (rw (to_z-of_z w64 c.args.shape.now.high high_fits) at
+    (rw (to_z-of_z w64 c.args.shape.now.low low_fits) at c.put_bounds.ensures)))

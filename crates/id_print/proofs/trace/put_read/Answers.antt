@@ -8,7 +8,8 @@ returns-in_err-put g c = Prints-stop _ _ _ (cell_text c.args.cell ++ from_text c
 
 pub returns-in_err-put_cell : goal.returns-in_err-put_cell
 returns-in_err-put_cell g c =
-    Prints-then _ _ _ _ _ _ _ c.in_ok-put.ensures (Prints-stop _ _ _ (from_text c.args.reply) _ _ c.in_err-put_cell.ensures c.from_residual-in_err-put_cell.ensures.0)
+    Prints-then _ _ _ _ _ _ _ c.in_ok-put.ensures (Prints-stop _ _ _ (from_text c.args.reply) _ _ c.in_err-put_cell.ensures
+    c.from_residual-in_err-put_cell.ensures.0)
 
 pub returns : goal.returns
 returns g c = Prints-then _ _ _ _ _ _ _ c.in_ok-put.ensures (Prints-then _ _ _ _ _ _ _ c.in_ok-put_cell.ensures c.put_from.ensures)

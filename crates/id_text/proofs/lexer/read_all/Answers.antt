@@ -31,8 +31,10 @@ loop-at-preserved-in-Continue-branch-3 c =
     record {
       within = fits.1;
       read = subst (IsReadTo c.args.text.now (c.loop-at.at + c.in_ok-piece.piece.len))
-          (sym (c.in_ok-push.ensures.items ∙ ap (λ k. c.loop-at.tokens.items ++ token_of k c.loop-at.at (c.loop-at.at + c.in_ok-piece.piece.len) ∷ []) c.in-Some.kind-is))
-          (read_token c.args.text.now c.loop-at.at c.in_ok-piece.piece.len c.loop-at.tokens.items c.in-Some.kind c.loop-at.invariant.read (rw c.in-Some.is at c.in_ok-piece.ensures));
+          (sym (c.in_ok-push.ensures.items ∙ ap (λ k. c.loop-at.tokens.items ++ token_of k c.loop-at.at (c.loop-at.at + c.in_ok-piece.piece.len) ∷ [])
+          c.in-Some.kind-is))
+          (read_token c.args.text.now c.loop-at.at c.in_ok-piece.piece.len c.loop-at.tokens.items c.in-Some.kind c.loop-at.invariant.read
+          (rw c.in-Some.is at c.in_ok-piece.ensures));
     }
 
 pub loop-at-preserved : goal.loop-at-preserved
@@ -40,7 +42,8 @@ loop-at-preserved c =
     let fits = piece_fits c.args.text.now c.loop-at.at _ _ c.loop-at.invariant.within c.in_ok-piece.ensures in
     record {
       within = fits.1;
-      read = read_gap c.args.text.now c.loop-at.at c.in_ok-piece.piece.len c.loop-at.tokens.items c.loop-at.invariant.read (rw c.in_default.is at c.in_ok-piece.ensures);
+      read = read_gap c.args.text.now c.loop-at.at c.in_ok-piece.piece.len c.loop-at.tokens.items c.loop-at.invariant.read
+          (rw c.in_default.is at c.in_ok-piece.ensures);
     }
 
 -- the tokens are the whole text's

@@ -10,7 +10,8 @@ returns-then-is_blank c =
 
 pub returns-then-first-eq37 : goal.returns-then-first-eq37
 returns-then-first-eq37 c =
-    begins_comment _ _ c.comment_len.result (rest_is c.as_bytes.result.now c.args.text.now c.args.at c.as_bytes.ensures.value) (rest_some c.args.text.now c.args.at c.requires)
+    begins_comment _ _ c.comment_len.result (rest_is c.as_bytes.result.now c.args.text.now c.args.at c.as_bytes.ensures.value)
+    (rest_some c.args.text.now c.args.at c.requires)
     c.if-first-eq37.true c.comment_len.ensures
 
 pub read_word-requires-clause-letter : goal.read_word-requires-clause-letter

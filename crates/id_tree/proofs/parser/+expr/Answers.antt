@@ -8,12 +8,29 @@ use Rattle.id_text.specs.declared.token.Keyword.TheVariants.{If, While, Next, No
 use Rattle.id_tree.specs.declared.parser.Level.TheVariants as level
 use Rattle.id_tree.specs.declared.parser.Scope.TheVariants as scope
 use Rattle.id_tree.specs.Grammar.{Expression, Grouped, Negation, Unary, Postfix, Atom, Tail}
-use Rattle.id_tree.specs.Readers.{first_kind, second_kind, truth_in, IsRead, IsGathered, Leads, Fails, Adds, Assigns, Misassigns, Applies, Misapplies, may_deny, IsBracket}
+use Rattle.id_tree.specs.Readers.{first_kind, second_kind, truth_in, IsRead, IsGathered, Leads, Fails, Adds, Assigns}
+use Rattle.id_tree.specs.Readers.{Misassigns, Applies, Misapplies, may_deny, IsBracket}
 use Rattle.id_tree.specs.Tree.{tree_of, stmt_tree, store}
-use Rattle.id_tree.proofs.ReaderLemmas.{IsRead-then, Rises-grows, Rises-stunts, Rises-ends, Rises-operand, Operand-fails, Rises-denied, Denied-fails, operator-at, Right-deep, Right-fails, Right-grows, At-conditional, At-parens, At-part, At-word, At-name, At-enclosed, Leads-done, Leads-at, Fails-deep, Fails-part, Fails-word, Fails-name, Fails-enclosed, IsPrefix-begins, Prefix-deep, Prefix-fails, Prefix-leads, Encloses-done, Exposes-word, Exposes-part, opens_negated, opens_denied, opens_conditional, opens_parens, Expression-leads, Expression-fails, Negation-leads, Negation-fails, At-opens, opens_number, opens_truth, Atom-fails, IsRead-behind, unopened, untrue}
-use Rattle.id_tree.proofs.ArrayLemmas.{opens_array, At-array, Unary-number, Unary-name, Unary-leads, Unary-fails, Pointed-atom, Pointed-fetch, Pointed-fails, Pointed-ends, Postfix-fails, Fetch-deep, Fetch-fails, Fetch-indexes, Behind-bracket, Behind-word, Behind-enclosed, Misassigns-word, Misassigns-enclosed, Assigns-done, Adds-assigned, Fails-assigned}
-use Rattle.id_tree.proofs.CallLemmas.{IsRead-named, Leads-named, Fails-named, Applies-name, Applies-call, Misapplies-call, Leads-unpassed, Hands-first, Fails-argument, Hands-add, Fails-added, Leads-passed, Fails-passed, IsRead-add, Fails-full}
-use Rattle.id_tree.proofs.BlockLemmas.{opens_braces, At-block, At-loop, Encloses-tail, Exposes-tail, At-binding, At-next, Fails-tail, Adds-done, IsGathered-add, Gathers-none, Gathers-add, Fails-gathered, Leads-gathered, Leads-last, Fails-last}
+use Rattle.id_tree.proofs.ReaderLemmas.{IsRead-then, Rises-grows, Rises-stunts, Rises-ends, Rises-operand}
+use Rattle.id_tree.proofs.ReaderLemmas.{Operand-fails, Rises-denied, Denied-fails, operator-at, Right-deep}
+use Rattle.id_tree.proofs.ReaderLemmas.{Right-fails, Right-grows, At-conditional, At-parens, At-part, At-word}
+use Rattle.id_tree.proofs.ReaderLemmas.{At-name, At-enclosed, Leads-done, Leads-at, Fails-deep, Fails-part}
+use Rattle.id_tree.proofs.ReaderLemmas.{Fails-word, Fails-name, Fails-enclosed, IsPrefix-begins, Prefix-deep}
+use Rattle.id_tree.proofs.ReaderLemmas.{Prefix-fails, Prefix-leads, Encloses-done, Exposes-word, Exposes-part}
+use Rattle.id_tree.proofs.ReaderLemmas.{opens_negated, opens_denied, opens_conditional, opens_parens}
+use Rattle.id_tree.proofs.ReaderLemmas.{Expression-leads, Expression-fails, Negation-leads, Negation-fails, At-opens}
+use Rattle.id_tree.proofs.ReaderLemmas.{opens_number, opens_truth, Atom-fails, IsRead-behind, unopened, untrue}
+use Rattle.id_tree.proofs.ArrayLemmas.{opens_array, At-array, Unary-number, Unary-name, Unary-leads, Unary-fails}
+use Rattle.id_tree.proofs.ArrayLemmas.{Pointed-atom, Pointed-fetch, Pointed-fails, Pointed-ends, Postfix-fails}
+use Rattle.id_tree.proofs.ArrayLemmas.{Fetch-deep, Fetch-fails, Fetch-indexes, Behind-bracket, Behind-word}
+use Rattle.id_tree.proofs.ArrayLemmas.{Behind-enclosed, Misassigns-word, Misassigns-enclosed, Assigns-done}
+use Rattle.id_tree.proofs.ArrayLemmas.{Adds-assigned, Fails-assigned}
+use Rattle.id_tree.proofs.CallLemmas.{IsRead-named, Leads-named, Fails-named, Applies-name, Applies-call}
+use Rattle.id_tree.proofs.CallLemmas.{Misapplies-call, Leads-unpassed, Hands-first, Fails-argument, Hands-add}
+use Rattle.id_tree.proofs.CallLemmas.{Fails-added, Leads-passed, Fails-passed, IsRead-add, Fails-full}
+use Rattle.id_tree.proofs.BlockLemmas.{opens_braces, At-block, At-loop, Encloses-tail, Exposes-tail, At-binding}
+use Rattle.id_tree.proofs.BlockLemmas.{At-next, Fails-tail, Adds-done, IsGathered-add, Gathers-none, Gathers-add}
+use Rattle.id_tree.proofs.BlockLemmas.{Fails-gathered, Leads-gathered, Leads-last, Fails-last}
 use Rattle.id_tree.proofs.parser.+expr.Goals as goal
 
 pub parse_expression-returns-else-begins_with-clause-ok : goal.parse_expression-returns-else-begins_with-clause-ok
@@ -147,7 +164,8 @@ parse_block-returns-in_err-first-clause-err t c =
 pub parse_block-returns-in_err-statements-clause-err : goal.parse_block-returns-in_err-statements-clause-err
 parse_block-returns-in_err-statements-clause-err t c =
     let p = err_from_is_err_and c.from_residual-in_err-statements.result c.from_residual-in_err-statements.ensures.1 in
-    rw (p.1, p.2) (Fails-part (At-block c.in_ok-first.ensures.whole c.requires.begins c.in_ok-first.ensures.fits c.requires.no_while) c.in_err-statements.ensures.err)
+    rw (p.1, p.2) (Fails-part (At-block c.in_ok-first.ensures.whole c.requires.begins c.in_ok-first.ensures.fits c.requires.no_while)
+    c.in_err-statements.ensures.err)
 
 pub parse_block-returns-in_err-body-clause-err : goal.parse_block-returns-in_err-body-clause-err
 parse_block-returns-in_err-body-clause-err t c =
@@ -181,18 +199,21 @@ parse_loop-returns-in_err-first-clause-err t c =
 pub parse_loop-returns-in_err-test-clause-err : goal.parse_loop-returns-in_err-test-clause-err
 parse_loop-returns-in_err-test-clause-err t c =
     let p = err_from_is_err_and c.from_residual-in_err-test.result c.from_residual-in_err-test.ensures.1 in
-    rw (p.1, p.2) (Fails-enclosed (At-loop c.in_ok-first.ensures.whole c.requires.begins c.in_ok-first.ensures.fits c.split.ensures.whole c.requires.loops) c.in_err-test.ensures.err)
+    rw (p.1, p.2) (Fails-enclosed (At-loop c.in_ok-first.ensures.whole c.requires.begins c.in_ok-first.ensures.fits c.split.ensures.whole c.requires.loops)
+    c.in_err-test.ensures.err)
 
 pub parse_loop-returns-in_err-statements-clause-err : goal.parse_loop-returns-in_err-statements-clause-err
 parse_loop-returns-in_err-statements-clause-err t c =
     let p = err_from_is_err_and c.from_residual-in_err-statements.result c.from_residual-in_err-statements.ensures.1 in
-    rw (p.1, p.2) (Fails-part (At-enclosed (At-loop c.in_ok-first.ensures.whole c.requires.begins c.in_ok-first.ensures.fits c.split.ensures.whole c.requires.loops)
+    rw (p.1, p.2) (Fails-part (At-enclosed (At-loop c.in_ok-first.ensures.whole c.requires.begins c.in_ok-first.ensures.fits c.split.ensures.whole
+    c.requires.loops)
     c.in_ok-test.ensures.ok) c.in_err-statements.ensures.err)
 
 pub parse_loop-returns-in_err-last-clause-err : goal.parse_loop-returns-in_err-last-clause-err
 parse_loop-returns-in_err-last-clause-err t c =
     let p = err_from_is_err_and c.from_residual-in_err-last.result c.from_residual-in_err-last.ensures.1 in
-    rw (p.1, p.2) (Fails-part (At-enclosed (At-loop c.in_ok-first.ensures.whole c.requires.begins c.in_ok-first.ensures.fits c.split.ensures.whole c.requires.loops)
+    rw (p.1, p.2) (Fails-part (At-enclosed (At-loop c.in_ok-first.ensures.whole c.requires.begins c.in_ok-first.ensures.fits c.split.ensures.whole
+    c.requires.loops)
     c.in_ok-test.ensures.ok)
     (Fails-gathered c.in_ok-statements.ensures.ok
     (Fails-last scope.Loop c.split-2.ensures.whole c.in_ok-statements.ensures.last c.in_ok-first.ensures.fits c.in_err-last.ensures.err)))
@@ -206,7 +227,10 @@ parse_loop-returns-clause-ok t c =
     (Leads-last scope.Loop c.split-2.ensures.whole c.in_ok-statements.ensures.last c.in_ok-first.ensures.fits c.in_ok-last.ensures.ok))))
 
 pub parse_statements-stmts-init : goal.parse_statements-stmts-init
-parse_statements-stmts-init t c = (record { ends = c.requires.ends; shorter = omega arith; fits = omega arith }, rw c.new-statements.ensures.items (Gathers-none c.args.tokens.now c.args.scope c.args.depth))
+parse_statements-stmts-init t c = (
+  record { ends = c.requires.ends; shorter = omega arith; fits = omega arith },
+  rw c.new-statements.ensures.items (Gathers-none c.args.tokens.now c.args.scope c.args.depth),
+)
 
 pub parse_statements-stmts-preserved : goal.parse_statements-stmts-preserved
 parse_statements-stmts-preserved t c = (
@@ -309,7 +333,8 @@ parse_next-returns-in_err-name-clause-err t c =
 pub parse_next-returns-in_err-begun-clause-err : goal.parse_next-returns-in_err-begun-clause-err
 parse_next-returns-in_err-begun-clause-err t c =
     let p = err_from_is_err_and c.from_residual-in_err-begun.result c.from_residual-in_err-begun.ensures.1 in
-    rw (p.1, p.2) (Fails-word (At-name (At-next c.args.depth (omega arith) c.split.ensures.whole c.requires.begins) c.in_ok-name.ensures.ok) c.in_err-begun.ensures.err)
+    rw (p.1, p.2) (Fails-word (At-name (At-next c.args.depth (omega arith) c.split.ensures.whole c.requires.begins) c.in_ok-name.ensures.ok)
+    c.in_err-begun.ensures.err)
 
 pub parse_next-returns-in_err-value-clause-err : goal.parse_next-returns-in_err-value-clause-err
 parse_next-returns-in_err-value-clause-err t c =
@@ -642,14 +667,16 @@ parse_leaf-returns-in_ok-copy-in-Name-clause-ok t c =
     (λ y. Applies c.split.result.1.now c.args.depth c.in_ok-copy-in-Name.field-0 c.split.result.0.now.start y.1.now
     (tree_of y.0.expr) y.0.height)
     (λ y. Leads c.args.tokens.now Atom c.args.depth y.1.now (tree_of y.0.expr) y.0.height)
-    (λ y q. Leads-named c.split.ensures.whole c.args.depth (omega (arith, c.requires.room)) c.in_ok-copy-in-Name.field-0 (ap first_kind c.split.ensures.whole ∙ is) q) c.parse_named.ensures.ok
+    (λ y q. Leads-named c.split.ensures.whole c.args.depth (omega (arith, c.requires.room)) c.in_ok-copy-in-Name.field-0
+    (ap first_kind c.split.ensures.whole ∙ is) q) c.parse_named.ensures.ok
 
 pub parse_leaf-returns-in_ok-copy-in-Name-clause-err : goal.parse_leaf-returns-in_ok-copy-in-Name-clause-err
 parse_leaf-returns-in_ok-copy-in-Name-clause-err t c =
     let is : c.split.result.0.now.kind ≡ Name c.in_ok-copy-in-Name.field-0 = c.in-Name.is ∙ ap Name (sym c.in_ok-copy-in-Name.ensures) in
     IfErr-weaker c.parse_named.result (Misapplies c.split.result.1.now c.args.depth c.in_ok-copy-in-Name.field-0 c.split.result.0.now.start)
     (Fails c.args.tokens.now Atom c.args.depth)
-    (λ y q. Fails-named c.split.ensures.whole c.args.depth (omega (arith, c.requires.room)) c.in_ok-copy-in-Name.field-0 (ap first_kind c.split.ensures.whole ∙ is) q) c.parse_named.ensures.err
+    (λ y q. Fails-named c.split.ensures.whole c.args.depth (omega (arith, c.requires.room)) c.in_ok-copy-in-Name.field-0
+    (ap first_kind c.split.ensures.whole ∙ is) q) c.parse_named.ensures.err
 
 pub parse_named-returns-else-begins_with_sign-clause-ok : goal.parse_named-returns-else-begins_with_sign-clause-ok
 parse_named-returns-else-begins_with_sign-clause-ok t c =

@@ -23,7 +23,8 @@ pub returns-clause-only : goal.returns-clause-only
 returns-clause-only c = λ e a.
     let ts = c.args.tokens.now in
     MatchResult-weaker c.parse_program.result
-    (MatchResult-from_both c.parse_program.result (λ p. run 200 ts (Begin []) ≡ Accepted (program_tree p)) (EndsBy (run 200 ts (Begin []))) c.parse_program.ensures.ok c.parse_program.ensures.err)
+    (MatchResult-from_both c.parse_program.result (λ p. run 200 ts (Begin []) ≡ Accepted (program_tree p)) (EndsBy (run 200 ts (Begin [])))
+    c.parse_program.ensures.ok c.parse_program.ensures.err)
     (λ p q. Same-from_run ts (program_tree p) e q a) (λ x q. IsMemory-from_run ts x e q a)
 
 pub returns-clause-distinct : goal.returns-clause-distinct

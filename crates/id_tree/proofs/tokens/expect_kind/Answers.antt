@@ -13,4 +13,5 @@ pub returns-in-Some-clause-ok : goal.returns-in-Some-clause-ok
 returns-in-Some-clause-ok c = Types-done c.in_ok-named.ensures.ok c.in-Some.kind c.split.ensures.whole (sym c.kind_at.ensures ∙ c.in-Some.is)
 
 pub returns-in-None-clause-err : goal.returns-in-None-clause-err
-returns-in-None-clause-err c = Untypes-kind c.in_ok-named.ensures.ok c.unexpected.result c.split.ensures.whole c.unexpected.ensures (sym c.kind_at.ensures ∙ c.in-None.is)
+returns-in-None-clause-err c = Untypes-kind c.in_ok-named.ensures.ok c.unexpected.result c.split.ensures.whole c.unexpected.ensures
+    (sym c.kind_at.ensures ∙ c.in-None.is)

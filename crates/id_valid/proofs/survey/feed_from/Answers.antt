@@ -13,12 +13,14 @@ Below n d = d.instr < n
 
 pub feed-requires : goal.feed-requires
 feed-requires c =
-    subst (λ ds. All (Below (length c.args.counts.now)) ds) (sym c.as_slice.ensures) (All-true_arcs (Below (length c.args.counts.now)) c.args.instr.now c.requires)
+    subst (λ ds. All (Below (length c.args.counts.now)) ds) (sym c.as_slice.ensures)
+    (All-true_arcs (Below (length c.args.counts.now)) c.args.instr.now c.requires)
 
 pub feed-requires-2 : goal.feed-requires-2
 feed-requires-2 c =
     let within : All (Below (length c.feed.new.counts)) (false_arcs c.args.instr.now) =
-    subst (λ n. All (Below n) (false_arcs c.args.instr.now)) (sym c.feed.ensures.len) (All-false_arcs (Below (length c.args.counts.now)) c.args.instr.now c.requires)
+    subst (λ n. All (Below n) (false_arcs c.args.instr.now)) (sym c.feed.ensures.len)
+    (All-false_arcs (Below (length c.args.counts.now)) c.args.instr.now c.requires)
     in subst (λ ds. All (Below (length c.feed.new.counts)) ds) (sym c.false_arcs.ensures) within
 
 pub returns : goal.returns

@@ -30,7 +30,8 @@ returns-in_err-step c = record {
   step = if_err _ c.from_residual.result c.from_residual.ensures.0;
   end = gives_end c.from_residual.result c.in_err-step.field-0.0 _ c.from_residual.ensures.1 c.in_err-step.ensures.end;
   err = on_err c.from_residual.result c.in_err-step.ensures.err;
-  err_messages = on_err c.from_residual.result (ap (λ ms. c.self.inside.before.messages ++ ms) c.in_err-step.ensures.err_outputs ∙ ap (λ v. v.messages) c.self.view_is);
+  err_messages = on_err c.from_residual.result (ap (λ ms. c.self.inside.before.messages ++ ms) c.in_err-step.ensures.err_outputs ∙
+      ap (λ v. v.messages) c.self.view_is);
   fits = on_ok _ c.from_residual.result c.from_residual.ensures.0;
   messages = on_ok _ c.from_residual.result c.from_residual.ensures.0;
   state = on_ok _ c.from_residual.result c.from_residual.ensures.0;
@@ -43,4 +44,5 @@ pub drop_at-requires-clause-behind : goal.drop_at-requires-clause-behind
 drop_at-requires-clause-behind c = is_behind c.args.position c.len.result _ c.len.ensures.len
 
 pub drop_at-requires-clause-there : goal.drop_at-requires-clause-there
-drop_at-requires-clause-there c = stays_there c.args.self.now.messages c.self.inside.before.messages c.self.inside.after.messages c.take.new.outputs.messages _ c.args.message.now c.args.position (ap (λ v. v.messages) c.self.view_is) c.requires.next c.in_ok-step.ensures.outputs
+drop_at-requires-clause-there c = stays_there c.args.self.now.messages c.self.inside.before.messages c.self.inside.after.messages c.take.new.outputs.messages
+    _ c.args.message.now c.args.position (ap (λ v. v.messages) c.self.view_is) c.requires.next c.in_ok-step.ensures.outputs

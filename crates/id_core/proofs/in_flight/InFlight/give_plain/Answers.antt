@@ -37,7 +37,8 @@ returns-in_err-short c = record {
   apart_messages = if_err _ c.from_residual.result c.from_residual.ensures.0;
   end = gives_end c.from_residual.result c.in_err-short.field-0.0 _ c.from_residual.ensures.1 c.in_err-short.ensures.end;
   err = on_err c.from_residual.result c.in_err-short.ensures.err;
-  err_messages = on_err c.from_residual.result (ap (λ ms. c.self.inside.before.messages ++ ms) c.in_err-short.ensures.err_outputs ∙ ap (λ v. v.messages) c.self.view_is);
+  err_messages = on_err c.from_residual.result (ap (λ ms. c.self.inside.before.messages ++ ms) c.in_err-short.ensures.err_outputs ∙
+      ap (λ v. v.messages) c.self.view_is);
   fits = on_ok _ c.from_residual.result c.from_residual.ensures.0;
 }
 
@@ -48,7 +49,9 @@ pub drop_at-requires-clause-behind : goal.drop_at-requires-clause-behind
 drop_at-requires-clause-behind c = is_behind c.args.position c.len.result _ c.len.ensures.len
 
 pub drop_at-requires-clause-there : goal.drop_at-requires-clause-there
-drop_at-requires-clause-there c = stays_there c.args.self.now.messages c.self.inside.before.messages c.self.inside.after.messages c.take_plain.new.outputs.messages _ (message_of c.args.token.now) c.args.position (ap (λ v. v.messages) c.self.view_is) c.requires.next (c.in_ok-short.ensures.outputs (is_handled c.in_ok-short.short c.in_default.not-Apart))
+drop_at-requires-clause-there c = stays_there c.args.self.now.messages c.self.inside.before.messages c.self.inside.after.messages
+    c.take_plain.new.outputs.messages _ (message_of c.args.token.now) c.args.position (ap (λ v. v.messages) c.self.view_is) c.requires.next
+    (c.in_ok-short.ensures.outputs (is_handled c.in_ok-short.short c.in_default.not-Apart))
 
 pub returns-in-Apart : goal.returns-in-Apart
 returns-in-Apart c = record {
@@ -58,7 +61,8 @@ returns-in-Apart c = record {
   end = c.in_ok-short.ensures.end;
   messages = not_handled c.in_ok-short.short c.in-Apart.is;
   apart = λ h. c.in_ok-short.ensures.apart (ap (λ s. Ok s) h);
-  apart_messages = λ h. ap (λ ms. c.self.inside.before.messages ++ ms) (c.in_ok-short.ensures.apart_outputs (ap (λ s. Ok s) h)) ∙ ap (λ v. v.messages) c.self.view_is;
+  apart_messages = λ h. ap (λ ms. c.self.inside.before.messages ++ ms) (c.in_ok-short.ensures.apart_outputs (ap (λ s. Ok s) h)) ∙
+      ap (λ v. v.messages) c.self.view_is;
   err = tt;
   err_messages = tt;
 }

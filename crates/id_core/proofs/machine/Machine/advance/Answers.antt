@@ -24,7 +24,8 @@ returns-in_err-deliver_plain-in-Some c = record {
 pub returns-in-Went : goal.returns-in-Went
 returns-in-Went c = record {
   world = c.in_ok-deliver_plain-in-Some.ensures.world (subst IsHandled (sym c.in-Went.is) tt);
-  step = came_from _ _ (c.in_ok-deliver_plain-in-Some.ensures.step (subst IsHandled (sym c.in-Went.is) tt)) ∙ ap (λ s. Some (came_of (step_in s (tag_in c.in-Some.token.now)))) c.in-Went.is;
+  step = came_from _ _ (c.in_ok-deliver_plain-in-Some.ensures.step (subst IsHandled (sym c.in-Went.is) tt)) ∙
+      ap (λ s. Some (came_of (step_in s (tag_in c.in-Some.token.now)))) c.in-Went.is;
   end = ok_end _ _ c.in_ok-deliver_plain-in-Some.ensures.end;
   err = tt;
 }
@@ -32,13 +33,15 @@ returns-in-Went c = record {
 pub returns-in-Failed : goal.returns-in-Failed
 returns-in-Failed c = record {
   world = c.in_ok-deliver_plain-in-Some.ensures.world (subst IsHandled (sym c.in-Failed.is) tt);
-  step = came_from _ _ (c.in_ok-deliver_plain-in-Some.ensures.step (subst IsHandled (sym c.in-Failed.is) tt)) ∙ ap (λ s. Some (came_of (step_in s (tag_in c.in-Some.token.now)))) c.in-Failed.is;
+  step = came_from _ _ (c.in_ok-deliver_plain-in-Some.ensures.step (subst IsHandled (sym c.in-Failed.is) tt)) ∙
+      ap (λ s. Some (came_of (step_in s (tag_in c.in-Some.token.now)))) c.in-Failed.is;
   end = ok_end _ _ c.in_ok-deliver_plain-in-Some.ensures.end;
   err = tt;
 }
 
 pub advance_any-requires : goal.advance_any-requires
-advance_any-requires c = subst (λ (v : MachineView). c.args.position < length v.world.flight) (sym (c.in_ok-deliver_plain-in-Some.ensures.apart c.in-Apart.is)) c.requires
+advance_any-requires c = subst (λ (v : MachineView). c.args.position < length v.world.flight)
+    (sym (c.in_ok-deliver_plain-in-Some.ensures.apart c.in-Apart.is)) c.requires
 
 pub advance_any-requires-in-None : goal.advance_any-requires-in-None
 advance_any-requires-in-None c = c.requires
@@ -47,8 +50,10 @@ advance_any-requires-in-None c = c.requires
 pub returns-in-Apart : goal.returns-in-Apart
 returns-in-Apart c =
     let same = c.in_ok-deliver_plain-in-Some.ensures.apart c.in-Apart.is in
-    let World : MachineView → Type 0 = λ v. OnOk c.advance_any.result (c.advance_any.new.self ≡ record v { world = delivered v.graph v.count v.world c.args.position }) in
-    let Step : MachineView → Type 0 = λ v. IfOk c.advance_any.result (λ came. option_map (λ e. came_of e.step) (event_at v.graph v.count v.world c.args.position) ≡ Some came) in
+    let World : MachineView → Type 0 = λ v. OnOk c.advance_any.result
+    (c.advance_any.new.self ≡ record v { world = delivered v.graph v.count v.world c.args.position }) in
+    let Step : MachineView → Type 0 = λ v. IfOk c.advance_any.result
+    (λ came. option_map (λ e. came_of e.step) (event_at v.graph v.count v.world c.args.position) ≡ Some came) in
     let End : MachineView → Type 0 = λ v. c.advance_any.result ≡ Err StampEnd ↔ event_at v.graph v.count v.world c.args.position ≡ None in
     let Same : MachineView → Type 0 = λ v. OnErr c.advance_any.result (c.advance_any.new.self ≡ v) in
     record {
@@ -59,4 +64,9 @@ returns-in-Apart c =
     }
 
 pub returns-in-None : goal.returns-in-None
-returns-in-None c = record { world = c.advance_any-in-None.ensures.world; step = c.advance_any-in-None.ensures.step; end = c.advance_any-in-None.ensures.end; err = c.advance_any-in-None.ensures.err }
+returns-in-None c = record {
+  world = c.advance_any-in-None.ensures.world;
+  step = c.advance_any-in-None.ensures.step;
+  end = c.advance_any-in-None.ensures.end;
+  err = c.advance_any-in-None.ensures.err;
+}

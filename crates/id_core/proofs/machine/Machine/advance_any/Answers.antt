@@ -28,7 +28,8 @@ returns-then-branch c = record {
 }
 
 pub advance_full-requires : goal.advance_full-requires
-advance_full-requires c = subst (λ (v : MachineView). c.args.position < length v.world.flight) (sym (c.in_ok-deliver_demand-in-Some.ensures.apart (ap (λ b. Ok b) c.if-branch.false))) c.requires
+advance_full-requires c = subst (λ (v : MachineView). c.args.position < length v.world.flight)
+    (sym (c.in_ok-deliver_demand-in-Some.ensures.apart (ap (λ b. Ok b) c.if-branch.false))) c.requires
 
 pub advance_full-requires-in-None : goal.advance_full-requires-in-None
 advance_full-requires-in-None c = c.requires
@@ -37,8 +38,10 @@ advance_full-requires-in-None c = c.requires
 pub returns-else-branch : goal.returns-else-branch
 returns-else-branch c =
     let same = c.in_ok-deliver_demand-in-Some.ensures.apart (ap (λ b. Ok b) c.if-branch.false) in
-    let World : MachineView → Type 0 = λ v. OnOk c.advance_full.result (c.advance_full.new.self ≡ record v { world = delivered v.graph v.count v.world c.args.position }) in
-    let Step : MachineView → Type 0 = λ v. IfOk c.advance_full.result (λ came. option_map (λ e. came_of e.step) (event_at v.graph v.count v.world c.args.position) ≡ Some came) in
+    let World : MachineView → Type 0 = λ v. OnOk c.advance_full.result
+    (c.advance_full.new.self ≡ record v { world = delivered v.graph v.count v.world c.args.position }) in
+    let Step : MachineView → Type 0 = λ v. IfOk c.advance_full.result
+    (λ came. option_map (λ e. came_of e.step) (event_at v.graph v.count v.world c.args.position) ≡ Some came) in
     let End : MachineView → Type 0 = λ v. c.advance_full.result ≡ Err StampEnd ↔ event_at v.graph v.count v.world c.args.position ≡ None in
     let Same : MachineView → Type 0 = λ v. OnErr c.advance_full.result (c.advance_full.new.self ≡ v) in
     record {
@@ -49,4 +52,9 @@ returns-else-branch c =
     }
 
 pub returns-in-None : goal.returns-in-None
-returns-in-None c = record { world = c.advance_full-in-None.ensures.world; step = c.advance_full-in-None.ensures.step; end = c.advance_full-in-None.ensures.end; err = c.advance_full-in-None.ensures.err }
+returns-in-None c = record {
+  world = c.advance_full-in-None.ensures.world;
+  step = c.advance_full-in-None.ensures.step;
+  end = c.advance_full-in-None.ensures.end;
+  err = c.advance_full-in-None.ensures.err;
+}

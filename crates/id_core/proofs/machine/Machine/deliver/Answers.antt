@@ -24,7 +24,8 @@ returns-in_err-deliver_plain-in-Some c = record {
 pub returns-in-Went : goal.returns-in-Went
 returns-in-Went c = record {
   world = c.in_ok-deliver_plain-in-Some.ensures.world (subst IsHandled (sym c.in-Went.is) tt);
-  step = c.in_ok-deliver_plain-in-Some.ensures.step (subst IsHandled (sym c.in-Went.is) tt) ∙ ap (λ s. Some (step_in s (tag_in c.in-Some.token.now))) c.in-Went.is;
+  step = c.in_ok-deliver_plain-in-Some.ensures.step (subst IsHandled (sym c.in-Went.is) tt) ∙
+      ap (λ s. Some (step_in s (tag_in c.in-Some.token.now))) c.in-Went.is;
   end = ok_end _ _ c.in_ok-deliver_plain-in-Some.ensures.end;
   err = tt;
 }
@@ -32,13 +33,15 @@ returns-in-Went c = record {
 pub returns-in-Failed : goal.returns-in-Failed
 returns-in-Failed c = record {
   world = c.in_ok-deliver_plain-in-Some.ensures.world (subst IsHandled (sym c.in-Failed.is) tt);
-  step = c.in_ok-deliver_plain-in-Some.ensures.step (subst IsHandled (sym c.in-Failed.is) tt) ∙ ap (λ s. Some (step_in s (tag_in c.in-Some.token.now))) c.in-Failed.is ∙ ap (λ t. Some (step_in (Failed c.in-Failed.fault) t)) (sym c.tag.ensures);
+  step = c.in_ok-deliver_plain-in-Some.ensures.step (subst IsHandled (sym c.in-Failed.is) tt) ∙
+      ap (λ s. Some (step_in s (tag_in c.in-Some.token.now))) c.in-Failed.is ∙ ap (λ t. Some (step_in (Failed c.in-Failed.fault) t)) (sym c.tag.ensures);
   end = ok_end _ _ c.in_ok-deliver_plain-in-Some.ensures.end;
   err = tt;
 }
 
 pub deliver_any-requires : goal.deliver_any-requires
-deliver_any-requires c = subst (λ (v : MachineView). c.args.position < length v.world.flight) (sym (c.in_ok-deliver_plain-in-Some.ensures.apart c.in-Apart.is)) c.requires
+deliver_any-requires c = subst (λ (v : MachineView). c.args.position < length v.world.flight)
+    (sym (c.in_ok-deliver_plain-in-Some.ensures.apart c.in-Apart.is)) c.requires
 
 pub deliver_any-requires-in-None : goal.deliver_any-requires-in-None
 deliver_any-requires-in-None c = c.requires
@@ -47,8 +50,10 @@ deliver_any-requires-in-None c = c.requires
 pub returns-in-Apart : goal.returns-in-Apart
 returns-in-Apart c =
     let same = c.in_ok-deliver_plain-in-Some.ensures.apart c.in-Apart.is in
-    let World : MachineView → Type 0 = λ v. OnOk c.deliver_any.result (c.deliver_any.new.self ≡ record v { world = delivered v.graph v.count v.world c.args.position }) in
-    let Step : MachineView → Type 0 = λ v. IfOk c.deliver_any.result (λ came. option_map (λ e. e.step) (event_at v.graph v.count v.world c.args.position) ≡ Some came) in
+    let World : MachineView → Type 0 = λ v. OnOk c.deliver_any.result
+    (c.deliver_any.new.self ≡ record v { world = delivered v.graph v.count v.world c.args.position }) in
+    let Step : MachineView → Type 0 = λ v. IfOk c.deliver_any.result
+    (λ came. option_map (λ e. e.step) (event_at v.graph v.count v.world c.args.position) ≡ Some came) in
     let End : MachineView → Type 0 = λ v. c.deliver_any.result ≡ Err StampEnd ↔ event_at v.graph v.count v.world c.args.position ≡ None in
     let Same : MachineView → Type 0 = λ v. OnErr c.deliver_any.result (c.deliver_any.new.self ≡ v) in
     record {
@@ -59,4 +64,9 @@ returns-in-Apart c =
     }
 
 pub returns-in-None : goal.returns-in-None
-returns-in-None c = record { world = c.deliver_any-in-None.ensures.world; step = c.deliver_any-in-None.ensures.step; end = c.deliver_any-in-None.ensures.end; err = c.deliver_any-in-None.ensures.err }
+returns-in-None c = record {
+  world = c.deliver_any-in-None.ensures.world;
+  step = c.deliver_any-in-None.ensures.step;
+  end = c.deliver_any-in-None.ensures.end;
+  err = c.deliver_any-in-None.ensures.err;
+}

@@ -18,7 +18,8 @@ given c =
     let below : c.route-number.result < length es = subst (λ n. c.route-number.result < n) many c.route-number.ensures.below in
     record {
       there = ap (λ v. slice_get v.world.flight c.args.position) c.self.view_is ∙ c.requires;
-      routed = sym (c.route-number.ensures.exact ∙ ap (λ x. route_of x.payload c.len.result) c.message.ensures ∙ ap (route_of (demanded c.args.demand.now).payload) many);
+      routed = sym (c.route-number.ensures.exact ∙ ap (λ x. route_of x.payload c.len.result) c.message.ensures ∙
+          ap (route_of (demanded c.args.demand.now).payload) many);
       element = slice_get_read es _ _ _ refl below c.index_mut.ensures.value;
     }
 

@@ -12,5 +12,11 @@ pub returns-clause-events : goal.returns-clause-events
 returns-clause-events c =
     let log = c.args.self.now.log in
     let t = tag_in c.args.token.now in
-    let event : Handled = record { message = message_of c.args.token.now; stamp = c.args.stamp; reaction = record { fired = fired_by_deed t c.args.deed; verdict = Went }; replies = no_replies } in
-    c.push_deed.ensures.events ∙ ap (λ e. log.events ++ e ∷ []) (event_at_instr log.graph log.element log.replies (length log.events) event c.args.instr.now t refl c.requires.own refl)
+    let event : Handled = record {
+      message = message_of c.args.token.now;
+      stamp = c.args.stamp;
+      reaction = record { fired = fired_by_deed t c.args.deed; verdict = Went };
+      replies = no_replies;
+    } in
+    c.push_deed.ensures.events ∙ ap (λ e. log.events ++ e ∷ [])
+    (event_at_instr log.graph log.element log.replies (length log.events) event c.args.instr.now t refl c.requires.own refl)

@@ -11,5 +11,11 @@ use Rattle.id_element.proofs.desk.Desk.conclude_shot.Goals as goal
 pub returns-clause-events : goal.returns-clause-events
 returns-clause-events c =
     let log = c.args.self.now.log in
-    let event : Handled = record { message = message_of c.args.token.now; stamp = c.args.stamp; reaction = record { fired = fired_of c.args.shot; verdict = Went }; replies = no_replies } in
-    c.push_shot.ensures.events ∙ ap (λ e. log.events ++ e ∷ []) (event_at_instr log.graph log.element log.replies (length log.events) event c.args.instr.now (tag_in c.args.token.now) refl c.requires.own refl)
+    let event : Handled = record {
+      message = message_of c.args.token.now;
+      stamp = c.args.stamp;
+      reaction = record { fired = fired_of c.args.shot; verdict = Went };
+      replies = no_replies;
+    } in
+    c.push_shot.ensures.events ∙ ap (λ e. log.events ++ e ∷ [])
+    (event_at_instr log.graph log.element log.replies (length log.events) event c.args.instr.now (tag_in c.args.token.now) refl c.requires.own refl)

@@ -23,7 +23,14 @@ returns-clause-state c =
       reaction = record { fired = Nothing; verdict = c.fill_verdict-verdict.result };
       replies = record { from = c.count_replies-from.result; count = length rs };
     } in
-    let state : List EventView → State = λ es. record { waiting = d.waiting; cells = d.cells; stamp = c.args.stamp; contexts = d.contexts; structures = d.structures; events = es } in
+    let state : List EventView → State = λ es. record {
+      waiting = d.waiting;
+      cells = d.cells;
+      stamp = c.args.stamp;
+      contexts = d.contexts;
+      structures = d.structures;
+      events = es;
+    } in
     let shown : Verdict → List Tag → EventView = λ v ts. record {
       element = log.element;
       stamp = c.args.stamp;
@@ -32,8 +39,11 @@ returns-clause-state c =
       outputs = numbered log.element (length log.events) c.args.stamp 0 (replies (value_of x) ts);
       step = full_step x v;
     } in
-    let verdict : c.fill_verdict-verdict.result ≡ fill_verdict (tag_of x) c.args.answer.now = c.fill_verdict-verdict.ensures ∙ ap (λ t. fill_verdict t c.args.answer.now) c.tag_of.ensures in
-    let is : event_of_handled log.graph log.element (log.replies ++ rs) (length log.events) event ≡ shown (fill_verdict (tag_of x) c.args.answer.now) (readers_of c.args.answer.now) =
+    let verdict : c.fill_verdict-verdict.result ≡ fill_verdict (tag_of x) c.args.answer.now = c.fill_verdict-verdict.ensures ∙
+    ap (λ t. fill_verdict t c.args.answer.now) c.tag_of.ensures in
+    let is : event_of_handled log.graph log.element (log.replies ++ rs) (length log.events) event ≡
+    shown (fill_verdict (tag_of x) c.args.answer.now) (readers_of c.args.answer.now) =
     event_of_fill log.graph log.element log.replies rs (length log.events) event refl c.count_replies-from.ensures refl
     ∙ ap (λ v. shown v rs) verdict ∙ ap (shown (fill_verdict (tag_of x) c.args.answer.now)) c.readers_of-readers.ensures in
-    ap state (c.push.ensures.events ∙ rw (c.send_replies.ensures.events, c.send_replies.ensures.number, c.send_replies.ensures.replies) (ap (λ e. log.events ++ e ∷ []) is))
+    ap state (c.push.ensures.events ∙ rw (c.send_replies.ensures.events, c.send_replies.ensures.number, c.send_replies.ensures.replies)
+    (ap (λ e. log.events ++ e ∷ []) is))

@@ -50,7 +50,8 @@ returns-in-Read-clause-state c =
 pub returns-in-Read-clause-outputs : goal.returns-in-Read-clause-outputs
 returns-in-Read-clause-outputs c =
     subst (λ g. OnOk c.take_read.result (c.take_read.new.outputs.messages
-    ≡ c.args.outputs.now.messages ++ outputs_of g c.args.self.now.log.element (state_of c.args.self.now) c.args.message.now)) (sym c.requires.own) c.take_read.ensures.outputs
+    ≡ c.args.outputs.now.messages ++ outputs_of g c.args.self.now.log.element (state_of c.args.self.now) c.args.message.now)) (sym c.requires.own)
+    c.take_read.ensures.outputs
 
 pub returns-in-Write-clause-step : goal.returns-in-Write-clause-step
 returns-in-Write-clause-step c =
@@ -65,4 +66,5 @@ returns-in-Write-clause-state c =
 pub returns-in-Write-clause-outputs : goal.returns-in-Write-clause-outputs
 returns-in-Write-clause-outputs c =
     subst (λ g. OnOk c.take_write.result (c.take_write.new.outputs.messages
-    ≡ c.args.outputs.now.messages ++ outputs_of g c.args.self.now.log.element (state_of c.args.self.now) c.args.message.now)) (sym c.requires.own) c.take_write.ensures.outputs
+    ≡ c.args.outputs.now.messages ++ outputs_of g c.args.self.now.log.element (state_of c.args.self.now) c.args.message.now)) (sym c.requires.own)
+    c.take_write.ensures.outputs

@@ -15,19 +15,33 @@ use Rattle.id_element.proofs.element.Element.take.Goals as goal
 
 pub invariant_of-self-2 : goal.invariant_of-self-2
 invariant_of-self-2 c =
-    let old : ElementView = record { number = c.self.inside.desk.log.element; count = c.self.inside.count; graph = c.self.inside.desk.log.graph; state = state_of c.self.inside.desk } in
+    let old : ElementView = record {
+      number = c.self.inside.desk.log.element;
+      count = c.self.inside.count;
+      graph = c.self.inside.desk.log.graph;
+      state = state_of c.self.inside.desk;
+    } in
     let is_for : IsFor c.self.inside.desk.log.graph c.self.inside.count c.self.inside.desk.log.element c.args.message.now =
     rw (ap (λ v. v.graph) c.self.view_is, ap (λ v. v.count) c.self.view_is, ap (λ v. v.number) c.self.view_is) c.requires in
-    let stepped : state_of c.take.new.self ≡ state_after c.self.inside.desk.log.graph c.self.inside.desk.log.element (state_of c.self.inside.desk) c.args.message.now =
-    c.in_ok-verdict.ensures.state ∙ ap (λ g. state_after g c.self.inside.desk.log.element (state_of c.self.inside.desk) c.args.message.now) (c.graph.ensures.value ∙ c.graph-graph.ensures) in
-    let goes : IsTrue c.still_went-self-inside.result ↔ (IsTrue c.self.inside.went × (step_of c.self.inside.desk.log.graph c.self.inside.desk.log.element (state_of c.self.inside.desk) c.args.message.now ≡ Went)) =
+    let stepped : state_of c.take.new.self ≡ state_after c.self.inside.desk.log.graph c.self.inside.desk.log.element (state_of c.self.inside.desk)
+    c.args.message.now =
+    c.in_ok-verdict.ensures.state ∙ ap (λ g. state_after g c.self.inside.desk.log.element (state_of c.self.inside.desk) c.args.message.now)
+    (c.graph.ensures.value ∙ c.graph-graph.ensures) in
+    let goes : IsTrue c.still_went-self-inside.result ↔ (IsTrue c.self.inside.went ×
+    (step_of c.self.inside.desk.log.graph c.self.inside.desk.log.element (state_of c.self.inside.desk) c.args.message.now ≡ Went)) =
     rw (← c.graph-graph.ensures, ← c.graph.ensures.value, ← c.in_ok-verdict.ensures.step, ← c.full_step-step.ensures) c.still_went-self-inside.ensures in
-    rw (stepped, c.in_ok-verdict.ensures.number, c.in_ok-verdict.ensures.graph) (IsKept-take old c.args.message.now c.self.inside.went c.still_went-self-inside.result is_for c.in_ok-verdict.ensures.left c.in_ok-verdict.ensures.last_left goes c.self.invariant.0, c.self.invariant.1)
+    rw (stepped, c.in_ok-verdict.ensures.number, c.in_ok-verdict.ensures.graph) (
+      IsKept-take old c.args.message.now c.self.inside.went c.still_went-self-inside.result is_for c.in_ok-verdict.ensures.left
+          c.in_ok-verdict.ensures.last_left goes c.self.invariant.0,
+      c.self.invariant.1,
+    )
 
 pub returns-clause-fits : goal.returns-clause-fits
 returns-clause-fits c =
     rw (← ap (λ v. v.graph) c.self.view_is, ← ap (λ v. v.number) c.self.view_is, ← ap (λ v. v.state) c.self.view_is)
-    (outputs_fit c.self.inside.desk.log.graph c.self.inside.desk.log.element (state_of c.self.inside.desk) c.args.message.now (subst IsValid c.graph-graph.ensures c.graph.ensures.kept) c.self.invariant.0.replays.waiting c.self.invariant.0.replays.cells (rw (ap (λ v. v.graph) c.self.view_is) c.requires.fits))
+    (outputs_fit c.self.inside.desk.log.graph c.self.inside.desk.log.element (state_of c.self.inside.desk) c.args.message.now
+    (subst IsValid c.graph-graph.ensures c.graph.ensures.kept) c.self.invariant.0.replays.waiting c.self.invariant.0.replays.cells
+    (rw (ap (λ v. v.graph) c.self.view_is) c.requires.fits))
 
 -- the step, the state and the outputs are those of the desk
 pub returns-clause-step : goal.returns-clause-step

@@ -19,13 +19,17 @@ invariant_of-self-2 c =
     let is_for : IsFor d.log.graph c.self.inside.count d.log.element m =
     rw (ap (λ v. v.graph) c.self.view_is, ap (λ v. v.count) c.self.view_is, ap (λ v. v.number) c.self.view_is) c.requires in
     let does = c.in_ok-handled.ensures in
-    rw (does.number, does.graph)
-    (IsKept-demand old m c.self.inside.went (state_of c.take_demand.new.self) c.in_ok-handled.handled is_for does.left does.last_left c.self.invariant.0 (λ e. does.step (cc)) (λ e. does.state (cc)) (λ e. does.apart (cc)), c.self.invariant.1)
+    rw (does.number, does.graph) (
+      IsKept-demand old m c.self.inside.went (state_of c.take_demand.new.self) c.in_ok-handled.handled is_for does.left does.last_left c.self.invariant.0
+          (λ e. does.step (cc)) (λ e. does.state (cc)) (λ e. does.apart (cc)),
+      c.self.invariant.1,
+    )
 
 pub returns-clause-fits : goal.returns-clause-fits
 returns-clause-fits c =
     rw (← ap (λ v. v.graph) c.self.view_is, ← ap (λ v. v.number) c.self.view_is, ← ap (λ v. v.state) c.self.view_is)
-    (demand_outputs_fit c.self.inside.desk.log.graph c.self.inside.desk.log.element (state_of c.self.inside.desk) c.args.demand.now c.self.invariant.0.replays.cells (rw (ap (λ v. v.graph) c.self.view_is) c.requires.fits))
+    (demand_outputs_fit c.self.inside.desk.log.graph c.self.inside.desk.log.element (state_of c.self.inside.desk) c.args.demand.now
+    c.self.invariant.0.replays.cells (rw (ap (λ v. v.graph) c.self.view_is) c.requires.fits))
 
 -- the state is the one after the message
 pub returns-clause-state : goal.returns-clause-state
@@ -35,7 +39,8 @@ returns-clause-state c = λ h.
     let later = state_after d.log.graph d.log.element (state_of d) m in
     let after : state_of c.take_demand.new.self ≡ later = c.in_ok-handled.ensures.state (cc) in
     rw (c.in_ok-handled.ensures.number, c.in_ok-handled.ensures.graph, after)
-    (subst (λ (v : ElementView). record { number = d.log.element; count = c.self.inside.count; graph = d.log.graph; state = later } ≡ record v { state = state_after v.graph v.number v.state m }) c.self.view_is refl)
+    (subst (λ (v : ElementView). record { number = d.log.element; count = c.self.inside.count; graph = d.log.graph; state = later } ≡
+    record v { state = state_after v.graph v.number v.state m }) c.self.view_is refl)
 
 -- and the outputs are its outputs
 pub returns-clause-outputs : goal.returns-clause-outputs
@@ -67,7 +72,8 @@ pub returns-in_err-handled-clause-fits : goal.returns-in_err-handled-clause-fits
 returns-in_err-handled-clause-fits c = on_ok _ c.from_residual.result c.from_residual.ensures.0
 
 pub returns-in_err-handled-clause-err : goal.returns-in_err-handled-clause-err
-returns-in_err-handled-clause-err c = on_err c.from_residual.result (rw (c.in_err-handled.ensures.number, c.in_err-handled.ensures.graph, c.in_err-handled.ensures.err) c.self.view_is)
+returns-in_err-handled-clause-err c = on_err c.from_residual.result
+    (rw (c.in_err-handled.ensures.number, c.in_err-handled.ensures.graph, c.in_err-handled.ensures.err) c.self.view_is)
 
 pub returns-in_err-handled-clause-err_outputs : goal.returns-in_err-handled-clause-err_outputs
 returns-in_err-handled-clause-err_outputs c = on_err c.from_residual.result c.in_err-handled.ensures.err_outputs

@@ -28,13 +28,18 @@ invariant_of-self-2 c =
     let after : IsHandled s → state_of c.take_plain.new.self ≡ state_after d.log.graph d.log.element (state_of d) m =
     λ h. c.in_ok-short.ensures.state h ∙ ap (λ g. state_after g d.log.element (state_of d) m) graph in
     let same : s ≡ Apart → state_of c.take_plain.new.self ≡ state_of d = λ e. c.in_ok-short.ensures.apart (cc) in
-    rw (c.in_ok-short.ensures.number, c.in_ok-short.ensures.graph)
-    (IsKept-short old c.args.token.now c.self.inside.went c.note_short.new.went (state_of c.take_plain.new.self) is_for c.in_ok-short.ensures.left c.in_ok-short.ensures.last_left c.self.invariant.0 s comes after same c.note_short.ensures.handled c.note_short.ensures.apart, c.self.invariant.1)
+    rw (c.in_ok-short.ensures.number, c.in_ok-short.ensures.graph) (
+      IsKept-short old c.args.token.now c.self.inside.went c.note_short.new.went (state_of c.take_plain.new.self) is_for c.in_ok-short.ensures.left
+          c.in_ok-short.ensures.last_left c.self.invariant.0 s comes after same c.note_short.ensures.handled c.note_short.ensures.apart,
+      c.self.invariant.1,
+    )
 
 pub returns-clause-fits : goal.returns-clause-fits
 returns-clause-fits c =
     rw (← ap (λ v. v.graph) c.self.view_is, ← ap (λ v. v.number) c.self.view_is, ← ap (λ v. v.state) c.self.view_is)
-    (outputs_fit c.self.inside.desk.log.graph c.self.inside.desk.log.element (state_of c.self.inside.desk) (message_of c.args.token.now) (subst IsValid c.graph-graph.ensures c.graph.ensures.kept) c.self.invariant.0.replays.waiting c.self.invariant.0.replays.cells (rw (ap (λ v. v.graph) c.self.view_is) c.requires.fits))
+    (outputs_fit c.self.inside.desk.log.graph c.self.inside.desk.log.element (state_of c.self.inside.desk) (message_of c.args.token.now)
+    (subst IsValid c.graph-graph.ensures c.graph.ensures.kept) c.self.invariant.0.replays.waiting c.self.invariant.0.replays.cells
+    (rw (ap (λ v. v.graph) c.self.view_is) c.requires.fits))
 
 -- the state is the one after the message
 pub returns-clause-state : goal.returns-clause-state
@@ -46,7 +51,8 @@ returns-clause-state c = λ handled.
     let after : state_of c.take_plain.new.self ≡ later =
     c.in_ok-short.ensures.state handled ∙ ap (λ g. state_after g d.log.element (state_of d) m) graph in
     rw (c.in_ok-short.ensures.number, c.in_ok-short.ensures.graph, after)
-    (subst (λ (v : ElementView). record { number = d.log.element; count = c.self.inside.count; graph = d.log.graph; state = later } ≡ record v { state = state_after v.graph v.number v.state m }) c.self.view_is refl)
+    (subst (λ (v : ElementView). record { number = d.log.element; count = c.self.inside.count; graph = d.log.graph; state = later } ≡
+    record v { state = state_after v.graph v.number v.state m }) c.self.view_is refl)
 
 -- and the outputs are its outputs
 pub returns-clause-outputs : goal.returns-clause-outputs

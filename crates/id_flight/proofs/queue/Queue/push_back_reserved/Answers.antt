@@ -10,7 +10,8 @@ use Rattle.id_flight.proofs.queue.Queue.push_back_reserved.Goals as goal
 pub returns-clause-messages : goal.returns-clause-messages
 returns-clause-messages c =
     let made = c.parcel_for-parcel in
-    messages-more c.self.inside.asides.items made.new.asides.items c.self.inside.parcels.items c.push_back_reserved.new.self.items made.result c.args.message made.ensures.others c.self.invariant.0 made.ensures.is c.push_back_reserved.ensures.items
+    messages-more c.self.inside.asides.items made.new.asides.items c.self.inside.parcels.items c.push_back_reserved.new.self.items made.result c.args.message
+    made.ensures.others c.self.invariant.0 made.ensures.is c.push_back_reserved.ensures.items
     ∙ ap (λ v. v.messages ++ c.args.message ∷ []) c.self.view_is
 
 pub parcel_for-parcel-requires : goal.parcel_for-parcel-requires

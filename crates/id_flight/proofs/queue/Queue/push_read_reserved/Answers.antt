@@ -26,5 +26,6 @@ returns-clause-messages c =
     let p = c.packed_read.result in
     let t = c.args.like.now in
     let m : Message = record (message_of t) { payload = Read (cell_of c.args.cell) (tag_in t) } in
-    messages-more asides asides c.self.inside.parcels.items c.push_back_reserved.new.self.items p m (λ q w. (w, refl)) c.self.invariant.0 (c.packed_read.ensures.is asides) c.push_back_reserved.ensures.items
+    messages-more asides asides c.self.inside.parcels.items c.push_back_reserved.new.self.items p m (λ q w. (w, refl)) c.self.invariant.0
+    (c.packed_read.ensures.is asides) c.push_back_reserved.ensures.items
     ∙ ap (λ v. v.messages ++ m ∷ []) c.self.view_is

@@ -32,5 +32,6 @@ returns-clause-messages c =
     let packed : IsPacked m p =
     subst (λ n. IsPacked (record (message_of t) { payload = Write (cell_of c.args.cell) (value.Int n) (tag_in t) }) p)
     (to_z-of_z w64 c.args.number c.ranges.number) c.packed_write.ensures in
-    messages-more asides asides c.self.inside.parcels.items c.push_back_reserved.new.self.items p m (λ q w. (w, refl)) c.self.invariant.0 (packed.is asides) c.push_back_reserved.ensures.items
+    messages-more asides asides c.self.inside.parcels.items c.push_back_reserved.new.self.items p m (λ q w. (w, refl)) c.self.invariant.0 (packed.is asides)
+    c.push_back_reserved.ensures.items
     ∙ ap (λ v. v.messages ++ m ∷ []) c.self.view_is

@@ -12,7 +12,8 @@ pub index-place-requires : goal.index-place-requires
 index-place-requires c =
     let rs = c.self.inside.records.items in
     let ps = c.self.inside.places.items in
-    let many : length c.args.self.now ≡ length ps = ap length (sym c.self.view_is) ∙ length-events_at rs ps (recursion_from_All (IsPlace rs) ps c.self.invariant) in
+    let many : length c.args.self.now ≡ length ps = ap length (sym c.self.view_is) ∙
+    length-events_at rs ps (recursion_from_All (IsPlace rs) ps c.self.invariant) in
     let held : vec_len c.self.inside.places ≡ length ps = grind (arith, common_steps) in
     omega (arith, many, held, c.requires)
 

@@ -10,7 +10,8 @@ pub invariant_of-self : goal.invariant_of-self
 invariant_of-self c =
     let r = c.self.inside in
     let b = r.margin.beside in
-    let same = events_from-replies r.graph.now r.element r.replies.items _ 0 b r.lines.items (recursion_from_All (IsKept b r.replies.items) r.lines.items c.self.invariant.lines) in
+    let same = events_from-replies r.graph.now r.element r.replies.items _ 0 b r.lines.items
+    (recursion_from_All (IsKept b r.replies.items) r.lines.items c.self.invariant.lines) in
     rw c.push_reserved.ensures.items
     (record {
       lines = kept_replies b r.replies.items _ r.lines.items c.self.invariant.lines;
@@ -22,4 +23,5 @@ returns-clause-events c =
     let r = c.self.inside in
     let b = r.margin.beside in
     rw (← ap (λ v. v.events) c.self.view_is, c.push_reserved.ensures.items)
-    (events_from-replies r.graph.now r.element r.replies.items _ 0 b r.lines.items (recursion_from_All (IsKept b r.replies.items) r.lines.items c.self.invariant.lines))
+    (events_from-replies r.graph.now r.element r.replies.items _ 0 b r.lines.items
+    (recursion_from_All (IsKept b r.replies.items) r.lines.items c.self.invariant.lines))

@@ -18,12 +18,21 @@ invariant_of-self-else-not-add_line c =
     let h = handled c.args.event in
     rw (c.if-not-add_line.ensures.line refl, c.if-not-add_line.ensures.beside)
     (AreKept-push r.graph.now r.element r.replies.items b b r.lines.items _ r.margin.telling _ h _ _ c.self.invariant
-    (kept_line b r.replies.items r.lines.items h c.in-Some.line c.in-Some.ensures (there r.replies.items c.args.self.now h (ap (λ v. v.replies) c.self.view_is) c.requires.replies) c.self.invariant.lines)
+    (kept_line b r.replies.items r.lines.items h c.in-Some.line c.in-Some.ensures
+    (there r.replies.items c.args.self.now h (ap (λ v. v.replies) c.self.view_is) c.requires.replies) c.self.invariant.lines)
     (pushed_line r.graph.now r.element r.replies.items b r.lines.items h c.in-Some.line c.in-Some.ensures c.self.invariant.lines)
     c.is_telling-tells.ensures refl (c.if-not-add_line.ensures.telling refl))
 
 pub returns-else-not-add_line-clause-events : goal.returns-else-not-add_line-clause-events
 returns-else-not-add_line-clause-events c =
     let r = c.self.inside in
-    rw (← ap (λ v. v.events) c.self.view_is, ← ap (λ v. v.graph) c.self.view_is, ← ap (λ v. v.element) c.self.view_is, ← ap (λ v. v.replies) c.self.view_is, c.if-not-add_line.ensures.line refl, c.if-not-add_line.ensures.beside)
-    (pushed_line r.graph.now r.element r.replies.items r.margin.beside r.lines.items (handled c.args.event) c.in-Some.line c.in-Some.ensures c.self.invariant.lines)
+    rw (
+      ← ap (λ v. v.events) c.self.view_is,
+      ← ap (λ v. v.graph) c.self.view_is,
+      ← ap (λ v. v.element) c.self.view_is,
+      ← ap (λ v. v.replies) c.self.view_is,
+      c.if-not-add_line.ensures.line refl,
+      c.if-not-add_line.ensures.beside,
+    )
+    (pushed_line r.graph.now r.element r.replies.items r.margin.beside r.lines.items (handled c.args.event) c.in-Some.line c.in-Some.ensures
+    c.self.invariant.lines)

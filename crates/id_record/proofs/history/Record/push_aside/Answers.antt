@@ -18,13 +18,24 @@ invariant_of-self c =
     let h = c.args.event.now in
     let index = c.push_aside.ensures.index ∙ c.push_aside-index.ensures.index in
     rw (c.push_aside.ensures.added, c.push_aside-index.ensures.beside)
-    (AreKept-push r.graph.now r.element r.replies.items (beside r.margin.beside.asides cs) (beside (r.margin.beside.asides ++ h ∷ []) cs) r.lines.items _ r.margin.telling _ h _ _ c.self.invariant
-    (kept_aside r.replies.items r.margin.beside.asides cs r.lines.items h c.push_aside.result c.push_aside.ensures.kind index (there r.replies.items c.args.self.now h (ap (λ v. v.replies) c.self.view_is) c.requires.replies) c.self.invariant.lines)
-    (pushed_aside r.graph.now r.element r.replies.items r.margin.beside.asides cs r.lines.items h c.push_aside.result c.push_aside.ensures.kind index c.self.invariant.lines)
+    (AreKept-push r.graph.now r.element r.replies.items (beside r.margin.beside.asides cs) (beside (r.margin.beside.asides ++ h ∷ []) cs) r.lines.items _
+    r.margin.telling _ h _ _ c.self.invariant
+    (kept_aside r.replies.items r.margin.beside.asides cs r.lines.items h c.push_aside.result c.push_aside.ensures.kind index
+    (there r.replies.items c.args.self.now h (ap (λ v. v.replies) c.self.view_is) c.requires.replies) c.self.invariant.lines)
+    (pushed_aside r.graph.now r.element r.replies.items r.margin.beside.asides cs r.lines.items h c.push_aside.result c.push_aside.ensures.kind index
+    c.self.invariant.lines)
     c.is_telling-tells.ensures c.len.ensures c.push_aside-index.ensures.telling)
 
 pub returns-clause-events : goal.returns-clause-events
 returns-clause-events c =
     let r = c.self.inside in
-    rw (← ap (λ v. v.events) c.self.view_is, ← ap (λ v. v.graph) c.self.view_is, ← ap (λ v. v.element) c.self.view_is, ← ap (λ v. v.replies) c.self.view_is, c.push_aside.ensures.added, c.push_aside-index.ensures.beside)
-    (pushed_aside r.graph.now r.element r.replies.items r.margin.beside.asides r.margin.beside.cells r.lines.items c.args.event.now c.push_aside.result c.push_aside.ensures.kind (c.push_aside.ensures.index ∙ c.push_aside-index.ensures.index) c.self.invariant.lines)
+    rw (
+      ← ap (λ v. v.events) c.self.view_is,
+      ← ap (λ v. v.graph) c.self.view_is,
+      ← ap (λ v. v.element) c.self.view_is,
+      ← ap (λ v. v.replies) c.self.view_is,
+      c.push_aside.ensures.added,
+      c.push_aside-index.ensures.beside,
+    )
+    (pushed_aside r.graph.now r.element r.replies.items r.margin.beside.asides r.margin.beside.cells r.lines.items c.args.event.now c.push_aside.result
+    c.push_aside.ensures.kind (c.push_aside.ensures.index ∙ c.push_aside-index.ensures.index) c.self.invariant.lines)

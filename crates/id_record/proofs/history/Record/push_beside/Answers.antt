@@ -16,11 +16,15 @@ invariant_of-self-else-not-add_beside c =
     let r = c.self.inside in
     let cs = r.margin.beside.cells in
     let h = handled c.args.event in
-    let packed : IsPackedBeside h (length cs) c.in-Some.celled.line c.in-Some.celled.cell = subst (λ i. IsPackedBeside h i c.in-Some.celled.line c.in-Some.celled.cell) c.count_cells.ensures c.in-Some.ensures in
+    let packed : IsPackedBeside h (length cs) c.in-Some.celled.line c.in-Some.celled.cell = subst
+    (λ i. IsPackedBeside h i c.in-Some.celled.line c.in-Some.celled.cell) c.count_cells.ensures c.in-Some.ensures in
     rw (c.if-not-add_beside.ensures.line refl, c.if-not-add_beside.ensures.cell refl)
-    (AreKept-push r.graph.now r.element r.replies.items (beside r.margin.beside.asides cs) (beside r.margin.beside.asides (cs ++ c.in-Some.celled.cell ∷ [])) r.lines.items _ r.margin.telling _ h _ _ c.self.invariant
-    (kept_cell r.replies.items r.margin.beside.asides cs r.lines.items h c.in-Some.celled.line c.in-Some.celled.cell packed (there r.replies.items c.args.self.now h (ap (λ v. v.replies) c.self.view_is) c.requires.replies) c.self.invariant.lines)
-    (pushed_cell r.graph.now r.element r.replies.items r.margin.beside.asides cs r.lines.items h c.in-Some.celled.line c.in-Some.celled.cell packed c.self.invariant.lines)
+    (AreKept-push r.graph.now r.element r.replies.items (beside r.margin.beside.asides cs) (beside r.margin.beside.asides (cs ++ c.in-Some.celled.cell ∷ []))
+    r.lines.items _ r.margin.telling _ h _ _ c.self.invariant
+    (kept_cell r.replies.items r.margin.beside.asides cs r.lines.items h c.in-Some.celled.line c.in-Some.celled.cell packed
+    (there r.replies.items c.args.self.now h (ap (λ v. v.replies) c.self.view_is) c.requires.replies) c.self.invariant.lines)
+    (pushed_cell r.graph.now r.element r.replies.items r.margin.beside.asides cs r.lines.items h c.in-Some.celled.line c.in-Some.celled.cell packed
+    c.self.invariant.lines)
     c.is_telling-tells.ensures refl (c.if-not-add_beside.ensures.telling refl))
 
 pub returns-else-not-add_beside-clause-events : goal.returns-else-not-add_beside-clause-events
@@ -28,6 +32,15 @@ returns-else-not-add_beside-clause-events c =
     let r = c.self.inside in
     let cs = r.margin.beside.cells in
     let h = handled c.args.event in
-    let packed : IsPackedBeside h (length cs) c.in-Some.celled.line c.in-Some.celled.cell = subst (λ i. IsPackedBeside h i c.in-Some.celled.line c.in-Some.celled.cell) c.count_cells.ensures c.in-Some.ensures in
-    rw (← ap (λ v. v.events) c.self.view_is, ← ap (λ v. v.graph) c.self.view_is, ← ap (λ v. v.element) c.self.view_is, ← ap (λ v. v.replies) c.self.view_is, c.if-not-add_beside.ensures.line refl, c.if-not-add_beside.ensures.cell refl)
-    (pushed_cell r.graph.now r.element r.replies.items r.margin.beside.asides cs r.lines.items h c.in-Some.celled.line c.in-Some.celled.cell packed c.self.invariant.lines)
+    let packed : IsPackedBeside h (length cs) c.in-Some.celled.line c.in-Some.celled.cell = subst
+    (λ i. IsPackedBeside h i c.in-Some.celled.line c.in-Some.celled.cell) c.count_cells.ensures c.in-Some.ensures in
+    rw (
+      ← ap (λ v. v.events) c.self.view_is,
+      ← ap (λ v. v.graph) c.self.view_is,
+      ← ap (λ v. v.element) c.self.view_is,
+      ← ap (λ v. v.replies) c.self.view_is,
+      c.if-not-add_beside.ensures.line refl,
+      c.if-not-add_beside.ensures.cell refl,
+    )
+    (pushed_cell r.graph.now r.element r.replies.items r.margin.beside.asides cs r.lines.items h c.in-Some.celled.line c.in-Some.celled.cell packed
+    c.self.invariant.lines)

@@ -19,5 +19,12 @@ invariant_of-self-else-not-add_line c =
 pub returns-else-not-add_line-clause-events : goal.returns-else-not-add_line-clause-events
 returns-else-not-add_line-clause-events c =
     let r = c.self.inside in
-    rw (← ap (λ v. v.events) c.self.view_is, ← ap (λ v. v.graph) c.self.view_is, ← ap (λ v. v.element) c.self.view_is, c.if-not-add_line.ensures.line refl, c.if-not-add_line.ensures.beside)
-    (pushed_line r.graph.now r.element r.replies.items r.margin.beside r.lines.items (doing c.args.event) c.in-Some.line c.in-Some.ensures c.self.invariant.lines)
+    rw (
+      ← ap (λ v. v.events) c.self.view_is,
+      ← ap (λ v. v.graph) c.self.view_is,
+      ← ap (λ v. v.element) c.self.view_is,
+      c.if-not-add_line.ensures.line refl,
+      c.if-not-add_line.ensures.beside,
+    )
+    (pushed_line r.graph.now r.element r.replies.items r.margin.beside r.lines.items (doing c.args.event) c.in-Some.line c.in-Some.ensures
+    c.self.invariant.lines)

@@ -19,5 +19,12 @@ invariant_of-self c =
 pub returns-in-Some-clause-events : goal.returns-in-Some-clause-events
 returns-in-Some-clause-events c =
     let r = c.self.inside in
-    rw (← ap (λ v. v.events) c.self.view_is, ← ap (λ v. v.graph) c.self.view_is, ← ap (λ v. v.element) c.self.view_is, c.in-Some.ensures.line, c.in-Some.ensures.beside)
-    (pushed_line r.graph.now r.element r.replies.items r.margin.beside r.lines.items (shooting c.args.event) c.in-Some._line c.in-Some.ensures.packed c.self.invariant.lines)
+    rw (
+      ← ap (λ v. v.events) c.self.view_is,
+      ← ap (λ v. v.graph) c.self.view_is,
+      ← ap (λ v. v.element) c.self.view_is,
+      c.in-Some.ensures.line,
+      c.in-Some.ensures.beside,
+    )
+    (pushed_line r.graph.now r.element r.replies.items r.margin.beside r.lines.items (shooting c.args.event) c.in-Some._line c.in-Some.ensures.packed
+    c.self.invariant.lines)

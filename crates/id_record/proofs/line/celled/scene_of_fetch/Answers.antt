@@ -15,6 +15,8 @@ returns-then-is_beside-clause-told c =
     let t = c.args.tag in
     let few : c.args.reply.instr < 2 ^ 32 = omega arith in
     λ p. ap (λ s. told s.kind t p s.value s.result s.cell) c.of_result.ensures
-    ∙ ap (λ n. token_told t p v (firings.Asked c.args.cell (record t { instr = n }))) (ap low_half (to_z-of_z w64 c.joined.result (record { sfits = c.joined.type_inv }) ∙ c.joined.ensures ∙ ap (joined 0) c.from.ensures) ∙ low_half-joined 0 c.args.reply.instr (omega arith) few)
+    ∙ ap (λ n. token_told t p v (firings.Asked c.args.cell (record t { instr = n })))
+    (ap low_half (to_z-of_z w64 c.joined.result (record { sfits = c.joined.type_inv }) ∙ c.joined.ensures ∙ ap (joined 0) c.from.ensures) ∙
+    low_half-joined 0 c.args.reply.instr (omega arith) few)
     ∙ ap (λ x. token_told t p v (firings.Asked x (record t { instr = c.args.reply.instr }))) (c.if-is_same_cell.ensures refl)
     ∙ ap (λ r. token_told t p v (firings.Asked c.args.asked r)) (c.if-is_beside.ensures refl)

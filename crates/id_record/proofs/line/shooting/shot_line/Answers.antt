@@ -54,5 +54,6 @@ returns-clause-packed c =
     let small : tag.iteration < 2 ^ 32 = c.named.ensures.halved.iteration in
     let serial : tag.context.serial < 2 ^ 32 = omega arith in
     packed-narrowed (shooting e) (whole value) c.carried.result.kind c.carried.result.value c.shot_effect.result tag (Some c.narrowed.result) refl
-    c.named.ensures.names (λ u n. c.carried.ensures u (named e.shot e.token.now.iteration value u c.requires.own c.requires.brief n)) (λ t n. c.shot_effect.ensures t n)
+    c.named.ensures.names (λ u n. c.carried.ensures u (named e.shot e.token.now.iteration value u c.requires.own c.requires.brief n))
+    (λ t n. c.shot_effect.ensures t n)
     is.kind is.value is.effect is.number serial small is.to_element is.to_instr is.message is.stamp refl

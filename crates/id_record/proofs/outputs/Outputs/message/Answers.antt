@@ -14,7 +14,16 @@ reply-said-requires c =
     let o = c.self.inside in
     let fired = sent o.op o.dests.now o.tag o.fired in
     let behind = replies o.value o.readers.now in
-    omega (arith, ap length c.self.view_is, length-numbered o.envelope.number o.envelope.position o.envelope.stamp 0 (fired ++ behind), length-append fired behind, length-replies o.value o.readers.now, c.count_sent-fired.ensures, c.if-number-fired.false, c.requires)
+    omega (
+      arith,
+      ap length c.self.view_is,
+      length-numbered o.envelope.number o.envelope.position o.envelope.stamp 0 (fired ++ behind),
+      length-append fired behind,
+      length-replies o.value o.readers.now,
+      c.count_sent-fired.ensures,
+      c.if-number-fired.false,
+      c.requires,
+    )
 
 pub returns : goal.returns
 returns c =
@@ -26,7 +35,8 @@ returns c =
     elim c.if-number-fired.branch [
       | then-number-fired w ↦ get-before fired behind c.args.number c.if-number-fired.said (w.payload-said.ensures ∙ ap (λ x. Some x) (sym w.said-is))
       | else-number-fired w ↦
-          let at : c.args.number ≡ length fired + (c.args.number - c.count_sent-fired.result) = omega (arith, w.if-number-fired.false, c.count_sent-fired.ensures) in
+          let at : c.args.number ≡ length fired + (c.args.number - c.count_sent-fired.result) = omega
+          (arith, w.if-number-fired.false, c.count_sent-fired.ensures) in
           get-behind fired behind c.args.number _ at ∙ w.reply-said.ensures ∙ ap (λ x. Some x) (sym w.said-is)
     ] in
     let number : 0 + c.args.number ≡ c.args.number = omega arith in

@@ -23,7 +23,12 @@ pub returns-then-self : goal.returns-then-self
 returns-then-self c =
     let l = c.self.inside in
     let k = c.args.position in
-    let below : k < length l.bares.items = omega (arith, c.requires, length-lines_in l.alone l.bares.items l.stamps.items c.self.invariant, ap (λ v. length v.items) c.self.view_is) in
+    let below : k < length l.bares.items = omega (
+      arith,
+      c.requires,
+      length-lines_in l.alone l.bares.items l.stamps.items c.self.invariant,
+      ap (λ v. length v.items) c.self.view_is,
+    ) in
     let number : 0 + k ≡ k = omega arith in
     rw (← ap (λ v. v.items) c.self.view_is, c.if-self.true, c.with_stamps.ensures, c.stamps_at.ensures)
     (
@@ -35,8 +40,14 @@ pub returns-else-self : goal.returns-else-self
 returns-else-self c =
     let l = c.self.inside in
     let k = c.args.position in
-    let below : k < length l.bares.items = omega (arith, c.requires, length-lines_in l.alone l.bares.items l.stamps.items c.self.invariant, ap (λ v. length v.items) c.self.view_is) in
+    let below : k < length l.bares.items = omega (
+      arith,
+      c.requires,
+      length-lines_in l.alone l.bares.items l.stamps.items c.self.invariant,
+      ap (λ v. length v.items) c.self.view_is,
+    ) in
     let beside : length l.stamps.items ≡ length l.bares.items = subst (λ a. AreBeside a l.bares.items l.stamps.items) c.if-self.false c.self.invariant in
     let below_too : k < length l.stamps.items = omega (arith, below, beside) in
     rw (← ap (λ v. v.items) c.self.view_is, c.if-self.false, c.with_stamps-else-self.ensures)
-    (stamped-get l.bares.items l.stamps.items k c.index-bare.result.now _ (slice_get_read l.bares.items _ _ _ refl below c.index-bare.ensures) (slice_get_read l.stamps.items _ _ _ refl below_too c.index.ensures))
+    (stamped-get l.bares.items l.stamps.items k c.index-bare.result.now _ (slice_get_read l.bares.items _ _ _ refl below c.index-bare.ensures)
+    (slice_get_read l.stamps.items _ _ _ refl below_too c.index.ensures))

@@ -26,7 +26,8 @@ pub returns-else-add_stamps-clause-follows : goal.returns-else-add_stamps-clause
 returns-else-add_stamps-clause-follows c follows =
     let l = c.self.inside in
     let at : c.len.result ≡ length l.bares.items = grind (arith, common_steps) in
-    let many : length c.args.self.now.items ≡ c.len.result = sym (ap (λ v. length v.items) c.self.view_is) ∙ length-lines_in l.alone l.bares.items l.stamps.items c.self.invariant ∙ sym at in
+    let many : length c.args.self.now.items ≡ c.len.result = sym (ap (λ v. length v.items) c.self.view_is) ∙
+    length-lines_in l.alone l.bares.items l.stamps.items c.self.invariant ∙ sym at in
     either (IsTrue false) l.alone
     (λ a. (c.if-add_stamps.ensures.goes a).1 (from-follows c.len.result _ c.args.line c.stamps_of.result c.sent_from.result (sym many)
     c.stamps_of.ensures c.sent_from.ensures follows))

@@ -15,6 +15,11 @@ pub returns : goal.returns
 returns c =
     let l = c.self.inside in
     let k = c.args.position in
-    let below : k < length l.bares.items = omega (arith, c.requires, length-lines_in l.alone l.bares.items l.stamps.items c.self.invariant, ap (λ v. length v.items) c.self.view_is) in
+    let below : k < length l.bares.items = omega (
+      arith,
+      c.requires,
+      length-lines_in l.alone l.bares.items l.stamps.items c.self.invariant,
+      ap (λ v. length v.items) c.self.view_is,
+    ) in
     rw (← ap (λ v. v.items) c.self.view_is, c.with_stamps.ensures)
     (lines_in-some l.alone l.bares.items l.stamps.items k c.index.result.now c.self.invariant (slice_get_read l.bares.items _ _ _ refl below c.index.ensures))
