@@ -10,7 +10,7 @@ use Rattle.id_element.specs.Steps.{State, is_ended}
 use Rattle.id_element.specs.declared.step.Short.{Short}
 use Rattle.id_element.specs.declared.step.Short.TheVariants.{Went, Failed, Apart}
 use Rattle.id_element.specs.declared.step.TakeError.{TakeError}
-use Rattle.id_element.specs.declared.step.TakeError.TheVariants.{StampEnd}
+use Rattle.id_element.specs.declared.step.TakeError.TheVariants.{Memory, StampEnd}
 use Rattle.std.proofs.Math.Seq.{get_or-append_seam}
 use Rattle.std.proofs.lemmas.Option.{get_or_from_slice_get, slice_get_within}
 use Rattle.std.proofs.lemmas.List.Edits.{remove-append_left, remove-append_right}
@@ -111,6 +111,13 @@ ok_end a b both = ((λ h. absurd (ok_err b h)), (λ p. absurd (ok_err a (both.1 
 pub is_ended-asked : (s : State) (m : Message) (stamp : ℕ) (b : Bool) → b ≡ ((s.stamp == 2 ^ 64 - 1) || (stamp == 2 ^ 64 - 1)) → stamp ≡ m.stamp
     → is_ended s m ≡ b
 is_ended-asked s m stamp b asked is = ap (λ n. (s.stamp == 2 ^ 64 - 1) || (n == 2 ^ 64 - 1)) (sym is) ∙ sym asked
+
+-- where one is left and memory was refused, it is not told that none is
+pub end_memory : {A : Type 0} (r : Result A TakeError) (b : Bool) → IsErrAnd r (λ e. e ≡ Memory) → b ≡ false → r ≡ Err StampEnd ↔ IsTrue b
+end_memory (Ok a) b is e = absurd is
+end_memory (Err Memory) true is e = cc
+end_memory (Err Memory) false is e = ((λ q. cc), λ p. cc)
+end_memory (Err StampEnd) b is e = cc
 
 -- so where none is left, that is what is told
 pub ended : {A : Type 0} (b : Bool) → b ≡ true → ◌≡◌ {A = Result A TakeError} (Err StampEnd) (Err StampEnd) ↔ IsTrue b

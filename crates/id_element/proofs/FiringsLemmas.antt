@@ -266,6 +266,47 @@ step_by g e s m o is = record {
   outputs = ap (λ x. numbered e (length s.events) (next_stamp s m) 0 x.sends) is;
 }
 
+-- a state is another where each part of it is
+same_state : (d s : State) → d.waiting ≡ s.waiting → d.cells ≡ s.cells → d.stamp ≡ s.stamp → d.contexts ≡ s.contexts
+    → d.structures ≡ s.structures → d.events ≡ s.events → d ≡ s
+same_state d s waiting cells stamp contexts structures events =
+    ap (λ x. record d { waiting = x }) waiting
+    ∙ ap (λ x. record d { waiting = s.waiting; cells = x }) cells
+    ∙ ap (λ x. record d { waiting = s.waiting; cells = s.cells; stamp = x }) stamp
+    ∙ ap (λ x. record s { contexts = x; structures = d.structures; events = d.events }) contexts
+    ∙ ap (λ x. record s { structures = x; events = d.events }) structures
+    ∙ ap (λ x. record s { events = x }) events
+
+-- it is the one after a message, where each part is what the outcome says, at the stamp of the event
+pub after_by : (d : State) (g : Parts) (e : ℕ) (s : State) (m : Message) (o : Outcome) (n : ℕ) → IsStepBy g e s m o → n ≡ next_stamp s m
+    → d.waiting ≡ o.waiting → d.cells ≡ o.cells → d.stamp ≡ n → d.contexts ≡ s.contexts + o.made → d.structures ≡ s.structures + o.allocated
+    → d.events ≡ s.events ++ record {
+      element = e;
+      stamp = n;
+      message = m;
+      fired = o.fired;
+      outputs = numbered e (length s.events) n 0 o.sends;
+      step = o.step;
+    } ∷ []
+    → d ≡ state_after g e s m
+after_by d g e s m o n by is waiting cells stamp contexts structures events =
+    let event : ℕ → EventView = λ k. record {
+      element = e;
+      stamp = k;
+      message = m;
+      fired = o.fired;
+      outputs = numbered e (length s.events) k 0 o.sends;
+      step = o.step;
+    } in
+    same_state d (state_by e s m o) waiting cells (stamp ∙ is) contexts structures (events ∙ ap (λ k. s.events ++ event k ∷ []) is)
+    ∙ sym by.state
+
+-- and what was sent is what it sends
+pub outputs_by : (before now : List Message) (g : Parts) (e : ℕ) (s : State) (m : Message) (o : Outcome) (n : ℕ) → IsStepBy g e s m o
+    → n ≡ next_stamp s m → now ≡ before ++ numbered e (length s.events) n 0 o.sends → now ≡ before ++ outputs_of g e s m
+outputs_by before now g e s m o n by is sends =
+    sends ∙ ap (λ k. before ++ numbered e (length s.events) k 0 o.sends) is ∙ ap (λ xs. before ++ xs) (sym by.outputs)
+
 -- a port that takes a kind is one of an instruction that there is
 pub within_kind : (g : Parts) (d : Dest) (k : PortKind) → kind_at g.instrs d ≡ Some k → d.instr < length g.instrs
 within_kind g d k h = at (slice_get g.instrs d.instr) refl h

@@ -144,16 +144,14 @@ pub on_err : {A E P : Type 0} → (r : Result A E) → P → OnErr r P
 on_err (Ok a) h = tt
 on_err (Err e) h = h
 
+pub on_went : {A E P : Type 0} → (r : Result A E) → P → OnOk r P
+on_went (Ok a) h = h
+on_went (Err e) h = tt
+
 -- the end of stamps is told by no other error, and by nothing that went well
 pub end_ok : {A : Type 0} → (a : A) (b : Bool) → b ≡ false → ◌≡◌ {A = Result A TakeError} (Ok a) (Err StampEnd) ↔ IsTrue b
 end_ok a true e = cc
 end_ok a false e = ((λ is. no_error a StampEnd is), λ p. cc)
-
-pub end_memory : {A : Type 0} → (r : Result A TakeError) (b : Bool) → IsErrAnd r (λ e. e ≡ Memory) → b ≡ false → r ≡ Err StampEnd ↔ IsTrue b
-end_memory (Ok a) b is e = absurd is
-end_memory (Err Memory) true is e = cc
-end_memory (Err Memory) false is e = ((λ q. cc), λ p. cc)
-end_memory (Err StampEnd) b is e = cc
 
 pub end_if : {A : Type 0} → (r : Result A TakeError) (b : Bool) → IfErr r (λ e. e ≡ Memory) → b ≡ false → r ≡ Err StampEnd ↔ IsTrue b
 end_if (Ok a) b is e = end_ok a b e

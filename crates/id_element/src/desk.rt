@@ -247,9 +247,48 @@ impl<'a> Desk<'a> {
         let Some(room) = self.short_bound(graph, instr, most, token, stamp) else {
             return Ok(Short::Apart);
         };
-        self.reserve(room, 0, outputs)?;
+        self.take_short(instr, token, room, stamp as u32, outputs)
+    }
+
+    /// Handles a plain token at its instruction and at this stamp, which is the next, where all numbers of its event,
+    /// which sends at most so many messages, are small: the element step.
+    #[inline(always)]
+    fn take_short(
+        &mut self,
+        instr: &Instr,
+        token: &PlainToken,
+        most: usize,
+        stamp: u32,
+        outputs: &mut Queue,
+    ) -> Result<Short, TakeError>
+        requires own { slice_get self.old.log.graph.instrs token.now.instr ≡ Some instr.now }
+        requires stamp { stamp ≡ next_stamp (state_of self.old) (message_of token.now) }
+        requires few { most_sent instr.now ≤ most }
+        requires short { IsShort self.old most token.now stamp }
+        requires graph { IsGraph self.old.log.graph }
+        requires valid { IsValid self.old.log.graph }
+        requires counted { self.old.contexts + 1 < 2 ^ 64 }
+        requires numbered { self.old.structures + 1 < 2 ^ 64 }
+
+        ensures step { IfOk result (λ short. IsHandled short → step_in short (tag_in token.now)
+            ≡ step_of self.old.log.graph self.old.log.element (state_of self.old) (message_of token.now)) }
+        ensures state { IfOk result (λ short. IsHandled short → state_of self.new
+            ≡ state_after self.old.log.graph self.old.log.element (state_of self.old) (message_of token.now)) }
+        ensures outputs { IfOk result (λ short. IsHandled short → outputs.new.messages
+            ≡ outputs.old.messages
+            ++ outputs_of self.old.log.graph self.old.log.element (state_of self.old) (message_of token.now)) }
+        ensures apart { result ≡ Ok Short.Apart → state_of self.new ≡ state_of self.old }
+        ensures apart_outputs { result ≡ Ok Short.Apart → outputs.new.messages ≡ outputs.old.messages }
+        ensures number { self.new.log.element ≡ self.old.log.element }
+        ensures graph { self.new.log.graph ≡ self.old.log.graph }
+
+        ensures memory { IfErr result (λ e. e ≡ TakeError.Memory) }
+        ensures err { OnErr result (state_of self.new ≡ state_of self.old) }
+        ensures err_outputs { OnErr result (outputs.new.messages ≡ outputs.old.messages) }
+    {
+        self.reserve(most, 0, outputs)?;
         let reacted = react_plain(&mut self.waiting, instr.op, token)?;
-        Ok(self.conclude_reacted(instr, token, stamp as u32, reacted, outputs))
+        Ok(self.conclude_reacted(instr, token, stamp, reacted, outputs))
     }
 
     /// Sends what came of a plain token, and records the event, unless it is to be handled apart: the element step at

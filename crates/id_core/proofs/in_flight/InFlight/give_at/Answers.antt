@@ -4,8 +4,8 @@ use Rattle.std.specs.Prelude.{OnErr, OnOk, slice_get}
 use Rattle.std.specs.List.{remove}
 use Rattle.std.proofs.lemmas.Option.{slice_get_within}
 use Rattle.id_element.specs.Steps.{is_ended, outputs_of}
-use Rattle.id_element.proofs.ShortLemmas.{end_memory, if_err, on_err, on_ok}
-use Rattle.id_core.proofs.FlightLemmas.{ended}
+use Rattle.id_element.proofs.ShortLemmas.{if_err, on_err, on_ok}
+use Rattle.id_core.proofs.FlightLemmas.{end_memory, ended}
 use Rattle.id_core.proofs.in_flight.InFlight.give_at.Goals as goal
 
 pub returns-then-is_ended : goal.returns-then-is_ended

@@ -6,8 +6,8 @@ use Rattle.std.proofs.lemmas.Option.{slice_get_within}
 use Rattle.std.proofs.Common.{true, false}
 use Rattle.id_flight.specs.Demands.{demanded}
 use Rattle.id_element.specs.Steps.{is_ended, outputs_of}
-use Rattle.id_element.proofs.ShortLemmas.{end_memory, not_ok, on_err, on_ok}
-use Rattle.id_core.proofs.FlightLemmas.{ended, is_ended-asked}
+use Rattle.id_element.proofs.ShortLemmas.{not_ok, on_err, on_ok}
+use Rattle.id_core.proofs.FlightLemmas.{end_memory, ended, is_ended-asked}
 use Rattle.id_core.proofs.in_flight.InFlight.give_demand_at.Goals as goal
 
 pub returns-then-is_ended_at : goal.returns-then-is_ended_at

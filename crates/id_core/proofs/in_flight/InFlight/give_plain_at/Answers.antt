@@ -7,8 +7,8 @@ use Rattle.id_tag.specs.Plains.{message_of}
 use Rattle.id_element.specs.Shorts.{IsHandled}
 use Rattle.id_element.specs.declared.step.Short.TheVariants.{Apart}
 use Rattle.id_element.specs.Steps.{is_ended, outputs_of}
-use Rattle.id_element.proofs.ShortLemmas.{end_memory, if_err, on_err, on_ok}
-use Rattle.id_core.proofs.FlightLemmas.{ended, is_ended-asked}
+use Rattle.id_element.proofs.ShortLemmas.{if_err, on_err, on_ok}
+use Rattle.id_core.proofs.FlightLemmas.{end_memory, ended, is_ended-asked}
 use Rattle.id_core.proofs.in_flight.InFlight.give_plain_at.Goals as goal
 
 pub returns-then-is_ended_at : goal.returns-then-is_ended_at

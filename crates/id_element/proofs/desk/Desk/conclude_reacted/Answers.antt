@@ -1,10 +1,10 @@
 -- What is recorded is the element step, by what came of the token.
-use Rattle.std.proofs.Common.{arith, sym}
-use Rattle.std.proofs.lemmas.Grind.{common_steps}
+use Rattle.std.proofs.Common.{sym, ◌∙◌}
 use Rattle.id_match.specs.Waiting.{Store}
 use Rattle.id_element.specs.declared.step.Reacted.TheVariants.{Waits, One, Two, Fires}
 use Rattle.id_element.specs.Desks.{state_of}
 use Rattle.id_element.specs.Firings.{IsReaction}
+use Rattle.id_element.proofs.FiringsLemmas.{after_by, outputs_by}
 use Rattle.id_element.proofs.ShortLemmas.{IsStepOn, step_on, shot_of_none, shot_of_one, shot_of_two, went_apart, handled_apart}
 use Rattle.id_element.proofs.desk.Desk.conclude_reacted.Goals as goal
 use Rattle.id_element.proofs.desk.Desk.conclude_reacted.Goals.{After-conclude_shot, After-conclude_shot-in-One, After-conclude_shot-in-Two}
@@ -47,14 +47,11 @@ returns-in-Waits-clause-step c = λ w comes handled. sym (waits c w comes).step
 
 pub returns-in-Waits-clause-state : goal.returns-in-Waits-clause-state
 returns-in-Waits-clause-state c = λ w comes handled.
-    let after = (waits c w comes).state in
     let done = c.conclude_shot.ensures in
-    grind (arith, common_steps, after, c.requires.stamp, done.waiting, done.cells, done.stamp, done.contexts, done.structures, done.events)
+    after_by _ _ _ _ _ _ _ (waits c w comes) c.requires.stamp done.waiting done.cells done.stamp done.contexts done.structures done.events
 
 pub returns-in-Waits-clause-outputs : goal.returns-in-Waits-clause-outputs
-returns-in-Waits-clause-outputs c = λ w comes handled.
-    let after = (waits c w comes).outputs in
-    grind (arith, common_steps, after, c.requires.stamp, c.conclude_shot.ensures.outputs)
+returns-in-Waits-clause-outputs c = λ w comes handled. outputs_by _ _ _ _ _ _ _ _ (waits c w comes) c.requires.stamp c.conclude_shot.ensures.outputs
 
 pub returns-in-Waits-clause-apart : goal.returns-in-Waits-clause-apart
 returns-in-Waits-clause-apart c = went_apart
@@ -70,14 +67,11 @@ returns-in-One-clause-step c = λ w comes handled. sym (one c w comes).step
 
 pub returns-in-One-clause-state : goal.returns-in-One-clause-state
 returns-in-One-clause-state c = λ w comes handled.
-    let after = (one c w comes).state in
     let done = c.conclude_shot-in-One.ensures in
-    grind (arith, common_steps, after, c.requires.stamp, done.waiting, done.cells, done.stamp, done.contexts, done.structures, done.events)
+    after_by _ _ _ _ _ _ _ (one c w comes) c.requires.stamp done.waiting done.cells done.stamp done.contexts done.structures done.events
 
 pub returns-in-One-clause-outputs : goal.returns-in-One-clause-outputs
-returns-in-One-clause-outputs c = λ w comes handled.
-    let after = (one c w comes).outputs in
-    grind (arith, common_steps, after, c.requires.stamp, c.conclude_shot-in-One.ensures.outputs)
+returns-in-One-clause-outputs c = λ w comes handled. outputs_by _ _ _ _ _ _ _ _ (one c w comes) c.requires.stamp c.conclude_shot-in-One.ensures.outputs
 
 pub returns-in-One-clause-apart : goal.returns-in-One-clause-apart
 returns-in-One-clause-apart c = went_apart
@@ -93,14 +87,11 @@ returns-in-Two-clause-step c = λ w comes handled. sym (two c w comes).step
 
 pub returns-in-Two-clause-state : goal.returns-in-Two-clause-state
 returns-in-Two-clause-state c = λ w comes handled.
-    let after = (two c w comes).state in
     let done = c.conclude_shot-in-Two.ensures in
-    grind (arith, common_steps, after, c.requires.stamp, done.waiting, done.cells, done.stamp, done.contexts, done.structures, done.events)
+    after_by _ _ _ _ _ _ _ (two c w comes) c.requires.stamp done.waiting done.cells done.stamp done.contexts done.structures done.events
 
 pub returns-in-Two-clause-outputs : goal.returns-in-Two-clause-outputs
-returns-in-Two-clause-outputs c = λ w comes handled.
-    let after = (two c w comes).outputs in
-    grind (arith, common_steps, after, c.requires.stamp, c.conclude_shot-in-Two.ensures.outputs)
+returns-in-Two-clause-outputs c = λ w comes handled. outputs_by _ _ _ _ _ _ _ _ (two c w comes) c.requires.stamp c.conclude_shot-in-Two.ensures.outputs
 
 pub returns-in-Two-clause-apart : goal.returns-in-Two-clause-apart
 returns-in-Two-clause-apart c = went_apart
@@ -112,20 +103,15 @@ pub returns-in-Two-clause-apart_outputs : goal.returns-in-Two-clause-apart_outpu
 returns-in-Two-clause-apart_outputs c = went_apart
 
 pub returns-in-Fires-clause-step : goal.returns-in-Fires-clause-step
-returns-in-Fires-clause-step c = λ w comes handled.
-    let is = (fires c w comes).step in
-    grind (arith, common_steps, is, c.conclude_plain.ensures.verdict)
+returns-in-Fires-clause-step c = λ w comes handled. c.conclude_plain.ensures.verdict ∙ sym (fires c w comes).step
 
 pub returns-in-Fires-clause-state : goal.returns-in-Fires-clause-state
 returns-in-Fires-clause-state c = λ w comes handled.
-    let after = (fires c w comes).state in
     let done = c.conclude_plain.ensures in
-    grind (arith, common_steps, after, c.requires.stamp, done.waiting, done.cells, done.stamp, done.contexts, done.structures, done.events)
+    after_by _ _ _ _ _ _ _ (fires c w comes) c.requires.stamp done.waiting done.cells done.stamp done.contexts done.structures done.events
 
 pub returns-in-Fires-clause-outputs : goal.returns-in-Fires-clause-outputs
-returns-in-Fires-clause-outputs c = λ w comes handled.
-    let after = (fires c w comes).outputs in
-    grind (arith, common_steps, after, c.requires.stamp, c.conclude_plain.ensures.outputs)
+returns-in-Fires-clause-outputs c = λ w comes handled. outputs_by _ _ _ _ _ _ _ _ (fires c w comes) c.requires.stamp c.conclude_plain.ensures.outputs
 
 pub returns-in-Fires-clause-apart : goal.returns-in-Fires-clause-apart
 returns-in-Fires-clause-apart c = handled_apart c.conclude_plain.result c.conclude_plain.ensures.handled
