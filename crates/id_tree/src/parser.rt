@@ -737,7 +737,7 @@ fn parse_some_arguments(
     ensures ok { IfOk result (λ x. Hands tokens.now depth x.2.now x.0.items x.1) }
     ensures err { IfErr result (Fails tokens.now Arguments depth) }
 {
-    let mut args = Vec::new(alloc);
+    let mut args = Vec::with_capacity(alloc, 1)?;
     let (first, begun) = parse_expression(alloc, tokens, depth)?;
     let mut height = first.height;
     args.push(first.into_expr())?;

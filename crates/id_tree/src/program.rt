@@ -110,7 +110,7 @@ fn parse_params(alloc: Global, tokens: &[Token]) -> Result<(Vec<Param>, &[Token]
         Leads tokens.now Parameters 0 x.1.now (params_tree x.0.items) 0) }
     ensures err { IfErr result (Fails tokens.now Parameters 0) }
 {
-    let mut params = Vec::new(alloc);
+    let mut params = Vec::with_capacity(alloc, 2)?;
     let (first, closed) = split(tokens);
     if is_sign(first, Symbol::RightParen) {
         return Ok((params, closed));

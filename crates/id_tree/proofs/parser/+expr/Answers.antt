@@ -723,7 +723,7 @@ parse_arguments-returns-else-is_sign-2-clause-err t c =
 pub parse_some_arguments-arguments-init : goal.parse_some_arguments-arguments-init
 parse_some_arguments-arguments-init t c = (
   c.in_ok-first.ensures.read,
-  rw (c.in_ok-push.ensures.items, c.new-args.ensures.items)
+  rw (c.in_ok-push.ensures.items, c.in_ok-args.ensures.items)
       (Hands-first c.args.depth c.requires.not_closed c.in_ok-first.first.expr _ c.into_expr.ensures c.in_ok-first.ensures.ok),
 )
 
@@ -738,7 +738,7 @@ parse_some_arguments-arguments-preserved t c =
 
 pub parse_some_arguments-returns-in_err-first-clause-err : goal.parse_some_arguments-returns-in_err-first-clause-err
 parse_some_arguments-returns-in_err-first-clause-err t c =
-    let p = err_from_is_err_and c.from_residual.result c.from_residual.ensures.1 in
+    let p = err_from_is_err_and c.from_residual-in_err-first.result c.from_residual-in_err-first.ensures.1 in
     rw (p.1, p.2) (Fails-argument c.args.depth c.requires.not_closed c.in_err-first.ensures.err)
 
 pub parse_some_arguments-returns-in_err-arg-clause-err : goal.parse_some_arguments-returns-in_err-arg-clause-err

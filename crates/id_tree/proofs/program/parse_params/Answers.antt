@@ -11,7 +11,7 @@ use Rattle.id_tree.proofs.program.parse_params.Goals as goal
 pub params-init : goal.params-init
 params-init c =
     let more = c.in_ok-rest.ensures.ok in
-    (c.in_ok-rest.ensures.behind, rw (more.1, c.new-params.ensures.items) (Counts-first more.0 more.2))
+    (c.in_ok-rest.ensures.behind, rw (more.1, c.in_ok-params.ensures.items) (Counts-first more.0 more.2))
 
 pub params-preserved : goal.params-preserved
 params-preserved c =
@@ -24,12 +24,12 @@ params-preserved c =
 pub returns-then-is_sign-clause-ok : goal.returns-then-is_sign-clause-ok
 returns-then-is_sign-clause-ok c =
     let is : c.split.result.0.now.kind ≡ Sign RightParen = search rules in
-    rw c.new-params.ensures.items (Leads-none c.split.ensures.whole is)
+    rw c.in_ok-params.ensures.items (Leads-none c.split.ensures.whole is)
 
 pub returns-in_err-rest-clause-err : goal.returns-in_err-rest-clause-err
 returns-in_err-rest-clause-err c =
     let is_not : c.split.result.0.now.kind ≡ Sign RightParen → ⊥ = search rules in
-    let p = err_from_is_err_and c.from_residual.result c.from_residual.ensures.1 in
+    let p = err_from_is_err_and c.from_residual-in_err-rest.result c.from_residual-in_err-rest.ensures.1 in
     rw (p.1, p.2) (Fails-first (λ q. is_not (first_of c.split.ensures.whole q)) c.in_err-rest.ensures.err)
 
 pub returns-in_err-rest-2-clause-err : goal.returns-in_err-rest-2-clause-err
