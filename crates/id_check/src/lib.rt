@@ -10,11 +10,10 @@
 #![tactic(auto)]
 
 mod access;
-mod calls;
 mod cause;
 mod checked;
-mod depths;
 mod kinds;
+mod numbers;
 mod params;
 mod program;
 mod rows;

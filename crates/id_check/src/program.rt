@@ -16,11 +16,10 @@ ghost use Rattle.id_check.specs.Names.{AreNames};
 ghost use Rattle.id_check.specs.Noted.{tree_in};
 ghost use Rattle.id_check.specs.Scopes.{AreBinders};
 
-use crate::calls::find_counts;
 use crate::cause::{CheckCause, CheckError};
 use crate::checked::Checked;
-use crate::depths::find_depths;
 use crate::kinds::find_kinds;
+use crate::numbers::{Numbers, find_numbers};
 use crate::scope::{Found, find_binders};
 use crate::tabled::Tabled;
 use crate::wants::note_rows;
@@ -190,7 +189,7 @@ fn find_columns(alloc: Global, rows: &[Row], count: usize) -> Result<Columns, Al
 {
     let Found { binders, mut first } = find_binders(alloc, rows, count)?;
     let kinds = find_kinds(alloc, rows, binders.as_slice())?;
-    let counts = find_counts(alloc, rows)?;
+    let Numbers { depths, counts } = find_numbers(alloc, rows)?;
     note_rows(
         &mut first,
         rows,
@@ -198,8 +197,6 @@ fn find_columns(alloc: Global, rows: &[Row], count: usize) -> Result<Columns, Al
         kinds.as_slice(),
         counts.as_slice(),
     );
-    drop(counts);
-    let depths = find_depths(alloc, rows)?;
     Ok(Columns {
         binders,
         kinds,

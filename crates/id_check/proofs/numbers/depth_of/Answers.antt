@@ -1,8 +1,8 @@
 use Rattle.std.proofs.Common.{◌≡◌, ◌<◌, ◌+◌, suc, get_or, sym, ◌∙◌, ap, add-one, arith}
 use Rattle.id_parts.specs.Loops.{depth}
 use Rattle.id_check.proofs.DepthsLemmas.{depth_loop, depth_low, depth_none}
-use Rattle.id_check.proofs.depths.depth_of.Goals as goal
-use Rattle.id_check.proofs.depths.depth_of.Goals.{In-LoopHead}
+use Rattle.id_check.proofs.numbers.depth_of.Goals as goal
+use Rattle.id_check.proofs.numbers.depth_of.Goals.{In-LoopHead}
 
 -- the depth is one more than that of the `Start`, which is known
 known : (c : In-LoopHead) → (c.in-LoopHead.start < c.args.i) × (depth c.args.rows.now c.args.i ≡ get_or c.args.depths.now c.in-LoopHead.start 0 + 1)

@@ -5,7 +5,7 @@ use Rattle.std.proofs.lemmas.List.{get_or_default}
 use Rattle.id_check.specs.Counts.{AreCounts}
 use Rattle.id_check.proofs.CountsLemmas.{counts_call, counts_other}
 use Rattle.id_check.proofs.LinksLemmas.{part_of}
-use Rattle.id_check.proofs.calls.count_call.Goals as goal
+use Rattle.id_check.proofs.numbers.count_call.Goals as goal
 
 pub index-requires : goal.index-requires
 index-requires c =

@@ -1,0 +1,36 @@
+use Rattle.std.proofs.Common.{◌≡◌, ◌+◌, length, sym, ap, subst, arith, rules}
+use Rattle.id_check.specs.Counts.{AreCounts}
+use Rattle.id_check.specs.Depths.{AreDepths}
+use Rattle.id_check.proofs.CountsLemmas.{counts_none}
+use Rattle.id_check.proofs.DepthsLemmas.{depths_more}
+use Rattle.id_check.proofs.numbers.find_numbers.Goals as goal
+
+pub loop-i-init : goal.loop-i-init
+loop-i-init c = record {
+  depths = record { long = ap length c.in_ok-depths.ensures.items; each = λ i less. absurd (omega arith) };
+  counts = counts_none c.args.rows.now c.in_ok-counts.counts.items (c.in_ok-counts.ensures.items_if_clones_equal (λ y h. search rules));
+}
+
+pub depth_of-depth-requires-clause-depths : goal.depth_of-depth-requires-clause-depths
+depth_of-depth-requires-clause-depths c = subst (AreDepths c.args.rows.now c.loop-i.i) (sym c.as_slice.ensures.value) c.loop-i.invariant.depths
+
+pub loop-i-preserved : goal.loop-i-preserved
+loop-i-preserved c =
+    let R = c.args.rows.now in
+    let i = c.loop-i.i in
+    record {
+      depths =
+          subst (AreDepths R (i + 1)) (sym c.in_ok-push.ensures.items)
+          (depths_more R i c.depth_of-depth.result c.loop-i.depths.items c.depth_of-depth.ensures c.loop-i.invariant.depths);
+      counts = c.in_ok-count_call.ensures;
+    }
+
+pub returns-clause-depths : goal.returns-clause-depths
+returns-clause-depths c =
+    let end : c.loop-i.i ≡ length c.args.rows.now = omega (arith, c.loop-i.auto.i-end, c.loop-i-test.false) in
+    subst (λ n. AreDepths c.args.rows.now n c.loop-i.depths.items) end c.loop-i.invariant.depths
+
+pub returns-clause-counts : goal.returns-clause-counts
+returns-clause-counts c =
+    let end : c.loop-i.i ≡ length c.args.rows.now = omega (arith, c.loop-i.auto.i-end, c.loop-i-test.false) in
+    subst (λ n. AreCounts c.args.rows.now n c.loop-i.counts.items) end c.loop-i.invariant.counts
