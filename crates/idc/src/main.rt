@@ -12,7 +12,7 @@ mod tests;
 use id_args::{arguments, read_words};
 use id_engine::{Disk, Request, Source, Stream, Unasked, drive, settle};
 use id_print::Sink;
-use std::alloc::Global;
+use std::alloc::{AllocError, Global};
 use std::convert::AsStr;
 use std::io::BufWriter;
 use std::process::ExitCode;
@@ -39,6 +39,28 @@ const KEPT: usize = 0x110_0000;
 /// which clears each page of it before it is handed out again; but one is large only until a larger one was given back.
 fn keep_memory(alloc: Global) {
     let _ = Vec::<u8>::with_capacity(alloc, KEPT);
+    let _ = cache_blocks(alloc);
+}
+
+/// The size of the smallest block, how much larger the next size is, how many sizes a tree's blocks have, and how many
+/// blocks of each the C library keeps at hand.
+const LEAST: usize = 24;
+
+const STEP: usize = 16;
+
+const SIZES: usize = 10;
+
+const CACHED: usize = 7;
+
+/// Has the blocks that the C library keeps at hand lie before all else. It never joins them with what is free beside
+/// them, so those of a text's tree would part the room that the tree gives back.
+fn cache_blocks(alloc: Global) -> Result<(), AllocError> {
+    let mut blocks = Vec::with_capacity(alloc, SIZES * CACHED)?;
+    for number in 0..SIZES * CACHED {
+        let size = LEAST + number / CACHED * STEP;
+        blocks.push(Vec::<u8>::with_capacity(alloc, size)?)?;
+    }
+    Ok(())
 }
 
 /// Does what the words of the process ask for, and answers the status. The parts of a line gather in a buffer on their
