@@ -109,9 +109,8 @@ fn unnumbered(name: &'static [u8]) -> Row
 impl Cause {
     /// Its number among the refusals, where it has one, its name, and the status after it.
     fn row(self) -> Row
-        ensures number { result.number ≡ (row_of self).0 }
-        ensures name { result.name.now ≡ (row_of self).1 }
-        ensures status { result.status ≡ (row_of self).2 }
+        ensures { (result.number ≡ (row_of self).0) × (result.name.now ≡ (row_of self).1)
+            × (result.status ≡ (row_of self).2) }
     {
         match self {
             Cause::TooLong => numbered(1, b"TooLong", 2),
