@@ -1,10 +1,27 @@
 -- Each step prints the first of the lines that are left.
-use Rattle.std.proofs.Common.{◌∙◌, ◌∷◌, ap, drop, length, subst, sym}
+use Rattle.std.proofs.Common.{[], ◌∙◌, ◌∷◌, ap, drop, length, refl, subst, sym}
 use Rattle.id_print.specs.declared.report.Held.TheVariants.{Array, Cell}
 use Rattle.id_print.specs.Helds.{joined}
-use Rattle.id_print.specs.Within.{SiteWithin}
+use Rattle.id_print.specs.Within.{FilledWithin, SiteWithin}
 use Rattle.id_print.proofs.HeldsLemmas.{Partly-more, Partly-stop, Prints-held_at, first_array, first_cell, has_array, within_first}
+use Rattle.id_print.proofs.SinkLemmas.{Prints-nothing}
 use Rattle.id_print.proofs.report.put_joined.Goals as goal
+
+pub loop-shapes-init : goal.loop-shapes-init
+loop-shapes-init g c = record {
+  within = c.requires;
+  partly = record { front = []; parts = refl; printed = Prints-nothing _ };
+  same = refl;
+}
+
+pub put_present-requires : goal.put_present-requires
+put_present-requires g c =
+    let ss = c.loop-shapes.shapes.now in
+    let cs = c.loop-shapes.cells.now in
+    let x = c.index-cells-0.result in
+    let first = first_cell ss cs x (sym c.is_cell_first.ensures ∙ c.if-is_cell_first.true) (sym c.index-cells-0.is) in
+    subst (λ k. FilledWithin (length k) x.name x.value) (sym c.loop-shapes.invariant.same)
+    (within_first (length c.args.cursor.now) (Cell x) _ _ c.loop-shapes.invariant.within first).0
 
 pub returns-in_err-put_present-clause-prints : goal.returns-in_err-put_present-clause-prints
 returns-in_err-put_present-clause-prints g c =
