@@ -13,7 +13,7 @@ use crate::texts::{put_ask, put_filled, put_point, put_point_value, put_shape, p
 use crate::within::{
     is_ask_within, is_point_within, is_put_within, is_site_within, is_value_within,
 };
-use id_meaning::{Ask, Fact, Path, Put, Shape, SourceValue};
+use id_meaning::{Ask, Fact, Path, Put, Shape, Site, SourceValue};
 use id_text::MAX_BYTES;
 
 /// Writes a line for each fact of the text, in order. Takes no memory.
@@ -89,8 +89,18 @@ fn put_stored<W: Sink>(
 {
     put(sink, b"put ")?;
     put_filled(sink, cursor, &stored.name, stored.index, &stored.value)?;
+    put_store(sink, cursor, &stored.store)
+}
+
+/// The store that puts a value into a cell, and the end of the line.
+fn put_store<W: Sink>(sink: &mut W, cursor: &mut Cursor<'_>, store: &Site) -> Result<(), PrintError>
+    requires { SiteWithin (length cursor.old) store.now }
+    ensures prints { Prints (W.told sink.old) (W.told sink.new)
+        (codes " by " ++ (site_text cursor.old store.now ++ codes "\n")) result }
+    ensures same { cursor.new ≡ cursor.old }
+{
     put(sink, b" by ")?;
-    put_site_behind(sink, cursor, &stored.store)?;
+    put_site_behind(sink, cursor, store)?;
     put(sink, b"\n")
 }
 

@@ -341,8 +341,23 @@ pub(crate) fn put_ask<W: Sink>(
     ensures same { cursor.new ≡ cursor.old }
 {
     put_site(sink, cursor, &ask.fetch)?;
+    put_asked_cell(sink, cursor, &ask.name, ask.index)
+}
+
+/// The cell that a fetch asks for, and the end of the line.
+fn put_asked_cell<W: Sink>(
+    sink: &mut W,
+    cursor: &mut Cursor<'_>,
+    name: &Site,
+    index: i64,
+) -> Result<(), PrintError>
+    requires { SiteWithin (length cursor.old) name.now }
+    ensures prints { Prints (W.told sink.old) (W.told sink.new)
+        (codes " of " ++ (cell_text cursor.old name.now index ++ codes "\n")) result }
+    ensures same { cursor.new ≡ cursor.old }
+{
     put(sink, b" of ")?;
-    put_cell_behind(sink, cursor, &ask.name, ask.index)?;
+    put_cell_behind(sink, cursor, name, index)?;
     put(sink, b"\n")
 }
 

@@ -15,26 +15,9 @@ returns-in_err-put_filled-clause-prints g c =
     Prints-then _ _ _ _ _ _ _ c.in_ok-put.ensures (Prints-stop _ _ _ (codes " by " ++ (site_text c.args.cursor.now c.args.stored.now.store ++ codes "\n")) _ _
     (rw (to_z-of_z w64 c.args.stored.now.index index_fits) at c.in_err-put_filled.ensures.prints) c.from_residual-in_err-put_filled.ensures.0)
 
-pub returns-in_err-put-2-clause-prints : goal.returns-in_err-put-2-clause-prints
-returns-in_err-put-2-clause-prints g c =
-    let index_fits : SFits w64 c.args.stored.now.index = search rules in
-    Prints-then _ _ _ _ _ _ _ c.in_ok-put.ensures (Prints-then _ _ _ _ _ _ _
-    (rw (to_z-of_z w64 c.args.stored.now.index index_fits) at c.in_ok-put_filled.ensures.prints)
-    (Prints-stop _ _ _ (site_text c.args.cursor.now c.args.stored.now.store ++ codes "\n") _ _ c.in_err-put-2.ensures
-    c.from_residual-in_err-put-2.ensures.0))
-
-pub returns-in_err-put_site_behind-clause-prints : goal.returns-in_err-put_site_behind-clause-prints
-returns-in_err-put_site_behind-clause-prints g c =
-    let index_fits : SFits w64 c.args.stored.now.index = search rules in
-    Prints-then _ _ _ _ _ _ _ c.in_ok-put.ensures (Prints-then _ _ _ _ _ _ _
-    (rw (to_z-of_z w64 c.args.stored.now.index index_fits) at c.in_ok-put_filled.ensures.prints)
-    (Prints-then _ _ _ _ _ _ _ c.in_ok-put-2.ensures (Prints-stop _ _ _ (codes "\n") _ _
-    (rw c.in_ok-put_filled.ensures.same at c.in_err-put_site_behind.ensures.prints) c.from_residual-in_err-put_site_behind.ensures.0)))
-
 pub returns-clause-prints : goal.returns-clause-prints
 returns-clause-prints g c =
     let index_fits : SFits w64 c.args.stored.now.index = search rules in
     Prints-then _ _ _ _ _ _ _ c.in_ok-put.ensures (Prints-then _ _ _ _ _ _ _
     (rw (to_z-of_z w64 c.args.stored.now.index index_fits) at c.in_ok-put_filled.ensures.prints)
-    (Prints-then _ _ _ _ _ _ _ c.in_ok-put-2.ensures (Prints-then _ _ _ _ _ _ _
-    (rw c.in_ok-put_filled.ensures.same at c.in_ok-put_site_behind.ensures.prints) c.put-3.ensures)))
+    (rw c.in_ok-put_filled.ensures.same at c.put_store.ensures.prints))
