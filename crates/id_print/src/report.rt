@@ -1,8 +1,9 @@
 //! Reports of runs, and how they are printed.
 
-ghost use Rattle.std.specs.Prelude.{◌≡◌, ◌≤◌, ◌↔◌, ◌++◌, [], codes, length, IsTrue, IsFalse, IfOk};
+ghost use Rattle.std.specs.Prelude.{◌≡◌, ◌≤◌, ◌↔◌, ◌++◌, [], codes, length, map, IsTrue, IsFalse, IfOk};
 ghost use Rattle.id_core.specs.Observed.{answer, faults, names, waiting};
 ghost use Rattle.id_meaning.specs.Orders.{NamesRise, Rises};
+ghost use Rattle.id_print.specs.declared.report.Held.TheVariants as held;
 ghost use Rattle.id_print.specs.Endings.{EndsSo};
 ghost use Rattle.id_print.specs.Names.{IsOrderOf, IsSortedOf, AreApart, AreApartBy, HeldBefore, WaitBefore};
 ghost use Rattle.id_print.specs.Names.{OfOneThing, OfOneFetch, held_lines};
@@ -84,14 +85,51 @@ pub fn run_report(alloc: Global, machine: &Machine<'_>, named: bool) -> Result<R
         (λ r. AreApartBy OfOneFetch (waiting machine.now.graph machine.now.world) → Rises WaitBefore r.waiting) }
 {
     let ending = ending_of(alloc, machine)?;
+    report_with(alloc, machine, named, ending)
+}
+
+/// The report of a run that ended so.
+fn report_with(
+    alloc: Global,
+    machine: &Machine<'_>,
+    named: bool,
+    ending: Ending,
+) -> Result<Report, AllocError>
+    ensures ending { IfOk result (λ r. r.ending ≡ ending) }
+    ensures answer { IfOk result (λ r. r.answer ≡ answer machine.now.graph machine.now.world) }
+    ensures names { IfOk result (λ r. IsTrue named → IsSortedOf r.names (names machine.now.graph machine.now.world)) }
+    ensures rise { IfOk result
+        (λ r. IsTrue named → AreApart (names machine.now.graph machine.now.world) → NamesRise r.names) }
+    ensures none { IfOk result (λ r. IsFalse named → r.names ≡ []) }
+    ensures held { IfOk result (λ r. IsOrderOf HeldBefore r.structures (held_lines machine.now)) }
+    ensures held_rise { IfOk result
+        (λ r. AreApartBy OfOneThing (held_lines machine.now) → Rises HeldBefore r.structures) }
+    ensures waiting { IfOk result
+        (λ r. IsOrderOf WaitBefore r.waiting (waiting machine.now.graph machine.now.world)) }
+    ensures waiting_rise { IfOk result
+        (λ r. AreApartBy OfOneFetch (waiting machine.now.graph machine.now.world) → Rises WaitBefore r.waiting) }
+{
     let lists = lists_of(alloc, machine, named)?;
-    Ok(Report {
+    Ok(report_of(ending, lists))
+}
+
+/// The report of a run that ended so and shows these.
+fn report_of(ending: Ending, lists: Lists) -> Report
+    ensures { result ≡ record {
+      ending = ending;
+      answer = lists.answer;
+      names = lists.names;
+      structures = lists.lines;
+      waiting = lists.waiting;
+    } }
+{
+    Report {
         ending,
         answer: lists.answer,
         names: lists.names,
         structures: lists.lines,
         waiting: lists.waiting,
-    })
+    }
 }
 
 /// The answer, what binders have, the lines of structures and cells, and the fetches that wait, in order.
@@ -166,10 +204,33 @@ fn machine_held(alloc: Global, machine: &Machine<'_>) -> Result<InOrder, AllocEr
         (λ r. AreApartBy OfOneFetch (waiting machine.now.graph machine.now.world) → Rises WaitBefore r.waiting) }
 {
     let holdings = machine.holdings(alloc)?;
-    let lines = Helds::new(holdings.structures, holdings.cells)?;
-    let waiting = sorted_asks(holdings.waiting)?;
+    in_order(
+        holdings.answer,
+        holdings.structures,
+        holdings.cells,
+        holdings.waiting,
+    )
+}
+
+/// An answer with the lines of these structures and cells and with these fetches, both in order.
+fn in_order(
+    answer: Option<SourceValue>,
+    shapes: Sequence<Shape>,
+    cells: Sequence<CellValue>,
+    waiting: Sequence<Ask>,
+) -> Result<InOrder, AllocError>
+    ensures answer { IfOk result (λ r. r.answer ≡ answer) }
+    ensures held { IfOk result
+        (λ r. IsOrderOf HeldBefore r.lines (map held.Array shapes ++ map held.Cell cells)) }
+    ensures held_rise { IfOk result
+        (λ r. AreApartBy OfOneThing (map held.Array shapes ++ map held.Cell cells) → Rises HeldBefore r.lines) }
+    ensures waiting { IfOk result (λ r. IsOrderOf WaitBefore r.waiting waiting) }
+    ensures waiting_rise { IfOk result (λ r. AreApartBy OfOneFetch waiting → Rises WaitBefore r.waiting) }
+{
+    let lines = Helds::new(shapes, cells)?;
+    let waiting = sorted_asks(waiting)?;
     Ok(InOrder {
-        answer: holdings.answer,
+        answer,
         lines,
         waiting,
     })
@@ -274,10 +335,10 @@ fn put_second<W: Sink>(
 {
     put(sink, b"fault second store of ")?;
     put_cell(sink, cursor, name, index)?;
-    put(sink, b" at ")?;
     put_stores(sink, cursor, first, second)
 }
 
+/// Two stores behind a cell, and the end of the line.
 fn put_stores<W: Sink>(
     sink: &mut W,
     cursor: &mut Cursor<'_>,
@@ -287,12 +348,27 @@ fn put_stores<W: Sink>(
     requires first { SiteWithin (length cursor.old) first.now }
     requires second { SiteWithin (length cursor.old) second.now }
     ensures prints { Prints (W.told sink.old) (W.told sink.new)
-        (stores_text cursor.old first.now second.now) result }
+        (codes " at " ++ stores_text cursor.old first.now second.now) result }
     ensures same { cursor.new ≡ cursor.old }
 {
+    put(sink, b" at ")?;
     put_site(sink, cursor, first)?;
+    put_other_store(sink, cursor, second)
+}
+
+/// The second of two stores, and the end of the line.
+fn put_other_store<W: Sink>(
+    sink: &mut W,
+    cursor: &mut Cursor<'_>,
+    store: &Site,
+) -> Result<(), PrintError>
+    requires { SiteWithin (length cursor.old) store.now }
+    ensures prints { Prints (W.told sink.old) (W.told sink.new)
+        (codes " and " ++ (site_text cursor.old store.now ++ codes "\n")) result }
+    ensures same { cursor.new ≡ cursor.old }
+{
     put(sink, b" and ")?;
-    put_site(sink, cursor, second)?;
+    put_site(sink, cursor, store)?;
     put(sink, b"\n")
 }
 

@@ -1,7 +1,7 @@
 use Rattle.std.proofs.Common.{rules, w64, codes, ◌++◌}
-use Rattle.id_print.specs.Texts.{second_text, stores_text}
 use mir.Val.{SFits}
 use Rattle.std.proofs.lemmas.Int.{to_z-of_z}
+use Rattle.id_print.specs.Texts.{second_text, stores_text}
 use Rattle.id_print.proofs.SinkLemmas.{Prints-stop, Prints-then}
 use Rattle.id_print.proofs.report.put_second.Goals as goal
 
@@ -16,15 +16,8 @@ returns-in_err-put_cell-clause-prints g c =
     Prints-then _ _ _ _ _ _ _ c.in_ok-put.ensures (Prints-stop _ _ _ (codes " at " ++ stores_text c.args.cursor.now c.args.first.now c.args.second.now) _ _
     (rw (to_z-of_z w64 c.args.index index_fits) at c.in_err-put_cell.ensures.prints) c.from_residual-in_err-put_cell.ensures.0)
 
-pub returns-in_err-put-2-clause-prints : goal.returns-in_err-put-2-clause-prints
-returns-in_err-put-2-clause-prints g c =
-    let index_fits : SFits w64 c.args.index = search rules in
-    Prints-then _ _ _ _ _ _ _ c.in_ok-put.ensures (Prints-then _ _ _ _ _ _ _ (rw (to_z-of_z w64 c.args.index index_fits) at c.in_ok-put_cell.ensures.prints)
-    (Prints-stop _ _ _ (stores_text c.args.cursor.now c.args.first.now c.args.second.now) _ _ c.in_err-put-2.ensures
-    c.from_residual-in_err-put-2.ensures.0))
-
 pub returns-clause-prints : goal.returns-clause-prints
 returns-clause-prints g c =
     let index_fits : SFits w64 c.args.index = search rules in
     Prints-then _ _ _ _ _ _ _ c.in_ok-put.ensures (Prints-then _ _ _ _ _ _ _ (rw (to_z-of_z w64 c.args.index index_fits) at c.in_ok-put_cell.ensures.prints)
-    (Prints-then _ _ _ _ _ _ _ c.in_ok-put-2.ensures (rw c.in_ok-put_cell.ensures.same at c.put_stores.ensures.prints)))
+    (rw c.in_ok-put_cell.ensures.same at c.put_stores.ensures.prints))

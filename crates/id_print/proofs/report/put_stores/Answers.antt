@@ -1,26 +1,19 @@
 use Rattle.std.proofs.Common.{codes, ◌++◌}
-use Rattle.id_print.specs.Texts.{site_text}
+use Rattle.id_print.specs.Texts.{site_text, stores_text}
 use Rattle.id_print.proofs.SinkLemmas.{Prints-stop, Prints-then}
 use Rattle.id_print.proofs.report.put_stores.Goals as goal
 
-pub returns-in_err-put_site-clause-prints : goal.returns-in_err-put_site-clause-prints
-returns-in_err-put_site-clause-prints g c =
-    Prints-stop _ _ _ (codes " and " ++ (site_text c.args.cursor.now c.args.second.now ++ codes "\n")) _ _ c.in_err-put_site.ensures.prints
-    c.from_residual.ensures.0
-
 pub returns-in_err-put-clause-prints : goal.returns-in_err-put-clause-prints
 returns-in_err-put-clause-prints g c =
-    Prints-then _ _ _ _ _ _ _ c.in_ok-put_site.ensures.prints
-    (Prints-stop _ _ _ (site_text c.args.cursor.now c.args.second.now ++ codes "\n") _ _ c.in_err-put.ensures c.from_residual-in_err-put.ensures.0)
+    Prints-stop _ _ _ (stores_text c.args.cursor.now c.args.first.now c.args.second.now) _ _ c.in_err-put.ensures c.from_residual.ensures.0
 
-pub returns-in_err-put_site-2-clause-prints : goal.returns-in_err-put_site-2-clause-prints
-returns-in_err-put_site-2-clause-prints g c =
-    Prints-then _ _ _ _ _ _ _ c.in_ok-put_site.ensures.prints
-    (Prints-then _ _ _ _ _ _ _ c.in_ok-put.ensures (Prints-stop _ _ _ (codes "\n") _ _
-    (rw c.in_ok-put_site.ensures.same at c.in_err-put_site-2.ensures.prints) c.from_residual-in_err-put_site-2.ensures.0))
+pub returns-in_err-put_site-clause-prints : goal.returns-in_err-put_site-clause-prints
+returns-in_err-put_site-clause-prints g c =
+    Prints-then _ _ _ _ _ _ _ c.in_ok-put.ensures
+    (Prints-stop _ _ _ (codes " and " ++ (site_text c.args.cursor.now c.args.second.now ++ codes "\n")) _ _ c.in_err-put_site.ensures.prints
+    c.from_residual-in_err-put_site.ensures.0)
 
 pub returns-clause-prints : goal.returns-clause-prints
 returns-clause-prints g c =
-    Prints-then _ _ _ _ _ _ _ c.in_ok-put_site.ensures.prints
-    (Prints-then _ _ _ _ _ _ _ c.in_ok-put.ensures (Prints-then _ _ _ _ _ _ _ (rw c.in_ok-put_site.ensures.same at c.in_ok-put_site-2.ensures.prints)
-    c.put-2.ensures))
+    Prints-then _ _ _ _ _ _ _ c.in_ok-put.ensures
+    (Prints-then _ _ _ _ _ _ _ c.in_ok-put_site.ensures.prints (rw c.in_ok-put_site.ensures.same at c.put_other_store.ensures.prints))
