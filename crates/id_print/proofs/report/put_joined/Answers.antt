@@ -1,7 +1,9 @@
 -- Each step prints the first of the lines that are left.
-use Rattle.std.proofs.Common.{[], ◌∙◌, ◌∷◌, ap, drop, length, refl, subst, sym}
+use Rattle.std.proofs.Common.{◌≡◌, ◌<◌, List, [], ◌∙◌, ◌∷◌, true, ap, arith, drop, length, length-drop, refl, subst, sym}
 use Rattle.id_print.specs.declared.report.Held.TheVariants.{Array, Cell}
-use Rattle.id_print.specs.Helds.{joined}
+use Rattle.id_core.specs.Observed.{CellValue}
+use Rattle.id_meaning.specs.declared.Shape.{Shape}
+use Rattle.id_print.specs.Helds.{is_cell_first, joined}
 use Rattle.id_print.specs.Within.{FilledWithin, SiteWithin}
 use Rattle.id_print.proofs.HeldsLemmas.{Partly-more, Partly-stop, Prints-held_at, first_array, first_cell, has_array, within_first}
 use Rattle.id_print.proofs.SinkLemmas.{Prints-nothing}
@@ -13,6 +15,26 @@ loop-shapes-init g c = record {
   partly = record { front = []; parts = refl; printed = Prints-nothing _ };
   same = refl;
 }
+
+-- where the first line is that of a cell, there is a cell
+has_cell : (ss : List Shape) (cs : List CellValue) → is_cell_first ss cs ≡ true → 0 < length cs
+has_cell [] [] e = absurd cc
+has_cell (s ∷ ss) [] e = absurd cc
+has_cell ss (d ∷ cs) e = omega arith
+
+pub bounds-cells-0 : goal.bounds-cells-0
+bounds-cells-0 g c = has_cell _ _ (sym c.is_cell_first.ensures ∙ c.if-is_cell_first.true)
+
+pub behind_first-cells-requires : goal.behind_first-cells-requires
+behind_first-cells-requires g c = has_cell _ _ (sym c.is_cell_first.ensures ∙ c.if-is_cell_first.true)
+
+pub bounds-shapes-0 : goal.bounds-shapes-0
+bounds-shapes-0 g c =
+    has_array _ c.loop-shapes.cells.now (c.has_lines.ensures.0 c.loop-shapes-test.true) (sym c.is_cell_first.ensures ∙ c.if-is_cell_first.false)
+
+pub behind_first-shapes-requires : goal.behind_first-shapes-requires
+behind_first-shapes-requires g c =
+    has_array _ c.loop-shapes.cells.now (c.has_lines.ensures.0 c.loop-shapes-test.true) (sym c.is_cell_first.ensures ∙ c.if-is_cell_first.false)
 
 pub put_present-requires : goal.put_present-requires
 put_present-requires g c =
