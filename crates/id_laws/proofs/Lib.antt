@@ -66,6 +66,7 @@ pub mod Known
 pub mod LabelsShow
 pub mod QuietRuns
 pub mod ValidKinds
+pub mod ValidTests
 pub mod Validity
 pub mod InputsFit
 pub mod LabelsOnce

@@ -1,25 +1,20 @@
 -- Every graph that the schemas give a program is valid.
-use Rattle.std.proofs.Common.{◌≡◌, ◌⊎◌, inl, inr, ℕ, zero, suc, ◌+◌, ◌-◌, ◌<◌, ◌≤◌, ◌==◌, ◌&&◌, ◌||◌, Bool, true}
-use Rattle.std.proofs.Common.{false, cond, Option, Some, None, List, [], ◌∷◌}
-use Rattle.std.proofs.Common.{get_or, length, map, slice_get, option_map, refl, sym, ◌∙◌, ap, subst, arith}
+use Rattle.std.proofs.Common.{◌≡◌, ◌⊎◌, inl, inr, ℕ, zero, suc, ◌+◌, ◌-◌, ◌<◌, ◌≤◌, ◌==◌, ◌&&◌, ◌||◌, Bool, true, false, cond, Option, Some, None, List, []}
+use Rattle.std.proofs.Common.{◌∷◌, get_or, length, map, slice_get, option_map, refl, sym, ◌∙◌, ap, subst, arith}
 use Rattle.std.specs.Bool.{IsTrue}
 use Rattle.std.specs.Option.{IsSome, option_and_then}
 use Rattle.std.specs.List.{list_any, count_by}
 use Rattle.std.proofs.lemmas.List.Sums.{sum_by-append}
 use Rattle.std.proofs.lemmas.Bool.{cases_lt}
-use Rattle.std.proofs.lemmas.Bool.Decides.{nat_tests}
 use Rattle.id_value.specs.declared.Kind.{Kind}
 use Rattle.id_value.specs.declared.Kind.TheVariants as kinds
 use Rattle.id_list.specs.List.{Among, AllDiffer}
 use Rattle.id_list.proofs.AmongLemmas.{Among-map, Among-from_map, Among-left, Among-right, Among-either, Among-from_at}
 use Rattle.id_parts.specs.declared.row.Row.{Row}
 use Rattle.id_parts.specs.declared.row.Node.{Node}
-use Rattle.id_parts.specs.declared.row.Node.TheVariants.{Head, Param, Literal, Unary as UnaryNode}
-use Rattle.id_parts.specs.declared.row.Node.TheVariants.{Binary as BinaryNode, Split, If, Binding, Program}
-use Rattle.id_parts.specs.declared.row.Node.TheVariants.{Enter as EnterNode, Arg, Call}
-use Rattle.id_parts.specs.declared.row.Node.TheVariants.{Start, LoopHead, Variable, Entries, Switches, Turn}
-use Rattle.id_parts.specs.declared.row.Node.TheVariants.{Next as NextNode, Reset as ResetNode, Loop, Def, Array}
-use Rattle.id_parts.specs.declared.row.Node.TheVariants.{Fetch, Address, Store}
+use Rattle.id_parts.specs.declared.row.Node.TheVariants.{Head, Param, Literal, Unary as UnaryNode, Binary as BinaryNode, Split, If, Binding, Program}
+use Rattle.id_parts.specs.declared.row.Node.TheVariants.{Enter as EnterNode, Arg, Call, Start, LoopHead, Variable, Entries, Switches, Turn, Next as NextNode}
+use Rattle.id_parts.specs.declared.row.Node.TheVariants.{Reset as ResetNode, Loop, Def, Array, Fetch, Address, Store}
 use Rattle.id_parts.specs.Rows.{at}
 use Rattle.id_parts.specs.Tables.{begins_block, is_param}
 use Rattle.id_parts.specs.Turns.{params_at}
@@ -32,9 +27,8 @@ use Rattle.id_graph.specs.declared.dests.Port.TheVariants.{Zero, One}
 use Rattle.id_graph.specs.declared.dests.Dest.{Dest}
 use Rattle.id_graph.specs.declared.instr.PortKind.TheVariants.{Signal}
 use Rattle.id_graph.specs.declared.instr.Op.{Op}
-use Rattle.id_graph.specs.declared.instr.Op.TheVariants.{Const, Unary, Binary, Merge, Switch, Back, Enter, Send, Next}
-use Rattle.id_graph.specs.declared.instr.Op.TheVariants.{Reset, Alloc, Address as AddressOp, Fetch as FetchOp}
-use Rattle.id_graph.specs.declared.instr.Op.TheVariants.{Store as StoreOp}
+use Rattle.id_graph.specs.declared.instr.Op.TheVariants.{Const, Unary, Binary, Merge, Switch, Back, Enter, Send, Next, Reset, Alloc, Address as AddressOp}
+use Rattle.id_graph.specs.declared.instr.Op.TheVariants.{Fetch as FetchOp, Store as StoreOp}
 use Rattle.id_graph.specs.declared.instr.Instr.{Instr}
 use Rattle.id_graph.specs.declared.instr.Block.{Block}
 use Rattle.id_graph.specs.Ports.{port_kind, sends, two_sides}
@@ -43,18 +37,18 @@ use Rattle.id_meaning.specs.Sources.{source}
 use Rattle.id_build.specs.declared.arc.Origin.{Origin}
 use Rattle.id_desugar.specs.Ends.{end_of, next_of}
 use Rattle.id_desugar.specs.Regions.{imports_of}
-use Rattle.id_build.specs.Rows.{node, answer_row, body_of, name_in, feed, feeds_of, origin, port_at, port_of}
-use Rattle.id_build.specs.Rows.{result_of, trigger_of, called, op_by, output, param_of}
-use Rattle.id_build.specs.Rows.{Entry, block, entering, entries, entry_feeds, import_feeds, loop_entries, param_entry, turn_feeds, turn_row, entries_by}
+use Rattle.id_build.specs.Rows.{node, answer_row, body_of, name_in, feed, feeds_of, origin, port_at, port_of, result_of, trigger_of, called, op_by, output}
+use Rattle.id_build.specs.Rows.{param_of, Entry, block, entering, entries, entry_feeds, import_feeds, loop_entries, param_entry, turn_feeds, turn_row}
+use Rattle.id_build.specs.Rows.{entries_by}
 use Rattle.id_build.specs.Schemas.{Feeds, HasSide, Numbered, Schemas, Sends, all_heads, block_of}
-use Rattle.id_valid.specs.Roles.{op_at, merge_kind, back_kind, is_first, is_second, is_entry, is_reply, replies_to, same_port, is_dest, arcs_into, needs_no_arc}
+use Rattle.id_valid.specs.Roles.{op_at, merge_kind, back_kind, is_first, is_second, is_entry, is_reply, replies_to, same_port, is_dest, arcs_into}
+use Rattle.id_valid.specs.Roles.{needs_no_arc}
 use Rattle.id_valid.specs.Validator.{is_value, IsAnswer, FillsRoles, IsTaken, IsFed, IsEntered, IsSentTo, AreNamed, IsSound, IsValid}
 use Rattle.id_laws.specs.Activations.{main_head, Tests, of_arms, of_turns, Begins, of_call, of_loop}
 use Rattle.id_laws.specs.Topics.{Addresses, of_fetch, of_store, IsPart}
 use Rattle.id_laws.proofs.Arcs.{Does, starts, returns, enters, constant, unary, binary, turns_on, hands, joins, names, answers, doing, makes, imports_fed}
-use Rattle.id_laws.proofs.Arcs.{sends_in, gives_back, varies, takes_in, moves_on, moves_name, advances, resets}
-use Rattle.id_laws.proofs.Arcs.{gets_last, allocates, addresses, fetches, gets_reply, stores, import_listed}
-use Rattle.id_laws.proofs.Arcs.{FromArm, one_feed, target_part, opens, passes, gets}
+use Rattle.id_laws.proofs.Arcs.{sends_in, gives_back, varies, takes_in, moves_on, moves_name, advances, resets, gets_last, allocates, addresses, fetches}
+use Rattle.id_laws.proofs.Arcs.{gets_reply, stores, import_listed, FromArm, one_feed, target_part, opens, passes, gets}
 use Rattle.id_laws.proofs.Blocks.{a_param, all_listed, any_head, param_listed}
 use Rattle.id_laws.proofs.LoopRows.{entered_as, entry_merge, loop_merge}
 use Rattle.id_build.proofs.EndsLemmas.{end_is, loop_same, not_last}
@@ -64,66 +58,9 @@ use Rattle.id_laws.proofs.Start.{main_block, main_is_head, main_within, the_bloc
 use Rattle.id_laws.proofs.Tokens.{one_part}
 use Rattle.id_laws.proofs.ValidCounts.{any_among, among_any, all_among, sum_at, sum_once, count_among, count_some, count_once}
 use Rattle.id_laws.proofs.ValidKinds.{typed, port_is}
+use Rattle.id_laws.proofs.ValidTests.{same_number, number_is, second_of, third_of, fourth_of, still, or_last, dest, is_dest-itself, dest_is}
 use Rattle.id_build.specs.declared.arc.Form.{Form}
 use Rattle.id_laws.proofs.Calls.{arg_at, call_at, called_head, enter_at}
-
--- ---- tests
-
-same_number : (m n : ℕ) → m ≡ n → (m == n) ≡ true
-same_number m n e = grind (arith, nat_tests)
-
-number_is : (m n : ℕ) → (m == n) ≡ true → m ≡ n
-number_is m n e = grind (arith, nat_tests)
-
-same_port-itself : (p : Port) → same_port p p ≡ true
-same_port-itself Zero = refl
-same_port-itself One = refl
-
-ports_same : (p q : Port) → same_port p q ≡ true → p ≡ q
-ports_same Zero Zero e = refl
-ports_same Zero One e = cc
-ports_same One Zero e = cc
-ports_same One One e = refl
-
-both_true : (a b : Bool) → (a && b) ≡ true → (a ≡ true) × (b ≡ true)
-both_true true b e = (refl, e)
-both_true false b e = cc
-
-second_of : (a b c d : Bool) → b ≡ true → (a || b || c || d) ≡ true
-second_of true b c d e = refl
-second_of false b c d e = rw e refl
-
-third_of : (a b c d : Bool) → c ≡ true → (a || b || c || d) ≡ true
-third_of true b c d e = refl
-third_of false true c d e = refl
-third_of false false true d e = refl
-third_of false false false d e = cc
-
-fourth_of : (a b c d : Bool) → d ≡ true → (a || b || c || d) ≡ true
-fourth_of true b c d e = refl
-fourth_of false true c d e = refl
-fourth_of false false true d e = refl
-fourth_of false false false d e = e
-
-still : {a : Bool} (b : Bool) → a ≡ true → (a || b) ≡ true
-still b e = rw e refl
-
-or_last : (a : Bool) {b : Bool} → b ≡ true → (a || b) ≡ true
-or_last true e = refl
-or_last false e = e
-
-abbrev dest : ℕ → Port → Dest
-dest n p = record { instr = n; port = p }
-
-is_dest-itself : (n : ℕ) (p : Port) → is_dest n p (dest n p) ≡ true
-is_dest-itself n p = rw (same_number n n refl) (same_port-itself p)
-
-dest_is : (n : ℕ) (p : Port) (d : Dest) → is_dest n p d ≡ true → d ≡ dest n p
-dest_is n p d e =
-    let both = both_true (d.instr == n) (same_port d.port p) e in
-    let at = number_is d.instr n both.0 in
-    let by = ports_same d.port p both.1 in
-    (λ i. record { instr = at i; port = by i })
 
 pub is_value_port : (k : Kind) → is_value (port_of k) ≡ true
 is_value_port kinds.Int = refl
