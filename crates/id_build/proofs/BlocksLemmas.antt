@@ -1,6 +1,7 @@
 -- The blocks of a program: their heads, and the entries of each.
 use Rattle.std.proofs.Common.{◌≡◌, inl, inr, ℕ, zero, suc, ◌+◌, ◌<◌, ◌≤◌, Bool, true, false, List, [], ◌∷◌, ◌++◌}
-use Rattle.std.proofs.Common.{length, map, refl, ap, sym, subst, ◌∙◌, arith, cond, append-nil}
+use Rattle.std.proofs.Common.{get_or, length, map, refl, add-zero, ap, sym, subst, ◌∙◌, ◌-◌, arith, cond, append-nil}
+use Rattle.std.proofs.lemmas.Bool.Decides.{nat_tests}
 use Rattle.std.specs.Prelude.{◌&&◌, nat_eq}
 use Rattle.std.proofs.lemmas.Bool.{cases_lt, eqb-true, false≢true}
 use Rattle.std.proofs.lemmas.List.{map-append}
@@ -17,9 +18,12 @@ use Rattle.id_desugar.specs.Ends.{end_of}
 use Rattle.id_desugar.specs.Regions.{is_loop_head}
 use Rattle.id_build.specs.Rows.{Entry, entries, entries_by, node, param_entry}
 use Rattle.id_build.specs.Schemas.{block_of, loop_heads_below}
+use Rattle.id_list.specs.List.{Among}
+use Rattle.id_list.proofs.AmongLemmas.{Among-either}
 use Rattle.id_check.proofs.ProgramsLemmas.{table_of}
 use Rattle.id_parts.proofs.BlocksLemmas.{not_last}
 use Rattle.id_build.proofs.EndsLemmas.{end_is}
+use Rattle.id_build.proofs.FillLemmas.{Among-get_or}
 
 -- whether the row is a parameter of the procedure with this head
 abbrev pub takes : Checked → ℕ → ℕ → Bool
@@ -28,6 +32,10 @@ takes P h i = is_param (node P i) && nat_eq (at (rows P) i).block h
 head_of : (n : Node) → is_head n ≡ true → n ≡ Head
 head_of Head e = refl
 head_of _ e = absurd (false≢true e)
+
+-- the head of a procedure is none of a loop
+pub head_no_loop : (n : Node) → is_head n ≡ true → is_loop_head n ≡ false
+head_no_loop n e = ap is_loop_head (head_of n e)
 
 both : (a b : Bool) → (a && b) ≡ true → (a ≡ true) × (b ≡ true)
 both true b e = (refl, e)
@@ -79,20 +87,58 @@ params_between P h l t =
     let d = end_is P (table_of P) h l e in
     sym (none_behind P h (length (rows P)) l e (omega (arith, d.within)) (omega arith))
 
-pub params_start : (P : Checked) (h : ℕ) → h < length (rows P) → params_below (rows P) h h ≡ []
-params_start P h l = none_before P h h l (omega arith)
+-- none stands up to its head
+pub params_start : (P : Checked) (h : ℕ) → h < length (rows P) → is_head (node P h) ≡ true → params_below (rows P) h (h + 1) ≡ []
+params_start P h l t =
+    let next : h + 1 ≡ suc h = omega arith in
+    let no : takes P h h ≡ false = ap (λ n. is_param n && nat_eq (at (rows P) h).block h) (head_of (node P h) t) in
+    ap (params_below (rows P) h) next ∙ rw no (none_before P h h l (omega arith))
 
--- one more row may be one more entry
-pub entries_next : (P : Checked) (F xs new : List ℕ) (h n : ℕ) → xs ≡ map (λ x. number_by F x 0) (params_below (rows P) h n) →
-    new ≡ xs ++ cond (takes P h n) (number_by F n 0 ∷ []) [] → new ≡ map (λ x. number_by F x 0) (params_below (rows P) h (n + 1))
-entries_next P F xs new h n e f =
-    let next : suc n ≡ n + 1 = omega arith in
-    f ∙ ap (λ l. l ++ cond (takes P h n) (number_by F n 0 ∷ []) []) e ∙ at (takes P h n) ∙ ap (λ k. map (λ x. number_by F x 0) (params_below (rows P) h k)) next
+-- a parameter behind its head and before its definition is its own
+pub is_taken : (P : Checked) (h n : ℕ) → h < length (rows P) → is_head (node P h) ≡ true → h < n → n < end_of P h
+    → is_param (node P n) ≡ true → takes P h n ≡ true
+is_taken P h n l t low high is =
+    let ps = (table_of P).params (end_of P h) h (end_is P (table_of P) h l (head_of (node P h) t)) in
+    elim (cases_lt (h + ps.count) n) [
+      | inl past ↦ cc (sym is ∙ ps.rest n past high)
+      | inr here ↦ (
+          let own : (at (rows P) n).block ≡ h = ps.block n low (omega (arith, here)) in
+          let same : nat_eq (at (rows P) n).block h ≡ true = grind (arith, nat_tests, own) in
+          ap (λ b. b && nat_eq (at (rows P) n).block h) is ∙ same
+          )
+    ]
+
+-- where no parameter stands at a row behind the head, all stand before it
+pub params_stop : (P : Checked) (h n : ℕ) → h < length (rows P) → is_head (node P h) ≡ true → h < n → n < end_of P h
+    → is_param (node P n) ≡ false → params_below (rows P) h n ≡ params_at (rows P) h
+params_stop P h n l t low high out =
+    let ps = (table_of P).params (end_of P h) h (end_is P (table_of P) h l (head_of (node P h) t)) in
+    let past : h + ps.count < n = elim (cases_lt (h + ps.count) n) [
+      | inl m ↦ m
+      | inr m ↦ absurd (false≢true (sym out ∙ ps.param n low (omega (arith, m))))
+    ] in
+    let none : (i : ℕ) → n ≤ i → i < end_of P h → takes P h i ≡ false =
+    λ i from to. ap (λ b. b && nat_eq (at (rows P) i).block h) (ps.rest i (omega (arith, past, from)) to) in
+    let all : n + (end_of P h - n) ≡ end_of P h = omega (arith, high) in
+    sym (go (end_of P h - n) (λ i from to. none i from (omega (arith, to, high)))) ∙ ap (params_below (rows P) h) all ∙ params_between P h l t
   where
-    at : (t : Bool) → map (λ x. number_by F x 0) (params_below (rows P) h n) ++ cond t (number_by F n 0 ∷ []) [] ≡
-        map (λ x. number_by F x 0) (cond t (params_below (rows P) h n ++ n ∷ []) (params_below (rows P) h n))
-    at true = sym (map-append (λ x. number_by F x 0) (params_below (rows P) h n) (n ∷ []))
-    at false = append-nil (map (λ x. number_by F x 0) (params_below (rows P) h n))
+    go : (k : ℕ) → ((i : ℕ) → n ≤ i → i < n + k → takes P h i ≡ false) → params_below (rows P) h (n + k) ≡ params_below (rows P) h n
+    go zero none = ap (params_below (rows P) h) (add-zero n)
+    go (suc k) none =
+        let next : n + suc k ≡ suc (n + k) = omega arith in
+        let no : takes P h (n + k) ≡ false = none (n + k) (omega arith) (omega arith) in
+        ap (params_below (rows P) h) next ∙ rw no (go k (λ i from to. none i from (omega (arith, to))))
+
+-- one more row is one more entry
+pub entries_next : (P : Checked) (F xs new : List ℕ) (h n : ℕ) → takes P h n ≡ true
+    → xs ≡ map (λ x. number_by F x 0) (params_below (rows P) h n) → new ≡ xs ++ number_by F n 0 ∷ []
+    → new ≡ map (λ x. number_by F x 0) (params_below (rows P) h (n + 1))
+entries_next P F xs new h n t e f =
+    let next : suc n ≡ n + 1 = omega arith in
+    let more : params_below (rows P) h (suc n) ≡ params_below (rows P) h n ++ n ∷ [] =
+    ap (λ b. cond b (params_below (rows P) h n ++ n ∷ []) (params_below (rows P) h n)) t in
+    f ∙ ap (λ l. l ++ number_by F n 0 ∷ []) e ∙ sym (map-append (λ x. number_by F x 0) (params_below (rows P) h n) (n ∷ []))
+    ∙ ap (map (λ x. number_by F x 0)) (sym more ∙ ap (params_below (rows P) h) next)
 
 -- one more row may be one more head, with its block
 pub heads_next : (P : Checked) (h : ℕ) → is_head (node P h) ≡ true → heads_below (rows P) (h + 1) ≡ heads_below (rows P) h ++ h ∷ []
@@ -115,6 +161,27 @@ loop_heads_same P h t =
     let next : h + 1 ≡ suc h = omega arith in
     ap (loop_heads_below P) next ∙ ap (λ b. cond b (loop_heads_below P h ++ h ∷ []) (loop_heads_below P h)) t
 
+-- each listed head of a loop is one
+abbrev IsHeadBelow : Checked → ℕ → ℕ → Type 0
+IsHeadBelow P n x = (x < n) × (is_loop_head (node P x) ≡ true)
+
+one_more : (P : Checked) (n x : ℕ) (t : Bool) → is_loop_head (node P n) ≡ t → (Among x (loop_heads_below P n) → IsHeadBelow P n x)
+    → Among x (cond t (loop_heads_below P n ++ n ∷ []) (loop_heads_below P n)) → IsHeadBelow P (suc n) x
+one_more P n x true is old a = elim (Among-either x (loop_heads_below P n) (n ∷ []) a) [
+  | inl b ↦ let w = old b in (omega (arith, w.0), w.1)
+  | inr (inl e) ↦ (omega (arith, e), ap (λ k. is_loop_head (node P k)) e ∙ is)
+  | inr (inr z) ↦ absurd z
+]
+one_more P n x false is old a = let w = old a in (omega (arith, w.0), w.1)
+
+head_below : (P : Checked) (n x : ℕ) → Among x (loop_heads_below P n) → IsHeadBelow P n x
+head_below P zero x a = absurd a
+head_below P (suc n) x a = one_more P n x (is_loop_head (node P n)) refl (head_below P n x) a
+
+pub loop_head_at : (P : Checked) (xs : List ℕ) (n i : ℕ) → xs ≡ loop_heads_below P n → i < length xs
+    → (get_or xs i 0 < n) × (is_loop_head (node P (get_or xs i 0)) ≡ true)
+loop_head_at P xs n i e l = head_below P n (get_or xs i 0) (subst (Among (get_or xs i 0)) e (Among-get_or xs i l))
+
 -- with one more block
 pub blocks_push : (P : Checked) (F : List ℕ) (xs : List ℕ) (bs new : List Block) (h : ℕ) → bs ≡ map (block_of P (number_by F)) xs
     → new ≡ bs ++ block_of P (number_by F) h ∷ [] → new ≡ map (block_of P (number_by F)) (xs ++ h ∷ [])
@@ -122,12 +189,10 @@ blocks_push P F xs bs new h e f =
     f ∙ ap (λ l. l ++ block_of P (number_by F) h ∷ []) e ∙ sym (map-append (block_of P (number_by F)) xs (h ∷ []))
 
 -- a definition stands behind its head
-pub end_behind : (P : Checked) (h : ℕ) → h < length (rows P) → is_head (node P h) ≡ true → h ≤ end_of P h
+pub end_behind : (P : Checked) (h : ℕ) → h < length (rows P) → is_head (node P h) ≡ true → h < end_of P h
 end_behind P h l t =
-    let d = end_is P (table_of P) h l (head_of (node P h) t) in
-    let first = ((table_of P).head_is (end_of P h) d.name h d.body d.result d.within d.node).1 in
-    let low = ((table_of P).formed.each (end_of P h) d.within).first in
-    omega (arith, first, low)
+    let ps = (table_of P).params (end_of P h) h (end_is P (table_of P) h l (head_of (node P h) t)) in
+    omega (arith, ps.before)
 
 -- the entries of a procedure are the labels of its parameters
 pub params_entries : (P : Checked) (F : List ℕ) (h : ℕ) → is_head (node P h) ≡ true

@@ -7,7 +7,7 @@ use Rattle.std.proofs.lemmas.Bool.{cases_lt, eqb-true}
 use Rattle.std.proofs.lemmas.Bool.Decides.{nat_tests}
 use Rattle.std.proofs.lemmas.List.{get_or_past, take_more}
 use Rattle.id_build.specs.declared.slots.Import.{Import}
-use Rattle.id_build.specs.Slots.{AreShort, behind, found, noted, noted_all, same_import}
+use Rattle.id_build.specs.Slots.{AreShort, behind, found, long_only, noted, noted_all, same_import}
 use Rattle.id_build.specs.Rows.{slot_of}
 use Rattle.std.proofs.Math.ListN.{get_or-eq_default}
 use Rattle.id_parts.specs.Rows.{no_row}
@@ -133,16 +133,38 @@ listed_at P h = elim (cases_lt h (length (rows P))) [
       ∙ sym (ap (λ r. handed P h r.node) (get_or-eq_default (rows P) no_row l))
 ]
 
--- once all heads that import something are passed, what is noted is where each import stands
-pub slots_are : (P : Checked) (n h b : ℕ) → ((i : ℕ) → n ≤ i → imports_of P i ≡ [])
-    → unwrap_or (noted_below (imports_of P) n (record { head = h; binder = b })) (length (imports_of P h)) ≡ slot_of (imports_of P h) b
-slots_are P n h b past = at (nat_lt h n) refl
+-- of a head with many imports all are noted
+pub long_all : (bs : List ℕ) → 16 < length bs → long_only bs ≡ bs
+long_all bs l = let t : nat_lt 16 (length bs) ≡ true = grind (arith, nat_tests, l) in ap (λ z. if z then bs else []) t
+
+-- and of one with few none
+pub long_none : (bs : List ℕ) → length bs ≤ 16 → long_only bs ≡ []
+long_none bs l = let t : nat_lt 16 (length bs) ≡ false = grind (arith, nat_tests, l) in ap (λ z. if z then bs else []) t
+
+-- the imports that are noted, by head
+abbrev pub long_of : Checked → ℕ → List ℕ
+long_of P h = long_only (imports_of P h)
+
+-- a head is passed of which nothing is noted
+pub noted_below-none : (f : ℕ → List ℕ) (n : ℕ) (i : Import) → f n ≡ [] → noted_below f n i ≡ noted_below f (n + 1) i
+noted_below-none f n i e =
+    sym (none (noted_below f n i) (n == i.head)) ∙ ap (λ z. option_or (noted_below f n i) (noted_all n z i)) (sym e) ∙ noted_below-next f n i
+  where
+    none : (o : Option ℕ) (t : Bool) → option_or o (if t then None else None) ≡ o
+    none None true = refl
+    none None false = refl
+    none (Some x) t = refl
+
+-- once all heads that import something are passed, what is noted is where each import of a head with many stands
+pub slots_are : (P : Checked) (n h b : ℕ) → 16 < length (imports_of P h) → ((i : ℕ) → n ≤ i → imports_of P i ≡ [])
+    → unwrap_or (noted_below (long_of P) n (record { head = h; binder = b })) (length (imports_of P h)) ≡ slot_of (imports_of P h) b
+slots_are P n h b long past = at (nat_lt h n) refl
   where
     high : nat_lt h n ≡ false → n ≤ h
     high e = grind (arith, nat_tests, e)
 
-    at : (t : Bool) → nat_lt h n ≡ t → unwrap_or (if t then found (imports_of P h) b else None) (length (imports_of P h)) ≡ slot_of (imports_of P h) b
-    at true e = found_slot (imports_of P h) b
+    at : (t : Bool) → nat_lt h n ≡ t → unwrap_or (if t then found (long_of P h) b else None) (length (imports_of P h)) ≡ slot_of (imports_of P h) b
+    at true e = ap (λ z. unwrap_or (found z b) (length (imports_of P h))) (long_all (imports_of P h) long) ∙ found_slot (imports_of P h) b
     at false e = ap length (past h (high e)) ∙ sym (ap (λ (z : List ℕ). slot_of z b) (past h (high e)))
 
 -- no more stand before than there are

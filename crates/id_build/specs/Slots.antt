@@ -1,5 +1,5 @@
 -- The columns that the builder reads, and where each import stands among those of its head, as it notes that.
-use Rattle.std.specs.Prelude.{◌≡◌, ℕ, suc, ◌<◌, ◌^◌, ◌==◌, ◌&&◌, Bool, if◌then◌else◌, List, [], ◌∷◌, length}
+use Rattle.std.specs.Prelude.{◌≡◌, ℕ, suc, ◌<◌, ◌^◌, ◌==◌, ◌&&◌, Bool, if◌then◌else◌, List, [], ◌∷◌, length, nat_lt}
 use Rattle.std.specs.Prelude.{Option, None, Some, IsSome, unwrap_or}
 use Rattle.std.specs.HashMap.{get}
 use Rattle.id_check.specs.declared.checked.Checked.{Checked}
@@ -31,6 +31,10 @@ noted j k i = if same_import j i then Some k else None
 abbrev pub noted_all : ℕ → List ℕ → Import → Option ℕ
 noted_all h bs i = if h == i.head then found bs i.binder else None
 
+-- the imports of a head, if they are too many to be looked through for each use, and else none
+abbrev pub long_only : List ℕ → List ℕ
+long_only bs = if nat_lt 16 (length bs) then bs else []
+
 -- only imports whose numbers have 32 bits are noted
 abbrev pub AreShort : (Import → Option ℕ) → Type 0
 AreShort f = (i : Import) → IsSome (f i) → (i.head < 2 ^ 32) × (i.binder < 2 ^ 32)
@@ -41,9 +45,9 @@ pub record AreColumns (P : Checked) (c : Columns) : Type 0 where
   pub ends : AreEnds P c.ends.now
   pub nexts : AreNexts P c.nexts.now
 
--- the slots of all imports, with the columns
+-- the slots of the imports of heads with many, with the columns
 pub record AreSlots (P : Checked) (s : Slots) : Type 0 where
   pub columns : AreColumns P s.columns
   pub short : AreShort (get same_import s.numbers)
-  pub numbers : (h b : ℕ) → let i : Import = record { head = h; binder = b } in
+  pub numbers : (h b : ℕ) → 16 < length (imports_of P h) → let i : Import = record { head = h; binder = b } in
       unwrap_or (get same_import s.numbers i) (length (imports_of P h)) ≡ slot_of (imports_of P h) b

@@ -9,7 +9,7 @@ ghost use Rattle.id_graph.specs.Graph.{PortsExist, parts};
 ghost use Rattle.id_parts.specs.Tables as tables;
 ghost use Rattle.id_build.specs.Rows as rows;
 ghost use Rattle.id_build.specs.Rows.{size};
-ghost use Rattle.id_build.specs.Schemas.{Schemas, all_heads, block_of};
+ghost use Rattle.id_build.specs.Schemas.{Schemas, all_heads, block_of, loop_heads_below};
 ghost use Rattle.id_build.specs.Made.{AreFirsts, EntriesFit, graph_by, instrs_from, number_by, pieces_in};
 ghost use Rattle.id_build.specs.Slots.{AreColumns, AreSlots};
 
@@ -197,19 +197,48 @@ fn blocks(
     ensures memory { IfErr result (λ e. e ≡ BuildError.Memory) }
 {
     let mut blocks = Vec::new(alloc);
+    let mut loops = Vec::new(alloc);
     for head in 0..checked.table.rows.len() {
-        if is_head(row_at(checked, head).node) {
+        let node = row_at(checked, head).node;
+        if is_head(node) {
             let entries = params(alloc, checked, columns, firsts, head)?;
             add_block(firsts, head, entries, &mut blocks)?;
+        } else if is_loop_head(node) {
+            loops.push(head)?;
         }
     }
-    for head in 0..checked.table.rows.len() {
-        if is_loop_head(row_at(checked, head).node) {
-            let entries = loop_entries(alloc, checked, columns, firsts, head)?;
-            add_block(firsts, head, entries, &mut blocks)?;
-        }
-    }
+    push_loops(
+        alloc,
+        checked,
+        columns,
+        firsts,
+        loops.as_slice(),
+        &mut blocks,
+    )?;
     Ok(blocks)
+}
+
+/// Adds the blocks of all loops, which have these heads.
+fn push_loops(
+    alloc: Global,
+    checked: &Checked,
+    columns: Columns<'_>,
+    firsts: &[u32],
+    heads: &[usize],
+    blocks: &mut Vec<Block>,
+) -> Result<(), BuildError>
+    requires columns { AreColumns checked.now columns }
+    requires fit { EntriesFit checked.now firsts.now }
+    requires heads { heads.now ≡ loop_heads_below checked.now (length (programs.rows checked.now)) }
+    ensures blocks { OnOk result (blocks.new.items
+        ≡ blocks.old.items ++ map (block_of checked.now (number_by firsts.now)) heads.now) }
+    ensures memory { IfErr result (λ e. e ≡ BuildError.Memory) }
+{
+    for head in heads {
+        let entries = loop_entries(alloc, checked, columns, firsts, *head)?;
+        add_block(firsts, *head, entries, blocks)?;
+    }
+    Ok(())
 }
 
 /// Adds the block with this head and these entries.
@@ -246,28 +275,13 @@ fn params(
     ensures memory { IfErr result (λ e. e ≡ BuildError.Memory) }
 {
     let mut entries = Vec::new(alloc);
-    for n in head..columns.end(checked, head) {
-        push_param(&mut entries, row_at(checked, n), firsts, head, n)?;
-    }
-    Ok(entries)
-}
-
-/// Adds the row n as an entry, if it is a parameter of the procedure with this head.
-fn push_param(
-    entries: &mut Vec<u32>,
-    row: Row,
-    firsts: &[u32],
-    head: usize,
-    n: usize,
-) -> Result<(), BuildError>
-    ensures entries { OnOk result (entries.new.items ≡ entries.old.items
-        ++ (if tables.is_param row.node && nat_eq row.block head then number_by firsts.now n 0 ∷ [] else [])) }
-    ensures memory { IfErr result (λ e. e ≡ BuildError.Memory) }
-{
-    if is_param(row.node) && row.block as usize == head {
+    for n in head + 1..columns.end(checked, head) {
+        if !is_param(row_at(checked, n).node) {
+            break;
+        }
         entries.push(number_by(firsts, n) as u32)?;
     }
-    Ok(())
+    Ok(entries)
 }
 
 /// The numbers of the entries of the loop with this head: its variables, and then its imports.

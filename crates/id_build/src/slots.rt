@@ -14,6 +14,9 @@ use id_desugar::MOST;
 use std::alloc::Global;
 use std::collections::HashMap;
 
+/// Among so many imports, one is looked for in the list itself.
+const SHORT: usize = 16;
+
 /// A binder that a head imports.
 #[derive(Clone, Copy, PartialEq, Eq, Hash)]
 pub struct Import {
@@ -44,7 +47,10 @@ pub fn find_slots<'a>(
     }
     let mut numbers = HashMap::new(alloc);
     for head in 0..count {
-        note_all(&mut numbers, head as u32, columns.imports(checked, head))?;
+        let imports = columns.imports(checked, head);
+        if imports.len() > SHORT {
+            note_all(&mut numbers, head as u32, imports)?;
+        }
     }
     Ok(Slots { columns, numbers })
 }
@@ -92,7 +98,11 @@ pub fn slot_of(checked: &Checked, slots: &Slots<'_>, head: usize, binder: usize)
     ensures slot { result ≡ slot_of (regions.imports_of checked.now head) binder }
     ensures within { result < 2 ^ 61 }
 {
-    let count = slots.columns.imports(checked, head).len();
+    let imports = slots.columns.imports(checked, head);
+    if imports.len() <= SHORT {
+        return position(imports, binder);
+    }
+    let count = imports.len();
     if head > MOST || binder > MOST {
         return count;
     }
@@ -104,4 +114,16 @@ pub fn slot_of(checked: &Checked, slots: &Slots<'_>, head: usize, binder: usize)
         Some(slot) => *slot as usize,
         None => count,
     }
+}
+
+/// How many of these rows stand before the first that is this one.
+fn position(rows: &[u32], wanted: usize) -> usize
+    ensures { result ≡ slot_of rows.now wanted }
+{
+    for (slot, row) in rows.iter().enumerate() {
+        if *row as usize == wanted {
+            return slot;
+        }
+    }
+    rows.len()
 }

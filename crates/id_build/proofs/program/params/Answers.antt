@@ -1,35 +1,55 @@
--- The entries are the parameters between the head and its definition.
-use Rattle.std.proofs.Common.{◌≡◌, ◌∙◌, ◌++◌, ◌∷◌, [], ap, sym, map, arith, cond}
-use Rattle.std.specs.Prelude.{◌&&◌, nat_eq}
+-- The entries are the parameters, which stand right behind the head.
+use Rattle.std.proofs.Common.{◌≡◌, ◌∙◌, ◌+◌, ◌<◌, ◌++◌, ◌∷◌, [], true, ap, sym, map, arith}
+use Rattle.id_parts.specs.declared.row.Row.{Row}
 use Rattle.id_parts.specs.Tables.{is_param}
 use Rattle.id_check.specs.Programs.{rows}
-use Rattle.id_parts.specs.Turns.{params_below}
+use Rattle.id_parts.specs.Turns.{params_at, params_below}
 use Rattle.id_build.specs.Made.{number_by}
+use Rattle.id_build.specs.Rows.{node}
 use Rattle.id_desugar.specs.Ends.{end_of}
-use Rattle.id_build.proofs.BlocksLemmas.{end_behind, entries_next, params_between, params_entries, params_start}
+use Rattle.id_build.proofs.BlocksLemmas.{end_behind, entries_next, is_taken, params_between, params_entries, params_start, params_stop}
 use Rattle.id_build.proofs.program.params.Goals as goal
+use Rattle.id_build.proofs.program.params.Goals.{else-loop-n-test, then-loop-n-test+then-not-is_param}
 
 pub loop-n-init : goal.loop-n-init
 loop-n-init c =
     let F = c.args.firsts.now in
-    c.new-entries.ensures.items ∙ ap (map (λ x. number_by F x 0)) (sym (params_start c.args.checked.now c.args.head c.requires.within))
+    c.new-entries.ensures.items ∙ ap (map (λ x. number_by F x 0)) (sym (params_start c.args.checked.now c.args.head c.requires.within c.requires.head))
 
 pub loop-n-preserved : goal.loop-n-preserved
 loop-n-preserved c =
     let P = c.args.checked.now in
     let F = c.args.firsts.now in
-    entries_next P F c.loop-n.entries.items c.push_param.new.entries.items c.args.head c.loop-n.n c.loop-n.invariant
-    (c.in_ok-push_param.ensures.entries ∙ ap (λ r. c.loop-n.entries.items ++
-    cond (is_param r.node && nat_eq r.block c.args.head) (number_by F c.loop-n.n 0 ∷ []) []) c.row_at.ensures)
+    let h = c.args.head in
+    let n = c.loop-n.n in
+    let low : h < n = omega (arith, c.loop-n.auto.n) in
+    let high : n < end_of P h = omega (arith, c.loop-n-test.true, c.end-n-end.ensures) in
+    let is : is_param (node P n) ≡ true =
+    ap (λ (r : Row). is_param r.node) (sym c.row_at.ensures) ∙ sym c.is_param.ensures ∙ c.if-not-is_param.false in
+    let taken = is_taken P h n c.requires.within c.requires.head low high is in
+    entries_next P F c.loop-n.entries.items c.push.new.self.items h n taken c.loop-n.invariant
+    (c.in_ok-push.ensures.items ∙ ap (λ k. c.loop-n.entries.items ++ k ∷ []) c.number_by.ensures.number)
 
 pub returns-clause-entries : goal.returns-clause-entries
 returns-clause-entries c =
     let P = c.args.checked.now in
     let F = c.args.firsts.now in
     let h = c.args.head in
+    let l = c.requires.within in
+    let t = c.requires.head in
+    let n = c.loop-n.n in
+    let low : h < n = omega (arith, c.loop-n.auto.n) in
     let ends : c.end-n-end.result ≡ end_of P h = c.end-n-end.ensures in
-    let low = end_behind P h c.requires.within c.requires.head in
-    let auto = c.loop-n.auto.n-end (omega (arith, ends, low)) in
-    let is : c.loop-n.n ≡ end_of P h = omega (arith, ends, auto, c.loop-n-test.false) in
-    c.loop-n.invariant ∙ ap (λ k. map (λ x. number_by F x 0) (params_below (rows P) h k)) is
-    ∙ ap (map (λ x. number_by F x 0)) (params_between P h c.requires.within c.requires.head) ∙ sym (params_entries P F h c.requires.head)
+    let auto = c.loop-n.auto.n-end (omega (arith, ends, end_behind P h l t)) in
+    let all : params_below (rows P) h n ≡ params_at (rows P) h = elim c.loop-n-test.branch [
+      | else-loop-n-test w ↦ (
+          let is : n ≡ end_of P h = omega (arith, ends, auto, w.loop-n-test.false) in
+          ap (params_below (rows P) h) is ∙ params_between P h l t
+          )
+      | then-loop-n-test+then-not-is_param w ↦ (
+          let high : n < end_of P h = omega (arith, w.loop-n-test.true, ends) in
+          let no = ap (λ (r : Row). is_param r.node) (sym w.row_at.ensures) ∙ sym w.is_param.ensures ∙ w.if-not-is_param.true in
+          params_stop P h n l t low high no
+          )
+    ] in
+    c.loop-n.invariant ∙ ap (map (λ x. number_by F x 0)) all ∙ sym (params_entries P F h t)
