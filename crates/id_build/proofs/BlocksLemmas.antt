@@ -1,6 +1,6 @@
 -- The blocks of a program: their heads, and the entries of each.
 use Rattle.std.proofs.Common.{◌≡◌, inl, inr, ℕ, zero, suc, ◌+◌, ◌<◌, ◌≤◌, Bool, true, false, List, [], ◌∷◌, ◌++◌}
-use Rattle.std.proofs.Common.{get_or, length, map, refl, add-zero, ap, sym, subst, ◌∙◌, ◌-◌, arith, cond, append-nil}
+use Rattle.std.proofs.Common.{get_or, length, map, refl, add-zero, ap, sym, subst, ◌∙◌, ◌-◌, arith, cond}
 use Rattle.std.proofs.lemmas.Bool.Decides.{nat_tests}
 use Rattle.std.specs.Prelude.{◌&&◌, nat_eq}
 use Rattle.std.proofs.lemmas.Bool.{cases_lt, eqb-true, false≢true}

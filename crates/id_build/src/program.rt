@@ -1,18 +1,20 @@
 //! The graph of a program (docs/GRAPH.md, "Schemas").
 
-ghost use Rattle.std.specs.Prelude.{◌≡◌, ◌++◌, ◌∷◌, ◌&&◌, [], true, ℕ, ◌<◌, ◌≤◌, length, map, nat_eq};
-ghost use Rattle.std.specs.Prelude.{if◌then◌else◌, IfOk, IfErr, OnOk};
+ghost use Rattle.std.specs.Prelude.{◌≡◌, ◌++◌, ◌∷◌, [], true, ℕ, ◌<◌, ◌≤◌, length, map};
+ghost use Rattle.std.specs.Prelude.{◌^◌, All, IfOk, IfErr, OnOk, fold};
 ghost use Rattle.id_list.specs.List.{AllDiffer, Among};
 ghost use Rattle.id_check.specs.Programs as programs;
 ghost use Rattle.id_desugar.specs.Regions as regions;
 ghost use Rattle.id_graph.specs.Graph.{PortsExist, parts};
 ghost use Rattle.id_parts.specs.Tables as tables;
 ghost use Rattle.id_build.specs.Rows as rows;
-ghost use Rattle.id_build.specs.Rows.{size};
+ghost use Rattle.id_build.specs.Rows.{feeds, made, size};
 ghost use Rattle.id_build.specs.Schemas.{Schemas, all_heads, block_of, loop_heads_below};
-ghost use Rattle.id_build.specs.Made.{AreFirsts, EntriesFit, graph_by, instrs_from, number_by, pieces_in};
+ghost use Rattle.id_build.specs.Made.{AreFirsts, EntriesFit, Fits, IsBetween, arc_of, connected, graph_by};
+ghost use Rattle.id_build.specs.Made.{instrs_from, number_by, pieces_in};
 ghost use Rattle.id_build.specs.Slots.{AreColumns, AreSlots};
 
+use crate::arc::Piece;
 use crate::calls::is_param;
 use crate::columns::Columns;
 use crate::error::BuildError;
@@ -145,11 +147,43 @@ fn bare_instrs(
     let mut instrs = Vec::with_capacity(alloc, count)?;
     let mut pieces = Vec::new(alloc);
     for n in order {
-        push_pieces(checked, columns, *n as usize, &mut pieces)?;
-        push_bare(alloc, firsts, pieces.as_slice(), &mut instrs)?;
-        pieces.clear();
+        add_bare(
+            alloc,
+            checked,
+            columns,
+            *n as usize,
+            firsts,
+            &mut pieces,
+            &mut instrs,
+        )?;
     }
     Ok(instrs)
+}
+
+/// Adds the instructions of the row n without arcs. `pieces` serves to hold them.
+#[inline(always)]
+fn add_bare(
+    alloc: Global,
+    checked: &Checked,
+    columns: Columns<'_>,
+    n: usize,
+    firsts: &[u32],
+    pieces: &mut Vec<Piece>,
+    instrs: &mut Vec<Instr>,
+) -> Result<(), BuildError>
+    requires columns { AreColumns checked.now columns }
+    requires within { n < length (programs.rows checked.now) }
+    requires fit { All (λ p. Fits firsts.now p.form) (made checked.now n) }
+    requires empty { pieces.old.items ≡ [] }
+    ensures empty { OnOk result (pieces.new.items ≡ []) }
+    ensures bare { OnOk result (instrs.new.items
+        ≡ instrs.old.items ++ instrs_from firsts.now 0 (made checked.now n) []) }
+    ensures memory { IfErr result (λ e. e ≡ BuildError.Memory) }
+{
+    push_pieces(checked, columns, n, pieces)?;
+    push_bare(alloc, firsts, pieces.as_slice(), instrs)?;
+    pieces.clear();
+    Ok(())
 }
 
 /// These instructions with their arcs, row by row, where the rows' first instructions have these numbers.
@@ -175,11 +209,37 @@ fn with_arcs(
         list: Vec::new(alloc),
     };
     for n in order {
-        push_feeds(checked, slots, *n as usize, &mut arcs)?;
-        connect_all(alloc, &mut instrs, arcs.list.as_slice())?;
-        arcs.list.clear();
+        connect_row(alloc, checked, slots, *n as usize, &mut arcs, &mut instrs)?;
     }
     Ok(instrs)
+}
+
+/// Adds the arcs to the instructions of the row n to those that they come from. `arcs.list` serves to hold them.
+#[inline(always)]
+fn connect_row(
+    alloc: Global,
+    checked: &Checked,
+    slots: &Slots<'_>,
+    n: usize,
+    arcs: &mut Arcs,
+    instrs: &mut Vec<Instr>,
+) -> Result<(), BuildError>
+    requires slots { AreSlots checked.now slots.now }
+    requires within { n < length (programs.rows checked.now) }
+    requires few { length instrs.old.items < 2 ^ 32 }
+    requires between { All (IsBetween (length instrs.old.items))
+        (map (arc_of arcs.old.firsts.items n) (feeds checked.now n)) }
+    requires empty { arcs.old.list.items ≡ [] }
+    ensures empty { OnOk result (arcs.new.list.items ≡ []) }
+    ensures firsts { arcs.new.firsts.items ≡ arcs.old.firsts.items }
+    ensures instrs { OnOk result (instrs.new.items
+        ≡ fold connected instrs.old.items (map (arc_of arcs.old.firsts.items n) (feeds checked.now n))) }
+    ensures memory { IfErr result (λ e. e ≡ BuildError.Memory) }
+{
+    push_feeds(checked, slots, n, arcs)?;
+    connect_all(alloc, instrs, arcs.list.as_slice())?;
+    arcs.list.clear();
+    Ok(())
 }
 
 /// The blocks of the program, where the rows' first instructions have these numbers: those of the procedures, and then

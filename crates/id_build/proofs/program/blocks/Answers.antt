@@ -1,11 +1,11 @@
 -- One more row may be one more head.
-use Rattle.std.proofs.Common.{◌≡◌, ◌∙◌, ◌+◌, ◌++◌, ◌∷◌, [], true, false, ap, arith, length, map, sym}
+use Rattle.std.proofs.Common.{◌≡◌, ◌∙◌, ◌++◌, ◌∷◌, [], true, false, ap, arith, length, map, sym}
 use Rattle.std.proofs.lemmas.List.{map-append}
 use Rattle.id_parts.specs.declared.row.Row.{Row}
 use Rattle.id_parts.specs.Tables.{is_head}
 use Rattle.id_check.specs.Programs.{rows}
 use Rattle.id_desugar.specs.Regions.{is_loop_head}
-use Rattle.id_parts.specs.Turns.{heads_below, heads_of}
+use Rattle.id_parts.specs.Turns.{heads_below}
 use Rattle.id_build.specs.Made.{number_by}
 use Rattle.id_build.specs.Rows.{node}
 use Rattle.id_build.specs.Schemas.{block_of, loop_heads_below}

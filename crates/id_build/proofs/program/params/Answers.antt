@@ -1,5 +1,5 @@
 -- The entries are the parameters, which stand right behind the head.
-use Rattle.std.proofs.Common.{◌≡◌, ◌∙◌, ◌+◌, ◌<◌, ◌++◌, ◌∷◌, [], true, ap, sym, map, arith}
+use Rattle.std.proofs.Common.{◌≡◌, ◌∙◌, ◌<◌, ◌++◌, ◌∷◌, [], true, ap, sym, map, arith}
 use Rattle.id_parts.specs.declared.row.Row.{Row}
 use Rattle.id_parts.specs.Tables.{is_param}
 use Rattle.id_check.specs.Programs.{rows}

@@ -1,10 +1,9 @@
 -- Each row in order is one of the table, and its arcs go between two of the instructions.
-use Rattle.std.proofs.Common.{◌≡◌, ◌∙◌, ◌++◌, ◌+◌, List, [], ℕ, ap, sym, arith, drop, get_or, length, map, refl, subst}
+use Rattle.std.proofs.Common.{◌∙◌, ◌+◌, List, [], ℕ, ap, sym, arith, drop, get_or, length, map, refl, subst}
 use Rattle.std.specs.Prelude.{All, fold}
 use Rattle.std.proofs.lemmas.List.{drop_all}
 use Rattle.std.proofs.lemmas.List.Sums.{fold-append}
 use Rattle.id_graph.specs.declared.instr.Instr.{Instr}
-use Rattle.id_build.specs.declared.arc.Arc.{Arc}
 use Rattle.id_build.specs.Made.{arc_of, arcs_in, connected, IsBetween, pieces_in}
 use Rattle.id_build.specs.Rows.{feeds}
 use Rattle.id_build.proofs.BuildableLemmas.{IsBuildable-checked, is_order}
@@ -29,29 +28,27 @@ loop-n-init c =
       between = IsFrom-arcs_in P order F (IsBuildable-checked P) (is_order P order c.requires.order) c.requires.firsts;
     }
 
-pub push_feeds-requires-clause-within : goal.push_feeds-requires-clause-within
-push_feeds-requires-clause-within c =
+pub connect_row-requires-clause-within : goal.connect_row-requires-clause-within
+connect_row-requires-clause-within c =
     let order = c.args.order.now in
     (is_order c.args.checked.now order c.requires.order).within (get_or order c.loop-n.n-index 0) (Among-get_or order c.loop-n.n-index (omega arith))
 
-pub connect_all-requires-clause-from : goal.connect_all-requires-clause-from
-connect_all-requires-clause-from c =
+pub connect_row-requires-clause-few : goal.connect_row-requires-clause-few
+connect_row-requires-clause-few c = omega (arith, c.loop-n.invariant.long, c.requires.few)
+
+pub connect_row-requires-clause-between : goal.connect_row-requires-clause-between
+connect_row-requires-clause-between c =
     let P = c.args.checked.now in
     let F = c.args.firsts.items in
     let order = c.args.order.now in
     let i = c.loop-n.n-index in
     let n = get_or order i 0 in
+    let m = length (pieces_in P order) in
     let own = map (arc_of F n) (feeds P n) in
-    let vs : c.as_slice.result.now ≡ own = c.as_slice.ensures.value ∙ c.in_ok-push_feeds.ensures.list
-    ∙ ap (λ (f : List ℕ). c.loop-n.arcs.list.items ++ map (arc_of f n) (feeds P n)) c.loop-n.invariant.firsts
-    ∙ ap (λ (z : List Arc). z ++ own) c.loop-n.invariant.list in
-    let both = subst (All (IsBetween (length (pieces_in P order)))) (arcs_in-at P F order i (omega arith)) c.loop-n.invariant.between in
-    let mine = AreBetween-left (length (pieces_in P order)) own (arcs_in P F (drop (i + 1) order)) both in
-    subst (λ (m : ℕ). All (IsBetween m) c.as_slice.result.now) (sym c.loop-n.invariant.long)
-    (subst (All (IsBetween (length (pieces_in P order)))) (sym vs) mine)
-
-pub connect_all-requires-clause-few : goal.connect_all-requires-clause-few
-connect_all-requires-clause-few c = omega (arith, c.loop-n.invariant.long, c.requires.few)
+    let both = subst (All (IsBetween m)) (arcs_in-at P F order i (omega arith)) c.loop-n.invariant.between in
+    let mine = AreBetween-left m own (arcs_in P F (drop (i + 1) order)) both in
+    subst (λ (k : ℕ). All (IsBetween k) (map (arc_of c.loop-n.arcs.firsts.items n) (feeds P n))) (sym c.loop-n.invariant.long)
+    (subst (λ (f : List ℕ). All (IsBetween m) (map (arc_of f n) (feeds P n))) (sym c.loop-n.invariant.firsts) mine)
 
 pub loop-n-preserved : goal.loop-n-preserved
 loop-n-preserved c =
@@ -63,16 +60,15 @@ loop-n-preserved c =
     let own = map (arc_of F n) (feeds P n) in
     let rest = arcs_in P F (drop (i + 1) order) in
     let is = c.loop-n.instrs.items in
-    let vs : c.as_slice.result.now ≡ own = c.as_slice.ensures.value ∙ c.in_ok-push_feeds.ensures.list
-    ∙ ap (λ (f : List ℕ). c.loop-n.arcs.list.items ++ map (arc_of f n) (feeds P n)) c.loop-n.invariant.firsts
-    ∙ ap (λ (z : List Arc). z ++ own) c.loop-n.invariant.list in
+    let made = c.in_ok-connect_row.ensures.instrs
+    ∙ ap (λ (f : List ℕ). fold connected is (map (arc_of f n) (feeds P n))) c.loop-n.invariant.firsts in
     let here = arcs_in-at P F order i (omega arith) in
     record {
-      firsts = c.in_ok-push_feeds.ensures.firsts ∙ c.loop-n.invariant.firsts;
-      list = c.clear.ensures.items;
-      instrs = ap (λ (z : List Instr). fold connected z rest) (c.in_ok-connect_all.ensures ∙ ap (fold connected is) vs)
+      firsts = c.in_ok-connect_row.ensures.firsts ∙ c.loop-n.invariant.firsts;
+      list = c.in_ok-connect_row.ensures.empty;
+      instrs = ap (λ (z : List Instr). fold connected z rest) made
           ∙ sym (fold-append connected is own rest) ∙ ap (fold connected is) (sym here) ∙ c.loop-n.invariant.instrs;
-      long = ap length c.in_ok-connect_all.ensures ∙ length-connected is c.as_slice.result.now ∙ c.loop-n.invariant.long;
+      long = ap length made ∙ length-connected is own ∙ c.loop-n.invariant.long;
       between = AreBetween-right (length (pieces_in P order)) own rest (subst (All (IsBetween (length (pieces_in P order)))) here c.loop-n.invariant.between);
     }
 
