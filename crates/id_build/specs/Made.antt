@@ -2,7 +2,8 @@
 use Rattle.std.specs.Prelude.{◌≡◌, ℕ, zero, suc, ◌+◌, ◌^◌, ◌<◌, ◌≤◌, ◌==◌, Bool, true, false, if◌then◌else◌, ◌&&◌}
 use Rattle.std.specs.Prelude.{List, [], ◌∷◌, ◌++◌, map, length, slice_get, unwrap_or}
 use Rattle.std.specs.Bool.{beq}
-use Rattle.id_parts.specs.declared.row.Node.TheVariants.{LoopHead}
+use Rattle.id_parts.specs.declared.row.Node.{Node}
+use Rattle.id_parts.specs.declared.row.Node.TheVariants.{LoopHead, Start, Variable, Entries, Turn}
 use Rattle.id_check.specs.declared.checked.Checked.{Checked}
 use Rattle.id_check.specs.Programs.{rows}
 use Rattle.id_desugar.specs.Regions.{imports_of}
@@ -46,6 +47,15 @@ arc_to firsts o m p = record { from = number_by firsts o.row o.part; side = o.si
 -- an arc to an instruction of the row n
 abbrev pub arc_of : List ℕ → ℕ → Feed → Arc
 arc_of firsts n f = arc_to firsts f.origin (number_by firsts n f.part) f.port
+
+-- whether a row of this node is a marker of a loop that has instructions
+abbrev pub is_of_loop : Node → Bool
+is_of_loop Start = true
+is_of_loop (LoopHead t) = true
+is_of_loop Variable = true
+is_of_loop Entries = true
+is_of_loop Turn = true
+is_of_loop _ = false
 
 -- the arcs to the instructions of these rows
 abbrev pub arcs_in : Checked → List ℕ → List ℕ → List Arc

@@ -1,6 +1,6 @@
 //! The arcs to the instructions of a row (docs/GRAPH.md, "Schemas").
 
-ghost use Rattle.std.specs.Prelude.{◌≡◌, ◌++◌, ◌<◌, ◌+◌, ◌-◌, ◌^◌, ◌∷◌, [], length, map, false, IfErr, OnOk};
+ghost use Rattle.std.specs.Prelude.{◌≡◌, ◌++◌, ◌<◌, ◌+◌, ◌-◌, ◌^◌, ◌∷◌, [], length, map, true, false, IfErr, OnOk};
 ghost use Rattle.id_check.specs.Programs as programs;
 ghost use Rattle.id_desugar.specs.Regions as regions;
 ghost use Rattle.id_build.specs.Rows.{body_of, entry_feeds, feeds, feeds_of, first_binder, import_feeds};
@@ -11,7 +11,7 @@ ghost use Rattle.id_parts.specs.Rows.{at};
 ghost use Rattle.id_parts.specs.Tables.{is_thing};
 ghost use Rattle.id_graph.specs.declared.dests.Port.TheVariants.{Zero, One};
 ghost use Rattle.id_desugar.specs.Ends.{end_of};
-ghost use Rattle.id_build.specs.Made.{arc_of, arc_to, number_by};
+ghost use Rattle.id_build.specs.Made.{arc_of, arc_to, is_of_loop, number_by};
 ghost use Rattle.id_build.specs.Slots.{AreSlots};
 
 use crate::arc::{Arc, Origin};
@@ -99,6 +99,32 @@ fn push_marker(
         Node::Split { test } | Node::Switches { test } => {
             push_split(checked, slots, n, row.region, test, arcs)
         }
+        Node::Start | Node::LoopHead { .. } | Node::Variable | Node::Entries | Node::Turn => {
+            push_of_loop(checked, slots, n, row, arcs)
+        }
+        _ => Ok(()),
+    }
+}
+
+/// Adds the arcs to the instructions of the row n, which is a marker of a loop that has some.
+#[inline(always)]
+fn push_of_loop(
+    checked: &Checked,
+    slots: &Slots<'_>,
+    n: usize,
+    row: Row,
+    arcs: &mut Arcs,
+) -> Result<(), BuildError>
+    requires slots { AreSlots checked.now slots.now }
+    requires within { n < length (programs.rows checked.now) }
+    requires row { row ≡ at (programs.rows checked.now) n }
+    requires marker { is_of_loop row.node ≡ true }
+    ensures list { OnOk result (arcs.new.list.items
+        ≡ arcs.old.list.items ++ map (arc_of arcs.old.firsts.items n) (feeds checked.now n)) }
+    ensures firsts { arcs.new.firsts.items ≡ arcs.old.firsts.items }
+    ensures memory { IfErr result (λ e. e ≡ BuildError.Memory) }
+{
+    match row.node {
         Node::Start => push_start(checked, slots, n, row.region, arcs),
         Node::LoopHead { .. } => push_loop_head(checked, slots, n, arcs),
         Node::Variable => arcs.push_first(output(slots.columns.next(checked, n)), n),

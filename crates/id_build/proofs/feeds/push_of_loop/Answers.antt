@@ -3,7 +3,7 @@ use Rattle.std.proofs.Common.{◌≡◌, ◌∙◌, ap, arith, sym}
 use Rattle.id_parts.specs.declared.row.Node.TheVariants.{Entries}
 use Rattle.id_build.specs.Rows.{node}
 use Rattle.id_build.proofs.BuildableLemmas.{entries_head}
-use Rattle.id_build.proofs.feeds.push_marker.Goals as goal
+use Rattle.id_build.proofs.feeds.push_of_loop.Goals as goal
 
 pub push_entries-requires-clause-within : goal.push_entries-requires-clause-within
 push_entries-requires-clause-within c =
