@@ -10,6 +10,7 @@ use Rattle.id_build.specs.Made.{number_by}
 use Rattle.id_build.specs.Rows.{node}
 use Rattle.id_build.specs.Schemas.{block_of, loop_heads_below}
 use Rattle.id_build.proofs.BlocksLemmas.{blocks_push, head_no_loop, heads_next, heads_same, loop_heads_next, loop_heads_same}
+use Rattle.id_build.proofs.ResultLemmas.{if_err, if_ok}
 use Rattle.id_build.proofs.program.blocks.Goals as goal
 use Rattle.id_build.proofs.program.blocks.Goals.{then-is_head+in_ok-entries+in_ok-add_block, else-is_head+then-is_loop_head+in_ok-push}
 use Rattle.id_build.proofs.program.blocks.Goals.{else-is_head+else-is_loop_head}
@@ -66,3 +67,15 @@ returns-clause-blocks c =
     ∙ ap (λ l. map f (heads_below (rows P) n) ++ map f l) (c.as_slice.ensures.value ∙ c.loop-head.invariant.loops)
     ∙ sym (map-append f (heads_below (rows P) n) (loop_heads_below P n))
     ∙ ap (λ k. map f (heads_below (rows P) k ++ loop_heads_below P k)) end
+
+pub returns-in_err-entries : goal.returns-in_err-entries
+returns-in_err-entries c = record {
+  blocks = if_ok _ c.from_residual.result c.from_residual.ensures.0;
+  memory = if_err _ c.from_residual.result _ c.from_residual.ensures.1 c.in_err-entries.ensures.memory;
+}
+
+pub returns-in_err-add_block : goal.returns-in_err-add_block
+returns-in_err-add_block c = record {
+  blocks = if_ok _ c.from_residual-in_err-add_block.result c.from_residual-in_err-add_block.ensures.0;
+  memory = if_err _ c.from_residual-in_err-add_block.result _ c.from_residual-in_err-add_block.ensures.1 c.in_err-add_block.ensures.memory;
+}
