@@ -27,19 +27,29 @@ pub fn find_ends(alloc: Global, checked: &Checked) -> Result<Column, AllocError>
     Ok(ends)
 }
 
-/// For each row of a variable the row of its `next`.
-pub fn find_nexts(alloc: Global, checked: &Checked) -> Result<Column, AllocError>
-    ensures { IfOk result (AreNexts checked.now) }
+/// For each row the row where what begins there ends, and for each row of a variable that of its `next`.
+#[derive(Drop)]
+pub struct EndsAndNexts {
+    pub ends: Column,
+    pub nexts: Column,
+}
+
+/// Both, found in one pass over the rows.
+pub fn find_ends_and_nexts(alloc: Global, checked: &Checked) -> Result<EndsAndNexts, AllocError>
+    ensures ends { IfOk result (λ f. AreEnds checked.now f.ends) }
+    ensures nexts { IfOk result (λ f. AreNexts checked.now f.nexts) }
 {
     let count = checked.table.rows.len();
     if count > MOST {
         return Err(AllocError);
     }
+    let mut ends = Column::none(alloc, count)?;
     let mut nexts = Column::none(alloc, count)?;
     for n in 0..count {
+        note(&mut ends, n as u32, begun_at(row_at(checked, n).node));
         note(&mut nexts, n as u32, variable_at(checked, count, n));
     }
-    Ok(nexts)
+    Ok(EndsAndNexts { ends, nexts })
 }
 
 /// Where what ends at a row of this node begins, if something does. Takes no memory.

@@ -6,7 +6,7 @@ ghost use Rattle.id_desugar.specs.Ends.{AreEnds, AreNexts};
 ghost use Rattle.id_desugar.specs.Regions.{all_imports, order_of};
 
 use crate::column::Column;
-use crate::ends::{find_ends, find_nexts};
+use crate::ends::{EndsAndNexts, find_ends_and_nexts};
 use crate::imports::all_imports;
 use crate::list::AllImports;
 use crate::order::order_of;
@@ -35,8 +35,7 @@ pub fn regions<'a>(alloc: Global, checked: &'a Checked) -> Result<Kernel<'a>, Al
     ensures { IfOk result (λ k. k.checked.now ≡ checked.now) }
 {
     let order = order_of(alloc, checked)?;
-    let ends = find_ends(alloc, checked)?;
-    let nexts = find_nexts(alloc, checked)?;
+    let EndsAndNexts { ends, nexts } = find_ends_and_nexts(alloc, checked)?;
     let imports = all_imports(alloc, checked, &ends, &nexts)?;
     Ok(Kernel {
         checked,
