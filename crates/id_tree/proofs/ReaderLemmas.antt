@@ -32,7 +32,7 @@ use Rattle.id_tree.specs.Machine.{Accepted, Refused, run}
 use Rattle.id_tree.specs.Readers.{first_kind, first_start, truth_in, IsBehind, IsRead, EndsBy, IsPrefix, Leads, Fails}
 use Rattle.id_tree.specs.Readers.{Defines, Grows, Stunts, Takes, Misses, BeginsWithName, NoName, LacksName, Encloses}
 use Rattle.id_tree.specs.Readers.{Exposes, def_trees, Amasses, is_within, rung, beyond, ladder, may_deny, open_behind}
-use Rattle.id_tree.specs.Readers.{operator_in, kept_within, operator_within, Rises}
+use Rattle.id_tree.specs.Readers.{operator_in, kept_within, operator_within, open_first, Rises}
 use Rattle.id_tree.proofs.RowLemmas.{opening-from_opens, same-is_word}
 use Rattle.id_tree.proofs.RunLemmas.{First, Unopened, run-step, run-deep, run-none, run-word, run-name, run-chosen}
 use Rattle.id_tree.proofs.RunLemmas.{run-left_out, run-opens, run-opens-deep, run-operator, run-done, run-part}
@@ -514,15 +514,18 @@ module _ (ts : List Token) (d : ℕ) where
   denial _ g K = absurd g
 
 module _ {ts : List Token} {d : ℕ} where
-  pub Rises-operand : {us : List Token} {e : Tree} {h : ℕ} (l : Level) → (may_deny l × (first_kind ts ≡ Key Not) → ⊥) →
-      Leads ts Unary d us e h → Rises ts l d level.Product us e h
-  Rises-operand l f q = record { comes = λ K. inmost ts d l f K ∙ q.comes (ladder level.Product l d K) }
+  pub Rises-operand : {us : List Token} {e : Tree} {h : ℕ} (l : Level) (b : Bool) → b ≡ false → (may_deny l × (first_kind ts ≡ Key Not) → ⊥) →
+      Leads ts Unary d us e h → Rises ts l d (open_first b) us e h
+  Rises-operand l true i f q = cc
+  Rises-operand l false i f q = record { comes = λ K. inmost ts d l f K ∙ q.comes (ladder level.Product l d K) }
 
   pub Operand-fails : {x : TreeError} (l : Level) → (may_deny l × (first_kind ts ≡ Key Not) → ⊥) → Fails ts Unary d x → Fails ts (Grouped l) d x
   Operand-fails {x = x} l f q = record { fails = λ K. EndsBy-at x (inmost ts d l f K) (q.fails (ladder level.Product l d K)) }
 
-  pub Rises-denied : {us : List Token} {e : Tree} {h : ℕ} (l : Level) → may_deny l → Leads ts Negation d us e h → Rises ts l d level.And us e h
-  Rises-denied l g q = record { comes = λ K. denial ts d l g K ∙ q.comes (ladder level.And l d K) }
+  pub Rises-denied : {us : List Token} {e : Tree} {h : ℕ} (l : Level) (b : Bool) → b ≡ true → may_deny l →
+      Leads ts Negation d us e h → Rises ts l d (open_first b) us e h
+  Rises-denied l false i g q = cc
+  Rises-denied l true i g q = record { comes = λ K. denial ts d l g K ∙ q.comes (ladder level.And l d K) }
 
   pub Denied-fails : {x : TreeError} (l : Level) → may_deny l → Fails ts Negation d x → Fails ts (Grouped l) d x
   Denied-fails {x = x} l g q = record { fails = λ K. EndsBy-at x (denial ts d l g K) (q.fails (ladder level.And l d K)) }

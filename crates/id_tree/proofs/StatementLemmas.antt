@@ -1,5 +1,5 @@
 -- The statements of a block and of a loop, and the arguments of a call, as a list and as its row.
-use Rattle.std.proofs.Common.{◌≡◌, ℕ, List, Vec, Box, Global, refl, ap, ◌∙◌}
+use Rattle.std.proofs.Common.{◌≡◌, ℕ, Box, Global, refl, ap, ◌∙◌}
 use mathlib.Core.Former.{Count}
 use Rattle.id_tree.specs.declared.tree.Expr.{Expr, Call, Call', Block, Block', Loop, Loop', Row_of-Expr, end_of-Expr}
 use Rattle.id_tree.specs.declared.tree.Expr.{more_of-Expr, items-the_row-Expr, items_hidden-the_row-Expr-0}
@@ -8,7 +8,6 @@ use Rattle.id_tree.specs.declared.tree.Expr.{items_hidden-the_row-Stmt-1}
 use Rattle.id_tree.specs.declared.tree.Call.{Call as Passing}
 use Rattle.id_tree.specs.declared.tree.Block.{Block as Inner}
 use Rattle.id_tree.specs.declared.tree.Loop.{Loop as Round}
-use Rattle.id_tree.specs.declared.tree.Stmt.{Stmt}
 use Rattle.id_tree.specs.Tree.{tree_of, args_tree, stmt_tree, row_tree, call, block, loop, none, more}
 use Rattle.id_tree.specs.Readers.{onto, passed}
 

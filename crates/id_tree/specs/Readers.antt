@@ -6,11 +6,9 @@ use Rattle.id_text.specs.declared.token.Token.{Token}
 use Rattle.id_text.specs.declared.token.TokenKind.{TokenKind}
 use Rattle.id_text.specs.declared.token.TokenKind.TheVariants.{Name, Number, Key, Sign, End}
 use Rattle.id_text.specs.declared.token.Keyword.{Keyword}
-use Rattle.id_text.specs.declared.token.Keyword.TheVariants.{If, Finally, In, Not, True, False, Array, Div, Rem, And}
-use Rattle.id_text.specs.declared.token.Keyword.TheVariants.{Or}
+use Rattle.id_text.specs.declared.token.Keyword.TheVariants.{If, Finally, In, Not, True, False, Array}
 use Rattle.id_text.specs.declared.token.Symbol.TheVariants.{LeftParen, LeftBrace, LeftBracket, Colon, Becomes}
-use Rattle.id_text.specs.declared.token.Symbol.TheVariants.{Minus, Plus, Star}
-use Rattle.id_text.specs.declared.token.Symbol.TheVariants.{Equal, NotEqual, Less, LessEqual, Greater, GreaterEqual}
+use Rattle.id_text.specs.declared.token.Symbol.TheVariants.{Minus}
 use Rattle.id_tree.specs.declared.parser.Level.{Level}
 use Rattle.id_tree.specs.declared.parser.Level.TheVariants as level
 use Rattle.id_tree.specs.declared.parser.Scope.{Scope}
@@ -19,10 +17,6 @@ use Rattle.id_tree.specs.declared.tokens.Word.{Word}
 use Rattle.id_value.specs.declared.Kind.{Kind}
 use Rattle.id_value.specs.declared.UnaryOp.{UnaryOp}
 use Rattle.id_value.specs.declared.BinaryOp.{BinaryOp}
-use Rattle.id_value.specs.declared.BinaryOp.TheVariants as op
-use Rattle.id_value.specs.declared.Arithmetic.TheVariants as arithmetic
-use Rattle.id_value.specs.declared.Comparison.TheVariants as comparison
-use Rattle.id_value.specs.declared.Logic.TheVariants as logic
 use Rattle.id_tree.specs.declared.tree.Expr.{Expr}
 use Rattle.id_tree.specs.declared.tree.Stmt.{Stmt}
 use Rattle.id_tree.specs.declared.tree.Param.{Param}
@@ -125,6 +119,11 @@ may_deny _ = ⊥
 abbrev pub open_behind : Level → Level
 open_behind level.Comparison = level.And
 open_behind l = l
+
+-- the innermost level that is open behind the first operand, by whether that is denied
+abbrev pub open_first : Bool → Level
+open_first true = level.And
+open_first false = level.Product
 
 -- the kind is a bracket, behind which the arguments of a call or the index of a fetch stand
 abbrev pub IsBracket : TokenKind → Type 0

@@ -6,6 +6,7 @@ ghost use Rattle.id_tree.specs.Readers.{
   first_kind,
   may_deny,
   open_behind,
+  open_first,
   rank,
   operator_within,
   kept_within,
@@ -27,6 +28,13 @@ pub fn denies(tokens: &[Token], level: Level) -> bool
         Level::Or | Level::And => begins_with(tokens, Keyword::Not),
         Level::Comparison | Level::Sum | Level::Product => false,
     }
+}
+
+/// The innermost level that is open behind the first operand, by whether that is denied.
+pub fn open_first(denied: bool) -> Level
+    ensures { result ≡ open_first denied }
+{
+    if denied { Level::And } else { Level::Product }
 }
 
 /// The innermost level that is open behind an operator of this one and its operands: of comparisons there is one.

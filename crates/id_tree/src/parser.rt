@@ -22,6 +22,8 @@ ghost use Rattle.id_tree.specs.Readers.{
   first_kind,
   second_kind,
   last_word,
+  may_deny,
+  open_first,
   IsRead,
   IsPrefix,
   Leads,
@@ -44,7 +46,7 @@ ghost use Rattle.id_tree.specs.Readers.{
   Rises,
 };
 
-use crate::operators::{begins_with_bracket, denies, open_behind, operator_within};
+use crate::operators::{begins_with_bracket, denies, open_behind, open_first, operator_within};
 use crate::part::{
     Part, array, binary, binding, block, call, conditional, fetch, fitted, name, next, number,
     store, truth, unary, whole_loop,
@@ -140,7 +142,9 @@ fn parse_grouped(
         Leads tokens.now (Grouped level) depth x.1.now (tree_of x.0.expr) x.0.height) }
     ensures err { IfErr result (Fails tokens.now (Grouped level) depth) }
 {
-    let (mut left, mut inner, mut rest) = parse_first(alloc, tokens, level, depth)?;
+    let denied = denies(tokens, level);
+    let (mut left, mut rest) = parse_first(alloc, tokens, denied, level, depth)?;
+    let mut inner = open_first(denied);
     'operators: while let Some((at, op)) = operator_within(rest, inner, level) {
         let (grown, behind) = parse_right(alloc, left, op, rest, at, depth)?;
         left = grown;
@@ -150,28 +154,29 @@ fn parse_grouped(
     Ok((left, rest))
 }
 
-/// The first operand of a level, and the innermost level that is open behind it.
+/// The first operand of a level, which begins with a `not` if it is denied.
 #[inline(always)]
 #[cycle(expr)]
 fn parse_first(
     alloc: Global,
     tokens: &[Token],
+    denied: bool,
     level: Level,
     depth: usize,
-) -> Result<(Part, Level, &[Token]), TreeError>
+) -> Result<(Part, &[Token]), TreeError>
     requires ends { EndsOnce tokens.now }
+    requires denied { IsTrue denied ↔
+        (may_deny level × (first_kind tokens.now ≡ TokenKind.Key Keyword.Not)) }
     requires room { depth < MAX_NESTING }
-    ensures read { IfOk result (λ x. IsRead tokens.now x.2.now depth x.0.height) }
+    ensures read { IfOk result (λ x. IsRead tokens.now x.1.now depth x.0.height) }
     ensures ok { IfOk result (λ x.
-        Rises tokens.now level depth x.1 x.2.now (tree_of x.0.expr) x.0.height) }
+        Rises tokens.now level depth (open_first denied) x.1.now (tree_of x.0.expr) x.0.height) }
     ensures err { IfErr result (Fails tokens.now (Grouped level) depth) }
 {
-    if denies(tokens, level) {
-        let (left, rest) = parse_prefixed(alloc, UnaryOp::Not, tokens, Level::And, depth)?;
-        Ok((left, Level::And, rest))
+    if denied {
+        parse_prefixed(alloc, UnaryOp::Not, tokens, Level::And, depth)
     } else {
-        let (left, rest) = parse_unary(alloc, tokens, depth)?;
-        Ok((left, Level::Product, rest))
+        parse_unary(alloc, tokens, depth)
     }
 }
 

@@ -9,7 +9,7 @@ use Rattle.id_tree.specs.declared.parser.Level.TheVariants as level
 use Rattle.id_tree.specs.declared.parser.Scope.TheVariants as scope
 use Rattle.id_tree.specs.Grammar.{Expression, Grouped, Negation, Unary, Postfix, Atom, Tail}
 use Rattle.id_tree.specs.Readers.{first_kind, second_kind, truth_in, IsRead, IsGathered, Leads, Fails, Adds, Assigns}
-use Rattle.id_tree.specs.Readers.{Misassigns, Applies, Misapplies, may_deny, IsBracket}
+use Rattle.id_tree.specs.Readers.{Misassigns, Applies, Misapplies, may_deny, IsBracket, Rises, open_first}
 use Rattle.id_tree.specs.Tree.{tree_of, stmt_tree, store}
 use Rattle.id_tree.proofs.ReaderLemmas.{IsRead-then, Rises-grows, Rises-stunts, Rises-ends, Rises-operand}
 use Rattle.id_tree.proofs.ReaderLemmas.{Operand-fails, Rises-denied, Denied-fails, operator-at, Right-deep}
@@ -79,27 +79,31 @@ parse_first-parse_prefixed-requires t c =
     let is : may_deny c.args.level × (first_kind c.args.tokens.now ≡ Key Not) = search rules in
     (grind (arith, common_steps), (c.requires.ends, (opens_denied is.1, c.requires.room)))
 
-pub parse_first-returns-in_err-left-clause-err : goal.parse_first-returns-in_err-left-clause-err
-parse_first-returns-in_err-left-clause-err t c =
+pub parse_first-returns-then-denied-clause-ok : goal.parse_first-returns-then-denied-clause-ok
+parse_first-returns-then-denied-clause-ok t c =
     let is : may_deny c.args.level × (first_kind c.args.tokens.now ≡ Key Not) = search rules in
-    let p = err_from_is_err_and c.from_residual.result c.from_residual.ensures.1 in
-    rw (p.1, p.2) (Denied-fails c.args.level is.0 c.in_err-left.ensures.err)
+    IfOk-weaker c.parse_prefixed.result (λ x. Leads c.args.tokens.now Negation c.args.depth x.1.now (tree_of x.0.expr) x.0.height)
+    (λ x. Rises c.args.tokens.now c.args.level c.args.depth (open_first c.args.denied) x.1.now (tree_of x.0.expr) x.0.height)
+    (λ x q. Rises-denied c.args.level c.args.denied c.if-denied.true is.0 q) c.parse_prefixed.ensures.ok
 
-pub parse_first-returns-in_ok-left-clause-ok : goal.parse_first-returns-in_ok-left-clause-ok
-parse_first-returns-in_ok-left-clause-ok t c =
+pub parse_first-returns-then-denied-clause-err : goal.parse_first-returns-then-denied-clause-err
+parse_first-returns-then-denied-clause-err t c =
     let is : may_deny c.args.level × (first_kind c.args.tokens.now ≡ Key Not) = search rules in
-    Rises-denied c.args.level is.0 c.in_ok-left.ensures.ok
+    IfErr-weaker c.parse_prefixed.result (Fails c.args.tokens.now Negation c.args.depth)
+    (Fails c.args.tokens.now (Grouped c.args.level) c.args.depth) (λ x q. Denied-fails c.args.level is.0 q) c.parse_prefixed.ensures.err
 
-pub parse_first-returns-in_err-left-2-clause-err : goal.parse_first-returns-in_err-left-2-clause-err
-parse_first-returns-in_err-left-2-clause-err t c =
+pub parse_first-returns-else-denied-clause-ok : goal.parse_first-returns-else-denied-clause-ok
+parse_first-returns-else-denied-clause-ok t c =
     let is_not : may_deny c.args.level × (first_kind c.args.tokens.now ≡ Key Not) → ⊥ = search rules in
-    let p = err_from_is_err_and c.from_residual-in_err-left-2.result c.from_residual-in_err-left-2.ensures.1 in
-    rw (p.1, p.2) (Operand-fails c.args.level is_not c.in_err-left-2.ensures.err)
+    IfOk-weaker c.parse_unary.result (λ x. Leads c.args.tokens.now Unary c.args.depth x.1.now (tree_of x.0.expr) x.0.height)
+    (λ x. Rises c.args.tokens.now c.args.level c.args.depth (open_first c.args.denied) x.1.now (tree_of x.0.expr) x.0.height)
+    (λ x q. Rises-operand c.args.level c.args.denied c.if-denied.false is_not q) c.parse_unary.ensures.ok
 
-pub parse_first-returns-in_ok-left-2-clause-ok : goal.parse_first-returns-in_ok-left-2-clause-ok
-parse_first-returns-in_ok-left-2-clause-ok t c =
+pub parse_first-returns-else-denied-clause-err : goal.parse_first-returns-else-denied-clause-err
+parse_first-returns-else-denied-clause-err t c =
     let is_not : may_deny c.args.level × (first_kind c.args.tokens.now ≡ Key Not) → ⊥ = search rules in
-    Rises-operand c.args.level is_not c.in_ok-left-2.ensures.ok
+    IfErr-weaker c.parse_unary.result (Fails c.args.tokens.now Unary c.args.depth)
+    (Fails c.args.tokens.now (Grouped c.args.level) c.args.depth) (λ x q. Operand-fails c.args.level is_not q) c.parse_unary.ensures.err
 
 pub parse_grouped-parse_right-requires : goal.parse_grouped-parse_right-requires
 parse_grouped-parse_right-requires t c =
@@ -112,7 +116,7 @@ parse_grouped-returns-in_err-left-clause-err t c =
     rw (p.1, p.2) c.in_err-left.ensures.err
 
 pub parse_grouped-operators-init : goal.parse_grouped-operators-init
-parse_grouped-operators-init t c = (c.in_ok-left.ensures.read, c.in_ok-left.ensures.ok)
+parse_grouped-operators-init t c = (c.in_ok-left.ensures.read, rw c.open_first-inner.ensures c.in_ok-left.ensures.ok)
 
 pub parse_grouped-operators-preserved : goal.parse_grouped-operators-preserved
 parse_grouped-operators-preserved t c = (
