@@ -128,7 +128,9 @@ fn parse_params(alloc: Global, tokens: &[Token]) -> Result<(Vec<Param>, &[Token]
     }
 }
 
-/// Adds the parameter that the tokens begin with to the list, and gives the tokens behind it.
+/// `param = NAME ":" kind`
+///
+/// Adds the parameter to the list, and gives the tokens behind it.
 fn add_param<'a>(
     alloc: Global,
     params: &mut Vec<Param>,
@@ -140,20 +142,8 @@ fn add_param<'a>(
         (p : Param) × (params.new.items ≡ params.old.items ++ p ∷ []) × Declares tokens.now rest.now p) }
     ensures err { IfErr result (Undeclares tokens.now) }
 {
-    let (param, rest) = parse_param(alloc, tokens)?;
-    params.push(param)?;
-    Ok(rest)
-}
-
-/// `param = NAME ":" kind`
-fn parse_param(alloc: Global, tokens: &[Token]) -> Result<(Param, &[Token]), TreeError>
-    requires { EndsOnce tokens.now }
-    ensures behind { IfOk result (λ x. IsBehind x.1.now tokens.now) }
-    ensures ok { IfOk result (λ x. Declares tokens.now x.1.now x.0) }
-    ensures err { IfErr result (Undeclares tokens.now) }
-{
     let (name, place, typed) = expect_name(alloc, tokens)?;
     let (kind, rest) = expect_kind(typed)?;
-    let param = Param { name, kind, place };
-    Ok((param, rest))
+    params.push(Param { name, kind, place })?;
+    Ok(rest)
 }
