@@ -12,3 +12,4 @@ mod ParamLemmas
 mod CallLemmas
 mod ArrayLemmas
 mod StatementLemmas
+mod WholeLemmas

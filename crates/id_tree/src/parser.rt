@@ -49,7 +49,7 @@ ghost use Rattle.id_tree.specs.Readers.{
 use crate::operators::{begins_with_bracket, denies, open_behind, open_first, operator_within};
 use crate::part::{
     Part, array, binary, binding, block, call, conditional, fetch, fitted, name, next, number,
-    store, truth, unary, whole_loop,
+    store, truth, unary, whole_loop, with_rest,
 };
 use crate::tokens::{
     Word, begins_with, begins_with_sign, enter, expect_name, expect_word, is_sign, no_room, split,
@@ -118,8 +118,7 @@ fn parse_conditional(
     let (test, behind_then) = parse_enclosed(alloc, begun, Word::Key(Keyword::Then), inner)?;
     let (then, behind_else) = parse_enclosed(alloc, behind_then, Word::Key(Keyword::Else), inner)?;
     let (otherwise, rest) = parse_expression(alloc, behind_else, inner)?;
-    let whole = conditional(alloc, test, then, otherwise, first.start)?;
-    Ok((whole, rest))
+    with_rest(conditional(alloc, test, then, otherwise, first.start), rest)
 }
 
 /// `or = and { "or" and }`, `and = not { "and" not }`,
@@ -202,8 +201,7 @@ fn parse_right(
 {
     let (first, behind) = enter(tokens, depth + left.height + 1)?;
     let (right, rest) = parse_operand(alloc, behind, level, depth + 1)?;
-    let whole = binary(alloc, op, left, right, first.start)?;
-    Ok((whole, rest))
+    with_rest(binary(alloc, op, left, right, first.start), rest)
 }
 
 /// An operand of a level.
@@ -272,8 +270,7 @@ fn parse_prefixed(
     let inner = depth + 1;
     let (first, behind) = enter(tokens, inner + 1)?;
     let (operand, rest) = parse_operand(alloc, behind, level, inner)?;
-    let whole = unary(alloc, op, operand, first.start)?;
-    Ok((whole, rest))
+    with_rest(unary(alloc, op, operand, first.start), rest)
 }
 
 /// `unary = "-" unary | postfix`
@@ -374,8 +371,7 @@ fn parse_fetch(
     let (first, begun) = enter(tokens, depth + target.height + 1)?;
     let bracket = Word::Sign(Symbol::RightBracket);
     let (index, rest) = parse_enclosed(alloc, begun, bracket, depth + 1)?;
-    let whole = fetch(alloc, target, index, first.start)?;
-    Ok((whole, rest))
+    with_rest(fetch(alloc, target, index, first.start), rest)
 }
 
 /// `atom = "(" expr ")" | block | loop | array | leaf`
@@ -415,8 +411,7 @@ fn parse_array(alloc: Global, tokens: &[Token], depth: usize) -> Result<(Part, &
     let opened = expect_word(behind, Word::Sign(Symbol::LeftParen))?;
     let (low, begun) = parse_enclosed(alloc, opened, Word::Sign(Symbol::Comma), inner)?;
     let (high, rest) = parse_enclosed(alloc, begun, Word::Sign(Symbol::RightParen), inner)?;
-    let whole = array(alloc, low, high, first.start)?;
-    Ok((whole, rest))
+    with_rest(array(alloc, low, high, first.start), rest)
 }
 
 /// `"(" expr ")"`
@@ -501,8 +496,7 @@ fn parse_block(alloc: Global, tokens: &[Token], depth: usize) -> Result<(Part, &
     let (statements, height, last) = parse_statements(alloc, opened, Scope::Block, inner)?;
     let (_, begun) = split(last);
     let (body, rest) = parse_enclosed(alloc, begun, Word::Sign(Symbol::RightBrace), inner)?;
-    let whole = block(alloc, statements, height, body, first.start)?;
-    Ok((whole, rest))
+    with_rest(block(alloc, statements, height, body, first.start), rest)
 }
 
 /// `loop = "{" "while" expr "do" { stmt | next } "finally" expr "}"`
@@ -524,8 +518,10 @@ fn parse_loop(alloc: Global, tokens: &[Token], depth: usize) -> Result<(Part, &[
     let (statements, height, ending) = parse_statements(alloc, begun, Scope::Loop, inner)?;
     let (_, left) = split(ending);
     let (last, rest) = parse_enclosed(alloc, left, Word::Sign(Symbol::RightBrace), inner)?;
-    let whole = whole_loop(alloc, test, statements, height, last, first.start)?;
-    Ok((whole, rest))
+    with_rest(
+        whole_loop(alloc, test, statements, height, last, first.start),
+        rest,
+    )
 }
 
 /// `{ stmt }` or `{ stmt | next }`, with the greatest height of a part, and the tokens from the last word on.
@@ -689,8 +685,7 @@ fn parse_named(
     if begins_with_sign(tokens, Symbol::LeftParen) {
         let (_, opened) = split(tokens);
         let (args, height, rest) = parse_arguments(alloc, opened, depth + 1)?;
-        let whole = call(alloc, x, args, height, place)?;
-        Ok((whole, rest))
+        with_rest(call(alloc, x, args, height, place), rest)
     } else {
         let whole = name(x, place);
         Ok((whole, tokens))

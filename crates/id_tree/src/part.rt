@@ -1,6 +1,6 @@
 //! Parts that were read, and how the expressions round them are made of them.
 
-ghost use Rattle.std.specs.Prelude.{◌≡◌, ◌+◌, ◌<◌, ◌^◌, IfOk, IfErr, max};
+ghost use Rattle.std.specs.Prelude.{Ok, Err, ◌≡◌, ◌+◌, ◌<◌, ◌^◌, IfOk, IfErr, max};
 ghost use Rattle.id_tree.specs.declared.tree.TreeError.TheVariants.{Memory};
 ghost use Rattle.id_value.specs.declared.Constant.TheVariants as constant;
 ghost use Rattle.id_tree.specs.Tree.{tree_of, stmt_tree, none};
@@ -8,7 +8,7 @@ ghost use Rattle.id_tree.specs.Tree as tree;
 ghost use Rattle.id_tree.specs.Readers.{onto, passed};
 
 use crate::tree::{Block, Call, Expr, Loop, Pair, Stmt, TreeError, Triple};
-use id_text::Identifier;
+use id_text::{Identifier, Token};
 use id_value::{BinaryOp, Constant, UnaryOp};
 use std::alloc::Global;
 
@@ -201,6 +201,19 @@ pub fn fetch(alloc: Global, target: Part, index: Part, place: u32) -> Result<Par
     let inside = pair(alloc, target, index)?;
     let expr = Expr::Fetch { place, inside };
     Ok(Part { expr, height })
+}
+
+/// The part, if it was made, with the tokens behind it.
+#[inline(always)]
+pub fn with_rest(
+    whole: Result<Part, TreeError>,
+    rest: &[Token],
+) -> Result<(Part, &[Token]), TreeError>
+    ensures ok { IfOk result (λ x. (whole ≡ Ok x.0) × (x.1.now ≡ rest.now)) }
+    ensures err { IfErr result (λ e. whole ≡ Err e) }
+{
+    let whole = whole?;
+    Ok((whole, rest))
 }
 
 /// The name for the value of an expression.

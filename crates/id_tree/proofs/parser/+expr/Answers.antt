@@ -7,9 +7,9 @@ use Rattle.id_text.specs.declared.token.Symbol.TheVariants.{Minus, LeftParen, Ri
 use Rattle.id_text.specs.declared.token.Keyword.TheVariants.{If, While, Next, Not}
 use Rattle.id_tree.specs.declared.parser.Level.TheVariants as level
 use Rattle.id_tree.specs.declared.parser.Scope.TheVariants as scope
-use Rattle.id_tree.specs.Grammar.{Expression, Grouped, Negation, Unary, Postfix, Atom, Tail}
+use Rattle.id_tree.specs.Grammar.{operand, Expression, Grouped, Negation, Unary, Postfix, Atom, Tail}
 use Rattle.id_tree.specs.Readers.{first_kind, second_kind, truth_in, IsRead, IsGathered, Leads, Fails, Adds, Assigns}
-use Rattle.id_tree.specs.Readers.{Misassigns, Applies, Misapplies, may_deny, IsBracket, Rises, open_first}
+use Rattle.id_tree.specs.Readers.{Misassigns, Applies, Misapplies, may_deny, IsBracket, Rises, open_first, Stunts, Misindexes}
 use Rattle.id_tree.specs.Tree.{tree_of, stmt_tree, store}
 use Rattle.id_tree.proofs.ReaderLemmas.{IsRead-then, Rises-grows, Rises-stunts, Rises-ends, Rises-operand}
 use Rattle.id_tree.proofs.ReaderLemmas.{Operand-fails, Rises-denied, Denied-fails, operator-at, Right-deep}
@@ -31,6 +31,7 @@ use Rattle.id_tree.proofs.CallLemmas.{Fails-added, Leads-passed, Fails-passed, I
 use Rattle.id_tree.proofs.BlockLemmas.{opens_braces, At-block, At-loop, Encloses-tail, Exposes-tail, At-binding}
 use Rattle.id_tree.proofs.BlockLemmas.{At-next, Fails-tail, Adds-done, IsGathered-add, Gathers-none, Gathers-add}
 use Rattle.id_tree.proofs.BlockLemmas.{Fails-gathered, Leads-gathered, Leads-last, Fails-last}
+use Rattle.id_tree.proofs.WholeLemmas.{IfOk-whole, IfErr-whole}
 use Rattle.id_tree.proofs.parser.+expr.Goals as goal
 
 pub parse_expression-returns-else-begins_with-clause-ok : goal.parse_expression-returns-else-begins_with-clause-ok
@@ -70,9 +71,10 @@ parse_conditional-returns-in_err-otherwise-clause-err t c =
 
 pub parse_conditional-returns-clause-ok : goal.parse_conditional-returns-clause-ok
 parse_conditional-returns-clause-ok t c =
-    Leads-at c.in_ok-whole.ensures.tree (omega (arith, c.in_ok-whole.ensures.height))
+    IfOk-whole c.conditional.result c.with_rest.result _ _ _ _ c.with_rest.ensures.ok c.conditional.ensures.height c.conditional.ensures.tree
+    (λ x h e s. rw s (Leads-at e (omega (arith, h))
     (Leads-done (At-part (At-enclosed (At-enclosed (At-conditional c.in_ok-first.ensures.whole c.requires.begins c.in_ok-first.ensures.fits)
-    c.in_ok-test.ensures.ok) c.in_ok-then.ensures.ok) c.in_ok-otherwise.ensures.ok))
+    c.in_ok-test.ensures.ok) c.in_ok-then.ensures.ok) c.in_ok-otherwise.ensures.ok))))
 
 pub parse_first-parse_prefixed-requires : goal.parse_first-parse_prefixed-requires
 parse_first-parse_prefixed-requires t c =
@@ -180,10 +182,11 @@ parse_block-returns-in_err-body-clause-err t c =
 
 pub parse_block-returns-clause-ok : goal.parse_block-returns-clause-ok
 parse_block-returns-clause-ok t c =
-    Leads-at c.in_ok-whole.ensures.tree (omega (arith, c.in_ok-whole.ensures.height))
+    IfOk-whole c.block.result c.with_rest.result _ _ _ _ c.with_rest.ensures.ok c.block.ensures.height c.block.ensures.tree
+    (λ x h e s. rw s (Leads-at e (omega (arith, h))
     (Leads-done (At-part (At-block c.in_ok-first.ensures.whole c.requires.begins c.in_ok-first.ensures.fits c.requires.no_while)
     (Leads-gathered c.in_ok-statements.ensures.ok
-    (Leads-last scope.Block c.split.ensures.whole c.in_ok-statements.ensures.last c.in_ok-first.ensures.fits c.in_ok-body.ensures.ok))))
+    (Leads-last scope.Block c.split.ensures.whole c.in_ok-statements.ensures.last c.in_ok-first.ensures.fits c.in_ok-body.ensures.ok))))))
 
 pub parse_braces-parse_loop-requires : goal.parse_braces-parse_loop-requires
 parse_braces-parse_loop-requires t c =
@@ -224,11 +227,12 @@ parse_loop-returns-in_err-last-clause-err t c =
 
 pub parse_loop-returns-clause-ok : goal.parse_loop-returns-clause-ok
 parse_loop-returns-clause-ok t c =
-    Leads-at c.in_ok-whole.ensures.tree (omega (arith, c.in_ok-whole.ensures.height))
+    IfOk-whole c.whole_loop.result c.with_rest.result _ _ _ _ c.with_rest.ensures.ok c.whole_loop.ensures.height c.whole_loop.ensures.tree
+    (λ x h e s. rw s (Leads-at e (omega (arith, h))
     (Leads-done (At-part (At-enclosed (At-loop c.in_ok-first.ensures.whole c.requires.begins c.in_ok-first.ensures.fits c.split.ensures.whole c.requires.loops)
     c.in_ok-test.ensures.ok)
     (Leads-gathered c.in_ok-statements.ensures.ok
-    (Leads-last scope.Loop c.split-2.ensures.whole c.in_ok-statements.ensures.last c.in_ok-first.ensures.fits c.in_ok-last.ensures.ok))))
+    (Leads-last scope.Loop c.split-2.ensures.whole c.in_ok-statements.ensures.last c.in_ok-first.ensures.fits c.in_ok-last.ensures.ok))))))
 
 pub parse_statements-stmts-init : goal.parse_statements-stmts-init
 parse_statements-stmts-init t c = (
@@ -365,32 +369,18 @@ parse_right-returns-in_err-right-clause-err t c =
 
 pub parse_right-returns-clause-ok : goal.parse_right-returns-clause-ok
 parse_right-returns-clause-ok t c =
-    Right-grows c.in_ok-first.ensures.whole c.args.level c.args.op c.requires.operator _ _ _
-    c.in_ok-first.ensures.fits c.in_ok-right.ensures.ok c.in_ok-whole.ensures.tree c.in_ok-whole.ensures.height
+    IfOk-whole c.binary.result c.with_rest.result _ _ _ _ c.with_rest.ensures.ok c.binary.ensures.height c.binary.ensures.tree
+    (λ x h e s. rw s (Right-grows c.in_ok-first.ensures.whole c.args.level c.args.op c.requires.operator _ _ _
+    c.in_ok-first.ensures.fits c.in_ok-right.ensures.ok e h))
 
 pub parse_statement-returns-clause-read : goal.parse_statement-returns-clause-read
 parse_statement-returns-clause-read t c = grind (arith, common_steps)
-
-pub parse_block-overflow_add-inner : goal.parse_block-overflow_add-inner
-parse_block-overflow_add-inner t c = grind (arith, common_steps)
-
-pub parse_block-overflow_add-inner-2 : goal.parse_block-overflow_add-inner-2
-parse_block-overflow_add-inner-2 t c = grind (arith, common_steps)
 
 pub parse_block-block-requires-clause-low : goal.parse_block-block-requires-clause-low
 parse_block-block-requires-clause-low t c = grind (arith, common_steps)
 
 pub parse_block-block-requires-clause-high : goal.parse_block-block-requires-clause-high
 parse_block-block-requires-clause-high t c = grind (arith, common_steps)
-
-pub parse_block-returns-clause-read : goal.parse_block-returns-clause-read
-parse_block-returns-clause-read t c = grind (arith, common_steps)
-
-pub parse_loop-overflow_add-inner : goal.parse_loop-overflow_add-inner
-parse_loop-overflow_add-inner t c = grind (arith, common_steps)
-
-pub parse_loop-overflow_add-inner-2 : goal.parse_loop-overflow_add-inner-2
-parse_loop-overflow_add-inner-2 t c = grind (arith, common_steps)
 
 pub parse_loop-whole_loop-requires-clause-low : goal.parse_loop-whole_loop-requires-clause-low
 parse_loop-whole_loop-requires-clause-low t c = grind (arith, common_steps)
@@ -401,20 +391,11 @@ parse_loop-whole_loop-requires-clause-middle t c = grind (arith, common_steps)
 pub parse_loop-whole_loop-requires-clause-high : goal.parse_loop-whole_loop-requires-clause-high
 parse_loop-whole_loop-requires-clause-high t c = grind (arith, common_steps)
 
-pub parse_loop-returns-clause-read : goal.parse_loop-returns-clause-read
-parse_loop-returns-clause-read t c = grind (arith, common_steps)
-
 pub parse_next-returns-clause-read : goal.parse_next-returns-clause-read
 parse_next-returns-clause-read t c = grind (arith, common_steps)
 
 pub parse_enclosed-returns-clause-read : goal.parse_enclosed-returns-clause-read
 parse_enclosed-returns-clause-read t c = grind (arith, common_steps)
-
-pub parse_conditional-overflow_add-inner : goal.parse_conditional-overflow_add-inner
-parse_conditional-overflow_add-inner t c = grind (arith, common_steps)
-
-pub parse_conditional-overflow_add-inner-2 : goal.parse_conditional-overflow_add-inner-2
-parse_conditional-overflow_add-inner-2 t c = grind (arith, common_steps)
 
 pub parse_conditional-conditional-requires-clause-low : goal.parse_conditional-conditional-requires-clause-low
 parse_conditional-conditional-requires-clause-low t c = grind (arith, common_steps)
@@ -424,9 +405,6 @@ parse_conditional-conditional-requires-clause-middle t c = grind (arith, common_
 
 pub parse_conditional-conditional-requires-clause-high : goal.parse_conditional-conditional-requires-clause-high
 parse_conditional-conditional-requires-clause-high t c = grind (arith, common_steps)
-
-pub parse_conditional-returns-clause-read : goal.parse_conditional-returns-clause-read
-parse_conditional-returns-clause-read t c = grind (arith, common_steps)
 
 pub parse_grouped-operators-smaller : goal.parse_grouped-operators-smaller
 parse_grouped-operators-smaller t c = grind (arith, common_steps)
@@ -446,15 +424,6 @@ parse_operand-returns-in-Sum-clause-read t c = grind (arith, common_steps)
 pub parse_operand-returns-in-Product-clause-read : goal.parse_operand-returns-in-Product-clause-read
 parse_operand-returns-in-Product-clause-read t c = grind (arith, common_steps)
 
-pub parse_parens-overflow_add-inner : goal.parse_parens-overflow_add-inner
-parse_parens-overflow_add-inner t c = grind (arith, common_steps)
-
-pub parse_parens-overflow_add-inner-2 : goal.parse_parens-overflow_add-inner-2
-parse_parens-overflow_add-inner-2 t c = grind (arith, common_steps)
-
-pub parse_parens-overflow_add-inside : goal.parse_parens-overflow_add-inside
-parse_parens-overflow_add-inside t c = grind (arith, common_steps)
-
 pub parse_parens-returns-clause-read : goal.parse_parens-returns-clause-read
 parse_parens-returns-clause-read t c = grind (arith, common_steps)
 
@@ -472,9 +441,6 @@ parse_right-binary-requires-clause-low t c = grind (arith, common_steps)
 
 pub parse_right-binary-requires-clause-high : goal.parse_right-binary-requires-clause-high
 parse_right-binary-requires-clause-high t c = grind (arith, common_steps)
-
-pub parse_right-returns-clause-read : goal.parse_right-returns-clause-read
-parse_right-returns-clause-read t c = grind (arith, common_steps)
 
 pub parse_statements-stmts-smaller : goal.parse_statements-stmts-smaller
 parse_statements-stmts-smaller t c = grind (arith, common_steps)
@@ -552,8 +518,9 @@ parse_fetch-returns-in_err-index-clause-err t c =
 
 pub parse_fetch-returns-clause-ok : goal.parse_fetch-returns-clause-ok
 parse_fetch-returns-clause-ok t c =
-    Fetch-indexes c.in_ok-first.ensures.whole c.requires.begins _ _ _
-    c.in_ok-first.ensures.fits c.in_ok-index.ensures.ok c.in_ok-whole.ensures.tree c.in_ok-whole.ensures.height
+    IfOk-whole c.fetch.result c.with_rest.result _ _ _ _ c.with_rest.ensures.ok c.fetch.ensures.height c.fetch.ensures.tree
+    (λ x h e s. rw s (Fetch-indexes c.in_ok-first.ensures.whole c.requires.begins _ _ _
+    c.in_ok-first.ensures.fits c.in_ok-index.ensures.ok e h))
 
 pub parse_array-returns-in_err-first-clause-err : goal.parse_array-returns-in_err-first-clause-err
 parse_array-returns-in_err-first-clause-err t c =
@@ -579,9 +546,10 @@ parse_array-returns-in_err-high-clause-err t c =
 
 pub parse_array-returns-clause-ok : goal.parse_array-returns-clause-ok
 parse_array-returns-clause-ok t c =
-    Leads-at c.in_ok-whole.ensures.tree (omega (arith, c.in_ok-whole.ensures.height))
+    IfOk-whole c.array.result c.with_rest.result _ _ _ _ c.with_rest.ensures.ok c.array.ensures.height c.array.ensures.tree
+    (λ x h e s. rw s (Leads-at e (omega (arith, h))
     (Leads-done (At-enclosed (At-enclosed (At-word (At-array c.in_ok-first.ensures.whole c.requires.begins c.in_ok-first.ensures.fits)
-    c.in_ok-opened.ensures.ok) c.in_ok-low.ensures.ok) c.in_ok-high.ensures.ok))
+    c.in_ok-opened.ensures.ok) c.in_ok-low.ensures.ok) c.in_ok-high.ensures.ok))))
 
 pub parse_prefixed-parse_operand-requires : goal.parse_prefixed-parse_operand-requires
 parse_prefixed-parse_operand-requires t c =
@@ -600,17 +568,9 @@ parse_prefixed-returns-in_err-operand-clause-err t c =
 
 pub parse_prefixed-returns-clause-ok : goal.parse_prefixed-returns-clause-ok
 parse_prefixed-returns-clause-ok t c =
-    Prefix-leads c.args.op _ c.in_ok-first.ensures.whole c.args.level c.requires.prefix c.in_ok-first.ensures.fits
-    c.in_ok-operand.ensures.ok c.in_ok-whole.ensures.tree c.in_ok-whole.ensures.height
-
-pub parse_prefixed-overflow_add-inner : goal.parse_prefixed-overflow_add-inner
-parse_prefixed-overflow_add-inner t c = grind (arith, common_steps)
-
-pub parse_prefixed-overflow_add-inner-2 : goal.parse_prefixed-overflow_add-inner-2
-parse_prefixed-overflow_add-inner-2 t c = grind (arith, common_steps)
-
-pub parse_prefixed-returns-clause-read : goal.parse_prefixed-returns-clause-read
-parse_prefixed-returns-clause-read t c = grind (arith, common_steps)
+    IfOk-whole c.unary.result c.with_rest.result _ _ _ _ c.with_rest.ensures.ok c.unary.ensures.height c.unary.ensures.tree
+    (λ x h e s. rw s (Prefix-leads c.args.op _ c.in_ok-first.ensures.whole c.args.level c.requires.prefix c.in_ok-first.ensures.fits
+    c.in_ok-operand.ensures.ok e h))
 
 pub parse_unary-returns-then-not-begins_with_sign-clause-ok : goal.parse_unary-returns-then-not-begins_with_sign-clause-ok
 parse_unary-returns-then-not-begins_with_sign-clause-ok t c =
@@ -693,10 +653,21 @@ parse_named-returns-in_err-args-clause-err t c =
     let p = err_from_is_err_and c.from_residual.result c.from_residual.ensures.1 in
     rw (p.1, p.2) (Misapplies-call c.split.ensures.whole is c.args.depth c.args.x c.args.place c.in_err-args.ensures.err)
 
-pub parse_named-returns-in_ok-whole-clause-ok : goal.parse_named-returns-in_ok-whole-clause-ok
-parse_named-returns-in_ok-whole-clause-ok t c =
+pub parse_named-returns-in_ok-args-clause-ok : goal.parse_named-returns-in_ok-args-clause-ok
+parse_named-returns-in_ok-args-clause-ok t c =
     let is : first_kind c.args.tokens.now ≡ Sign LeftParen = search rules in
-    Applies-call c.split.ensures.whole is c.args.depth c.args.x c.args.place c.in_ok-args.ensures.ok c.in_ok-whole.ensures.tree c.in_ok-whole.ensures.height
+    IfOk-whole c.call.result c.with_rest.result _ _ _ _ c.with_rest.ensures.ok c.call.ensures.height c.call.ensures.tree
+    (λ x h e s. rw s (Applies-call c.split.ensures.whole is c.args.depth c.args.x c.args.place c.in_ok-args.ensures.ok e h))
+
+pub parse_named-returns-in_ok-args-clause-read : goal.parse_named-returns-in_ok-args-clause-read
+parse_named-returns-in_ok-args-clause-read t c =
+    IfOk-whole c.call.result c.with_rest.result _ _ _ _ c.with_rest.ensures.ok c.call.ensures.height c.call.ensures.tree
+    (λ x h e s. rw s (grind (arith, common_steps, h)))
+
+pub parse_named-returns-in_ok-args-clause-err : goal.parse_named-returns-in_ok-args-clause-err
+parse_named-returns-in_ok-args-clause-err t c =
+    IfErr-whole c.call.result c.with_rest.result (Misapplies c.args.tokens.now c.args.depth c.args.x c.args.place) (record { fails = λ K. tt })
+    c.with_rest.ensures.err c.call.ensures.err
 
 pub parse_arguments-returns-then-is_sign-clause-ok : goal.parse_arguments-returns-then-is_sign-clause-ok
 parse_arguments-returns-then-is_sign-clause-ok t c =
@@ -750,3 +721,73 @@ parse_some_arguments-returns-in_err-arg-clause-err t c =
     let comma : first_kind c.arguments.rest.now ≡ Sign Comma = search rules in
     let p = err_from_is_err_and c.from_residual-in_err-arg.result c.from_residual-in_err-arg.ensures.1 in
     rw (p.1, p.2) (Fails-added c.arguments.invariant.1 c.split.ensures.whole comma (omega (arith, c.requires.room)) c.in_err-arg.ensures.err)
+
+pub parse_conditional-returns-clause-read : goal.parse_conditional-returns-clause-read
+parse_conditional-returns-clause-read t c =
+    IfOk-whole c.conditional.result c.with_rest.result _ _ _ _ c.with_rest.ensures.ok c.conditional.ensures.height c.conditional.ensures.tree
+    (λ x h e s. rw s (grind (arith, common_steps, h)))
+
+pub parse_conditional-returns-clause-err : goal.parse_conditional-returns-clause-err
+parse_conditional-returns-clause-err t c =
+    IfErr-whole c.conditional.result c.with_rest.result (Fails c.args.tokens.now Expression c.args.depth)
+    (record { fails = λ K. tt }) c.with_rest.ensures.err c.conditional.ensures.err
+
+pub parse_array-returns-clause-read : goal.parse_array-returns-clause-read
+parse_array-returns-clause-read t c =
+    IfOk-whole c.array.result c.with_rest.result _ _ _ _ c.with_rest.ensures.ok c.array.ensures.height c.array.ensures.tree
+    (λ x h e s. rw s (grind (arith, common_steps, h)))
+
+pub parse_array-returns-clause-err : goal.parse_array-returns-clause-err
+parse_array-returns-clause-err t c =
+    IfErr-whole c.array.result c.with_rest.result (Fails c.args.tokens.now Atom c.args.depth)
+    (record { fails = λ K. tt }) c.with_rest.ensures.err c.array.ensures.err
+
+pub parse_block-returns-clause-read : goal.parse_block-returns-clause-read
+parse_block-returns-clause-read t c =
+    IfOk-whole c.block.result c.with_rest.result _ _ _ _ c.with_rest.ensures.ok c.block.ensures.height c.block.ensures.tree
+    (λ x h e s. rw s (grind (arith, common_steps, h)))
+
+pub parse_block-returns-clause-err : goal.parse_block-returns-clause-err
+parse_block-returns-clause-err t c =
+    IfErr-whole c.block.result c.with_rest.result (Fails c.args.tokens.now Atom c.args.depth)
+    (record { fails = λ K. tt }) c.with_rest.ensures.err c.block.ensures.err
+
+pub parse_loop-returns-clause-read : goal.parse_loop-returns-clause-read
+parse_loop-returns-clause-read t c =
+    IfOk-whole c.whole_loop.result c.with_rest.result _ _ _ _ c.with_rest.ensures.ok c.whole_loop.ensures.height c.whole_loop.ensures.tree
+    (λ x h e s. rw s (grind (arith, common_steps, h)))
+
+pub parse_loop-returns-clause-err : goal.parse_loop-returns-clause-err
+parse_loop-returns-clause-err t c =
+    IfErr-whole c.whole_loop.result c.with_rest.result (Fails c.args.tokens.now Atom c.args.depth)
+    (record { fails = λ K. tt }) c.with_rest.ensures.err c.whole_loop.ensures.err
+
+pub parse_prefixed-returns-clause-read : goal.parse_prefixed-returns-clause-read
+parse_prefixed-returns-clause-read t c =
+    IfOk-whole c.unary.result c.with_rest.result _ _ _ _ c.with_rest.ensures.ok c.unary.ensures.height c.unary.ensures.tree
+    (λ x h e s. rw s (grind (arith, common_steps, h)))
+
+pub parse_prefixed-returns-clause-err : goal.parse_prefixed-returns-clause-err
+parse_prefixed-returns-clause-err t c =
+    IfErr-whole c.unary.result c.with_rest.result (Fails c.args.tokens.now (operand c.args.level) c.args.depth)
+    (record { fails = λ K. tt }) c.with_rest.ensures.err c.unary.ensures.err
+
+pub parse_right-returns-clause-read : goal.parse_right-returns-clause-read
+parse_right-returns-clause-read t c =
+    IfOk-whole c.binary.result c.with_rest.result _ _ _ _ c.with_rest.ensures.ok c.binary.ensures.height c.binary.ensures.tree
+    (λ x h e s. rw s (grind (arith, common_steps, h)))
+
+pub parse_right-returns-clause-err : goal.parse_right-returns-clause-err
+parse_right-returns-clause-err t c =
+    IfErr-whole c.binary.result c.with_rest.result (Stunts c.args.tokens.now c.args.level c.args.depth (tree_of c.args.left.expr) c.args.left.height)
+    (record { fails = λ K. tt }) c.with_rest.ensures.err c.binary.ensures.err
+
+pub parse_fetch-returns-clause-read : goal.parse_fetch-returns-clause-read
+parse_fetch-returns-clause-read t c =
+    IfOk-whole c.fetch.result c.with_rest.result _ _ _ _ c.with_rest.ensures.ok c.fetch.ensures.height c.fetch.ensures.tree
+    (λ x h e s. rw s (grind (arith, common_steps, h)))
+
+pub parse_fetch-returns-clause-err : goal.parse_fetch-returns-clause-err
+parse_fetch-returns-clause-err t c =
+    IfErr-whole c.fetch.result c.with_rest.result (Misindexes c.args.tokens.now c.args.depth (tree_of c.args.target.expr) c.args.target.height)
+    (record { fails = λ K. tt }) c.with_rest.ensures.err c.fetch.ensures.err
