@@ -24,6 +24,20 @@ read_at bs x v e less = e ∙ get_or_default bs x v None less
 own_scope : (s b : ℕ) → in_scope s (Some (record { scope = s; binder = b })) ≡ Some b
 own_scope s b = grind (arith, nat_tests)
 
+other_scope : (s t b : ℕ) → s < t → in_scope t (Some (record { scope = s; binder = b })) ≡ None
+other_scope s t b less = grind (arith, nat_tests)
+
+-- what a scope further out has bound stays
+pub later_set : (s b x y t : ℕ) (bs : List (Option Bound)) → x < length bs → s < t → in_scope t (get_or bs y None) ≡ None
+    → in_scope t (get_or (set bs x (Some (record { scope = s; binder = b }))) y None) ≡ None
+later_set s b x y t bs less far e = by (cases_eq y x)
+  where
+    by : (y ≡ x) ⊎ (y ≢ x) → in_scope t (get_or (set bs x (Some (record { scope = s; binder = b }))) y None) ≡ None
+    by (inl q) =
+        ap (λ k. in_scope t (get_or (set bs x (Some (record { scope = s; binder = b }))) k None)) q
+        ∙ (ap (in_scope t) (get_or-set_same bs x (Some (record { scope = s; binder = b })) None less) ∙ other_scope s t b far)
+    by (inr q) = ap (in_scope t) (get_or-set_other bs x y (Some (record { scope = s; binder = b })) None q) ∙ e
+
 own_name : (x y : ℕ) → y ≡ x → is_name y (Some x) ≡ true
 own_name x y e = grind (arith, nat_tests)
 
@@ -88,6 +102,19 @@ module _ (R : List Row) (s b x : ℕ) (bs : List (Option Bound)) (o : Option ℕ
     pub again-bound : again R s b bs o ≡ repeated R b (Some a)
     again-bound = ap (again R s b bs) is ∙ ap (repeated R b) bound
 
+    pub bound_same : (y : ℕ) → in_scope s (get_or bs y None)
+        ≡ option_or (in_scope s (get_or bs y None)) (if is_name y o then Some b else None)
+    bound_same y = by (cases_eq y x)
+      where
+        by : (y ≡ x) ⊎ (y ≢ x) → in_scope s (get_or bs y None)
+            ≡ option_or (in_scope s (get_or bs y None)) (if is_name y o then Some b else None)
+        by (inl e) =
+            let q = ap (λ k. in_scope s (get_or bs k None)) e ∙ bound in
+            q ∙ sym (ap (λ z. option_or z (if is_name y o then Some b else None)) q)
+        by (inr e) =
+            sym (or_none (in_scope s (get_or bs y None)) (if is_name y o then Some b else None)
+            (ap (λ q. if is_name y q then Some b else None) is ∙ ap (λ t. if t then Some b else None) (other_name x y e)))
+
     pub newly-bound : (i : ℕ) (p : Option ℕ) → p ≡ option_or p (newly R s b bs o i)
     newly-bound i p =
         sym (or_none p (newly R s b bs o i)
@@ -130,3 +157,9 @@ module _ (R : List Row) (s b x : ℕ) (bs : List (Option Bound)) (o : Option ℕ
             ap (in_scope s) (get_or-set_other bs x y (Some (record { scope = s; binder = b })) None e)
             ∙ sym (or_none (in_scope s (get_or bs y None)) (if is_name y o then Some b else None)
             (ap (λ q. if is_name y q then Some b else None) is ∙ ap (λ t. if t then Some b else None) (other_name x y e)))
+
+-- what a row that binds no name leaves
+pub bound_kept : (o : Option ℕ) (s b y : ℕ) (bs : List (Option Bound)) → o ≡ None → in_scope s (get_or bs y None)
+    ≡ option_or (in_scope s (get_or bs y None)) (if is_name y o then Some b else None)
+bound_kept o s b y bs is =
+    sym (or_none (in_scope s (get_or bs y None)) (if is_name y o then Some b else None) (ap (λ q. if is_name y q then Some b else None) is))

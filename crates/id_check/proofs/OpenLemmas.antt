@@ -7,8 +7,9 @@ use Rattle.std.proofs.lemmas.List.{get_or-take, get_or_append_left, get_or_push,
 use Rattle.std.proofs.Common.{length-take-le}
 use Rattle.id_parts.specs.declared.row.Row.{Row}
 use Rattle.id_parts.specs.Rows.{at}
-use Rattle.id_check.specs.Scopes.{confines, held, sees_own}
+use Rattle.id_check.specs.Scopes.{confines, held, is_scope, sees_own}
 use Rattle.id_check.specs.Names.{AreHeld, IsOpen}
+use Rattle.id_check.proofs.ScopesLemmas.{confines_none, keeps_no_scope, or_false}
 
 or_left : (a b : Bool) → (a || b) ≡ false → a ≡ false
 or_left true b e = e
@@ -20,6 +21,17 @@ held_before R b s e = or_left (held R b s) (confines R s b) (sym (ap (held R b) 
 
 pub open_later : (R : List Row) (n s : ℕ) (ps : List ℕ) → IsOpen R n s ps → IsOpen R n (s + 1) ps
 open_later R n s ps h = record { below = h.below; order = h.order; all = λ b c d e. h.all b c d (held_before R b s e) }
+
+-- a row that is no scope holds none
+pub held_no_scope : (R : List Row) (s : ℕ) (hs : List Bool) → is_scope (at R s).node ≡ false → AreHeld R s hs → AreHeld R (s + 1) hs
+held_no_scope R s hs e h = record {
+  long = h.long;
+  each = λ i less. h.each i less ∙ sym (ap (held R i) (add-one s) ∙ or_false (held R i s) (confines R s i) (confines_none R s i (keeps_no_scope R s i e)));
+}
+
+pub open_below : (R : List Row) (s j : ℕ) (hs : List Bool) (ps : List ℕ) → s < length R → length hs ≡ length R → IsOpen R s s ps → j < length ps
+    → get_or ps j 0 < length hs
+open_below R s j hs ps row long o less = let b = o.below j less in omega arith
 
 -- the last ones that are held are left out
 pub open_kept : (R : List Row) (s k : ℕ) (hs : List Bool) (ps : List ℕ) → s < length R → AreHeld R (s + 1) hs → k ≤ length ps

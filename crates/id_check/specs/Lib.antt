@@ -13,3 +13,4 @@ pub mod Firsts
 pub mod Judged
 pub mod Names
 pub mod Params
+pub mod Wants

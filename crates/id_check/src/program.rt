@@ -1,15 +1,16 @@
 //! The check of a program: its table, the binders and kinds of its rows, and the first cause to refuse it.
 
-ghost use Rattle.std.specs.Prelude.{◌≡◌, get_or, length, IfOk, IfErr, IfNone, IfSome, None, Some};
+ghost use Rattle.std.specs.Prelude.{◌≡◌, ◌<◌, ℕ, get_or, length, IfOk, IfErr, IfNone, IfSome, None, Some};
 ghost use Rattle.id_tree.specs.Tree.{program_tree};
 ghost use Rattle.id_tree.specs.Distinct.{Distinct};
 ghost use Rattle.id_parts.specs.Rows.{parts_of, rows_of};
 ghost use Rattle.id_parts.specs.Tables.{IsFormed};
 ghost use Rattle.id_parts.specs.Turns.{IsTable};
-ghost use Rattle.id_check.specs.Causes.{HasNoMain, IsInside, IsMain, IsRefusedFor, causes};
+ghost use Rattle.id_check.specs.Causes.{HasNoMain, IsInside, IsMain, IsRefusedFor, causes, causes_below, duplicates};
 ghost use Rattle.id_check.specs.Causes as cause;
+ghost use Rattle.id_check.specs.Counts.{AreCounts};
 ghost use Rattle.id_check.specs.Depths.{AreDepths, AreInBlocks};
-ghost use Rattle.id_check.specs.Firsts.{IsFirstOf};
+ghost use Rattle.id_check.specs.Firsts.{IsFirstOf, Notes};
 ghost use Rattle.id_check.specs.Judged.{IsJudged};
 ghost use Rattle.id_check.specs.Kinds.{AreKinds};
 ghost use Rattle.id_check.specs.Names.{AreNames};
@@ -187,9 +188,56 @@ fn find_columns(alloc: Global, rows: &[Row], count: usize) -> Result<Columns, Al
     ensures first { IfOk result (λ c. IsFirstOf c.first
         (causes rows.now (λ i. get_or c.binders.items i None) (λ i. get_or c.kinds.items i None))) }
 {
-    let Found { binders, mut first } = find_binders(alloc, rows, count)?;
-    let kinds = find_kinds(alloc, rows, binders.as_slice())?;
-    let Numbers { depths, counts } = find_numbers(alloc, rows)?;
+    let found = find_binders(alloc, rows, count)?;
+    let kinds = find_kinds(alloc, rows, found.binders.as_slice())?;
+    with_numbers(alloc, rows, found, kinds)
+}
+
+/// What is found in these rows, whose binders and kinds are these: the numbers are found, and the first cause.
+fn with_numbers(
+    alloc: Global,
+    rows: &[Row],
+    found: Found,
+    kinds: Vec<Option<Kind>>,
+) -> Result<Columns, AllocError>
+    requires table { IsTable rows.now }
+    requires formed { IsFormed rows.now }
+    requires blocks { AreInBlocks rows.now }
+    requires binders { length found.binders.items ≡ length rows.now }
+    requires within { (i b : ℕ) → i < length rows.now
+        → get_or found.binders.items i None ≡ Some b → b < length rows.now }
+    requires bound { AreBinders rows.now (λ i. get_or found.binders.items i None) }
+    requires first { IsFirstOf found.first (duplicates rows.now (length rows.now)) }
+    requires kinds { length kinds.items ≡ length rows.now }
+    requires kinded { AreKinds rows.now (λ i. get_or found.binders.items i None) (λ i. get_or kinds.items i None) }
+    ensures bound { IfOk result (λ c. AreBinders rows.now (λ i. get_or c.binders.items i None)) }
+    ensures kinded { IfOk result (λ c.
+        AreKinds rows.now (λ i. get_or c.binders.items i None) (λ i. get_or c.kinds.items i None)) }
+    ensures deep { IfOk result (λ c. AreDepths rows.now (length rows.now) c.depths.items) }
+    ensures first { IfOk result (λ c. IsFirstOf c.first
+        (causes rows.now (λ i. get_or c.binders.items i None) (λ i. get_or c.kinds.items i None))) }
+{
+    let numbers = find_numbers(alloc, rows)?;
+    Ok(with_first(rows, found, kinds, numbers))
+}
+
+/// What is found in these rows, whose binders, kinds and numbers are these: the first cause is noted. Takes no memory.
+fn with_first(rows: &[Row], found: Found, kinds: Vec<Option<Kind>>, numbers: Numbers) -> Columns
+    requires table { IsTable rows.now }
+    requires formed { IsFormed rows.now }
+    requires binders { length found.binders.items ≡ length rows.now }
+    requires within { (i b : ℕ) → i < length rows.now
+        → get_or found.binders.items i None ≡ Some b → b < length rows.now }
+    requires kinds { length kinds.items ≡ length rows.now }
+    requires counts { AreCounts rows.now (length rows.now) numbers.counts.items }
+    ensures bound { result.binders ≡ found.binders }
+    ensures kinded { result.kinds ≡ kinds }
+    ensures deep { result.depths ≡ numbers.depths }
+    ensures first { Notes found.first (causes_below rows.now
+        (λ i. get_or found.binders.items i None) (λ i. get_or kinds.items i None) (length rows.now)) result.first }
+{
+    let Found { binders, mut first } = found;
+    let Numbers { depths, counts } = numbers;
     note_rows(
         &mut first,
         rows,
@@ -197,12 +245,12 @@ fn find_columns(alloc: Global, rows: &[Row], count: usize) -> Result<Columns, Al
         kinds.as_slice(),
         counts.as_slice(),
     );
-    Ok(Columns {
+    Columns {
         binders,
         kinds,
         depths,
         first,
-    })
+    }
 }
 
 /// The row of the first definition of `main`.

@@ -63,9 +63,30 @@ pub fn find_binders(alloc: Global, rows: &[Row], count: usize) -> Result<Found, 
     }
     let mut held = vec![in alloc; false; rows.len()]?;
     let mut bound: Vec<Option<Bound>> = vec![in alloc; None; count]?;
+    find_among(alloc, rows, &mut held, &mut bound)
+}
+
+/// Finds the binders of the names, where no row is held yet, and no name bound.
+#[inline(always)]
+fn find_among(
+    alloc: Global,
+    rows: &[Row],
+    held: &mut Vec<bool>,
+    bound: &mut Vec<Option<Bound>>,
+) -> Result<Found, AllocError>
+    requires few { length rows.now ≤ MOST }
+    requires names { AreNames rows.now (length bound.old.items) }
+    requires held { AreHeld rows.now 0 held.old.items }
+    requires fresh { IsFresh 0 bound.old.items }
+    ensures long { IfOk result (λ f. length f.binders.items ≡ length rows.now) }
+    ensures binders { IfOk result (λ f. AreBinders rows.now (λ i. get_or f.binders.items i None)) }
+    ensures within { IfOk result (λ f.
+        (i b : ℕ) → i < length rows.now → get_or f.binders.items i None ≡ Some b → b < length rows.now) }
+    ensures first { IfOk result (λ f. IsFirstOf f.first (duplicates rows.now (length rows.now))) }
+{
     let mut uses = no_uses(alloc, rows, bound.len())?;
     let mut first = None;
-    pass_rows(alloc, rows, &mut held, &mut bound, &mut uses, &mut first)?;
+    pass_rows(alloc, rows, held, bound, &mut uses, &mut first)?;
     let Uses { binders, .. } = uses;
     Ok(Found { binders, first })
 }

@@ -3,7 +3,7 @@
 
 ghost use Rattle.std.specs.Prelude.{◌≡◌, ◌<◌, ◌+◌, ℕ, get_or, length, None, Some};
 ghost use Rattle.id_parts.specs.Rows.{at};
-ghost use Rattle.id_parts.specs.Tables.{IsFormed};
+ghost use Rattle.id_parts.specs.Tables.{HasPart, IsFormed};
 ghost use Rattle.id_parts.specs.Turns.{IsDefOf, IsTable, params_at};
 ghost use Rattle.id_check.specs.Causes as causes;
 ghost use Rattle.id_check.specs.Causes.{causes_below, causes_in, unknown, wrong, wrong_argument, wrong_both};
@@ -14,6 +14,7 @@ ghost use Rattle.id_check.specs.Counts.{AreCounts};
 ghost use Rattle.id_check.specs.Firsts.{Notes};
 ghost use Rattle.id_check.specs.Scopes.{user_of};
 ghost use Rattle.id_check.specs.Params.{array_cause, count_cause};
+ghost use Rattle.id_check.specs.Wants.{wrong_parts};
 
 use crate::cause::{CheckCause, note};
 use crate::kinds::{binder_at, unary_kind};
@@ -93,6 +94,27 @@ fn note_row(
             let callee = callee(rows, binder_at(binders, enter));
             note_count_of(first, rows, callee, count, row.place as usize);
         }
+        Node::Def {
+            name,
+            head,
+            result: wanted,
+            body,
+        } => {
+            note_result(first, rows, kinds, wanted, body);
+            note_params(first, rows, head, name, row.place as usize);
+        }
+        _ => note_parts(first, rows, kinds, row.node),
+    }
+}
+
+/// Notes the parts of a row of this node that are wrong, if it is about no name. Takes no memory.
+#[inline(always)]
+fn note_parts(first: &mut Option<CheckCause>, rows: &[Row], kinds: &[Option<Kind>], node: Node)
+    requires kinds { length kinds.now ≡ length rows.now }
+    requires parts { (a : ℕ) → HasPart node a → a < length rows.now }
+    ensures { Notes first.old (wrong_parts rows.now (λ i. get_or kinds.now i None) node) first.new }
+{
+    match node {
         Node::Unary { op, operand } => note_wrong(first, rows, kinds, unary_kind(op), operand),
         Node::Binary { op, left, right } => note_operands(first, rows, kinds, op, left, right),
         Node::Split { test } => note_wrong(first, rows, kinds, Kind::Bool, test),
@@ -107,15 +129,6 @@ fn note_row(
             otherwise,
             ..
         } => note_arm(first, rows, kinds, then, otherwise),
-        Node::Def {
-            name,
-            head,
-            result: wanted,
-            body,
-        } => {
-            note_result(first, rows, kinds, wanted, body);
-            note_params(first, rows, head, name, row.place as usize);
-        }
         _ => {}
     }
 }

@@ -1,5 +1,6 @@
 use Rattle.std.proofs.Common.{◌≡◌, ◌+◌, ◌<◌, ℕ, Option, None, ap, sym, ◌∙◌, subst, get_or, length, arith}
 use Rattle.std.proofs.lemmas.List.{get_or_default, length_push}
+use Rattle.std.proofs.lemmas.Result.{IfOk-from_err}
 use Rattle.id_check.specs.Kinds.{Link, Nowhere, link_at}
 use Rattle.id_check.specs.Chains.{IsKind, ends, endless, IsGoing, kind_of}
 use Rattle.id_check.proofs.ChainsLemmas.{IsKind-once, IsKind-push, kind_settled, targets_state}
@@ -55,3 +56,42 @@ returns-clause-kinds c =
     let end : c.loop-i.i ≡ length R = omega (arith, c.loop-i.auto.i-end, c.loop-i-test.false) in
     let kind : (i : ℕ) → i < length R → IsKind l i (get_or c.loop-i.kinds.items i None) = λ i b. h.kinds i (subst (λ n. i < n) (sym end) b) in
     record { ends = λ i o b g. IsKind-once (kind i b) (ends g); endless = λ i b g. IsKind-once (kind i b) (endless g) }
+
+pub returns-in_err-links-clause-long : goal.returns-in_err-links-clause-long
+returns-in_err-links-clause-long c = IfOk-from_err _ _ c.from_residual.ensures.0
+
+pub returns-in_err-links-clause-kinds : goal.returns-in_err-links-clause-kinds
+returns-in_err-links-clause-kinds c = IfOk-from_err _ _ c.from_residual.ensures.0
+
+pub returns-in_err-kinds-clause-long : goal.returns-in_err-kinds-clause-long
+returns-in_err-kinds-clause-long c = IfOk-from_err _ _ c.from_residual-in_err-kinds.ensures.0
+
+pub returns-in_err-kinds-clause-kinds : goal.returns-in_err-kinds-clause-kinds
+returns-in_err-kinds-clause-kinds c = IfOk-from_err _ _ c.from_residual-in_err-kinds.ensures.0
+
+pub returns-in_err-settle-clause-long : goal.returns-in_err-settle-clause-long
+returns-in_err-settle-clause-long c = IfOk-from_err _ _ c.from_residual-in_err-settle.ensures.0
+
+pub returns-in_err-settle-clause-kinds : goal.returns-in_err-settle-clause-kinds
+returns-in_err-settle-clause-kinds c = IfOk-from_err _ _ c.from_residual-in_err-settle.ensures.0
+
+pub returns-in_err-push-clause-long : goal.returns-in_err-push-clause-long
+returns-in_err-push-clause-long c = IfOk-from_err _ _ c.from_residual-in_err-push.ensures.0
+
+pub returns-in_err-push-clause-kinds : goal.returns-in_err-push-clause-kinds
+returns-in_err-push-clause-kinds c = IfOk-from_err _ _ c.from_residual-in_err-push.ensures.0
+
+pub find_links-requires-clause-formed : goal.find_links-requires-clause-formed
+find_links-requires-clause-formed c = c.requires.formed
+
+pub find_links-requires-clause-binders : goal.find_links-requires-clause-binders
+find_links-requires-clause-binders c = c.requires.binders
+
+pub find_links-requires-clause-within : goal.find_links-requires-clause-within
+find_links-requires-clause-within c = c.requires.within
+
+pub settle-requires-clause-passed : goal.settle-requires-clause-passed
+settle-requires-clause-passed c = c.loop-i.invariant.passed
+
+pub settle-requires-clause-targets : goal.settle-requires-clause-targets
+settle-requires-clause-targets c = c.loop-i.invariant.targets

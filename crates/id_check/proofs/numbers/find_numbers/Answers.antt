@@ -1,4 +1,5 @@
 use Rattle.std.proofs.Common.{◌≡◌, ◌+◌, length, sym, ap, subst, arith, rules}
+use Rattle.std.proofs.lemmas.Result.{IfOk-from_err}
 use Rattle.id_check.specs.Counts.{AreCounts}
 use Rattle.id_check.specs.Depths.{AreDepths}
 use Rattle.id_check.proofs.CountsLemmas.{counts_none}
@@ -34,3 +35,39 @@ pub returns-clause-counts : goal.returns-clause-counts
 returns-clause-counts c =
     let end : c.loop-i.i ≡ length c.args.rows.now = omega (arith, c.loop-i.auto.i-end, c.loop-i-test.false) in
     subst (λ n. AreCounts c.args.rows.now n c.loop-i.counts.items) end c.loop-i.invariant.counts
+
+pub returns-in_err-counts-clause-depths : goal.returns-in_err-counts-clause-depths
+returns-in_err-counts-clause-depths c = IfOk-from_err _ _ c.from_residual.ensures.0
+
+pub returns-in_err-counts-clause-counts : goal.returns-in_err-counts-clause-counts
+returns-in_err-counts-clause-counts c = IfOk-from_err _ _ c.from_residual.ensures.0
+
+pub returns-in_err-depths-clause-depths : goal.returns-in_err-depths-clause-depths
+returns-in_err-depths-clause-depths c = IfOk-from_err _ _ c.from_residual-in_err-depths.ensures.0
+
+pub returns-in_err-depths-clause-counts : goal.returns-in_err-depths-clause-counts
+returns-in_err-depths-clause-counts c = IfOk-from_err _ _ c.from_residual-in_err-depths.ensures.0
+
+pub returns-in_err-count_call-clause-depths : goal.returns-in_err-count_call-clause-depths
+returns-in_err-count_call-clause-depths c = IfOk-from_err _ _ c.from_residual-in_err-count_call.ensures.0
+
+pub returns-in_err-count_call-clause-counts : goal.returns-in_err-count_call-clause-counts
+returns-in_err-count_call-clause-counts c = IfOk-from_err _ _ c.from_residual-in_err-count_call.ensures.0
+
+pub returns-in_err-push-clause-depths : goal.returns-in_err-push-clause-depths
+returns-in_err-push-clause-depths c = IfOk-from_err _ _ c.from_residual-in_err-push.ensures.0
+
+pub returns-in_err-push-clause-counts : goal.returns-in_err-push-clause-counts
+returns-in_err-push-clause-counts c = IfOk-from_err _ _ c.from_residual-in_err-push.ensures.0
+
+pub count_call-requires-clause-formed : goal.count_call-requires-clause-formed
+count_call-requires-clause-formed c = c.requires.formed
+
+pub count_call-requires-clause-counts : goal.count_call-requires-clause-counts
+count_call-requires-clause-counts c = c.loop-i.invariant.counts
+
+pub count_call-requires-clause-row : goal.count_call-requires-clause-row
+count_call-requires-clause-row c = c.loop-i-test.true
+
+pub depth_of-depth-requires-clause-row : goal.depth_of-depth-requires-clause-row
+depth_of-depth-requires-clause-row c = c.loop-i-test.true

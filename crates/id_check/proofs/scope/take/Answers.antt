@@ -1,8 +1,8 @@
-use Rattle.std.proofs.Common.{◌≡◌, ◌+◌, ◌<◌, ◌≤◌, ℕ, true, false, get_or, length, sym, ◌∙◌, subst, add-one}
+use Rattle.std.proofs.Common.{◌≡◌, ◌+◌, ◌<◌, ◌≤◌, ℕ, true, false, get_or, length, refl, sym, ◌∙◌, subst, add-one, arith}
 use Rattle.id_check.specs.Firsts.{Notes}
-use Rattle.id_check.specs.Names.{AreBound, IsOpen}
+use Rattle.id_check.specs.Names.{AreBound, AreHeld, IsOpen}
 use Rattle.id_check.proofs.FirstsLemmas.{Notes-none}
-use Rattle.id_check.proofs.OpenLemmas.{open_kept}
+use Rattle.id_check.proofs.OpenLemmas.{held_no_scope, open_below, open_kept, open_later}
 use Rattle.id_check.proofs.ScopesLemmas.{binder_at-no_scope, keeps_no_scope, seconds-none}
 use Rattle.id_check.proofs.scope.take.Goals as goal
 
@@ -43,3 +43,76 @@ returns-then-is_scope-clause-untaken c =
     (subst (λ gs. (j : ℕ) → k ≤ j → j < length c.as_slice-then-is_scope-3.result.now →
     get_or gs (get_or c.as_slice-then-is_scope-3.result.now j 0) false ≡ true) held c.kept-kept.ensures.behind))
     c.requires.untaken)
+
+pub enter-requires-clause-few : goal.enter-requires-clause-few
+enter-requires-clause-few c = c.requires.few
+
+pub enter-requires-clause-row : goal.enter-requires-clause-row
+enter-requires-clause-row c = c.requires.row
+
+pub enter-requires-clause-names : goal.enter-requires-clause-names
+enter-requires-clause-names c = c.requires.names
+
+pub enter-requires-clause-fresh : goal.enter-requires-clause-fresh
+enter-requires-clause-fresh c = c.requires.fresh
+
+pub enter-requires-clause-binders : goal.enter-requires-clause-binders
+enter-requires-clause-binders c = c.requires.binders
+
+pub enter-requires-clause-waiting : goal.enter-requires-clause-waiting
+enter-requires-clause-waiting c = c.requires.waiting
+
+pub enter-requires-clause-held : goal.enter-requires-clause-held
+enter-requires-clause-held c = subst (AreHeld c.args.rows.now c.args.s) (sym c.as_slice-then-is_scope.ensures.value) c.requires.held
+
+pub close-requires-clause-row : goal.close-requires-clause-row
+close-requires-clause-row c = c.requires.row
+
+pub close-requires-clause-untaken : goal.close-requires-clause-untaken
+close-requires-clause-untaken c = subst (IsOpen c.args.rows.now c.args.s c.args.s) (sym c.as_slice-then-is_scope-2.ensures.value) c.requires.untaken
+
+pub close-requires-clause-held : goal.close-requires-clause-held
+close-requires-clause-held c = c.requires.held
+
+pub kept-kept-requires : goal.kept-kept-requires
+kept-kept-requires c =
+    let R = c.args.rows.now in
+    let s = c.args.s in
+    let ps = c.args.untaken.now.items in
+    let hs = c.close.new.held.items in
+    subst (λ qs. (j : ℕ) → j < length qs → get_or qs j 0 < length c.as_slice-then-is_scope-4.result.now) (sym c.as_slice-then-is_scope-3.ensures.value)
+    (subst (λ gs. (j : ℕ) → j < length ps → get_or ps j 0 < length gs) (sym c.as_slice-then-is_scope-4.ensures.value)
+    (λ j less. open_below R s j hs ps c.requires.row c.close.ensures.long c.requires.untaken less))
+
+pub returns-then-is_scope-clause-held : goal.returns-then-is_scope-clause-held
+returns-then-is_scope-clause-held c = c.close.ensures
+
+pub returns-then-is_scope-clause-long : goal.returns-then-is_scope-clause-long
+returns-then-is_scope-clause-long c = c.enter.ensures.long
+
+pub returns-then-is_scope-clause-fresh : goal.returns-then-is_scope-clause-fresh
+returns-then-is_scope-clause-fresh c = c.enter.ensures.fresh
+
+pub returns-then-is_scope-clause-binders : goal.returns-then-is_scope-clause-binders
+returns-then-is_scope-clause-binders c = c.enter.ensures.binders
+
+pub returns-then-is_scope-clause-waiting : goal.returns-then-is_scope-clause-waiting
+returns-then-is_scope-clause-waiting c = c.enter.ensures.waiting
+
+pub returns-then-is_scope-clause-first : goal.returns-then-is_scope-clause-first
+returns-then-is_scope-clause-first c = c.enter.ensures.first
+
+pub returns-else-is_scope-clause-untaken : goal.returns-else-is_scope-clause-untaken
+returns-else-is_scope-clause-untaken c = open_later c.args.rows.now c.args.s c.args.s c.args.untaken.now.items c.requires.untaken
+
+pub returns-else-is_scope-clause-held : goal.returns-else-is_scope-clause-held
+returns-else-is_scope-clause-held c = held_no_scope c.args.rows.now c.args.s c.args.held.now.items (sym c.is_scope.ensures ∙ c.if-is_scope.false) c.requires.held
+
+pub returns-else-is_scope-clause-long : goal.returns-else-is_scope-clause-long
+returns-else-is_scope-clause-long c = refl
+
+pub returns-else-is_scope-clause-fresh : goal.returns-else-is_scope-clause-fresh
+returns-else-is_scope-clause-fresh c = record { each = λ x t less. c.requires.fresh.each x t (omega arith) }
+
+pub returns-else-is_scope-clause-waiting : goal.returns-else-is_scope-clause-waiting
+returns-else-is_scope-clause-waiting c = c.requires.waiting

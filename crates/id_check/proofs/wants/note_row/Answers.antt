@@ -1,66 +1,20 @@
-use Rattle.std.proofs.Common.{◌<◌, List, ℕ, Option, get_or, length, refl, ap, sym, ◌∙◌, inl, inr, subst}
+use Rattle.std.proofs.Common.{◌≡◌, ◌<◌, List, ℕ, Option, get_or, length, refl, ap, sym, ◌∙◌, inl, inr, subst}
 use Rattle.std.specs.Prelude.{None}
 use Rattle.id_value.specs.declared.Kind.{Kind}
 use Rattle.id_parts.specs.declared.row.Row.{Row}
 use Rattle.id_parts.specs.declared.row.Node.{Node}
+use Rattle.id_parts.specs.declared.row.Node.TheVariants.{Name, Enter, Arg, Call, NextUse, Def}
 use Rattle.id_parts.specs.Rows.{at}
 use Rattle.id_parts.specs.Turns.{params_at}
 use Rattle.id_check.specs.declared.cause.CheckCause.{CheckCause}
 use Rattle.id_check.specs.Causes.{callee, causes_in, count_at, wrong, wrong_argument, wrong_count, wrong_params}
 use Rattle.id_check.specs.Firsts.{Notes}
 use Rattle.id_check.specs.Scopes.{user_of}
+use Rattle.id_check.specs.Wants.{wrong_parts}
 use Rattle.id_check.proofs.FirstsLemmas.{Notes-append}
 use Rattle.id_check.proofs.LinksLemmas.{head_below, part_of}
 use Rattle.id_check.proofs.ParamsLemmas.{callee_def}
 use Rattle.id_check.proofs.wants.note_row.Goals as goal
-
-pub note_wrong-requires-clause-row : goal.note_wrong-requires-clause-row
-note_wrong-requires-clause-row c = part_of c.in-Unary.operand c.requires.formed c.requires.row c.in-Unary.is refl
-
-pub note_operands-requires-clause-left : goal.note_operands-requires-clause-left
-note_operands-requires-clause-left c = part_of c.in-Binary.left c.requires.formed c.requires.row c.in-Binary.is (inl refl)
-
-pub note_operands-requires-clause-right : goal.note_operands-requires-clause-right
-note_operands-requires-clause-right c = part_of c.in-Binary.right c.requires.formed c.requires.row c.in-Binary.is (inr refl)
-
-pub note_wrong-requires-in-Split-clause-row : goal.note_wrong-requires-in-Split-clause-row
-note_wrong-requires-in-Split-clause-row c = part_of c.in-Split.test c.requires.formed c.requires.row c.in-Split.is refl
-
-pub note_wrong-requires-in-Switches-clause-row : goal.note_wrong-requires-in-Switches-clause-row
-note_wrong-requires-in-Switches-clause-row c = part_of c.in-Switches.test c.requires.formed c.requires.row c.in-Switches.is refl
-
-pub note_next-requires-clause-outer : goal.note_next-requires-clause-outer
-note_next-requires-clause-outer c = part_of c.in-Next.outer c.requires.formed c.requires.row c.in-Next.is (inl refl)
-
-pub note_next-requires-clause-value : goal.note_next-requires-clause-value
-note_next-requires-clause-value c = part_of c.in-Next.value c.requires.formed c.requires.row c.in-Next.is (inr refl)
-
-pub note_both-requires-clause-left : goal.note_both-requires-clause-left
-note_both-requires-clause-left c = part_of c.in-Array.low c.requires.formed c.requires.row c.in-Array.is (inl refl)
-
-pub note_both-requires-clause-right : goal.note_both-requires-clause-right
-note_both-requires-clause-right c = part_of c.in-Array.high c.requires.formed c.requires.row c.in-Array.is (inr refl)
-
-pub note_cell-requires-clause-target : goal.note_cell-requires-clause-target
-note_cell-requires-clause-target c = part_of c.in-Fetch.target c.requires.formed c.requires.row c.in-Fetch.is (inl refl)
-
-pub note_cell-requires-clause-index : goal.note_cell-requires-clause-index
-note_cell-requires-clause-index c = part_of c.in-Fetch.index c.requires.formed c.requires.row c.in-Fetch.is (inr refl)
-
-pub note_cell-requires-in-Address-clause-target : goal.note_cell-requires-in-Address-clause-target
-note_cell-requires-in-Address-clause-target c = part_of c.in-Address.target c.requires.formed c.requires.row c.in-Address.is (inl refl)
-
-pub note_cell-requires-in-Address-clause-index : goal.note_cell-requires-in-Address-clause-index
-note_cell-requires-in-Address-clause-index c = part_of c.in-Address.index c.requires.formed c.requires.row c.in-Address.is (inr refl)
-
-pub note_wrong-requires-in-Store-clause-row : goal.note_wrong-requires-in-Store-clause-row
-note_wrong-requires-in-Store-clause-row c = part_of c.in-Store.value c.requires.formed c.requires.row c.in-Store.is (inr refl)
-
-pub note_arm-requires-clause-then : goal.note_arm-requires-clause-then
-note_arm-requires-clause-then c = part_of c.in-If.then c.requires.formed c.requires.row c.in-If.is (inr (inl refl))
-
-pub note_arm-requires-clause-otherwise : goal.note_arm-requires-clause-otherwise
-note_arm-requires-clause-otherwise c = part_of c.in-If.otherwise c.requires.formed c.requires.row c.in-If.is (inr (inr refl))
 
 pub note_result-requires-clause-row : goal.note_result-requires-clause-row
 note_result-requires-clause-row c = part_of c.in-Def.body c.requires.formed c.requires.row c.in-Def.is (inr refl)
@@ -77,27 +31,6 @@ pub returns-in-Name : goal.returns-in-Name
 returns-in-Name c =
     subst (Noted c.args.rows.now c.args.kinds.now c.args.binders.now c.args.i c.args.first.now c.note_unknown.new.first) (sym c.in-Name.is)
     c.note_unknown.ensures
-
-pub returns-in-Unary : goal.returns-in-Unary
-returns-in-Unary c =
-    subst (Noted c.args.rows.now c.args.kinds.now c.args.binders.now c.args.i c.args.first.now c.note_wrong.new.first) (sym c.in-Unary.is)
-    (subst (λ k. Notes c.args.first.now (wrong c.args.rows.now (λ j. get_or c.args.kinds.now j None) k c.in-Unary.operand) c.note_wrong.new.first)
-    c.unary_kind.ensures c.note_wrong.ensures)
-
-pub returns-in-Binary : goal.returns-in-Binary
-returns-in-Binary c =
-    subst (Noted c.args.rows.now c.args.kinds.now c.args.binders.now c.args.i c.args.first.now c.note_operands.new.first) (sym c.in-Binary.is)
-    c.note_operands.ensures
-
-pub returns-in-Split : goal.returns-in-Split
-returns-in-Split c =
-    subst (Noted c.args.rows.now c.args.kinds.now c.args.binders.now c.args.i c.args.first.now c.note_wrong-in-Split.new.first) (sym c.in-Split.is)
-    c.note_wrong-in-Split.ensures
-
-pub returns-in-If : goal.returns-in-If
-returns-in-If c =
-    subst (Noted c.args.rows.now c.args.kinds.now c.args.binders.now c.args.i c.args.first.now c.note_arm.new.first) (sym c.in-If.is)
-    c.note_arm.ensures
 
 pub returns-in-Def : goal.returns-in-Def
 returns-in-Def c =
@@ -172,37 +105,72 @@ returns-in-Call c =
     subst (Noted R c.args.kinds.now c.args.binders.now c.args.i c.args.first.now c.note_count_of.new.first) (sym c.in-Call.is)
     (subst (λ o. Notes c.args.first.now (wrong_count R o c.in-Call.count (at R c.args.i).place) c.note_count_of.new.first) head c.note_count_of.ensures)
 
+pub bounds-rows-i : goal.bounds-rows-i
+bounds-rows-i c = c.requires.row
+
+pub bounds-binders-i : goal.bounds-binders-i
+bounds-binders-i c = subst (λ n. c.args.i < n) (sym c.requires.binders) c.requires.row
+
+pub bounds-binders-i-in-Enter : goal.bounds-binders-i-in-Enter
+bounds-binders-i-in-Enter c = subst (λ n. c.args.i < n) (sym c.requires.binders) c.requires.row
+
+pub bounds-binders-i-in-NextUse : goal.bounds-binders-i-in-NextUse
+bounds-binders-i-in-NextUse c = subst (λ n. c.args.i < n) (sym c.requires.binders) c.requires.row
+
+pub callee-callee-requires : goal.callee-callee-requires
+callee-callee-requires c = λ b w.
+    let e = c.in-Arg.enter in
+    c.requires.within e b (part_of e c.requires.formed c.requires.row c.in-Arg.is (inl refl)) (sym c.entered_at.ensures ∙ w)
+
+pub note_argument-requires-clause-table : goal.note_argument-requires-clause-table
+note_argument-requires-clause-table c = c.requires.table
+
+pub note_argument-requires-clause-kinds : goal.note_argument-requires-clause-kinds
+note_argument-requires-clause-kinds c = c.requires.kinds
+
+pub callee-callee-requires-in-Call : goal.callee-callee-requires-in-Call
+callee-callee-requires-in-Call c = λ b w.
+    let e = c.in-Call.enter in
+    c.requires.within e b (part_of e c.requires.formed c.requires.row c.in-Call.is refl) (sym c.binder_at.ensures ∙ w)
+
+pub note_count_of-requires-clause-table : goal.note_count_of-requires-clause-table
+note_count_of-requires-clause-table c = c.requires.table
+
+pub note_result-requires-clause-kinds : goal.note_result-requires-clause-kinds
+note_result-requires-clause-kinds c = c.requires.kinds
+
+pub note_params-requires-clause-table : goal.note_params-requires-clause-table
+note_params-requires-clause-table c = c.requires.table
+
+pub note_parts-requires-clause-kinds : goal.note_parts-requires-clause-kinds
+note_parts-requires-clause-kinds c = c.requires.kinds
+
+pub note_parts-requires-clause-parts : goal.note_parts-requires-clause-parts
+note_parts-requires-clause-parts c = λ a h. part_of a c.requires.formed c.requires.row refl h
+
+-- what is wrong in a row that is about no name is wrong in its parts
+in_parts : (R : List Row) (κ : ℕ → Option Kind) (o : Option ℕ) (e : ℕ) (n : Node)
+    → ((x : ℕ) → n ≡ Name x → ⊥) → ((x : ℕ) → n ≡ Enter x → ⊥) → ((s k v : ℕ) → n ≡ Arg s k v → ⊥) → ((s c : ℕ) → n ≡ Call s c → ⊥)
+    → ((x : ℕ) → n ≡ NextUse x → ⊥) → ((x h : ℕ) (k : Kind) (b : ℕ) → n ≡ Def x h k b → ⊥) → causes_in R κ o e n ≡ wrong_parts R κ n
+in_parts R κ o e (Name x) h1 h2 h3 h4 h5 h6 = absurd (h1 x refl)
+in_parts R κ o e (Enter x) h1 h2 h3 h4 h5 h6 = absurd (h2 x refl)
+in_parts R κ o e (Arg s k v) h1 h2 h3 h4 h5 h6 = absurd (h3 s k v refl)
+in_parts R κ o e (Call s c) h1 h2 h3 h4 h5 h6 = absurd (h4 s c refl)
+in_parts R κ o e (NextUse x) h1 h2 h3 h4 h5 h6 = absurd (h5 x refl)
+in_parts R κ o e (Def x h k b) h1 h2 h3 h4 h5 h6 = absurd (h6 x h k b refl)
+in_parts R κ o e _ h1 h2 h3 h4 h5 h6 = refl
+
+pub returns-in_default : goal.returns-in_default
+returns-in_default c =
+    let R = c.args.rows.now in
+    let i = c.args.i in
+    let n = (at R i).node in
+    let w = c.in_default in
+    subst (λ cs. Notes c.args.first.now cs c.note_parts.new.first)
+    (sym (in_parts R (λ k. get_or c.args.kinds.now k None) (get_or c.args.binders.now (user_of i n) None) (at R i).place n
+    w.not-Name w.not-Enter w.not-Arg w.not-Call w.not-NextUse w.not-Def)) c.note_parts.ensures
+
 pub returns-in-NextUse : goal.returns-in-NextUse
 returns-in-NextUse c =
     subst (Noted c.args.rows.now c.args.kinds.now c.args.binders.now c.args.i c.args.first.now c.note_unknown-in-NextUse.new.first) (sym c.in-NextUse.is)
     c.note_unknown-in-NextUse.ensures
-
-pub returns-in-Switches : goal.returns-in-Switches
-returns-in-Switches c =
-    subst (Noted c.args.rows.now c.args.kinds.now c.args.binders.now c.args.i c.args.first.now c.note_wrong-in-Switches.new.first) (sym c.in-Switches.is)
-    c.note_wrong-in-Switches.ensures
-
-pub returns-in-Array : goal.returns-in-Array
-returns-in-Array c =
-    subst (Noted c.args.rows.now c.args.kinds.now c.args.binders.now c.args.i c.args.first.now c.note_both.new.first) (sym c.in-Array.is)
-    c.note_both.ensures
-
-pub returns-in-Fetch : goal.returns-in-Fetch
-returns-in-Fetch c =
-    subst (Noted c.args.rows.now c.args.kinds.now c.args.binders.now c.args.i c.args.first.now c.note_cell.new.first) (sym c.in-Fetch.is)
-    c.note_cell.ensures
-
-pub returns-in-Address : goal.returns-in-Address
-returns-in-Address c =
-    subst (Noted c.args.rows.now c.args.kinds.now c.args.binders.now c.args.i c.args.first.now c.note_cell-in-Address.new.first) (sym c.in-Address.is)
-    c.note_cell-in-Address.ensures
-
-pub returns-in-Store : goal.returns-in-Store
-returns-in-Store c =
-    subst (Noted c.args.rows.now c.args.kinds.now c.args.binders.now c.args.i c.args.first.now c.note_wrong-in-Store.new.first) (sym c.in-Store.is)
-    c.note_wrong-in-Store.ensures
-
-pub returns-in-Next : goal.returns-in-Next
-returns-in-Next c =
-    subst (Noted c.args.rows.now c.args.kinds.now c.args.binders.now c.args.i c.args.first.now c.note_next.new.first) (sym c.in-Next.is)
-    c.note_next.ensures
