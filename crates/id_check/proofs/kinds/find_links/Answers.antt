@@ -1,3 +1,4 @@
+use Rattle.std.proofs.lemmas.Result.{IfOk-from_err}
 use Rattle.std.proofs.Common.{◌≡◌, ◌<◌, ℕ, None, get_or, length, sym, subst, arith}
 use Rattle.id_check.specs.Kinds.{Link, Nowhere, link_at}
 use Rattle.id_check.specs.Chains.{IsGoing, IsState}
@@ -19,3 +20,21 @@ returns c =
     let l : ℕ → Link = link_at c.args.rows.now (λ j. get_or c.args.binders.now j None) in
     let end : c.loop-i.i ≡ length c.args.rows.now = omega (arith, c.loop-i.auto.i-end, c.loop-i-test.false) in
     subst (λ n. IsGoing l n 0 c.loop-i.links.items) end c.loop-i.invariant
+
+pub returns-in_err-links : goal.returns-in_err-links
+returns-in_err-links c = IfOk-from_err _ _ c.from_residual.ensures.0
+
+pub link_at-link-requires-clause-formed : goal.link_at-link-requires-clause-formed
+link_at-link-requires-clause-formed c = c.requires.formed
+
+pub link_at-link-requires-clause-binders : goal.link_at-link-requires-clause-binders
+link_at-link-requires-clause-binders c = c.requires.binders
+
+pub link_at-link-requires-clause-within : goal.link_at-link-requires-clause-within
+link_at-link-requires-clause-within c = c.requires.within
+
+pub link_at-link-requires-clause-row : goal.link_at-link-requires-clause-row
+link_at-link-requires-clause-row c = c.loop-i-test.true
+
+pub returns-in_err-push : goal.returns-in_err-push
+returns-in_err-push c = IfOk-from_err _ _ c.from_residual-in_err-push.ensures.0

@@ -1,3 +1,6 @@
+use Rattle.std.proofs.Common.{refl}
+use Rattle.std.proofs.Common.{arith}
+use Rattle.id_check.proofs.LinksLemmas.{part_of}
 use Rattle.std.proofs.Common.{◌<◌, ap, sym, ◌∙◌, get_or, length, subst}
 use Rattle.std.specs.Prelude.{None}
 use Rattle.id_parts.specs.Rows.{at}
@@ -17,3 +20,16 @@ pub returns : goal.returns
 returns c =
     let node = (at c.args.rows.now c.args.i).node in
     c.link_of.ensures ∙ ap (λ o. link_of o node) (c.binder_at.ensures ∙ ap (λ k. get_or c.args.binders.now k None) c.user_of.ensures)
+
+pub link_of-requires-clause-binder : goal.link_of-requires-clause-binder
+link_of-requires-clause-binder c = λ b e.
+    let R = c.args.rows.now in
+    let u = user_of c.args.i (at R c.args.i).node in
+    let less = c.requires.within u b (user_below R c.args.i c.requires.formed c.requires.row)
+    (sym (c.binder_at.ensures ∙ ap (λ k. get_or c.args.binders.now k None) c.user_of.ensures) ∙ e) in
+    omega (arith, c.requires.few)
+
+pub link_of-requires-clause-parts : goal.link_of-requires-clause-parts
+link_of-requires-clause-parts c = λ a h.
+    let less = part_of a c.requires.formed c.requires.row refl h in
+    omega (arith, c.requires.few)

@@ -1,3 +1,4 @@
+use Rattle.std.proofs.lemmas.Result.{IfOk-from_err}
 use Rattle.std.proofs.Common.{◌≡◌, ◌⊎◌, ◌+◌, ◌<◌, ℕ, List, [], ◌++◌, ◌∷◌, inl, inr, refl, sym, ◌∙◌, ap, subst, get_or, set, length}
 use Rattle.std.proofs.lemmas.Bool.{cases_eq}
 use Rattle.std.proofs.lemmas.List.{length-set, get_or_default, get_or-set_same, get_or-set_other}
@@ -84,3 +85,15 @@ loop-next-init c =
       passing = λ f g. subst (λ ps. IsPassing f (length c.args.links.now.items) c.args.start ps c.args.start c.args.links.now.items) (sym c.requires.passed)
           (passing_start f (length c.args.links.now.items) c.args.start c.args.links.now.items c.requires.start g);
     }
+
+pub returns-in_err-push-clause-passed : goal.returns-in_err-push-clause-passed
+returns-in_err-push-clause-passed c = IfOk-from_err _ _ c.from_residual.ensures.0
+
+pub returns-in_err-push-clause-long : goal.returns-in_err-push-clause-long
+returns-in_err-push-clause-long c = IfOk-from_err _ _ c.from_residual.ensures.0
+
+pub returns-in_err-push-clause-targets : goal.returns-in_err-push-clause-targets
+returns-in_err-push-clause-targets c = IfOk-from_err _ _ c.from_residual.ensures.0
+
+pub returns-in_err-push-clause-going : goal.returns-in_err-push-clause-going
+returns-in_err-push-clause-going c = IfOk-from_err _ _ c.from_residual.ensures.0

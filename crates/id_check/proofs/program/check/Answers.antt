@@ -1,3 +1,4 @@
+use Rattle.std.proofs.Common.{refl}
 use Rattle.std.specs.Prelude.{◌≡◌}
 use Rattle.id_tree.specs.Tree.{program_tree}
 use Rattle.id_tree.specs.Distinct.{Distinct}
@@ -23,3 +24,30 @@ pub returns-in-Err-clause-inside : goal.returns-in-Err-clause-inside
 returns-in-Err-clause-inside c =
     let t = program_tree c.args.program in
     IsInside-refused t c.in-Err.cause (IsTable-rows_of t (IsProgramTree-program_tree c.args.program)) c.in-Err.ensures.refused
+
+pub returns-in-Ok-noted-clause-back : goal.returns-in-Ok-noted-clause-back
+returns-in-Ok-noted-clause-back c = tt
+
+pub returns-in-Ok-noted-clause-refused : goal.returns-in-Ok-noted-clause-refused
+returns-in-Ok-noted-clause-refused c = tt
+
+pub returns-in-Ok-noted-clause-inside : goal.returns-in-Ok-noted-clause-inside
+returns-in-Ok-noted-clause-inside c = tt
+
+pub returns-in-Err-noted-clause-ok : goal.returns-in-Err-noted-clause-ok
+returns-in-Err-noted-clause-ok c = tt
+
+pub returns-in-Err-noted-clause-refused : goal.returns-in-Err-noted-clause-refused
+returns-in-Err-noted-clause-refused c = tt
+
+pub returns-in-Err-noted-clause-inside : goal.returns-in-Err-noted-clause-inside
+returns-in-Err-noted-clause-inside c = tt
+
+pub returns-in-Err-clause-ok : goal.returns-in-Err-clause-ok
+returns-in-Err-clause-ok c = tt
+
+pub returns-in-Err-clause-back : goal.returns-in-Err-clause-back
+returns-in-Err-clause-back c = refl
+
+pub returns-in-Err-clause-refused : goal.returns-in-Err-clause-refused
+returns-in-Err-clause-refused c = c.in-Err.ensures.refused

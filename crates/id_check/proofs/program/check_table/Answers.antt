@@ -26,3 +26,12 @@ returns-in-Err-clause-inside c =
     let t = tree_in o in
     IsInside-refused t c.in-Err.cause (IsTable-rows_of t (IsProgramTree-tree_in o))
     (subst (λ R. IsRefusedFor R c.in-Err.cause) c.args.tabled.tabled c.in-Err.ensures.refused)
+
+pub returns-in-Ok-clause-refused : goal.returns-in-Ok-clause-refused
+returns-in-Ok-clause-refused c = tt
+
+pub returns-in-Ok-clause-inside : goal.returns-in-Ok-clause-inside
+returns-in-Ok-clause-inside c = tt
+
+pub returns-in-Err-clause-ok : goal.returns-in-Err-clause-ok
+returns-in-Err-clause-ok c = tt

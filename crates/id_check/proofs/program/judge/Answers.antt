@@ -1,3 +1,7 @@
+use Rattle.std.specs.Prelude.{IfOk}
+use Rattle.id_parts.specs.Tables.{IsFormed}
+use Rattle.id_parts.specs.Turns.{IsTable}
+use Rattle.id_check.specs.Judged.{IsJudged}
 use Rattle.std.proofs.Common.{◌≡◌, ℕ, Some, length, sym, subst}
 use Rattle.std.specs.Prelude.{None, IfErr}
 use Rattle.id_parts.specs.declared.row.Node.{Node}
@@ -35,3 +39,33 @@ find_columns-requires-clause-names c =
 pub returns-in-Ok-clause-refused : goal.returns-in-Ok-clause-refused
 returns-in-Ok-clause-refused c =
     subst (λ R. IfErr c.settle.result (IsRefusedFor R)) c.as_slice-rows.ensures.value c.settle.ensures.refused
+
+pub find_columns-requires-clause-table : goal.find_columns-requires-clause-table
+find_columns-requires-clause-table c = subst IsTable (sym c.as_slice-rows.ensures.value) c.requires.table
+
+pub find_columns-requires-clause-formed : goal.find_columns-requires-clause-formed
+find_columns-requires-clause-formed c = subst IsFormed (sym c.as_slice-rows.ensures.value) c.args.table.now.formed
+
+pub settle-requires-clause-table : goal.settle-requires-clause-table
+settle-requires-clause-table c = subst IsTable (sym c.as_slice-rows.ensures.value) c.requires.table
+
+pub settle-requires-clause-bound : goal.settle-requires-clause-bound
+settle-requires-clause-bound c = c.in-Ok.ensures.bound
+
+pub settle-requires-clause-kinded : goal.settle-requires-clause-kinded
+settle-requires-clause-kinded c = c.in-Ok.ensures.kinded
+
+pub settle-requires-clause-deep : goal.settle-requires-clause-deep
+settle-requires-clause-deep c = c.in-Ok.ensures.deep
+
+pub settle-requires-clause-first : goal.settle-requires-clause-first
+settle-requires-clause-first c = c.in-Ok.ensures.first
+
+pub returns-in-Ok-clause-judged : goal.returns-in-Ok-clause-judged
+returns-in-Ok-clause-judged c = subst (λ R. IfOk c.settle.result (λ f. IsJudged R f.0 f.1)) c.as_slice-rows.ensures.value c.settle.ensures.judged
+
+pub returns-in-Err-clause-judged : goal.returns-in-Err-clause-judged
+returns-in-Err-clause-judged c = tt
+
+pub returns-in-Err-clause-refused : goal.returns-in-Err-clause-refused
+returns-in-Err-clause-refused c = tt

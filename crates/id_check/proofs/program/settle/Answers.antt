@@ -17,3 +17,12 @@ returns-in-Some-clause-refused c =
       are_kinds = c.requires.kinded;
       first = subst (λ o. IsFirstOf o (causes R β κ)) c.in-Some.is c.requires.first;
     })
+
+pub returns-in-Some-clause-judged : goal.returns-in-Some-clause-judged
+returns-in-Some-clause-judged c = tt
+
+pub returns-in-Some-find_main-clause-refused : goal.returns-in-Some-find_main-clause-refused
+returns-in-Some-find_main-clause-refused c = tt
+
+pub returns-in-None-clause-judged : goal.returns-in-None-clause-judged
+returns-in-None-clause-judged c = tt

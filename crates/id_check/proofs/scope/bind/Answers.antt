@@ -1,14 +1,16 @@
 use Rattle.std.proofs.Common.{◌≡◌, ◌<◌, ℕ, Option, Some, None, refl, get_or, length, sym, ◌∙◌, ap, subst, arith}
 use Rattle.std.specs.Option.{option_or}
+use Rattle.id_parts.specs.Rows.{at}
 use Rattle.id_check.specs.Firsts.{Notes}
 use Rattle.std.proofs.lemmas.List.{length-set}
+use Rattle.id_check.specs.Scopes.{bound_name}
 use Rattle.id_check.specs.Names.{AreWaiting, again, in_scope, newly}
 use Rattle.id_check.proofs.BindLemmas.{read_at, again-bound, again-free, bound_more, bound_kept, bound_same}
 use Rattle.id_check.proofs.BindLemmas.{later_set, newly-bound, newly-given, newly-free}
 use Rattle.id_check.proofs.FirstsLemmas.{Notes-none}
 use Rattle.id_check.proofs.ScopesLemmas.{or_none}
 use Rattle.id_check.proofs.scope.bind.Goals as goal
-use Rattle.id_check.proofs.scope.bind.Goals.{In-Some, After-in_scope}
+use Rattle.id_check.proofs.scope.bind.Goals.{In-Some, In_default, After-in_scope}
 
 none : (o : Option ℕ) → ((k : ℕ) → o ≡ Some k → ⊥) → o ≡ None
 none None h = refl
@@ -23,8 +25,13 @@ counted c =
     c.requires.names.bound c.args.b c.in-Some.name (below c.args.b c.args.s (length c.args.rows.now) c.requires.inside c.requires.row)
     (sym c.bound_name.ensures ∙ c.in-Some.is)
 
+-- the row binds no name
+unbound : (c : In_default) → bound_name (at c.args.rows.now c.args.b).node ≡ None
+unbound c = sym c.bound_name.ensures ∙ none c.bound_name.result c.in_default.not-Some
+
 -- what is looked at is the binder that the scope has of the name, if it has one
-looked : (c : After-in_scope) → c.in-Some.name < length c.args.bound.now.items → in_scope c.args.s (get_or c.args.bound.now.items c.in-Some.name None) ≡ c.in_scope.result
+looked : (c : After-in_scope) → c.in-Some.name < length c.args.bound.now.items
+    → in_scope c.args.s (get_or c.args.bound.now.items c.in-Some.name None) ≡ c.in_scope.result
 looked c less = sym (c.in_scope.ensures ∙ ap (in_scope c.args.s) (read_at c.args.bound.now.items c.in-Some.name c.index.result.now c.index.ensures less))
 
 pub note_second-requires-clause-earlier : goal.note_second-requires-clause-earlier
@@ -122,7 +129,8 @@ returns-in-Some-sought-clause-first c =
     let d = (goal.at.returns-in-Some-sought-clause-first c).After-in_scope in
     let less = counted ((goal.at.returns-in-Some-sought-clause-first c).In-Some) in
     subst (λ cs. Notes c.args.first.now cs c.args.first.now)
-    (sym (again-free c.args.rows.now c.args.s c.args.b c.in-Some.name c.args.bound.now.items _ (sym c.bound_name.ensures ∙ c.in-Some.is) (looked d less ∙ c.in_default-in_scope.is)))
+    (sym (again-free c.args.rows.now c.args.s c.args.b c.in-Some.name c.args.bound.now.items _
+    (sym c.bound_name.ensures ∙ c.in-Some.is) (looked d less ∙ c.in_default-in_scope.is)))
     (Notes-none c.args.first.now)
 
 pub returns-in_default-sought-clause-long : goal.returns-in_default-sought-clause-long
@@ -147,16 +155,17 @@ returns-in_default-sought-clause-first c =
     let d = (goal.at.returns-in_default-sought-clause-first c).After-in_scope in
     let less = counted ((goal.at.returns-in_default-sought-clause-first c).In-Some) in
     subst (λ cs. Notes c.args.first.now cs c.args.first.now)
-    (sym (again-free c.args.rows.now c.args.s c.args.b c.in-Some.name c.args.bound.now.items _ (sym c.bound_name.ensures ∙ c.in-Some.is) (looked d less ∙ c.in_default-in_scope.is)))
+    (sym (again-free c.args.rows.now c.args.s c.args.b c.in-Some.name c.args.bound.now.items _
+    (sym c.bound_name.ensures ∙ c.in-Some.is) (looked d less ∙ c.in_default-in_scope.is)))
     (Notes-none c.args.first.now)
 
 pub returns-in_default-clause-bound : goal.returns-in_default-clause-bound
-returns-in_default-clause-bound c = λ x within. bound_kept _ c.args.s c.args.b x c.args.bound.now.items (sym c.bound_name.ensures ∙ none c.bound_name.result c.in_default.not-Some)
+returns-in_default-clause-bound c = λ x within. bound_kept _ c.args.s c.args.b x c.args.bound.now.items (unbound c)
 
 pub returns-in_default-clause-binders : goal.returns-in_default-clause-binders
 returns-in_default-clause-binders c = λ i within.
     let p = get_or c.args.uses.now.binders.items i None in
-    sym (or_none p _ (ap (λ q. newly c.args.rows.now c.args.s c.args.b c.args.bound.now.items q i) (sym c.bound_name.ensures ∙ none c.bound_name.result c.in_default.not-Some)))
+    sym (or_none p _ (ap (λ q. newly c.args.rows.now c.args.s c.args.b c.args.bound.now.items q i) (unbound c)))
 
 pub returns-in_default-clause-later : goal.returns-in_default-clause-later
 returns-in_default-clause-later c = λ x t far e. e
@@ -164,4 +173,4 @@ returns-in_default-clause-later c = λ x t far e. e
 pub returns-in_default-clause-first : goal.returns-in_default-clause-first
 returns-in_default-clause-first c =
     subst (λ cs. Notes c.args.first.now cs c.args.first.now)
-    (sym (ap (again c.args.rows.now c.args.s c.args.b c.args.bound.now.items) (sym c.bound_name.ensures ∙ none c.bound_name.result c.in_default.not-Some))) (Notes-none c.args.first.now)
+    (sym (ap (again c.args.rows.now c.args.s c.args.b c.args.bound.now.items) (unbound c))) (Notes-none c.args.first.now)

@@ -33,3 +33,6 @@ returns c =
     let s = c.args.s in
     let past : get_or c.args.untaken.now c.loop-k.k s ≡ s = get_or_past c.args.untaken.now c.loop-k.k s c.loop-k-test.false in
     taken_end R s c.loop-k.held.items (subst (λ n. AreTaken R s n c.loop-k.held.items) past c.loop-k.invariant)
+
+pub close_row-requires-clause-row : goal.close_row-requires-clause-row
+close_row-requires-clause-row c = c.requires.row

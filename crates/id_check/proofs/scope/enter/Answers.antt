@@ -70,3 +70,12 @@ returns c =
       waiting = h.waiting;
       first = subst (λ n. Notes c.args.first.now (seconds R s n) c.loop-k.first) past h.first;
     }
+
+pub enter_row-requires-clause-few : goal.enter_row-requires-clause-few
+enter_row-requires-clause-few c = c.requires.few
+
+pub enter_row-requires-clause-row : goal.enter_row-requires-clause-row
+enter_row-requires-clause-row c = c.requires.row
+
+pub enter_row-requires-clause-held : goal.enter_row-requires-clause-held
+enter_row-requires-clause-held c = c.requires.held

@@ -74,3 +74,33 @@ returns-then-takes-clause-first c =
     let is = keeps_inside R s b (sym c.takes.ensures ∙ c.if-takes.true) c.requires.behind inside in
     subst (λ cs. Notes c.args.first.now cs c.bind.new.first)
     (again-second R s b c.args.bound.now.items is bare (λ x e. c.requires.names.bound b x less e) c.requires.taking.bound) c.bind.ensures.first
+
+pub bind-requires-clause-few : goal.bind-requires-clause-few
+bind-requires-clause-few c = c.requires.few
+
+pub bind-requires-clause-row : goal.bind-requires-clause-row
+bind-requires-clause-row c = c.requires.row
+
+pub bind-requires-clause-inside : goal.bind-requires-clause-inside
+bind-requires-clause-inside c = c.requires.inside
+
+pub bind-requires-clause-held : goal.bind-requires-clause-held
+bind-requires-clause-held c = c.requires.held
+
+pub bind-requires-clause-names : goal.bind-requires-clause-names
+bind-requires-clause-names c = c.requires.names
+
+pub bind-requires-clause-waiting : goal.bind-requires-clause-waiting
+bind-requires-clause-waiting c = c.requires.waiting
+
+pub returns-then-takes-clause-long : goal.returns-then-takes-clause-long
+returns-then-takes-clause-long c = c.bind.ensures.long
+
+pub returns-then-takes-clause-waiting : goal.returns-then-takes-clause-waiting
+returns-then-takes-clause-waiting c = c.bind.ensures.waiting
+
+pub returns-else-not-held-b-clause-long : goal.returns-else-not-held-b-clause-long
+returns-else-not-held-b-clause-long c = refl
+
+pub returns-else-not-held-b-clause-waiting : goal.returns-else-not-held-b-clause-waiting
+returns-else-not-held-b-clause-waiting c = c.requires.waiting

@@ -131,3 +131,18 @@ returns-clause-binders c = λ i k.
     given_all R c.args.s (length c.args.uses.now.last.items) x c.args.b i c.loop-u.behind c.args.uses.now.binders.items c.loop-u.uses.binders.items
     c.loop-u.uses.last.items
     c.loop-u.uses.earlier.items c.requires.key h.waiting h.behind h.passed end (h.binders i k)
+
+pub is_outside-requires-clause-held : goal.is_outside-requires-clause-held
+is_outside-requires-clause-held c = c.requires.held
+
+pub give-requires-clause-few : goal.give-requires-clause-few
+give-requires-clause-few c = c.requires.few
+
+pub give-requires-clause-row : goal.give-requires-clause-row
+give-requires-clause-row c = c.requires.row
+
+pub give-requires-clause-binder : goal.give-requires-clause-binder
+give-requires-clause-binder c = c.requires.binder
+
+pub give-requires-clause-behind : goal.give-requires-clause-behind
+give-requires-clause-behind c = c.loop-u.invariant.behind

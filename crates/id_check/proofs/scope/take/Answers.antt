@@ -106,7 +106,8 @@ pub returns-else-is_scope-clause-untaken : goal.returns-else-is_scope-clause-unt
 returns-else-is_scope-clause-untaken c = open_later c.args.rows.now c.args.s c.args.s c.args.untaken.now.items c.requires.untaken
 
 pub returns-else-is_scope-clause-held : goal.returns-else-is_scope-clause-held
-returns-else-is_scope-clause-held c = held_no_scope c.args.rows.now c.args.s c.args.held.now.items (sym c.is_scope.ensures ∙ c.if-is_scope.false) c.requires.held
+returns-else-is_scope-clause-held c =
+    held_no_scope c.args.rows.now c.args.s c.args.held.now.items (sym c.is_scope.ensures ∙ c.if-is_scope.false) c.requires.held
 
 pub returns-else-is_scope-clause-long : goal.returns-else-is_scope-clause-long
 returns-else-is_scope-clause-long c = refl
