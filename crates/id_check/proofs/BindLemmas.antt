@@ -163,3 +163,19 @@ pub bound_kept : (o : Option ℕ) (s b y : ℕ) (bs : List (Option Bound)) → o
     ≡ option_or (in_scope s (get_or bs y None)) (if is_name y o then Some b else None)
 bound_kept o s b y bs is =
     sym (or_none (in_scope s (get_or bs y None)) (if is_name y o then Some b else None) (ap (λ q. if is_name y q then Some b else None) is))
+
+-- the key by which the uses of a name are sought is one of those that are counted
+pub sought_below : (m : Node) (x k n : ℕ) → sought m x ≡ Some k → x < n → k < n + n
+sought_below (Block b) x k n e h = let d : x + x ≡ k = cc in omega arith
+sought_below Body x k n e h = let d : x + x ≡ k = cc in omega arith
+sought_below (Loop y w l) x k n e h = let d : x + x ≡ k = cc in omega arith
+sought_below (Def z y j b) x k n e h = let d : x + x ≡ k = cc in omega arith
+sought_below Program x k n e h = let d : x + x + 1 ≡ k = cc in omega arith
+sought_below _ x k n e h = let d : None ≡ Some k = e in cc
+
+-- so is that by which a row waits
+pub key_below : (m : Node) (k n : ℕ) → key_of m ≡ Some k → ((x : ℕ) → used_name m ≡ Some x → x < n) → k < n + n
+key_below (Name y) k n e h = let d : y + y ≡ k = cc in let less = h y refl in omega arith
+key_below (NextUse y) k n e h = let d : y + y ≡ k = cc in let less = h y refl in omega arith
+key_below (Enter y) k n e h = let d : y + y + 1 ≡ k = cc in let less = h y refl in omega arith
+key_below _ k n e h = let d : None ≡ Some k = e in cc

@@ -1,5 +1,5 @@
-use Rattle.std.proofs.lemmas.Result.{IfOk-from_err}
 use Rattle.std.proofs.Common.{◌≡◌, ◌<◌, ℕ, None, get_or, length, sym, subst, arith}
+use Rattle.std.proofs.lemmas.Result.{IfOk-from_err}
 use Rattle.id_check.specs.Kinds.{Link, Nowhere, link_at}
 use Rattle.id_check.specs.Chains.{IsGoing, IsState}
 use Rattle.id_check.proofs.ChainsLemmas.{IsGoing-push}

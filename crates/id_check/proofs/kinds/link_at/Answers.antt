@@ -1,12 +1,9 @@
-use Rattle.std.proofs.Common.{refl}
-use Rattle.std.proofs.Common.{arith}
-use Rattle.id_check.proofs.LinksLemmas.{part_of}
-use Rattle.std.proofs.Common.{◌<◌, ap, sym, ◌∙◌, get_or, length, subst}
+use Rattle.std.proofs.Common.{refl, arith, ◌<◌, ap, sym, ◌∙◌, get_or, length, subst}
 use Rattle.std.specs.Prelude.{None}
 use Rattle.id_parts.specs.Rows.{at}
 use Rattle.id_check.specs.Kinds.{link_of}
 use Rattle.id_check.specs.Scopes.{user_of}
-use Rattle.id_check.proofs.LinksLemmas.{user_below}
+use Rattle.id_check.proofs.LinksLemmas.{part_of, user_below}
 use Rattle.id_check.proofs.kinds.link_at.Goals as goal
 
 pub binder_at-requires : goal.binder_at-requires

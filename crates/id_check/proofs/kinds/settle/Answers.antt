@@ -1,12 +1,13 @@
+use Rattle.std.proofs.Common.{◌≡◌, ◌⊎◌, ◌+◌, ◌<◌, ℕ, List, [], ◌++◌, ◌∷◌, inl, inr, refl, sym, ◌∙◌, ap, subst, get_or}
+use Rattle.std.proofs.Common.{set, length}
 use Rattle.std.proofs.lemmas.Result.{IfOk-from_err}
-use Rattle.std.proofs.Common.{◌≡◌, ◌⊎◌, ◌+◌, ◌<◌, ℕ, List, [], ◌++◌, ◌∷◌, inl, inr, refl, sym, ◌∙◌, ap, subst, get_or, set, length}
 use Rattle.std.proofs.lemmas.Bool.{cases_eq}
 use Rattle.std.proofs.lemmas.List.{length-set, get_or_default, get_or-set_same, get_or-set_other}
 use Rattle.id_value.specs.declared.Kind.TheVariants.{Int}
-use Rattle.id_check.specs.Kinds.{Link, Fixed, Nowhere, To}
 use Rattle.id_list.specs.List.{Among}
-use Rattle.id_check.specs.Chains.{IsEnd, IsFilling, IsPassing}
 use Rattle.id_list.proofs.AmongLemmas.{Among-either, Among-one}
+use Rattle.id_check.specs.Kinds.{Link, Fixed, Nowhere, To}
+use Rattle.id_check.specs.Chains.{IsEnd, IsFilling, IsPassing}
 use Rattle.id_check.proofs.ChainsLemmas.{filling_end, filling_start, passing_start, passing_step}
 use Rattle.id_check.proofs.kinds.settle.Goals as goal
 

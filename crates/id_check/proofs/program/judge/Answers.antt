@@ -1,13 +1,11 @@
-use Rattle.std.specs.Prelude.{IfOk}
-use Rattle.id_parts.specs.Tables.{IsFormed}
-use Rattle.id_parts.specs.Turns.{IsTable}
-use Rattle.id_check.specs.Judged.{IsJudged}
 use Rattle.std.proofs.Common.{◌≡◌, ℕ, Some, length, sym, subst}
-use Rattle.std.specs.Prelude.{None, IfErr}
+use Rattle.std.specs.Prelude.{IfOk, None, IfErr}
+use Rattle.id_parts.specs.Tables.{IsFormed, name_of}
+use Rattle.id_parts.specs.Turns.{IsTable}
 use Rattle.id_parts.specs.declared.row.Node.{Node}
 use Rattle.id_parts.specs.declared.row.Node.TheVariants.{Param, Name, Enter, Binding, Def, NextUse, Next}
 use Rattle.id_parts.specs.Rows.{at}
-use Rattle.id_parts.specs.Tables.{name_of}
+use Rattle.id_check.specs.Judged.{IsJudged}
 use Rattle.id_check.specs.Causes.{IsRefusedFor}
 use Rattle.id_check.specs.Names.{AreNames}
 use Rattle.id_check.specs.Scopes.{bound_name, used_name}

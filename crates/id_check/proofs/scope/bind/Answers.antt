@@ -1,12 +1,12 @@
 use Rattle.std.proofs.Common.{◌≡◌, ◌<◌, ℕ, Option, Some, None, refl, get_or, length, sym, ◌∙◌, ap, subst, arith}
 use Rattle.std.specs.Option.{option_or}
+use Rattle.std.proofs.lemmas.List.{length-set}
 use Rattle.id_parts.specs.Rows.{at}
 use Rattle.id_check.specs.Firsts.{Notes}
-use Rattle.std.proofs.lemmas.List.{length-set}
 use Rattle.id_check.specs.Scopes.{bound_name}
 use Rattle.id_check.specs.Names.{AreWaiting, again, in_scope, newly}
-use Rattle.id_check.proofs.BindLemmas.{read_at, again-bound, again-free, bound_more, bound_kept, bound_same}
-use Rattle.id_check.proofs.BindLemmas.{later_set, newly-bound, newly-given, newly-free}
+use Rattle.id_check.proofs.BindLemmas.{sought_below, read_at, again-bound, again-free, bound_more, bound_kept}
+use Rattle.id_check.proofs.BindLemmas.{bound_same, later_set, newly-bound, newly-given, newly-free}
 use Rattle.id_check.proofs.FirstsLemmas.{Notes-none}
 use Rattle.id_check.proofs.ScopesLemmas.{or_none}
 use Rattle.id_check.proofs.scope.bind.Goals as goal
@@ -174,3 +174,35 @@ pub returns-in_default-clause-first : goal.returns-in_default-clause-first
 returns-in_default-clause-first c =
     subst (λ cs. Notes c.args.first.now cs c.args.first.now)
     (sym (ap (again c.args.rows.now c.args.s c.args.b c.args.bound.now.items) (unbound c))) (Notes-none c.args.first.now)
+
+pub bounds-rows-b : goal.bounds-rows-b
+bounds-rows-b c = below c.args.b c.args.s (length c.args.rows.now) c.requires.inside c.requires.row
+
+pub bounds-rows-s : goal.bounds-rows-s
+bounds-rows-s c = c.requires.row
+
+pub overflow_cast-s : goal.overflow_cast-s
+overflow_cast-s c = omega (arith, c.requires.row, c.requires.few)
+
+pub overflow_cast-b : goal.overflow_cast-b
+overflow_cast-b c = omega (arith, c.requires.row, c.requires.inside, c.requires.few)
+
+pub resolve-requires-clause-few : goal.resolve-requires-clause-few
+resolve-requires-clause-few c = c.requires.few
+
+pub resolve-requires-clause-row : goal.resolve-requires-clause-row
+resolve-requires-clause-row c = c.requires.row
+
+pub resolve-requires-clause-held : goal.resolve-requires-clause-held
+resolve-requires-clause-held c = c.requires.held
+
+pub resolve-requires-clause-binder : goal.resolve-requires-clause-binder
+resolve-requires-clause-binder c = below c.args.b c.args.s (length c.args.rows.now) c.requires.inside c.requires.row
+
+pub resolve-requires-clause-key : goal.resolve-requires-clause-key
+resolve-requires-clause-key c =
+    let name = c.in-Some.name in
+    let less = counted ((goal.at.resolve-requires-clause-key c).In-Some) in
+    subst (λ n. c.in-Some-sought.key < n) (sym c.requires.waiting.long_last)
+    (sought_below (at c.args.rows.now c.args.s).node name c.in-Some-sought.key (length c.args.bound.now.items)
+    (sym c.sought.ensures ∙ c.in-Some-sought.is) less)

@@ -7,7 +7,8 @@ use Rattle.id_check.specs.Causes.{second, seconds}
 use Rattle.id_check.specs.Firsts.{Notes}
 use Rattle.id_check.specs.Names.{AreWaiting, IsTaking, keys}
 use Rattle.id_check.proofs.FirstsLemmas.{Notes-append, Notes-none}
-use Rattle.id_check.proofs.TakingLemmas.{IsShut, seconds_gap, shut_next, shut_start, taking_end, taking_gap, taking_start}
+use Rattle.id_check.proofs.TakingLemmas.{IsShut, seconds_gap, shut_next, shut_start, taking_end, taking_gap}
+use Rattle.id_check.proofs.TakingLemmas.{taking_start}
 use Rattle.id_check.proofs.scope.enter.Goals as goal
 
 pub loop-k-init : goal.loop-k-init

@@ -7,7 +7,9 @@ use Rattle.id_check.proofs.FirstsLemmas.{Notes-none}
 use Rattle.id_check.proofs.ScopesLemmas.{binder_in-below, keeps_inside, keeps_is, second-none}
 use Rattle.id_check.proofs.TakingLemmas.{IsShut, again-second, shut_held, shut_kept, taking_open, taking_shut}
 use Rattle.id_check.proofs.scope.enter_row.Goals as goal
-use Rattle.id_check.proofs.scope.enter_row.Goals.{Joined-else-not-held-b, else-not-held-b-via-then-not-held-b+else-takes, else-not-held-b-via-else-not-held-b}
+use Rattle.id_check.proofs.scope.enter_row.Goals.{Joined-else-not-held-b}
+use Rattle.id_check.proofs.scope.enter_row.Goals.{else-not-held-b-via-then-not-held-b+else-takes}
+use Rattle.id_check.proofs.scope.enter_row.Goals.{else-not-held-b-via-else-not-held-b}
 
 pub bind-requires-clause-earlier : goal.bind-requires-clause-earlier
 bind-requires-clause-earlier c = λ x a less e.

@@ -1,4 +1,4 @@
-use Rattle.std.proofs.Common.{sym, ◌∙◌}
+use Rattle.std.proofs.Common.{refl, sym, ◌∙◌}
 use Rattle.std.proofs.lemmas.Result.{IfOk-from_err}
 use Rattle.id_check.proofs.ScopesLemmas.{binder_at-below}
 use Rattle.id_check.proofs.scope.find_among.Goals as goal
@@ -41,3 +41,18 @@ pass_rows-requires-clause-held c = c.requires.held
 
 pub pass_rows-requires-clause-fresh : goal.pass_rows-requires-clause-fresh
 pass_rows-requires-clause-fresh c = c.requires.fresh
+
+pub pass_rows-requires-clause-first : goal.pass_rows-requires-clause-first
+pass_rows-requires-clause-first c = refl
+
+pub pass_rows-requires-clause-binders : goal.pass_rows-requires-clause-binders
+pass_rows-requires-clause-binders c = c.in_ok-uses.ensures.binders
+
+pub returns-clause-long : goal.returns-clause-long
+returns-clause-long c = c.in_ok-pass_rows.ensures.binders.long
+
+pub returns-clause-binders : goal.returns-clause-binders
+returns-clause-binders c = record { each = c.in_ok-pass_rows.ensures.binders.each }
+
+pub returns-clause-first : goal.returns-clause-first
+returns-clause-first c = c.in_ok-pass_rows.ensures.first

@@ -1,5 +1,4 @@
-use Rattle.std.proofs.Common.{refl}
-use Rattle.std.proofs.Common.{◌≡◌, ℕ, Option, Some, None, get_or, length, set, sym, ◌∙◌, subst, arith}
+use Rattle.std.proofs.Common.{refl, ◌≡◌, ℕ, Option, Some, None, get_or, length, set, sym, ◌∙◌, subst, arith}
 use Rattle.std.proofs.lemmas.List.{get_or_default}
 use Rattle.id_check.specs.Names.{AreWaiting, IsBehind, use_before}
 use Rattle.id_check.proofs.WaitingLemmas.{IsNextUse, next_use, waiting_cut, waiting_set}

@@ -1,6 +1,6 @@
 use Rattle.std.proofs.lemmas.Result.{IfOk-from_err}
-use Rattle.id_check.proofs.NoneLemmas.{bound_none, waiting_none}
 use Rattle.id_check.specs.Names.{keys}
+use Rattle.id_check.proofs.NoneLemmas.{bound_none, waiting_none}
 use Rattle.id_check.proofs.scope.no_uses.Goals as goal
 
 pub returns-clause-binders : goal.returns-clause-binders

@@ -1,6 +1,8 @@
-use Rattle.std.proofs.Common.{◌+◌, ◌∙◌, sym, subst, arith}
+use Rattle.std.proofs.Common.{◌<◌, length, ◌+◌, ◌∙◌, sym, subst, arith}
 use Rattle.std.proofs.lemmas.Result.{IfOk-from_err}
+use Rattle.id_parts.specs.Rows.{at}
 use Rattle.id_check.specs.Names.{AreBound, AreWaiting, IsOpen}
+use Rattle.id_check.proofs.BindLemmas.{key_below}
 use Rattle.id_check.proofs.OpenLemmas.{open_more, open_same}
 use Rattle.id_check.proofs.ScopesLemmas.{binder_at-none}
 use Rattle.id_check.proofs.scope.pass.Goals as goal
@@ -100,3 +102,17 @@ returns-else-not-sees_own-clause-waiting c =
     let u = c.wait.new.uses in
     subst (λ m. AreWaiting c.args.rows.now (c.args.s + 1) m u.binders.items u.last.items u.earlier.items) c.take.ensures.waiting.long_last
     c.wait.ensures.waiting
+
+pub bounds-rows-s : goal.bounds-rows-s
+bounds-rows-s c = c.requires.row
+
+pub wait-requires-clause-key : goal.wait-requires-clause-key
+wait-requires-clause-key c = λ x e.
+    subst (λ n. x < n) (sym c.take.ensures.waiting.long_last)
+    (key_below (at c.args.rows.now c.args.s).node x (length c.args.bound.now.items) e (λ y g. c.requires.names.used c.args.s y c.requires.row g))
+
+pub wait-requires-clause-waiting : goal.wait-requires-clause-waiting
+wait-requires-clause-waiting c =
+    let u = c.take.new.uses in
+    subst (λ m. AreWaiting c.args.rows.now c.args.s m u.binders.items u.last.items u.earlier.items) (sym c.take.ensures.waiting.long_last)
+    c.take.ensures.waiting

@@ -5,7 +5,8 @@ use Rattle.id_value.specs.declared.Kind.{Kind}
 use Rattle.id_value.specs.declared.UnaryOp.{UnaryOp}
 use Rattle.id_parts.specs.declared.row.Row.{Row}
 use Rattle.id_parts.specs.declared.row.Node.{Node}
-use Rattle.id_parts.specs.declared.row.Node.TheVariants.{Unary, Binary, Split, If, Switches, Next, Fetch, Address, Store}
+use Rattle.id_parts.specs.declared.row.Node.TheVariants.{Unary, Binary, Split, If, Switches, Next, Fetch, Address}
+use Rattle.id_parts.specs.declared.row.Node.TheVariants.{Store}
 use Rattle.id_parts.specs.declared.row.Node.TheVariants as node
 use Rattle.id_parts.specs.Tables.{HasPart}
 use Rattle.id_check.specs.declared.cause.CheckCause.{CheckCause}

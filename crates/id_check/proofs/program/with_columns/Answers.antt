@@ -1,0 +1,16 @@
+use Rattle.id_check.proofs.program.with_columns.Goals as goal
+
+pub invariant_of-result : goal.invariant_of-result
+invariant_of-result c =
+    let t = c.args.tabled in
+    let j = c.requires in
+    record {
+      tabled = t.tabled;
+      named = t.named;
+      distinct = t.distinct;
+      is_main = j.is_main;
+      bound = j.bound;
+      kinded = j.kinded;
+      deep = j.deep.each;
+      accepted = j.accepted;
+    }
