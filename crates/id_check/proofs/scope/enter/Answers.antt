@@ -7,8 +7,7 @@ use Rattle.id_check.specs.Causes.{second, seconds}
 use Rattle.id_check.specs.Firsts.{Notes}
 use Rattle.id_check.specs.Names.{AreWaiting, IsTaking, keys}
 use Rattle.id_check.proofs.FirstsLemmas.{Notes-append, Notes-none}
-use Rattle.id_check.proofs.TakingLemmas.{IsShut, seconds_gap, shut_next, shut_start, taking_end, taking_gap}
-use Rattle.id_check.proofs.TakingLemmas.{taking_start}
+use Rattle.id_check.proofs.TakingLemmas.{IsShut, seconds_gap, shut_next, shut_start, taking_end, taking_gap, taking_start}
 use Rattle.id_check.proofs.scope.enter.Goals as goal
 
 pub loop-k-init : goal.loop-k-init
@@ -71,12 +70,3 @@ returns c =
       waiting = h.waiting;
       first = subst (λ n. Notes c.args.first.now (seconds R s n) c.loop-k.first) past h.first;
     }
-
-pub enter_row-requires-clause-few : goal.enter_row-requires-clause-few
-enter_row-requires-clause-few c = c.requires.few
-
-pub enter_row-requires-clause-row : goal.enter_row-requires-clause-row
-enter_row-requires-clause-row c = c.requires.row
-
-pub enter_row-requires-clause-held : goal.enter_row-requires-clause-held
-enter_row-requires-clause-held c = c.requires.held

@@ -1,4 +1,4 @@
-use Rattle.std.proofs.Common.{refl, ◌≡◌, ℕ, Option, Some, None, get_or, length, set, sym, ◌∙◌, subst, arith}
+use Rattle.std.proofs.Common.{◌≡◌, ℕ, Option, Some, None, get_or, length, set, sym, ◌∙◌, subst, arith}
 use Rattle.std.proofs.lemmas.List.{get_or_default}
 use Rattle.id_check.specs.Names.{AreWaiting, IsBehind, use_before}
 use Rattle.id_check.proofs.WaitingLemmas.{IsNextUse, next_use, waiting_cut, waiting_set}
@@ -64,9 +64,3 @@ returns-in-None-clause-waiting c =
     subst (λ o. AreWaiting R s m (set v.binders.items u (Some c.args.b)) (set v.last.items x o) v.earlier.items)
     (sym (read d c.index-earlier.result.now c.index-earlier.ensures))
     (waiting_set R s m x u c.args.b v.binders.items v.last.items v.earlier.items (omega arith) c.requires.key here c.requires.waiting)
-
-pub returns-in-Some-clause-binders : goal.returns-in-Some-clause-binders
-returns-in-Some-clause-binders c = refl
-
-pub returns-in-None-clause-binders : goal.returns-in-None-clause-binders
-returns-in-None-clause-binders c = refl

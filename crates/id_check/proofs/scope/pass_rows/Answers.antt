@@ -40,21 +40,3 @@ returns-clause-binders c = subst (λ n. AreBound c.args.rows.now n c.loop-s.uses
 pub returns-clause-first : goal.returns-clause-first
 returns-clause-first c = subst (λ n. IsFirstOf c.loop-s.first (duplicates c.args.rows.now n)) (ended (goal.at.returns-clause-first c).After-loop-s)
     c.loop-s.invariant.first
-
-pub pass-requires-clause-few : goal.pass-requires-clause-few
-pass-requires-clause-few c = c.requires.few
-
-pub pass-requires-clause-row : goal.pass-requires-clause-row
-pass-requires-clause-row c = c.loop-s-test.true
-
-pub pass-requires-clause-untaken : goal.pass-requires-clause-untaken
-pass-requires-clause-untaken c = c.loop-s.invariant.untaken
-
-pub pass-requires-clause-held : goal.pass-requires-clause-held
-pass-requires-clause-held c = c.loop-s.invariant.held
-
-pub pass-requires-clause-fresh : goal.pass-requires-clause-fresh
-pass-requires-clause-fresh c = c.loop-s.invariant.fresh
-
-pub pass-requires-clause-binders : goal.pass-requires-clause-binders
-pass-requires-clause-binders c = c.loop-s.invariant.binders

@@ -30,9 +30,3 @@ returns-in_default-clause-waiting c =
     let u = c.args.uses.now in
     waiting_same c.args.rows.now c.args.s (length u.last.items) u.binders.items u.last.items u.earlier.items
     (sym c.key_of.ensures ∙ none c.key_of.result c.in_default.not-Some) c.requires.waiting
-
-pub returns-in-Some-clause-binders : goal.returns-in-Some-clause-binders
-returns-in-Some-clause-binders c = refl
-
-pub returns-in_default-clause-binders : goal.returns-in_default-clause-binders
-returns-in_default-clause-binders c = refl
