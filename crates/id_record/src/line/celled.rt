@@ -1,7 +1,8 @@
 //! The lines of events that name a cell or a structure, which stands in a list beside the lines.
 
-ghost use Rattle.std.specs.Prelude.{◌≡◌, ◌/◌, ◌^◌, pos, IsTrue, IfSome};
+ghost use Rattle.std.specs.Prelude.{◌≡◌, ◌/◌, ◌^◌, ℤ, pos, IsTrue, IfSome};
 ghost use Rattle.id_tag.specs.declared.Payload.TheVariants.{Read, Write};
+ghost use Rattle.id_tag.specs.declared.Cell.{Cell};
 ghost use Rattle.id_tag.specs.declared.Value.TheVariants as value;
 ghost use Rattle.id_tag.specs.declared.Tag.{Tag};
 ghost use Rattle.id_graph.specs.declared.dests.Port.{Port};
@@ -135,10 +136,24 @@ fn scene_of_read(cell: Cell, reply: Tag, fired: &Fired) -> Option<Scene>
 {
     match *fired {
         Fired::Nothing => Some(of_kind(Kind::ReadDeferred, cell)),
-        Fired::Sent(to, Value::Int(number)) if to == reply => {
-            Some(of_result(Kind::ReadAnswered, number, cell))
-        }
+        Fired::Sent(to, sent) => scene_of_answer(cell, reply, to, sent),
         _ => None,
+    }
+}
+
+/// What a line keeps of a read of a cell to whose reply a number is sent.
+fn scene_of_answer(cell: Cell, reply: Tag, to: Tag, sent: Value) -> Option<Scene>
+    ensures kind { IfSome result (λ s. IsCelled s.kind) }
+    ensures told { IfSome result (λ s. (p : Port) → told s.kind reply p s.value s.result s.cell
+        ≡ record { payload = Read cell reply; fired = firings.Sent to sent; replies = no_replies }) }
+{
+    let Value::Int(number) = sent else {
+        return None;
+    };
+    if is_same_tag(reply, to) {
+        Some(of_result(Kind::ReadAnswered, number, cell))
+    } else {
+        None
     }
 }
 
@@ -163,29 +178,98 @@ fn scene_of_structure(structure: Structure, fired: &Fired) -> Option<Scene>
     ensures told { IfSome result (λ s. (t : Tag) (p : Port) → told s.kind t p s.value s.result s.cell
         ≡ token_told t p (value.Structure structure) fired.now) }
 {
-    let cell = first_cell(structure);
     match *fired {
-        Fired::Nothing => Some(of_kind(Kind::StructureWaits, cell)),
-        Fired::Out(Value::Structure(sent)) if sent == structure => {
-            Some(of_kind(Kind::StructureOut, cell))
-        }
-        Fired::Out(Value::Address(address)) if address.structure == structure => {
-            Some(of_kind(Kind::StructureAddressed, address))
-        }
-        Fired::Side(true, Value::Structure(sent)) if sent == structure => {
-            Some(of_kind(Kind::StructureOnTrue, cell))
-        }
-        Fired::Side(false, Value::Structure(sent)) if sent == structure => {
-            Some(of_kind(Kind::StructureOnFalse, cell))
-        }
-        Fired::Moved(iteration, Value::Structure(sent)) if sent == structure => Some(Scene {
-            kind: Kind::StructureMoved,
-            value: 0,
-            result: iteration.cast_signed(),
-            cell,
-        }),
+        Fired::Nothing => Some(of_kind(Kind::StructureWaits, first_cell(structure))),
+        Fired::Out(sent) => scene_of_out(structure, sent),
+        Fired::Side(side, sent) => scene_of_side(structure, side, sent),
+        Fired::Moved(iteration, sent) => scene_of_moved(structure, iteration, sent),
         _ => None,
     }
+}
+
+/// What a line keeps of a token that is a structure, where this goes out for it: the structure, or one of its cells.
+fn scene_of_out(structure: Structure, sent: Value) -> Option<Scene>
+    ensures kind { IfSome result (λ s. IsCelled s.kind) }
+    ensures told { IfSome result (λ s. (t : Tag) (p : Port) → told s.kind t p s.value s.result s.cell
+        ≡ token_told t p (value.Structure structure) (firings.Out sent)) }
+{
+    match sent {
+        Value::Structure(own) => {
+            if is_same_structure(own, structure) {
+                Some(of_kind(Kind::StructureOut, first_cell(structure)))
+            } else {
+                None
+            }
+        }
+        Value::Address(cell) => {
+            if is_same_structure(cell.structure, structure) {
+                Some(of_kind(Kind::StructureAddressed, cell))
+            } else {
+                None
+            }
+        }
+        _ => None,
+    }
+}
+
+/// What a line keeps of a token that is a structure, where this goes out on a side for it: the structure.
+fn scene_of_side(structure: Structure, side: bool, sent: Value) -> Option<Scene>
+    ensures kind { IfSome result (λ s. IsCelled s.kind) }
+    ensures told { IfSome result (λ s. (t : Tag) (p : Port) → told s.kind t p s.value s.result s.cell
+        ≡ token_told t p (value.Structure structure) (firings.Side side sent)) }
+{
+    if is_structure(sent, structure) {
+        Some(of_kind(kind_on(side), first_cell(structure)))
+    } else {
+        None
+    }
+}
+
+/// The kind of a structure that goes on at this side.
+fn kind_on(side: bool) -> Kind
+    ensures kind { IsCelled result }
+    ensures told { (t : Tag) (p : Port) (n : ℤ) (r : ℤ) (c : Cell) → told result t p n r c
+        ≡ token_told t p (value.Structure c.structure) (firings.Side side (value.Structure c.structure)) }
+{
+    if side {
+        Kind::StructureOnTrue
+    } else {
+        Kind::StructureOnFalse
+    }
+}
+
+/// What a line keeps of a token that is a structure, where this moves to an iteration for it: the structure.
+fn scene_of_moved(structure: Structure, iteration: u64, sent: Value) -> Option<Scene>
+    ensures kind { IfSome result (λ s. IsCelled s.kind) }
+    ensures told { IfSome result (λ s. (t : Tag) (p : Port) → told s.kind t p s.value s.result s.cell
+        ≡ token_told t p (value.Structure structure) (firings.Moved iteration sent)) }
+{
+    if is_structure(sent, structure) {
+        Some(of_result(
+            Kind::StructureMoved,
+            iteration.cast_signed(),
+            first_cell(structure),
+        ))
+    } else {
+        None
+    }
+}
+
+/// Whether a value is this structure.
+fn is_structure(sent: Value, structure: Structure) -> bool
+    ensures { IsTrue result → sent ≡ value.Structure structure }
+{
+    match sent {
+        Value::Structure(own) => is_same_structure(own, structure),
+        _ => false,
+    }
+}
+
+/// Whether two structures are one.
+fn is_same_structure(structure: Structure, other: Structure) -> bool
+    ensures { IsTrue result → structure ≡ other }
+{
+    structure == other
 }
 
 /// What a line keeps of a token that is an address.

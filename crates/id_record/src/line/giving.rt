@@ -8,6 +8,7 @@ ghost use Rattle.id_tag.specs.declared.Tag.{Tag};
 ghost use Rattle.id_tag.specs.declared.Value.TheVariants as values;
 ghost use Rattle.id_ops.specs.declared.Fired.TheVariants as firings;
 ghost use Rattle.id_ops.specs.Deeds.{fired_by_deed};
+ghost use Rattle.id_ops.specs.Shots.{target_tag};
 ghost use Rattle.id_record.specs.Lines.{given_in, given_to, high_half, instr_at, low_half, port_at, saying, tag_at};
 ghost use Rattle.id_record.specs.Lines.{IsPacked, tag_named, token_told, told_given};
 ghost use Rattle.id_record.specs.Shootings.{HasLine, doing};
@@ -54,19 +55,44 @@ fn given_for(deed: Deed, value: Plain) -> Option<Given>
     ensures small { IfSome result (λ g. g.instr < 2 ^ 24) }
 {
     match deed {
-        Deed::Passed(target, Plain::Structure(structure, low, high))
-            if target.iteration == 0 && target.instr <= 0xff_ffff => {
-            let context = name_of(u32::from(target.element), u64::from(target.serial))?;
-            Some(Given {
-                effect: effect_for(value, context, structure, low, high)?,
-                context,
-                instr: target.instr,
-                structure,
-                low,
-                high,
-            })
+        Deed::Passed(target, Plain::Structure(structure, low, high)) => {
+            given_at(target, structure, low, high, value)
         }
         _ => None,
+    }
+}
+
+/// The same where the structure of this name, with these bounds, goes to this tag.
+#[inline(always)]
+fn given_at(target: Target, structure: u32, low: i32, high: i32, value: Plain) -> Option<Given>
+    ensures told { IfSome result (λ g. (t : Tag) (p : Port) → told_given g.effect t p (tag_named g.context g.instr)
+        (structure_of g.structure g.low g.high) ≡ token_told t p (whole value)
+        (firings.Sent (target_tag target) (values.Structure (structure_of structure low high)))) }
+    ensures small { IfSome result (λ g. g.instr < 2 ^ 24) }
+{
+    let context = context_for(target)?;
+    let effect = effect_for(value, context, structure, low, high)?;
+    Some(Given {
+        effect,
+        context,
+        instr: target.instr,
+        structure,
+        low,
+        high,
+    })
+}
+
+/// The name of the context of a tag, where that has one, and the tag is of iteration 0 and of an instruction with a
+/// number of 24 bits.
+#[inline(always)]
+fn context_for(target: Target) -> Option<u32>
+    ensures tag { IfSome result (λ n. tag_named n target.instr ≡ target_tag target) }
+    ensures small { IfSome result (λ _. target.instr < 2 ^ 24) }
+{
+    if (target.iteration == 0) & (target.instr <= 0xff_ffff) {
+        name_of(u32::from(target.element), u64::from(target.serial))
+    } else {
+        None
     }
 }
 
@@ -78,9 +104,19 @@ fn effect_for(value: Plain, context: u32, structure: u32, low: i32, high: i32) -
         (firings.Sent (tag_named context i) (values.Structure (structure_of structure low high)))) }
 {
     match value {
-        Plain::Context(name) if name == context => Some(Effect::Nothing),
-        Plain::Structure(name, from, to) if name == structure && from == low && to == high => {
-            Some(Effect::Sent)
+        Plain::Context(name) => {
+            if name == context {
+                Some(Effect::Nothing)
+            } else {
+                None
+            }
+        }
+        Plain::Structure(name, from, to) => {
+            if (name == structure) & (from == low) & (to == high) {
+                Some(Effect::Sent)
+            } else {
+                None
+            }
         }
         _ => None,
     }
