@@ -29,7 +29,7 @@ use Rattle.id_record.specs.Sends.{numbered, replies, sent}
 use Rattle.id_record.specs.declared.line.shooting.NamedTag.{NamedTag}
 use Rattle.id_record.specs.Shootings.{IsHalved, tag_by}
 use Rattle.id_record.specs.Lines.{AreThere, Beside, HasNumbers, IsCelled, IsKept, IsPacked, IsPackedBeside, IsThere}
-use Rattle.id_record.specs.Lines.{IsWithin, Names, carried_value, cell_at, cell_in, context_of, element_at, high_half}
+use Rattle.id_record.specs.Lines.{IsNamed, IsWithin, Names, carried_value, cell_at, cell_in, context_of, element_at, high_half}
 use Rattle.id_record.specs.Lines.{index_of, instr_at, joined, low_half, no_replies, number_of, own, port_at}
 use Rattle.id_record.specs.Lines.{reaction_of, read, saying, structure_at, tag_at, target_in, told, unpacked}
 use Rattle.id_record.specs.Records.{event_of_handled, events_from, replies_in, sent_by, sent_for}
@@ -420,13 +420,6 @@ module _ (j m n : ℤ) (high low : ℕ) (room : SFits w64 j) (has_m : SFits w32 
       ∙ ap (λ k. cast_signed w32 (cast_unsigned w32 k)) (to_z-of_z w32 n has_n)
       ∙ to_z-of_z w32 n has_n
 
--- a tag has room in a line, and the line has its element and its instruction
-pub record IsNamed (t : Tag) (l : Line) : Type 0 where
-  pub serial : t.context.serial < 2 ^ 32
-  pub iteration : t.iteration < 2 ^ 32
-  pub element : element_at l.to ≡ t.context.element
-  pub instr : instr_at l.to ≡ t.instr
-
 -- the line names the tag
 target-line : (t : Tag) (l : Line) → IsNamed t l → l.result ≡ joined t.iteration t.context.serial → target_in l ≡ t
 target-line t l named result =
@@ -521,23 +514,18 @@ packed-line e l t names carried effect result named message stamp none =
       within = λ b. there-carried b u l l.kind v (carried u names_u);
     }
 
-pub packed-narrowed : (e : Handled) (v : Value) (k : Kind) (m : ℤ) (x : Effect) (t : Tag) (o : Option Line) → v ≡ value_of e.message.payload →
-    Names e.reaction.fired v t
+pub packed-narrowed : (e : Handled) (v : Value) (k : Kind) (m : ℤ) (x : Effect) (t : Tag) (l : Line) → v ≡ value_of e.message.payload
+    → Names e.reaction.fired v t
     → ((u : Tag) → Names e.reaction.fired v u → carried_value u k m ≡ Some v)
     → ((u : Tag) → Names e.reaction.fired v u → reaction_of x (number_of e.reaction.fired u) u v ≡ e.reaction)
-    → IfSome o (λ l. l.kind ≡ k) → IfSome o (λ l. l.value ≡ m) → IfSome o (λ l. l.effect ≡ x) → IfSome o (λ l. l.result ≡ number_of e.reaction.fired t)
-    → IfSome o (λ l. t.context.serial < 2 ^ 32) → IfSome o (λ l. t.iteration < 2 ^ 32) → IfSome o (λ l. element_at l.to ≡ t.context.element) →
-    IfSome o (λ l. instr_at l.to ≡ t.instr)
-    → IfSome o (λ l. (own l (value_of e.message.payload)).message ≡ e.message) → IfSome o (λ l. l.stamp ≡ e.stamp) → IfSome o (λ l. e.replies ≡ no_replies) →
-    IfSome o (λ l. IsPacked e l)
-packed-narrowed e v k m x t None same names carried effect is_kind is_value is_effect result serial iteration element instr message stamp none = tt
-packed-narrowed e v k m x t (Some l) same names carried effect is_kind is_value is_effect result serial iteration element instr message stamp none =
+    → l.kind ≡ k → l.value ≡ m → l.effect ≡ x → l.result ≡ number_of e.reaction.fired t → IsNamed t l
+    → (own l (value_of e.message.payload)).message ≡ e.message → l.stamp ≡ e.stamp → e.replies ≡ no_replies → IsPacked e l
+packed-narrowed e v k m x t l same names carried effect is_kind is_value is_effect result named message stamp none =
     let f = e.reaction.fired in
     let holds : (u : Tag) → Names f v u → carried_value u l.kind l.value ≡ Some v =
     λ u n. ap (λ j. carried_value u j l.value) is_kind ∙ ap (carried_value u k) is_value ∙ carried u n in
     let does : (u : Tag) → Names f v u → reaction_of l.effect (number_of f u) u v ≡ e.reaction =
     λ u n. ap (λ y. reaction_of y (number_of f u) u v) is_effect ∙ effect u n in
-    let named : IsNamed t l = record { serial = serial; iteration = iteration; element = element; instr = instr } in
     packed-line e l t (subst (λ w. Names f w t) same names)
     (subst (λ w. (u : Tag) → Names f w u → carried_value u l.kind l.value ≡ Some w) same holds)
     (subst (λ w. (u : Tag) → Names f w u → reaction_of l.effect (number_of f u) u w ≡ e.reaction) same does)

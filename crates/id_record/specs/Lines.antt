@@ -25,6 +25,9 @@ use Rattle.id_record.specs.declared.line.Handled.{Handled}
 use Rattle.id_record.specs.declared.line.Handling.{Handling}
 use Rattle.id_record.specs.declared.line.Replies.{Replies}
 use Rattle.id_record.specs.declared.line.Line.{Line}
+use Rattle.id_record.specs.declared.line.Carried.{Carried}
+use Rattle.id_record.specs.declared.line.Written.{Written}
+use Rattle.id_record.specs.Events.{value_of}
 use Rattle.id_record.specs.declared.line.Kind.{Kind}
 use Rattle.id_record.specs.declared.line.Kind.TheVariants as kind
 use Rattle.id_graph.specs.declared.dests.Port.{Port}
@@ -434,3 +437,50 @@ pub record IsPackedBeside (e : Handled) (i : ℕ) (l : Line) (c : Cell) : Type 0
   pub kind : IsCelled l.kind
   pub index : l.to ≡ i
   pub is : saying l (told l.kind (tag_at l) (port_at (l.position / 2 ^ 31)) l.value l.result c) ≡ e
+
+-- a line has room for the numbers of a tag
+pub record IsSmall (t : Tag) : Type 0 where
+  pub element : t.context.element < 2 ^ 8
+  pub serial : t.context.serial < 2 ^ 32
+  pub iteration : t.iteration < 2 ^ 32
+  pub instr : t.instr < 2 ^ 24
+
+-- a line has room for the other numbers of a message, for the stamp of its event, and for the number of its sender
+pub record HasRoom (m : Message) (stamp sender : ℕ) : Type 0 where
+  pub position : m.position < 2 ^ 31
+  pub sent : m.stamp < 2 ^ 32
+  pub output : m.output < 2 ^ 8
+  pub stamped : stamp < 2 ^ 32
+  pub sender_fits : sender < 2 ^ 8
+
+-- the line is of the event at this stamp of a message that names this tag and comes to this port, and has this beside
+-- the numbers of that
+pub record IsLineOf (m : Message) (s : ℕ) (t : Tag) (p : Port) (w : Written) (l : Line) : Type 0 where
+  pub kind : l.kind ≡ w.kind
+  pub effect : l.effect ≡ w.effect
+  pub value : l.value ≡ w.value
+  pub number : l.result ≡ w.result
+  pub to : l.to ≡ w.to
+  pub tag : tag_at l ≡ t
+  pub port : port_at (l.position / 2 ^ 31) ≡ p
+  pub message : message_at l m.payload ≡ m
+  pub stamp : l.stamp ≡ s
+
+-- a tag has room in a line, and the line has its element and its instruction
+pub record IsNamed (t : Tag) (l : Line) : Type 0 where
+  pub serial : t.context.serial < 2 ^ 32
+  pub iteration : t.iteration < 2 ^ 32
+  pub element : element_at l.to ≡ t.context.element
+  pub instr : instr_at l.to ≡ t.instr
+
+-- the line is of the event of a token without replies, with this value, this effect and this tag beside that of its
+-- message
+pub record IsNarrowed (h : Handling) (c : Carried) (x : Effect) (t : Tag) (l : Line) : Type 0 where
+  pub kind : l.kind ≡ c.kind
+  pub value : l.value ≡ c.value
+  pub effect : l.effect ≡ x
+  pub number : l.result ≡ number_of h.reaction.now.fired t
+  pub named : IsNamed t l
+  pub message : (own l (value_of h.message.now.payload)).message ≡ h.message.now
+  pub stamp : l.stamp ≡ h.stamp
+  pub replies : h.replies ≡ no_replies

@@ -11,7 +11,8 @@ ghost use Rattle.id_tag.specs.declared.Value.TheVariants as value;
 ghost use Rattle.id_tag.specs.declared.Value.TheVariants.{Address};
 ghost use Rattle.id_record.specs.declared.step.Verdict.TheVariants.{Went, Failed};
 ghost use Rattle.id_record.specs.declared.line.Kind.TheVariants.{Aside};
-ghost use Rattle.id_record.specs.Lines.{HasNumbers, IsPacked, IsWithin, NamedBy, Names, carried_value};
+ghost use Rattle.id_record.specs.Lines.{HasNumbers, HasRoom, IsLineOf, IsNarrowed, IsPacked, IsSmall, IsWithin};
+ghost use Rattle.id_record.specs.Lines.{NamedBy, Names, carried_value};
 ghost use Rattle.id_record.specs.Lines.{element_at, fired_at, handled, index_of, instr_at};
 ghost use Rattle.id_record.specs.Lines.{beside, cell_in, message_at, no_replies, number_of, number_out, own, port_at};
 ghost use Rattle.id_record.specs.Lines.{reaction_of, sender_of, tag_at, unpacked};
@@ -617,42 +618,37 @@ const LARGEST_OUTPUT: usize = 0xff;
 /// The event in a line with this value, this effect and this tag beside that of its message, where its numbers fit.
 #[inline(always)]
 fn narrowed(event: &Handling<'_>, carried: Carried, effect: Effect, to: Tag) -> Option<Line>
-    ensures kind { IfSome result (λ l. l.kind ≡ carried.kind) }
-    ensures value { IfSome result (λ l. l.value ≡ carried.value) }
-    ensures effect { IfSome result (λ l. l.effect ≡ effect) }
-    ensures number { IfSome result (λ l. l.result ≡ number_of event.now.reaction.now.fired to) }
-    ensures to_serial { IfSome result (λ l. to.context.serial < 2 ^ 32) }
-    ensures to_iteration { IfSome result (λ l. to.iteration < 2 ^ 32) }
-    ensures to_element { IfSome result (λ l. element_at l.to ≡ to.context.element) }
-    ensures to_instr { IfSome result (λ l. instr_at l.to ≡ to.instr) }
-    ensures message { IfSome result
-        (λ l. (own l (value_of event.now.message.now.payload)).message ≡ event.now.message.now) }
-    ensures stamp { IfSome result (λ l. l.stamp ≡ event.now.stamp) }
-    ensures replies { IfSome result (λ l. event.now.replies ≡ no_replies) }
+    ensures { IfSome result (IsNarrowed event.now carried effect to) }
 {
     let Some((tag, port)) = port_of(event) else {
         return None;
     };
-    if to.context.element > LARGEST_ELEMENT || to.instr > LARGEST_INSTR {
-        return None;
+    if is_small(to) {
+        let written = written_of(&event.reaction.fired, carried, effect, to);
+        line_of(event, tag, port, written)
+    } else {
+        None
     }
-    if to.context.serial > LARGEST || to.iteration > LARGEST {
-        return None;
+}
+
+/// The numbers of this tag, and of what went out, beside this value and this effect.
+#[inline(always)]
+fn written_of(fired: &Fired, carried: Carried, effect: Effect, to: Tag) -> Written
+    requires { IsSmall to }
+    ensures kind { result.kind ≡ carried.kind }
+    ensures effect { result.effect ≡ effect }
+    ensures value { result.value ≡ carried.value }
+    ensures number { result.result ≡ number_of fired.now to }
+    ensures element { element_at result.to ≡ to.context.element }
+    ensures instr { instr_at result.to ≡ to.instr }
+{
+    Written {
+        kind: carried.kind,
+        effect,
+        value: carried.value,
+        result: number(fired, to),
+        to: place(to.context.element, to.instr),
     }
-    let number = number(&event.reaction.fired, to);
-    let place = place(to.context.element, to.instr);
-    line_of(
-        event,
-        tag,
-        port,
-        Written {
-            kind: carried.kind,
-            effect,
-            value: carried.value,
-            result: number,
-            to: place,
-        },
-    )
 }
 
 /// What a line has beside the numbers of its message.
@@ -668,46 +664,52 @@ struct Written {
 /// The line of an event whose message names this tag and comes to this port, where its numbers fit.
 #[inline(always)]
 fn line_of(event: &Handling<'_>, tag: Tag, port: Port, written: Written) -> Option<Line>
-    ensures kind { IfSome result (λ l. l.kind ≡ written.kind) }
-    ensures effect { IfSome result (λ l. l.effect ≡ written.effect) }
-    ensures value { IfSome result (λ l. l.value ≡ written.value) }
-    ensures number { IfSome result (λ l. l.result ≡ written.result) }
-    ensures to { IfSome result (λ l. l.to ≡ written.to) }
-    ensures tag { IfSome result (λ l. tag_at l ≡ tag) }
-    ensures port { IfSome result (λ l. port_at (l.position / 2 ^ 31) ≡ port) }
-    ensures message { IfSome result
-        (λ l. message_at l event.now.message.now.payload ≡ event.now.message.now) }
-    ensures stamp { IfSome result (λ l. l.stamp ≡ event.now.stamp) }
+    ensures { IfSome result (IsLineOf event.now.message.now event.now.stamp tag port written) }
 {
     let sender = origin(event.message.sender);
-    let position = event.message.position as u64;
-    if tag.context.serial > LARGEST || tag.iteration > LARGEST || position > LARGEST_POSITION {
-        return None;
+    if is_small(tag) & has_room(event.message, event.stamp, sender) {
+        Some(Line {
+            value: written.value,
+            result: written.result,
+            serial: tag.context.serial as u32,
+            iteration: tag.iteration as u32,
+            position: position_at(event.message.position as u64, port),
+            sent: event.message.stamp as u32,
+            stamp: event.stamp as u32,
+            place: place(tag.context.element, tag.instr),
+            to: written.to,
+            sender: sender as u8,
+            output: event.message.output as u8,
+            kind: written.kind,
+            effect: written.effect,
+        })
+    } else {
+        None
     }
-    if event.message.stamp > LARGEST || event.stamp > LARGEST {
-        return None;
-    }
-    if tag.context.element > LARGEST_ELEMENT || tag.instr > LARGEST_INSTR {
-        return None;
-    }
-    if sender > LARGEST_SENDER || event.message.output > LARGEST_OUTPUT {
-        return None;
-    }
-    Some(Line {
-        value: written.value,
-        result: written.result,
-        serial: tag.context.serial as u32,
-        iteration: tag.iteration as u32,
-        position: position_at(position, port),
-        sent: event.message.stamp as u32,
-        stamp: event.stamp as u32,
-        place: place(tag.context.element, tag.instr),
-        to: written.to,
-        sender: sender as u8,
-        output: event.message.output as u8,
-        kind: written.kind,
-        effect: written.effect,
-    })
+}
+
+/// Whether a line has room for the numbers of a tag.
+#[inline(always)]
+fn is_small(tag: Tag) -> bool
+    ensures { IsTrue result → IsSmall tag }
+{
+    // All at once, without a branch for each: nearly all of them hold.
+    (tag.context.serial <= LARGEST)
+        & (tag.iteration <= LARGEST)
+        & (tag.context.element <= LARGEST_ELEMENT)
+        & (tag.instr <= LARGEST_INSTR)
+}
+
+/// Whether a line has room for the other numbers of a message, for the stamp of its event, and for its sender.
+#[inline(always)]
+fn has_room(message: &Message, stamp: u64, sender: u64) -> bool
+    ensures { IsTrue result → HasRoom message.now stamp sender }
+{
+    (message.position as u64 <= LARGEST_POSITION)
+        & (message.stamp <= LARGEST)
+        & (stamp <= LARGEST)
+        & (sender <= LARGEST_SENDER)
+        & (message.output <= LARGEST_OUTPUT)
 }
 
 /// The port of the event's token, with its tag, where the event has no replies.
@@ -717,11 +719,13 @@ fn port_of(event: &Handling<'_>) -> Option<(Tag, Port)>
         (λ p. event.now.message.now.payload ≡ Token p.0 p.1 (value_of event.now.message.now.payload)) }
     ensures replies { IfSome result (λ p. event.now.replies ≡ no_replies) }
 {
-    match event.message.payload {
-        Payload::Token { tag, port, .. } if event.replies.from == 0 && event.replies.count == 0 => {
-            Some((tag, port))
+    if (event.replies.from == 0) & (event.replies.count == 0) {
+        match event.message.payload {
+            Payload::Token { tag, port, .. } => Some((tag, port)),
+            _ => None,
         }
-        _ => None,
+    } else {
+        None
     }
 }
 

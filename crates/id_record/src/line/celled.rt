@@ -320,7 +320,7 @@ fn scene_of_store(tag: Tag, cell: Cell, to: Cell, number: i64, origin: Tag) -> O
 fn is_same_cell(cell: Cell, other: Cell) -> bool
     ensures { IsTrue result → cell ≡ other }
 {
-    cell == other
+    is_same_structure(cell.structure, other.structure) & (cell.index == other.index)
 }
 
 /// Whether two tags are one.
@@ -454,12 +454,8 @@ pub(crate) fn payload_told(line: &Line, cell: Cell) -> Payload
 /// What the event of a line says that names this cell.
 #[inline(always)]
 fn told(line: &Line, cell: Cell) -> Content
-    ensures payload { result.payload ≡ (told line.now.kind (tag_at line.now) (port_at (line.now.position / 2 ^ 31))
-        line.now.value line.now.result cell).payload }
-    ensures fired { result.fired ≡ (told line.now.kind (tag_at line.now) (port_at (line.now.position / 2 ^ 31))
-        line.now.value line.now.result cell).fired }
-    ensures replies { result.replies ≡ (told line.now.kind (tag_at line.now) (port_at (line.now.position / 2 ^ 31))
-        line.now.value line.now.result cell).replies }
+    ensures { record { payload = result.payload; fired = result.fired; replies = result.replies }
+        ≡ told line.now.kind (tag_at line.now) (port_at (line.now.position / 2 ^ 31)) line.now.value line.now.result cell }
 {
     let structure = Value::Structure(cell.structure);
     let tag = tag_at(line);

@@ -270,15 +270,9 @@ pub(super) fn payload_near(line: &Line) -> Payload
 /// What the event of a line says that has the numbers of its cell.
 #[inline(always)]
 fn content(line: &Line) -> Content
-    ensures payload { result.payload ≡ (told_near line.now.effect (tag_at line.now)
-        (port_at (line.now.position / 2 ^ 31)) (instr_at line.now.to)
-        (cell_at (target_in line.now) line.now.value)).payload }
-    ensures fired { result.fired ≡ (told_near line.now.effect (tag_at line.now)
-        (port_at (line.now.position / 2 ^ 31)) (instr_at line.now.to)
-        (cell_at (target_in line.now) line.now.value)).fired }
-    ensures replies { result.replies ≡ (told_near line.now.effect (tag_at line.now)
-        (port_at (line.now.position / 2 ^ 31)) (instr_at line.now.to)
-        (cell_at (target_in line.now) line.now.value)).replies }
+    ensures { record { payload = result.payload; fired = result.fired; replies = result.replies }
+        ≡ told_near line.now.effect (tag_at line.now) (port_at (line.now.position / 2 ^ 31)) (instr_at line.now.to)
+        (cell_at (target_in line.now) line.now.value) }
 {
     let cell = cell_in(line);
     match line.effect {

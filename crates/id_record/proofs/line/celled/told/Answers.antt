@@ -8,7 +8,8 @@ use Rattle.id_tag.specs.declared.Tag.{Tag}
 use Rattle.id_tag.specs.declared.Value.TheVariants as value
 use Rattle.id_record.specs.declared.line.Kind.{Kind}
 use Rattle.id_record.specs.declared.line.Kind.TheVariants as kind
-use Rattle.id_record.specs.Lines.{port_at, tag_at, token_told, told}
+use Rattle.id_record.specs.declared.line.Line.{Line}
+use Rattle.id_record.specs.Lines.{Told, port_at, tag_at, token_told, told}
 use Rattle.id_record.proofs.line.celled.told.Goals as goal
 
 -- of a kind that names no cell it is a signal that waits
@@ -38,18 +39,43 @@ told-else kind.ReadAnswered t p n r c _ _ _ _ _ _ _ _ _ _ _ _ _ _ _ differs _ = 
 told-else kind.Written t p n r c _ _ _ _ _ _ _ _ _ _ _ _ _ _ _ _ differs = elim (differs refl) [ ]
 told-else k t p n r c _ _ _ _ _ _ _ _ _ _ _ _ _ _ _ _ _ = refl
 
+-- of a line of this kind
+module _ (l : Line) (c : Cell) (k : Kind) (x : Told) (says : x ≡ told k (tag_at l) (port_at (l.position / 2 ^ 31)) l.value l.result c)
+    (is : l.kind ≡ k) where
+  of-kind : x ≡ told l.kind (tag_at l) (port_at (l.position / 2 ^ 31)) l.value l.result c
+  of-kind = says ∙ ap (λ j. told j (tag_at l) (port_at (l.position / 2 ^ 31)) l.value l.result c) (sym is)
+
+pub returns-in-StructureWaits : goal.returns-in-StructureWaits
+returns-in-StructureWaits c = of-kind c.args.line.now c.args.cell kind.StructureWaits _ c.by_token.ensures c.in-StructureWaits.is
+
+pub returns-in-StructureOut : goal.returns-in-StructureOut
+returns-in-StructureOut c = of-kind c.args.line.now c.args.cell kind.StructureOut _ c.by_token-in-StructureOut.ensures c.in-StructureOut.is
+
+pub returns-in-StructureOnTrue : goal.returns-in-StructureOnTrue
+returns-in-StructureOnTrue c = of-kind c.args.line.now c.args.cell kind.StructureOnTrue _ c.by_token-in-StructureOnTrue.ensures c.in-StructureOnTrue.is
+
+pub returns-in-StructureOnFalse : goal.returns-in-StructureOnFalse
+returns-in-StructureOnFalse c = of-kind c.args.line.now c.args.cell kind.StructureOnFalse _ c.by_token-in-StructureOnFalse.ensures c.in-StructureOnFalse.is
+
+pub returns-in-StructureAddressed : goal.returns-in-StructureAddressed
+returns-in-StructureAddressed c = of-kind c.args.line.now c.args.cell kind.StructureAddressed _ c.by_token-in-StructureAddressed.ensures c.in-StructureAddressed.is
+
+pub returns-in-TrueSwitched : goal.returns-in-TrueSwitched
+returns-in-TrueSwitched c = of-kind c.args.line.now c.args.cell kind.TrueSwitched _ c.by_token-in-TrueSwitched.ensures c.in-TrueSwitched.is
+
+pub returns-in-FalseSwitched : goal.returns-in-FalseSwitched
+returns-in-FalseSwitched c = of-kind c.args.line.now c.args.cell kind.FalseSwitched _ c.by_token-in-FalseSwitched.ensures c.in-FalseSwitched.is
+
+pub returns-in-AddressWaits : goal.returns-in-AddressWaits
+returns-in-AddressWaits c = of-kind c.args.line.now c.args.cell kind.AddressWaits _ c.by_token-in-AddressWaits.ensures c.in-AddressWaits.is
+
 pub returns-in_default : goal.returns-in_default
 returns-in_default c =
     let l = c.args.line.now in
     let n = c.in_default in
-    let is = c.by_token-in_default.ensures
+    c.by_token-in_default.ensures
     ∙ sym
     (told-else l.kind (tag_at l) (port_at (l.position / 2 ^ 31)) l.value l.result c.args.cell
     n.not-StructureWaits n.not-StructureOut n.not-StructureOnTrue n.not-StructureOnFalse n.not-StructureMoved n.not-StructureAddressed
     n.not-TrueSwitched n.not-FalseSwitched n.not-IntAllocated n.not-IntAddressed n.not-IntStored n.not-AddressWaits
-    n.not-AddressAsked n.not-AddressStored n.not-ReadDeferred n.not-ReadAnswered n.not-Written) in
-    record {
-      payload = ap (λ x. x.payload) is;
-      fired = ap (λ x. x.fired) is;
-      replies = ap (λ x. x.replies) is;
-    }
+    n.not-AddressAsked n.not-AddressStored n.not-ReadDeferred n.not-ReadAnswered n.not-Written)

@@ -1,5 +1,5 @@
 -- The event stands in the line that has its value, its numbers and its reaction.
-use Rattle.std.proofs.Common.{◌≡◌, ◌<◌, ◌^◌, ℕ, true, Some, refl, subst, arith}
+use Rattle.std.proofs.Common.{◌≡◌, ◌<◌, ◌^◌, ℕ, true, refl, subst, arith}
 use Rattle.id_tag.specs.declared.Tag.{Tag}
 use Rattle.id_tag.specs.declared.plain.Plain.{Plain}
 use Rattle.id_tag.specs.declared.plain.Plain.TheVariants.{Signal, Int, Bool, Context, Continuation, Structure, Address}
@@ -53,7 +53,8 @@ returns-clause-packed c =
     let tag = tag_by c.named.result in
     let small : tag.iteration < 2 ^ 32 = c.named.ensures.halved.iteration in
     let serial : tag.context.serial < 2 ^ 32 = omega arith in
-    packed-narrowed (shooting e) (whole value) c.carried.result.kind c.carried.result.value c.shot_effect.result tag (Some c.narrowed.result) refl
+    packed-narrowed (shooting e) (whole value) c.carried.result.kind c.carried.result.value c.shot_effect.result tag c.narrowed.result refl
     c.named.ensures.names (λ u n. c.carried.ensures u (named e.shot e.token.now.iteration value u c.requires.own c.requires.brief n))
     (λ t n. c.shot_effect.ensures t n)
-    is.kind is.value is.effect is.number serial small is.to_element is.to_instr is.message is.stamp refl
+    is.kind is.value is.effect is.number
+    (record { serial = serial; iteration = small; element = is.to_element; instr = is.to_instr }) is.message is.stamp refl
