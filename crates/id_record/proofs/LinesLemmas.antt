@@ -1,5 +1,5 @@
 -- Lemmas on specs/Lines.antt and specs/Records.antt: a record goes on by one event.
-use Rattle.std.proofs.Common.{◌≡◌, ℕ, zero, suc, ◌+◌, ◌<◌, List, [], ◌∷◌, ◌++◌, Option, None, Some, IfSome, SFits}
+use Rattle.std.proofs.Common.{◌≡◌, ℕ, zero, suc, ◌+◌, ◌<◌, List, [], ◌∷◌, ◌++◌, Some, SFits}
 use Rattle.std.proofs.Common.{length, refl, sym, ap, subst, ◌∙◌, length-append, get_or, arith}
 use Rattle.std.specs.Prelude.{All, pos, ◌≤◌, ◌*◌, ◌/◌, ◌%◌, ◌^◌, ℤ, true, false, drop, slice_get, option_map, take}
 use Rattle.std.specs.List.{AllByRecursion}
@@ -376,6 +376,11 @@ pub low_half-joined : (h l : ℕ) → h < 2 ^ 32 → l < 2 ^ 32 → low_half (jo
 low_half-joined h l high low =
     let rest : (h * 2 ^ 32 + l) % 2 ^ 32 ≡ l = omega (arith, high, low) in
     ap (λ n. n % 2 ^ 32) (half-bits h l high low) ∙ rest
+
+-- a number of 32 bits with a sign that is read out of a field of 64
+pub from-field : (f : ℤ → ℤ) (j m : ℤ) → SFits w64 j → SFits w32 m → f j ≡ cast_signed w32 (cast_unsigned w32 m)
+    → f (cast_signed w64 (cast_unsigned w64 j)) ≡ m
+from-field f j m room fits is = ap f (to_z-of_z w64 j room) ∙ is ∙ to_z-of_z w32 m fits
 
 -- two numbers of a line tell the tag whose iteration and serial number are the halves of the first
 pub named-tag : (n : NamedTag) (k s e i : ℕ) → k < 2 ^ 32 → s < 2 ^ 32 → n.numbers ≡ joined k s → element_at n.place ≡ e → instr_at n.place ≡ i

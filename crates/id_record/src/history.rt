@@ -1,6 +1,6 @@
 //! The record of an element: a line for each event, seen as a list of events.
 
-ghost use Rattle.std.specs.Prelude.{◌≡◌};
+ghost use Rattle.std.specs.Prelude.{◌≡◌, ◌<◌, ◌≤◌, ◌+◌, OnOk, vec_len, vec_capacity};
 ghost use Rattle.id_record.specs.Events.{full_step, is_marked, second_store, tag_of, value_of};
 ghost use Rattle.id_ops.specs.Operators.{side_of};
 ghost use Rattle.id_record.specs.Lines.{AreThere};
@@ -9,8 +9,8 @@ ghost use Rattle.id_valid.specs.Roles.{op_at};
 ghost use Rattle.id_graph.specs.Graph.{IsGraph};
 
 use crate::line::{
-    Doing, Handled, Handling, Ledger, NO_REPLIES, Reaction, Replies, Shooting, Visiting,
-    deed_beside, deed_line, packed, packed_beside, shot, visit_beside, visited, whole,
+    Celled, Doing, Handled, Handling, Ledger, Line, NO_REPLIES, Reaction, Replies, Shooting,
+    Visiting, deed_beside, deed_line, packed, packed_beside, shot, visit_beside, visited, whole,
 };
 use crate::margin::{Margin, add_beside, add_line, add_shot};
 use crate::outputs::{Envelope, Outputs, chosen};
@@ -34,7 +34,7 @@ pub struct Record<'a> {
 }
 
 impl<'a> Model for Record<'a> {
-    ghost use Rattle.std.specs.Prelude.{◌-◌, vec_len, vec_capacity};
+    ghost use Rattle.std.specs.Prelude.{◌-◌, length, vec_len, vec_capacity};
     ghost use Rattle.id_record.specs.Records.{AreKept, RecordView, events_from};
 
     ghost Value = { RecordView };
@@ -44,6 +44,7 @@ impl<'a> Model for Record<'a> {
       graph = r.graph.now;
       events = events_from r.graph.now r.element r.replies.items 0 r.margin.beside r.lines.items;
       replies = r.replies.items;
+      cells = length r.margin.beside.cells;
       room = r.lines.room;
       room_aside = r.margin.room;
       room_for_replies = vec_capacity r.replies - vec_len r.replies;
@@ -83,11 +84,13 @@ impl<'a> Model for Events<'a> {
 impl<'a> Record<'a> {
     ghost use Rattle.std.specs.Prelude.{◌≡◌, ◌<◌, ◌≤◌, ◌+◌, ◌++◌, ◌∷◌, [], length, option_map, slice_get, Some, OnOk};
     ghost use Rattle.id_record.specs.Events.{AreUnmarked, IsMarkedAt, tag_of, value_of};
-    ghost use Rattle.id_record.specs.Lines.{AreThere, handled};
+    ghost use Rattle.std.specs.Prelude.{IsFalse, IsTrue};
+    ghost use Rattle.id_record.specs.declared.line.Handled.{Handled};
+    ghost use Rattle.id_record.specs.Lines.{AreThere, IsPacked, IsPackedBeside, handled};
     ghost use Rattle.id_record.specs.Shootings.{HasLine, doing, shooting};
     ghost use Rattle.id_record.specs.Visits.{visiting};
     ghost use Rattle.id_ops.specs.Shots.{IsBrief, IsOwn};
-    ghost use Rattle.id_record.specs.Records.{event_of_handled};
+    ghost use Rattle.id_record.specs.Records.{GoesOn, HasPlace, StandsBeside, StandsIn, event_of_handled};
     ghost use Rattle.id_record.specs.Tellings.{telling_from};
 
     /// The empty record of the element of this number, which is alone or one of several: the record of one that is
@@ -117,12 +120,12 @@ impl<'a> Record<'a> {
         ensures room_aside { OnOk result (0 < self.new.room_aside) }
         ensures room_for_replies { OnOk result (replies ≤ self.new.room_for_replies) }
     {
-        self.lines.reserve()?;
-        self.margin.reserve()?;
-        if replies > 0 {
-            self.replies.reserve(replies)?;
-        }
-        Ok(())
+        make_room(
+            &mut self.lines,
+            &mut self.margin,
+            &mut self.replies,
+            replies,
+        )
     }
 
     /// Adds a reply to those of the next event. Takes no memory.
@@ -161,7 +164,7 @@ impl<'a> Record<'a> {
         match packed(&event) {
             Some(line) => {
                 let tells = is_telling(&event.message.payload, &event.reaction.fired);
-                if !add_line(&mut self.lines, &mut self.margin, line, tells) {
+                if !self.add_line(line, tells) {
                     self.push_whole(event);
                 }
             }
@@ -169,21 +172,47 @@ impl<'a> Record<'a> {
         }
     }
 
+    /// Adds a line at the end, whose event tells or does not, and answers whether it did. Takes no memory.
+    #[inline(always)]
+    fn add_line(&mut self, line: Line, tells: bool) -> bool
+        requires place { HasPlace self.old }
+        requires stands { StandsIn self.old.replies tells line }
+        ensures goes_on { IsTrue result → (h : Handled) → IsPacked h line → GoesOn self.old h self.new }
+        ensures left { IsFalse result → self.new ≡ self.old }
+    {
+        add_line(&mut self.lines, &mut self.margin, line, tells)
+    }
+
+    /// The same, with the cell of the line beside it.
+    #[inline(always)]
+    fn add_beside(&mut self, celled: Celled, tells: bool) -> bool
+        requires place { HasPlace self.old }
+        requires stands { StandsBeside self.old.replies tells self.old.cells celled }
+        ensures goes_on { IsTrue result → (h : Handled) → IsPackedBeside h self.old.cells celled.line celled.cell
+            → GoesOn self.old h self.new }
+        ensures left { IsFalse result → self.new ≡ self.old }
+    {
+        add_beside(&mut self.lines, &mut self.margin, celled, tells)
+    }
+
+    /// How many cells there are beside the lines. Takes no memory.
+    #[inline(always)]
+    fn count_cells(&self) -> usize
+        ensures { result ≡ self.now.cells }
+    {
+        self.margin.count_cells()
+    }
+
     /// Adds an event at the end that fits in no line alone. Takes no memory.
     fn push_beside(&mut self, event: Handling<'_>)
-        requires room { 0 < self.old.room }
-        requires room_aside { 0 < self.old.room_aside }
+        requires place { HasPlace self.old }
         requires replies { AreThere self.old.replies event.replies }
-        ensures element { self.new.element ≡ self.old.element }
-        ensures graph { self.new.graph ≡ self.old.graph }
-        ensures events { self.new.events ≡ self.old.events
-            ++ event_of_handled self.old.graph self.old.element self.old.replies (length self.old.events)
-            (handled event.entry) ∷ [] }
+        ensures { GoesOn self.old (handled event.entry) self.new }
     {
-        match packed_beside(&event, self.margin.count_cells()) {
+        match packed_beside(&event, self.count_cells()) {
             Some(celled) => {
                 let tells = is_telling(&event.message.payload, &event.reaction.fired);
-                if !add_beside(&mut self.lines, &mut self.margin, celled, tells) {
+                if !self.add_beside(celled, tells) {
                     self.push_whole(event);
                 }
             }
@@ -194,28 +223,18 @@ impl<'a> Record<'a> {
     /// Adds an event at the end, aside. Takes no memory.
     #[inline(never)]
     fn push_whole(&mut self, event: Handling<'_>)
-        requires room { 0 < self.old.room }
-        requires room_aside { 0 < self.old.room_aside }
+        requires place { HasPlace self.old }
         requires replies { AreThere self.old.replies event.replies }
-        ensures element { self.new.element ≡ self.old.element }
-        ensures graph { self.new.graph ≡ self.old.graph }
-        ensures events { self.new.events ≡ self.old.events
-            ++ event_of_handled self.old.graph self.old.element self.old.replies (length self.old.events)
-            (handled event.entry) ∷ [] }
+        ensures { GoesOn self.old (handled event.entry) self.new }
     {
         self.push_aside(&whole(&event));
     }
 
     /// Adds this event at the end, aside. Takes no memory.
     fn push_aside(&mut self, event: &Handled)
-        requires room { 0 < self.old.room }
-        requires room_aside { 0 < self.old.room_aside }
+        requires place { HasPlace self.old }
         requires replies { AreThere self.old.replies event.now.replies }
-        ensures element { self.new.element ≡ self.old.element }
-        ensures graph { self.new.graph ≡ self.old.graph }
-        ensures events { self.new.events ≡ self.old.events
-            ++ event_of_handled self.old.graph self.old.element self.old.replies (length self.old.events)
-            event.now ∷ [] }
+        ensures { GoesOn self.old event.now self.new }
     {
         let tells = is_telling(&event.message.payload, &event.reaction.fired);
         let index = self.margin.push_aside(event, self.lines.len(), tells);
@@ -245,13 +264,8 @@ impl<'a> Record<'a> {
     /// Adds the event of a plain token at the end, aside. Takes no memory.
     #[inline(never)]
     fn push_shot_aside(&mut self, event: Shooting<'_>)
-        requires room { 0 < self.old.room }
-        requires room_aside { 0 < self.old.room_aside }
-        ensures element { self.new.element ≡ self.old.element }
-        ensures graph { self.new.graph ≡ self.old.graph }
-        ensures events { self.new.events ≡ self.old.events
-            ++ event_of_handled self.old.graph self.old.element self.old.replies (length self.old.events)
-            (shooting event.entry) ∷ [] }
+        requires { HasPlace self.old }
+        ensures { GoesOn self.old (shooting event.entry) self.new }
     {
         self.push_aside(&shot(&event));
     }
@@ -270,12 +284,7 @@ impl<'a> Record<'a> {
     {
         match deed_line(&event) {
             Some(line) => {
-                if !add_line(
-                    &mut self.lines,
-                    &mut self.margin,
-                    line,
-                    event.token.instr == 0,
-                ) {
+                if !self.add_line(line, event.token.instr == 0) {
                     self.push_deed_aside(event);
                 }
             }
@@ -286,19 +295,14 @@ impl<'a> Record<'a> {
     /// Adds the event of a plain token with a deed at the end, which fits in no line alone. Takes no memory.
     #[inline(always)]
     fn push_deed_beside(&mut self, event: Doing<'_>)
-        requires room { 0 < self.old.room }
-        requires room_aside { 0 < self.old.room_aside }
+        requires place { HasPlace self.old }
         requires fits { HasLine event.token.now }
-        ensures element { self.new.element ≡ self.old.element }
-        ensures graph { self.new.graph ≡ self.old.graph }
-        ensures events { self.new.events ≡ self.old.events
-            ++ event_of_handled self.old.graph self.old.element self.old.replies (length self.old.events)
-            (doing event.entry) ∷ [] }
+        ensures { GoesOn self.old (doing event.entry) self.new }
     {
-        match deed_beside(&event, self.margin.count_cells()) {
+        match deed_beside(&event, self.count_cells()) {
             Some(celled) => {
                 let tells = event.token.instr == 0;
-                if !add_beside(&mut self.lines, &mut self.margin, celled, tells) {
+                if !self.add_beside(celled, tells) {
                     self.push_deed_aside(event);
                 }
             }
@@ -309,14 +313,9 @@ impl<'a> Record<'a> {
     /// Adds the event of a plain token with a deed at the end, as any event. Takes no memory.
     #[inline(never)]
     fn push_deed_aside(&mut self, event: Doing<'_>)
-        requires room { 0 < self.old.room }
-        requires room_aside { 0 < self.old.room_aside }
+        requires place { HasPlace self.old }
         requires fits { HasLine event.token.now }
-        ensures element { self.new.element ≡ self.old.element }
-        ensures graph { self.new.graph ≡ self.old.graph }
-        ensures events { self.new.events ≡ self.old.events
-            ++ event_of_handled self.old.graph self.old.element self.old.replies (length self.old.events)
-            (doing event.entry) ∷ [] }
+        ensures { GoesOn self.old (doing event.entry) self.new }
     {
         let message = event.token.message();
         let reaction = Reaction {
@@ -344,9 +343,9 @@ impl<'a> Record<'a> {
             ++ event_of_handled self.old.graph self.old.element self.old.replies (length self.old.events)
             (visiting event.entry) ∷ [] }
     {
-        match visit_beside(&event, self.margin.count_cells()) {
+        match visit_beside(&event, self.count_cells()) {
             Some(celled) => {
-                if !add_beside(&mut self.lines, &mut self.margin, celled, false) {
+                if !self.add_beside(celled, false) {
                     self.push_visit_aside(event);
                 }
             }
@@ -357,14 +356,9 @@ impl<'a> Record<'a> {
     /// Adds the event of a read or a write of a cell at the end, aside. Takes no memory.
     #[inline(never)]
     fn push_visit_aside(&mut self, event: Visiting<'_>)
-        requires room { 0 < self.old.room }
-        requires room_aside { 0 < self.old.room_aside }
+        requires place { HasPlace self.old }
         requires replies { AreThere self.old.replies (visiting event).replies }
-        ensures element { self.new.element ≡ self.old.element }
-        ensures graph { self.new.graph ≡ self.old.graph }
-        ensures events { self.new.events ≡ self.old.events
-            ++ event_of_handled self.old.graph self.old.element self.old.replies (length self.old.events)
-            (visiting event.entry) ∷ [] }
+        ensures { GoesOn self.old (visiting event.entry) self.new }
     {
         self.push_aside(&visited(&event));
     }
@@ -552,6 +546,28 @@ impl<'a> Events<'a> {
     {
         let held = self.record;
         held.event(position)
+    }
+}
+
+/// Makes room in these for one more event, and for so many replies.
+#[inline(always)]
+fn make_room(
+    lines: &mut Ledger,
+    margin: &mut Margin,
+    replies: &mut Vec<Tag>,
+    count: usize,
+) -> Result<(), AllocError>
+    ensures same { (lines.new.items ≡ lines.old.items) × (margin.new.beside ≡ margin.old.beside)
+        × (margin.new.telling ≡ margin.old.telling) × (replies.new.items ≡ replies.old.items) }
+    ensures room { OnOk result ((0 < lines.new.room) × (0 < margin.new.room)
+        × (vec_len replies.new + count ≤ vec_capacity replies.new)) }
+{
+    lines.reserve()?;
+    margin.reserve()?;
+    if count > 0 {
+        replies.reserve(count)
+    } else {
+        Ok(())
     }
 }
 

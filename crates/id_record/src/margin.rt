@@ -2,7 +2,7 @@
 //! that tell.
 
 ghost use Rattle.std.specs.Prelude.{◌≡◌, ◌<◌, ◌≤◌, ◌+◌, ◌++◌, ◌∷◌, [], length, vec_len, vec_capacity, IsFalse, IsTrue};
-ghost use Rattle.std.specs.Prelude.{◌==◌, IfSome, None};
+ghost use Rattle.std.specs.Prelude.{◌==◌, IfSome, None, OnOk};
 ghost use Rattle.id_ops.specs.Shots.{IsBrief, IsOwn};
 ghost use Rattle.id_record.specs.Lines.{IsPacked, beside};
 ghost use Rattle.id_record.specs.Shootings.{HasLine, shooting};
@@ -86,17 +86,15 @@ impl Margin {
     /// The same where no room is known of.
     #[inline(never)]
     fn make_room(&mut self) -> Result<(), AllocError>
+        requires { self.old.room ≡ 0 }
         ensures beside { self.new.beside ≡ self.old.beside }
         ensures telling { self.new.telling ≡ self.old.telling }
         ensures room { OnOk result (0 < self.new.room) }
     {
-        self.asides.reserve(LEAST)?;
-        self.cells.reserve(LEAST)?;
-        self.telling.reserve(LEAST)?;
-        let room_aside = self.asides.capacity() - self.asides.len();
-        let room_for_cells = self.cells.capacity() - self.cells.len();
-        let room_for_telling = self.telling.capacity() - self.telling.len();
-        self.spare = room_aside.min(room_for_cells).min(room_for_telling);
+        make_room(&mut self.asides, &mut self.cells, &mut self.telling)?;
+        self.spare = room_in(&self.asides)
+            .min(room_in(&self.cells))
+            .min(room_in(&self.telling));
         Ok(())
     }
 
@@ -182,6 +180,29 @@ impl Margin {
     {
         instr_in(self.asides.as_slice(), self.cells.as_slice(), line)
     }
+}
+
+/// Makes room in each of these.
+fn make_room(
+    asides: &mut Vec<Handled>,
+    cells: &mut Vec<Spot>,
+    telling: &mut Vec<usize>,
+) -> Result<(), AllocError>
+    ensures same { (asides.new.items ≡ asides.old.items) × (cells.new.items ≡ cells.old.items)
+        × (telling.new.items ≡ telling.old.items) }
+    ensures room { OnOk result ((vec_len asides.new < vec_capacity asides.new)
+        × (vec_len cells.new < vec_capacity cells.new) × (vec_len telling.new < vec_capacity telling.new)) }
+{
+    asides.reserve(LEAST)?;
+    cells.reserve(LEAST)?;
+    telling.reserve(LEAST)
+}
+
+/// For how many more elements a list has room.
+fn room_in<T>(list: &Vec<T>) -> usize
+    ensures { result + vec_len list.now ≡ vec_capacity list.now }
+{
+    list.capacity() - list.len()
 }
 
 /// Adds a line at the end, and its position to those of the events that tell, where its event does; answers whether it

@@ -15,7 +15,7 @@ ghost use Rattle.id_record.specs.Shootings.{HasLine, doing};
 
 use super::celled::{Content, by_token};
 use super::near::Doing;
-use super::numbers::{high_half, instr_at, joined, low_half, place};
+use super::numbers::{high_half, instr_at, joined, joined_signed, low_half, place};
 use super::reading::{message_at, went};
 use super::shooting::token_line;
 use super::{Effect, Handled, Kind, Line, Written};
@@ -137,10 +137,7 @@ fn written(given: Given) -> Written
     Written {
         kind: Kind::Given,
         effect: given.effect,
-        value: joined(
-            u64::from(given.low.cast_unsigned()),
-            u64::from(given.high.cast_unsigned()),
-        ),
+        value: joined_signed(given.low, given.high),
         result: joined(u64::from(given.structure), u64::from(given.context)),
         to: place(0, given.instr),
     }

@@ -15,7 +15,7 @@ ghost use Rattle.id_record.specs.Shootings.{HasLine, doing};
 
 use super::celled::{Celled, Content, Scene, by_token, first_cell, of_kind, of_number, of_result};
 use super::giving::given_line;
-use super::numbers::{instr_at, joined, place};
+use super::numbers::{instr_at, joined_index, joined_signed, place};
 use super::passing::passed_line;
 use super::reading::{cell_in, tag_at};
 use super::shooting::token_line;
@@ -233,14 +233,8 @@ fn written(near: Near) -> Written
     Written {
         kind: Kind::Near,
         effect: near.effect,
-        value: joined(
-            u64::from(cell.low().cast_unsigned()),
-            u64::from(cell.high().cast_unsigned()),
-        ),
-        result: joined(
-            u64::from(cell.index().cast_unsigned()),
-            u64::from(cell.serial()),
-        ),
+        value: joined_signed(cell.low(), cell.high()),
+        result: joined_index(cell.index(), cell.serial()),
         to: place(u32::from(cell.element()), near.instr),
     }
 }

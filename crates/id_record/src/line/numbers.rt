@@ -1,6 +1,7 @@
 //! Numbers that share a field of a line: the halves of 64 bits, an element with an instruction, a port with a position.
 
 ghost use Rattle.std.specs.Prelude.{◌≡◌, ◌<◌, ◌%◌, ◌/◌, ◌^◌};
+ghost use Rattle.std.specs.Int.{cast_signed, w32};
 ghost use Rattle.id_record.specs.Lines.{context_of, element_at, high_half, index_of, instr_at, joined, low_half};
 ghost use Rattle.id_record.specs.Lines.{port_at};
 
@@ -15,6 +16,27 @@ pub(super) fn joined(high: u64, low: u64) -> i64
     ensures { result ≡ joined high low }
 {
     (high * 0x1_0000_0000 + low).cast_signed()
+}
+
+/// Two numbers of 32 bits with signs as the halves of one.
+#[inline(always)]
+pub(super) fn joined_signed(high: i32, low: i32) -> i64
+    ensures high { cast_signed w32 (high_half result) ≡ high }
+    ensures low { cast_signed w32 (low_half result) ≡ low }
+{
+    joined(
+        u64::from(high.cast_unsigned()),
+        u64::from(low.cast_unsigned()),
+    )
+}
+
+/// Two numbers of 32 bits as the halves of one, of which the first has a sign.
+#[inline(always)]
+pub(super) fn joined_index(high: i32, low: u32) -> i64
+    ensures high { cast_signed w32 (high_half result) ≡ high }
+    ensures low { low_half result ≡ low }
+{
+    joined(u64::from(high.cast_unsigned()), u64::from(low))
 }
 
 /// The higher half of a number.

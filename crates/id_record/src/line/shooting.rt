@@ -13,7 +13,7 @@ ghost use Rattle.id_record.specs.Lines.{instr_at, joined, message_at, number_of,
 ghost use Rattle.id_record.specs.Lines.{reaction_of, tag_at};
 ghost use Rattle.id_record.specs.Shootings.{HasLine, IsHalved, IsNarrow, shooting, tag_by};
 
-use super::numbers::{joined, place, position_at};
+use super::numbers::{joined, joined_signed, place, position_at};
 use super::reading::went;
 use super::{
     Carried, Effect, Exit, Handled, Kind, Line, NO_REPLIES, Written, false_at, int_at, of_kind,
@@ -106,19 +106,13 @@ fn carried(value: Plain) -> Carried
         Plain::Continuation(_, _, _) => of_kind(Kind::Continuation),
         Plain::Structure(_, low, high) => Carried {
             kind: Kind::Structure,
-            value: joined(
-                u64::from(low.cast_unsigned()),
-                u64::from(high.cast_unsigned()),
-            ),
+            value: joined_signed(low, high),
         },
         Plain::Address(name, place) => {
             let cell = PlainCell { name, place };
             Carried {
                 kind: Kind::Address,
-                value: joined(
-                    u64::from(cell.low().cast_unsigned()),
-                    u64::from(cell.high().cast_unsigned()),
-                ),
+                value: joined_signed(cell.low(), cell.high()),
             }
         }
     }

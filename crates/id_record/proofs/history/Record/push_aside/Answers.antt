@@ -26,16 +26,21 @@ invariant_of-self c =
     c.self.invariant.lines)
     c.is_telling-tells.ensures c.len.ensures c.push_aside-index.ensures.telling)
 
-pub returns-clause-events : goal.returns-clause-events
-returns-clause-events c =
+pub returns : goal.returns
+returns c =
     let r = c.self.inside in
-    rw (
-      ← ap (λ v. v.events) c.self.view_is,
-      ← ap (λ v. v.graph) c.self.view_is,
-      ← ap (λ v. v.element) c.self.view_is,
-      ← ap (λ v. v.replies) c.self.view_is,
-      c.push_aside.ensures.added,
-      c.push_aside-index.ensures.beside,
-    )
-    (pushed_aside r.graph.now r.element r.replies.items r.margin.beside.asides r.margin.beside.cells r.lines.items c.args.event.now c.push_aside.result
-    c.push_aside.ensures.kind (c.push_aside.ensures.index ∙ c.push_aside-index.ensures.index) c.self.invariant.lines)
+    record {
+      element = ap (λ v. v.element) c.self.view_is;
+      graph = ap (λ v. v.graph) c.self.view_is;
+      events =
+          rw (
+            ← ap (λ v. v.events) c.self.view_is,
+            ← ap (λ v. v.graph) c.self.view_is,
+            ← ap (λ v. v.element) c.self.view_is,
+            ← ap (λ v. v.replies) c.self.view_is,
+            c.push_aside.ensures.added,
+            c.push_aside-index.ensures.beside,
+          )
+          (pushed_aside r.graph.now r.element r.replies.items r.margin.beside.asides r.margin.beside.cells r.lines.items c.args.event.now c.push_aside.result
+          c.push_aside.ensures.kind (c.push_aside.ensures.index ∙ c.push_aside-index.ensures.index) c.self.invariant.lines);
+    }

@@ -1,40 +1,21 @@
 -- The record goes on by one event, in a line with a cell beside it.
-use Rattle.std.proofs.Common.{◌++◌, ◌∷◌, [], length, ap, subst, arith, refl}
-use Rattle.id_record.specs.Lines.{IsPackedBeside, beside}
+use Rattle.std.proofs.Common.{refl, arith, subst}
+use Rattle.id_record.specs.Lines.{IsPackedBeside}
 use Rattle.id_record.specs.Shootings.{doing}
-use Rattle.id_record.proofs.LinesLemmas.{pushed_cell, kept_cell}
-use Rattle.id_record.proofs.TellingsLemmas.{AreKept-push, tells-doing}
+use Rattle.id_record.proofs.TellingsLemmas.{tells-doing}
 use Rattle.id_record.proofs.history.Record.push_deed_beside.Goals as goal
 
-pub invariant_of-self-else-not-add_beside : goal.invariant_of-self-else-not-add_beside
-invariant_of-self-else-not-add_beside c =
-    let r = c.self.inside in
-    let cs = r.margin.beside.cells in
-    let h = doing c.args.event in
-    let packed : IsPackedBeside h (length cs) c.in-Some.celled.line c.in-Some.celled.cell = subst
-    (λ i. IsPackedBeside h i c.in-Some.celled.line c.in-Some.celled.cell) c.count_cells.ensures c.in-Some.ensures in
-    rw (c.if-not-add_beside.ensures.line refl, c.if-not-add_beside.ensures.cell refl)
-    (AreKept-push r.graph.now r.element r.replies.items (beside r.margin.beside.asides cs) (beside r.margin.beside.asides (cs ++ c.in-Some.celled.cell ∷ []))
-    r.lines.items _ r.margin.telling _ h _ _ c.self.invariant
-    (kept_cell r.replies.items r.margin.beside.asides cs r.lines.items h c.in-Some.celled.line c.in-Some.celled.cell packed (omega arith)
-    c.self.invariant.lines)
-    (pushed_cell r.graph.now r.element r.replies.items r.margin.beside.asides cs r.lines.items h c.in-Some.celled.line c.in-Some.celled.cell packed
-    c.self.invariant.lines)
-    (tells-doing c.args.event) refl (c.if-not-add_beside.ensures.telling refl))
+pub add_beside-requires-clause-stands : goal.add_beside-requires-clause-stands
+add_beside-requires-clause-stands c =
+    let x = c.in-Some.celled in
+    record {
+      event = doing c.args.event;
+      packed = subst (λ i. IsPackedBeside (doing c.args.event) i x.line x.cell) c.count_cells.ensures c.in-Some.ensures;
+      replies = omega arith;
+      tells_so = tells-doing c.args.event;
+    }
 
-pub returns-else-not-add_beside-clause-events : goal.returns-else-not-add_beside-clause-events
-returns-else-not-add_beside-clause-events c =
-    let r = c.self.inside in
-    let cs = r.margin.beside.cells in
-    let h = doing c.args.event in
-    let packed : IsPackedBeside h (length cs) c.in-Some.celled.line c.in-Some.celled.cell = subst
-    (λ i. IsPackedBeside h i c.in-Some.celled.line c.in-Some.celled.cell) c.count_cells.ensures c.in-Some.ensures in
-    rw (
-      ← ap (λ v. v.events) c.self.view_is,
-      ← ap (λ v. v.graph) c.self.view_is,
-      ← ap (λ v. v.element) c.self.view_is,
-      c.if-not-add_beside.ensures.line refl,
-      c.if-not-add_beside.ensures.cell refl,
-    )
-    (pushed_cell r.graph.now r.element r.replies.items r.margin.beside.asides cs r.lines.items h c.in-Some.celled.line c.in-Some.celled.cell packed
-    c.self.invariant.lines)
+pub returns-else-not-add_beside : goal.returns-else-not-add_beside
+returns-else-not-add_beside c =
+    let x = c.in-Some.celled in
+    c.if-not-add_beside.ensures.goes_on refl (doing c.args.event) (subst (λ i. IsPackedBeside (doing c.args.event) i x.line x.cell) c.count_cells.ensures c.in-Some.ensures)
