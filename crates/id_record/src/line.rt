@@ -33,8 +33,7 @@ mod visiting;
 use crate::history::{tag_of, value_of};
 use crate::step::Verdict;
 pub(crate) use celled::{Celled, packed_beside};
-use celled::{payload_told, said};
-use giving::{payload_given, said_given};
+use celled::{saying, told};
 use id_graph::Port;
 use id_ops::{Fired, tag_within};
 use id_tag::{Cell, Context, Message, Payload, Sender, Tag, Value};
@@ -42,9 +41,7 @@ use id_value::FaultKind;
 pub(crate) use ledger::Ledger;
 pub use near::Doing;
 pub(crate) use near::{deed_beside, deed_line};
-use near::{payload_near, said_near};
 use numbers::{context_of, index_of, instr_at, joined, place, position_at};
-use passing::{payload_passed, said_passed};
 use reading::{cell_in, message_at, own, own_payload, structure_in, tag_at, target_in, went};
 pub(crate) use shooting::{shot, shot_line};
 pub use shooting::{Shooting, has_line};
@@ -274,11 +271,11 @@ pub(crate) fn unpack(asides: &[Handled], cells: &[Spot], line: &Line) -> Handled
         Kind::Continuation => own(line, Value::Continuation(target_in(line))),
         Kind::Structure => own(line, Value::Structure(structure_in(line))),
         Kind::Address => own(line, Value::Address(cell_in(line))),
-        Kind::Near => said_near(line),
-        Kind::Passed => said_passed(line),
-        Kind::Given => said_given(line),
+        Kind::Near => saying(line, near::content(line)),
+        Kind::Passed => saying(line, passing::content(line)),
+        Kind::Given => saying(line, giving::content(line)),
         Kind::Aside => asides[index_of(line.value)],
-        _ => said(line, cell_named(cells, line)),
+        _ => saying(line, told(line, cell_named(cells, line))),
     }
 }
 
@@ -305,11 +302,11 @@ pub(crate) fn payload_in(asides: &[Handled], cells: &[Spot], line: &Line) -> Pay
         Kind::Continuation => own_payload(line, Value::Continuation(target_in(line))),
         Kind::Structure => own_payload(line, Value::Structure(structure_in(line))),
         Kind::Address => own_payload(line, Value::Address(cell_in(line))),
-        Kind::Near => payload_near(line),
-        Kind::Passed => payload_passed(line),
-        Kind::Given => payload_given(line),
+        Kind::Near => near::content(line).payload,
+        Kind::Passed => passing::content(line).payload,
+        Kind::Given => giving::content(line).payload,
         Kind::Aside => asides[index_of(line.value)].message.payload,
-        _ => payload_told(line, cell_named(cells, line)),
+        _ => told(line, cell_named(cells, line)).payload,
     }
 }
 

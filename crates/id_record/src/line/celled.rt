@@ -429,12 +429,11 @@ pub(super) struct Content {
     pub(super) replies: Replies,
 }
 
-/// The event of a line that names this cell.
-pub(crate) fn said(line: &Line, cell: Cell) -> Handled
-    ensures { result ≡ saying line.now (told line.now.kind (tag_at line.now) (port_at (line.now.position / 2 ^ 31))
-        line.now.value line.now.result cell) }
+/// The event of a line that says this.
+pub(super) fn saying(line: &Line, told: Content) -> Handled
+    ensures { result ≡ saying line.now
+        (record { payload = told.payload; fired = told.fired; replies = told.replies }) }
 {
-    let told = told(line, cell);
     Handled {
         message: message_at(line, told.payload),
         stamp: u64::from(line.stamp),
@@ -443,19 +442,12 @@ pub(crate) fn said(line: &Line, cell: Cell) -> Handled
     }
 }
 
-/// What the message says of a line that names this cell.
-pub(crate) fn payload_told(line: &Line, cell: Cell) -> Payload
-    ensures { result ≡ (told line.now.kind (tag_at line.now) (port_at (line.now.position / 2 ^ 31))
-        line.now.value line.now.result cell).payload }
-{
-    told(line, cell).payload
-}
-
 /// What the event of a line says that names this cell.
 #[inline(always)]
-fn told(line: &Line, cell: Cell) -> Content
+pub(super) fn told(line: &Line, cell: Cell) -> Content
     ensures { record { payload = result.payload; fired = result.fired; replies = result.replies }
-        ≡ told line.now.kind (tag_at line.now) (port_at (line.now.position / 2 ^ 31)) line.now.value line.now.result cell }
+        ≡ told line.now.kind (tag_at line.now) (port_at (line.now.position / 2 ^ 31)) line.now.value line.now.result
+        cell }
 {
     let structure = Value::Structure(cell.structure);
     let tag = tag_at(line);

@@ -9,18 +9,17 @@ ghost use Rattle.id_tag.specs.declared.Value.TheVariants as values;
 ghost use Rattle.id_ops.specs.declared.Fired.TheVariants as firings;
 ghost use Rattle.id_ops.specs.Deeds.{fired_by_deed};
 ghost use Rattle.id_ops.specs.Shots.{target_tag};
-ghost use Rattle.id_record.specs.Lines.{given_in, given_to, high_half, instr_at, low_half, port_at, saying, tag_at};
+ghost use Rattle.id_record.specs.Lines.{given_in, given_to, high_half, instr_at, low_half, port_at, tag_at};
 ghost use Rattle.id_record.specs.Lines.{IsPacked, tag_named, token_told, told_given};
 ghost use Rattle.id_record.specs.Shootings.{HasLine, doing};
 
 use super::celled::{Content, by_token};
 use super::near::Doing;
 use super::numbers::{high_half, instr_at, joined, joined_signed, low_half, place};
-use super::reading::{message_at, went};
 use super::shooting::token_line;
-use super::{Effect, Handled, Kind, Line, Written};
+use super::{Effect, Kind, Line, Written};
 use id_ops::{Deed, Fired, Target};
-use id_tag::{Payload, Plain, Tag, element_of, name_of, serial_of};
+use id_tag::{Plain, Tag, element_of, name_of, serial_of};
 
 /// What a line keeps of an event beside the numbers of its message: the names of a structure and of the context to an
 /// instruction of which that goes, the bounds, and which of the two the message carries.
@@ -143,31 +142,9 @@ fn written(given: Given) -> Written
     }
 }
 
-/// The event of a line with the names of a structure and of the context to which that goes.
-pub(super) fn said_given(line: &Line) -> Handled
-    ensures { result ≡ saying line.now (told_given line.now.effect (tag_at line.now)
-        (port_at (line.now.position / 2 ^ 31)) (given_to line.now) (given_in line.now)) }
-{
-    let told = content(line);
-    Handled {
-        message: message_at(line, told.payload),
-        stamp: u64::from(line.stamp),
-        reaction: went(told.fired),
-        replies: told.replies,
-    }
-}
-
-/// What the message says of a line with the names of a structure and of the context to which that goes.
-pub(super) fn payload_given(line: &Line) -> Payload
-    ensures { result ≡ (told_given line.now.effect (tag_at line.now) (port_at (line.now.position / 2 ^ 31))
-        (given_to line.now) (given_in line.now)).payload }
-{
-    content(line).payload
-}
-
 /// What the event of a line says with the names of a structure and of the context to which that goes.
 #[inline(always)]
-fn content(line: &Line) -> Content
+pub(super) fn content(line: &Line) -> Content
     ensures { record { payload = result.payload; fired = result.fired; replies = result.replies }
         ≡ told_given line.now.effect (tag_at line.now) (port_at (line.now.position / 2 ^ 31)) (given_to line.now)
         (given_in line.now) }

@@ -9,7 +9,7 @@ ghost use Rattle.id_ops.specs.declared.Fired.TheVariants as firings;
 ghost use Rattle.id_tag.specs.declared.Tag.{Tag};
 ghost use Rattle.id_ops.specs.Deeds.{fired_by_deed};
 ghost use Rattle.id_record.specs.Lines.{IsCelled, IsPacked, IsPackedBeside, cell_at, element_at, high_half};
-ghost use Rattle.id_record.specs.Lines.{instr_at, low_half, port_at, saying, tag_at, target_in, told, told_near};
+ghost use Rattle.id_record.specs.Lines.{instr_at, low_half, port_at, tag_at, target_in, told, told_near};
 ghost use Rattle.id_record.specs.Lines.{token_told};
 ghost use Rattle.id_record.specs.Shootings.{HasLine, doing};
 
@@ -19,9 +19,9 @@ use super::numbers::{instr_at, joined_index, joined_signed, place};
 use super::passing::passed_line;
 use super::reading::{cell_in, tag_at};
 use super::shooting::token_line;
-use super::{Effect, Handled, Kind, Line, Written, message_at, went};
+use super::{Effect, Kind, Line, Written};
 use id_ops::{Deed, Fired};
-use id_tag::{Payload, Plain, PlainCell, PlainToken, Tag, Value};
+use id_tag::{Plain, PlainCell, PlainToken, Tag, Value};
 
 /// A plain token that is being handled, the stamp of that event, and the deed of its instruction.
 #[derive(Clone, Copy)]
@@ -239,31 +239,9 @@ fn written(near: Near) -> Written
     }
 }
 
-/// The event of a line that has the numbers of its cell.
-pub(super) fn said_near(line: &Line) -> Handled
-    ensures { result ≡ saying line.now (told_near line.now.effect (tag_at line.now)
-        (port_at (line.now.position / 2 ^ 31)) (instr_at line.now.to) (cell_at (target_in line.now) line.now.value)) }
-{
-    let told = content(line);
-    Handled {
-        message: message_at(line, told.payload),
-        stamp: u64::from(line.stamp),
-        reaction: went(told.fired),
-        replies: told.replies,
-    }
-}
-
-/// What the message says of a line that has the numbers of its cell.
-pub(super) fn payload_near(line: &Line) -> Payload
-    ensures { result ≡ (told_near line.now.effect (tag_at line.now) (port_at (line.now.position / 2 ^ 31))
-        (instr_at line.now.to) (cell_at (target_in line.now) line.now.value)).payload }
-{
-    content(line).payload
-}
-
 /// What the event of a line says that has the numbers of its cell.
 #[inline(always)]
-fn content(line: &Line) -> Content
+pub(super) fn content(line: &Line) -> Content
     ensures { record { payload = result.payload; fired = result.fired; replies = result.replies }
         ≡ told_near line.now.effect (tag_at line.now) (port_at (line.now.position / 2 ^ 31)) (instr_at line.now.to)
         (cell_at (target_in line.now) line.now.value) }

@@ -6,18 +6,18 @@ ghost use Rattle.id_tag.specs.Plains.{whole};
 ghost use Rattle.id_tag.specs.declared.Tag.{Tag};
 ghost use Rattle.id_ops.specs.Deeds.{fired_by_deed};
 ghost use Rattle.id_ops.specs.Shots.{target_tag};
-ghost use Rattle.id_record.specs.Lines.{element_at, high_half, instr_at, low_half, port_at, saying, tag_at, target_in};
+ghost use Rattle.id_record.specs.Lines.{element_at, high_half, instr_at, low_half, port_at, tag_at, target_in};
 ghost use Rattle.id_record.specs.Lines.{IsPacked, token_told, told_passed, word_of};
 ghost use Rattle.id_record.specs.Shootings.{HasLine, doing};
 
 use super::celled::{Content, by_token};
 use super::near::Doing;
 use super::numbers::{joined, place};
-use super::reading::{message_at, target_in, went};
+use super::reading::target_in;
 use super::shooting::token_line;
-use super::{Effect, Handled, Kind, Line, Written};
+use super::{Effect, Kind, Line, Written};
 use id_ops::{Deed, Fired, Target};
-use id_tag::{Payload, Plain, Value, element_of, serial_of};
+use id_tag::{Plain, Value, element_of, serial_of};
 
 /// What a line keeps of an event beside the numbers of its message: which word goes to which tag, with its number.
 #[derive(Clone, Copy)]
@@ -116,31 +116,9 @@ fn written(passed: Passed) -> Written
     }
 }
 
-/// The event of a line whose context lets a word go on.
-pub(super) fn said_passed(line: &Line) -> Handled
-    ensures { result ≡ saying line.now (told_passed line.now.effect (tag_at line.now)
-        (port_at (line.now.position / 2 ^ 31)) (target_in line.now) line.now.value) }
-{
-    let told = content(line);
-    Handled {
-        message: message_at(line, told.payload),
-        stamp: u64::from(line.stamp),
-        reaction: went(told.fired),
-        replies: told.replies,
-    }
-}
-
-/// What the message says of a line whose context lets a word go on.
-pub(super) fn payload_passed(line: &Line) -> Payload
-    ensures { result ≡ (told_passed line.now.effect (tag_at line.now) (port_at (line.now.position / 2 ^ 31))
-        (target_in line.now) line.now.value).payload }
-{
-    content(line).payload
-}
-
 /// What the event of a line says whose context lets a word go on.
 #[inline(always)]
-fn content(line: &Line) -> Content
+pub(super) fn content(line: &Line) -> Content
     ensures { record { payload = result.payload; fired = result.fired; replies = result.replies }
         ≡ told_passed line.now.effect (tag_at line.now) (port_at (line.now.position / 2 ^ 31)) (target_in line.now)
         line.now.value }

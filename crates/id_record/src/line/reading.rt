@@ -124,25 +124,36 @@ fn reaction_in(line: &Line, value: Value) -> Reaction
         },
         Effect::Overflow => failed(FaultKind::Overflow),
         Effect::DivisionByZero => failed(FaultKind::DivisionByZero),
-        Effect::Signal => went(Fired::Out(Value::Signal)),
-        Effect::Int => went(Fired::Out(Value::Int(line.result))),
-        Effect::True => went(Fired::Out(Value::Bool(true))),
-        Effect::False => went(Fired::Out(Value::Bool(false))),
-        Effect::SignalOnTrue => went(Fired::Side(true, Value::Signal)),
-        Effect::IntOnTrue => went(Fired::Side(true, Value::Int(line.result))),
-        Effect::TrueOnTrue => went(Fired::Side(true, Value::Bool(true))),
-        Effect::FalseOnTrue => went(Fired::Side(true, Value::Bool(false))),
-        Effect::SignalOnFalse => went(Fired::Side(false, Value::Signal)),
-        Effect::IntOnFalse => went(Fired::Side(false, Value::Int(line.result))),
-        Effect::TrueOnFalse => went(Fired::Side(false, Value::Bool(true))),
-        Effect::FalseOnFalse => went(Fired::Side(false, Value::Bool(false))),
-        Effect::Moved => went(Fired::Moved(target_in(line).iteration, value)),
-        Effect::Entered => went(Fired::Entered(target_in(line).context)),
-        Effect::Sent => went(Fired::Sent(target_in(line), value)),
-        Effect::Own => went(Fired::Out(value)),
-        Effect::OwnOnTrue => went(Fired::Side(true, value)),
-        Effect::OwnOnFalse => went(Fired::Side(false, value)),
-        _ => went(Fired::Nothing),
+        _ => went(fired_in(line, value)),
+    }
+}
+
+/// What was fired.
+fn fired_in(line: &Line, value: Value) -> Fired
+    ensures { result ≡ (reaction_of line.now.effect line.now.result (target_in line.now) value).fired }
+{
+    match line.effect {
+        Effect::Overflow => Fired::Failed(FaultKind::Overflow),
+        Effect::DivisionByZero => Fired::Failed(FaultKind::DivisionByZero),
+        Effect::Signal => Fired::Out(Value::Signal),
+        Effect::Int => Fired::Out(Value::Int(line.result)),
+        Effect::True => Fired::Out(Value::Bool(true)),
+        Effect::False => Fired::Out(Value::Bool(false)),
+        Effect::SignalOnTrue => Fired::Side(true, Value::Signal),
+        Effect::IntOnTrue => Fired::Side(true, Value::Int(line.result)),
+        Effect::TrueOnTrue => Fired::Side(true, Value::Bool(true)),
+        Effect::FalseOnTrue => Fired::Side(true, Value::Bool(false)),
+        Effect::SignalOnFalse => Fired::Side(false, Value::Signal),
+        Effect::IntOnFalse => Fired::Side(false, Value::Int(line.result)),
+        Effect::TrueOnFalse => Fired::Side(false, Value::Bool(true)),
+        Effect::FalseOnFalse => Fired::Side(false, Value::Bool(false)),
+        Effect::Moved => Fired::Moved(target_in(line).iteration, value),
+        Effect::Entered => Fired::Entered(target_in(line).context),
+        Effect::Sent => Fired::Sent(target_in(line), value),
+        Effect::Own => Fired::Out(value),
+        Effect::OwnOnTrue => Fired::Side(true, value),
+        Effect::OwnOnFalse => Fired::Side(false, value),
+        _ => Fired::Nothing,
     }
 }
 

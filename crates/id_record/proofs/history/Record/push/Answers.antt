@@ -1,5 +1,6 @@
 -- The record goes on by one event, in a line of its own.
-use Rattle.std.proofs.Common.{refl}
+use Rattle.std.proofs.lemmas.Grind.{common_steps}
+use Rattle.std.proofs.Common.{arith, refl}
 use Rattle.id_record.specs.Lines.{handled}
 use Rattle.id_record.proofs.history.Record.push.Goals as goal
 
@@ -22,3 +23,42 @@ returns-else-not-add_line-clause-graph c =
 pub returns-else-not-add_line-clause-events : goal.returns-else-not-add_line-clause-events
 returns-else-not-add_line-clause-events c =
     (c.if-not-add_line.ensures.goes_on refl (handled c.args.event) c.in-Some.ensures).events
+
+pub packed-requires : goal.packed-requires
+packed-requires c = grind (arith, common_steps)
+
+pub is_telling-tells-requires : goal.is_telling-tells-requires
+is_telling-tells-requires c = grind (arith, common_steps)
+
+pub add_line-requires-clause-place : goal.add_line-requires-clause-place
+add_line-requires-clause-place c = grind (arith, common_steps)
+
+pub push_whole-requires-clause-place : goal.push_whole-requires-clause-place
+push_whole-requires-clause-place c = grind (arith, common_steps)
+
+pub push_whole-requires-clause-replies : goal.push_whole-requires-clause-replies
+push_whole-requires-clause-replies c = grind (arith, common_steps)
+
+pub push_beside-requires-clause-place : goal.push_beside-requires-clause-place
+push_beside-requires-clause-place c = grind (arith, common_steps)
+
+pub push_beside-requires-clause-replies : goal.push_beside-requires-clause-replies
+push_beside-requires-clause-replies c = grind (arith, common_steps)
+
+pub returns-then-not-add_line-clause-element : goal.returns-then-not-add_line-clause-element
+returns-then-not-add_line-clause-element c = grind (arith, common_steps)
+
+pub returns-then-not-add_line-clause-graph : goal.returns-then-not-add_line-clause-graph
+returns-then-not-add_line-clause-graph c = grind (arith, common_steps)
+
+pub returns-then-not-add_line-clause-events : goal.returns-then-not-add_line-clause-events
+returns-then-not-add_line-clause-events c = grind (arith, common_steps)
+
+pub returns-in-None-clause-element : goal.returns-in-None-clause-element
+returns-in-None-clause-element c = grind (arith, common_steps)
+
+pub returns-in-None-clause-graph : goal.returns-in-None-clause-graph
+returns-in-None-clause-graph c = grind (arith, common_steps)
+
+pub returns-in-None-clause-events : goal.returns-in-None-clause-events
+returns-in-None-clause-events c = grind (arith, common_steps)

@@ -16,4 +16,5 @@ add_beside-requires-clause-stands c =
 pub returns-else-not-add_beside : goal.returns-else-not-add_beside
 returns-else-not-add_beside c =
     let x = c.in-Some.celled in
-    c.if-not-add_beside.ensures.goes_on refl (handled c.args.event) (subst (λ i. IsPackedBeside (handled c.args.event) i x.line x.cell) c.count_cells.ensures c.in-Some.ensures)
+    c.if-not-add_beside.ensures.goes_on refl (handled c.args.event)
+    (subst (λ i. IsPackedBeside (handled c.args.event) i x.line x.cell) c.count_cells.ensures c.in-Some.ensures)

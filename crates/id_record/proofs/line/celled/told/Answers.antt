@@ -1,5 +1,6 @@
 -- What the event of a line says is that of its kind.
-use Rattle.std.proofs.Common.{◌≡◌, ap, refl, sym, ◌∙◌}
+use Rattle.std.proofs.lemmas.Grind.{common_steps}
+use Rattle.std.proofs.Common.{arith, ◌≡◌, ap, refl, sym, ◌∙◌}
 use Rattle.std.specs.Prelude.{◌/◌, ◌^◌, ℤ}
 use Rattle.id_graph.specs.declared.dests.Port.{Port}
 use Rattle.id_ops.specs.declared.Fired.TheVariants as fired
@@ -58,7 +59,8 @@ pub returns-in-StructureOnFalse : goal.returns-in-StructureOnFalse
 returns-in-StructureOnFalse c = of-kind c.args.line.now c.args.cell kind.StructureOnFalse _ c.by_token-in-StructureOnFalse.ensures c.in-StructureOnFalse.is
 
 pub returns-in-StructureAddressed : goal.returns-in-StructureAddressed
-returns-in-StructureAddressed c = of-kind c.args.line.now c.args.cell kind.StructureAddressed _ c.by_token-in-StructureAddressed.ensures c.in-StructureAddressed.is
+returns-in-StructureAddressed c =
+    of-kind c.args.line.now c.args.cell kind.StructureAddressed _ c.by_token-in-StructureAddressed.ensures c.in-StructureAddressed.is
 
 pub returns-in-TrueSwitched : goal.returns-in-TrueSwitched
 returns-in-TrueSwitched c = of-kind c.args.line.now c.args.cell kind.TrueSwitched _ c.by_token-in-TrueSwitched.ensures c.in-TrueSwitched.is
@@ -79,3 +81,99 @@ returns-in_default c =
     n.not-StructureWaits n.not-StructureOut n.not-StructureOnTrue n.not-StructureOnFalse n.not-StructureMoved n.not-StructureAddressed
     n.not-TrueSwitched n.not-FalseSwitched n.not-IntAllocated n.not-IntAddressed n.not-IntStored n.not-AddressWaits
     n.not-AddressAsked n.not-AddressStored n.not-ReadDeferred n.not-ReadAnswered n.not-Written)
+
+pub tag_at-tag-requires : goal.tag_at-tag-requires
+tag_at-tag-requires c = grind (arith, common_steps)
+
+pub by_token-requires : goal.by_token-requires
+by_token-requires c = grind (arith, common_steps)
+
+pub by_token-requires-in-StructureOut : goal.by_token-requires-in-StructureOut
+by_token-requires-in-StructureOut c = grind (arith, common_steps)
+
+pub by_token-requires-in-StructureOnTrue : goal.by_token-requires-in-StructureOnTrue
+by_token-requires-in-StructureOnTrue c = grind (arith, common_steps)
+
+pub by_token-requires-in-StructureOnFalse : goal.by_token-requires-in-StructureOnFalse
+by_token-requires-in-StructureOnFalse c = grind (arith, common_steps)
+
+pub index_of-requires : goal.index_of-requires
+index_of-requires c = grind (arith, common_steps)
+
+pub by_token-requires-in-StructureMoved : goal.by_token-requires-in-StructureMoved
+by_token-requires-in-StructureMoved c = grind (arith, common_steps)
+
+pub by_token-requires-in-StructureAddressed : goal.by_token-requires-in-StructureAddressed
+by_token-requires-in-StructureAddressed c = grind (arith, common_steps)
+
+pub by_token-requires-in-TrueSwitched : goal.by_token-requires-in-TrueSwitched
+by_token-requires-in-TrueSwitched c = grind (arith, common_steps)
+
+pub by_token-requires-in-FalseSwitched : goal.by_token-requires-in-FalseSwitched
+by_token-requires-in-FalseSwitched c = grind (arith, common_steps)
+
+pub by_token-requires-in-IntAllocated : goal.by_token-requires-in-IntAllocated
+by_token-requires-in-IntAllocated c = grind (arith, common_steps)
+
+pub by_token-requires-in-IntAddressed : goal.by_token-requires-in-IntAddressed
+by_token-requires-in-IntAddressed c = grind (arith, common_steps)
+
+pub stored-requires : goal.stored-requires
+stored-requires c = grind (arith, common_steps)
+
+pub by_token-requires-in-IntStored : goal.by_token-requires-in-IntStored
+by_token-requires-in-IntStored c = grind (arith, common_steps)
+
+pub by_token-requires-in-AddressWaits : goal.by_token-requires-in-AddressWaits
+by_token-requires-in-AddressWaits c = grind (arith, common_steps)
+
+pub low_half-requires : goal.low_half-requires
+low_half-requires c = grind (arith, common_steps)
+
+pub by_token-requires-in-AddressAsked : goal.by_token-requires-in-AddressAsked
+by_token-requires-in-AddressAsked c = grind (arith, common_steps)
+
+pub stored-requires-in-AddressStored : goal.stored-requires-in-AddressStored
+stored-requires-in-AddressStored c = grind (arith, common_steps)
+
+pub by_token-requires-in-AddressStored : goal.by_token-requires-in-AddressStored
+by_token-requires-in-AddressStored c = grind (arith, common_steps)
+
+pub high_half-requires : goal.high_half-requires
+high_half-requires c = grind (arith, common_steps)
+
+pub overflow_cast-result : goal.overflow_cast-result
+overflow_cast-result c = grind (arith, common_steps)
+
+pub low_half-requires-in-Written : goal.low_half-requires-in-Written
+low_half-requires-in-Written c = grind (arith, common_steps)
+
+pub overflow_cast-result-in-Written : goal.overflow_cast-result-in-Written
+overflow_cast-result-in-Written c = grind (arith, common_steps)
+
+pub returns-in-StructureMoved : goal.returns-in-StructureMoved
+returns-in-StructureMoved c = grind (arith, common_steps)
+
+pub returns-in-IntAllocated : goal.returns-in-IntAllocated
+returns-in-IntAllocated c = grind (arith, common_steps)
+
+pub returns-in-IntAddressed : goal.returns-in-IntAddressed
+returns-in-IntAddressed c = grind (arith, common_steps)
+
+pub returns-in-IntStored : goal.returns-in-IntStored
+returns-in-IntStored c = grind (arith, common_steps)
+
+pub returns-in-AddressAsked : goal.returns-in-AddressAsked
+returns-in-AddressAsked c = grind (arith, common_steps)
+
+pub returns-in-AddressStored : goal.returns-in-AddressStored
+returns-in-AddressStored c = grind (arith, common_steps)
+
+pub returns-in-ReadDeferred : goal.returns-in-ReadDeferred
+returns-in-ReadDeferred c = grind (arith, common_steps)
+
+pub returns-in-ReadAnswered : goal.returns-in-ReadAnswered
+returns-in-ReadAnswered c = grind (arith, common_steps)
+
+pub returns-in-Written : goal.returns-in-Written
+returns-in-Written c = grind (arith, common_steps)

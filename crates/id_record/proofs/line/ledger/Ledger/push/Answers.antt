@@ -32,3 +32,39 @@ returns-else-add_stamps-clause-follows c follows =
     (λ a. (c.if-add_stamps.ensures.goes a).1 (from-follows c.len.result _ c.args.line c.stamps_of.result c.sent_from.result (sym many)
     c.stamps_of.ensures c.sent_from.ensures follows))
     c.if-add_stamps.ensures.always
+
+pub stamps_of-requires : goal.stamps_of-requires
+stamps_of-requires c = grind (arith, common_steps)
+
+pub sent_from-requires : goal.sent_from-requires
+sent_from-requires c = grind (arith, common_steps)
+
+pub add_stamps-requires-clause-sent_from : goal.add_stamps-requires-clause-sent_from
+add_stamps-requires-clause-sent_from c = grind (arith, common_steps)
+
+pub add_stamps-requires-clause-room : goal.add_stamps-requires-clause-room
+add_stamps-requires-clause-room c = grind (arith, common_steps)
+
+pub bare_of-requires : goal.bare_of-requires
+bare_of-requires c = grind (arith, common_steps)
+
+pub push_reserved-requires : goal.push_reserved-requires
+push_reserved-requires c = grind (arith, common_steps)
+
+pub invariant_of-self : goal.invariant_of-self
+invariant_of-self c = grind (arith, common_steps)
+
+pub invariant_of-self-else-add_stamps : goal.invariant_of-self-else-add_stamps
+invariant_of-self-else-add_stamps c = grind (arith, common_steps)
+
+pub returns-then-add_stamps-clause-left : goal.returns-then-add_stamps-clause-left
+returns-then-add_stamps-clause-left c = grind (arith, common_steps)
+
+pub returns-then-add_stamps-clause-follows : goal.returns-then-add_stamps-clause-follows
+returns-then-add_stamps-clause-follows c = grind (arith, common_steps)
+
+pub returns-else-add_stamps-clause-added : goal.returns-else-add_stamps-clause-added
+returns-else-add_stamps-clause-added c = grind (arith, common_steps)
+
+pub returns-else-add_stamps-clause-left : goal.returns-else-add_stamps-clause-left
+returns-else-add_stamps-clause-left c = grind (arith, common_steps)

@@ -24,3 +24,45 @@ returns-then-add_stamps-clause-added c =
     (λ a. ap (λ v. v.items) (c.if-add_stamps.ensures.same a))
     (λ a. c.if-add_stamps.ensures.added a ∙ ap (λ s. l.stamps.items ++ s ∷ []) own)
     )
+
+pub add_stamps-requires-clause-sent_from : goal.add_stamps-requires-clause-sent_from
+add_stamps-requires-clause-sent_from c = grind (arith, common_steps)
+
+pub add_stamps-requires-clause-room : goal.add_stamps-requires-clause-room
+add_stamps-requires-clause-room c = grind (arith, common_steps)
+
+pub shot_line-made-requires-clause-fits : goal.shot_line-made-requires-clause-fits
+shot_line-made-requires-clause-fits c = grind (arith, common_steps)
+
+pub shot_line-made-requires-clause-own : goal.shot_line-made-requires-clause-own
+shot_line-made-requires-clause-own c = grind (arith, common_steps)
+
+pub shot_line-made-requires-clause-brief : goal.shot_line-made-requires-clause-brief
+shot_line-made-requires-clause-brief c = grind (arith, common_steps)
+
+pub bare_of-requires : goal.bare_of-requires
+bare_of-requires c = grind (arith, common_steps)
+
+pub push_reserved-requires : goal.push_reserved-requires
+push_reserved-requires c = grind (arith, common_steps)
+
+pub invariant_of-self : goal.invariant_of-self
+invariant_of-self c = grind (arith, common_steps)
+
+pub invariant_of-self-else-add_stamps : goal.invariant_of-self-else-add_stamps
+invariant_of-self-else-add_stamps c = grind (arith, common_steps)
+
+pub returns-then-add_stamps-clause-packed : goal.returns-then-add_stamps-clause-packed
+returns-then-add_stamps-clause-packed c = grind (arith, common_steps)
+
+pub returns-then-add_stamps-clause-left : goal.returns-then-add_stamps-clause-left
+returns-then-add_stamps-clause-left c = grind (arith, common_steps)
+
+pub returns-else-add_stamps-clause-packed : goal.returns-else-add_stamps-clause-packed
+returns-else-add_stamps-clause-packed c = grind (arith, common_steps)
+
+pub returns-else-add_stamps-clause-added : goal.returns-else-add_stamps-clause-added
+returns-else-add_stamps-clause-added c = grind (arith, common_steps)
+
+pub returns-else-add_stamps-clause-left : goal.returns-else-add_stamps-clause-left
+returns-else-add_stamps-clause-left c = grind (arith, common_steps)

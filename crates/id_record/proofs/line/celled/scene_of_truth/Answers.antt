@@ -1,0 +1,10 @@
+-- One tactic finds each of these, without a search before it.
+use Rattle.std.proofs.Common.{arith}
+use Rattle.std.proofs.lemmas.Grind.{common_steps}
+use Rattle.id_record.proofs.line.celled.scene_of_truth.Goals as goal
+
+pub first_cell-requires : goal.first_cell-requires
+first_cell-requires c = grind (arith, common_steps)
+
+pub of_kind-requires : goal.of_kind-requires
+of_kind-requires c = grind (arith, common_steps)

@@ -1,0 +1,13 @@
+-- One tactic finds each of these, without a search before it.
+use Rattle.std.proofs.Common.{arith}
+use Rattle.std.proofs.lemmas.Grind.{common_steps}
+use Rattle.id_record.proofs.line.passing.passed_for.Goals as goal
+
+pub element_of-requires : goal.element_of-requires
+element_of-requires c = grind (arith, common_steps)
+
+pub serial_of-requires : goal.serial_of-requires
+serial_of-requires c = grind (arith, common_steps)
+
+pub word_for-requires : goal.word_for-requires
+word_for-requires c = grind (arith, common_steps)
