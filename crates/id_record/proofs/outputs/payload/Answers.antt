@@ -39,8 +39,5 @@ token_at-requires c = grind (arith, common_steps)
 pub unreachable-requires : goal.unreachable-requires
 unreachable-requires c = grind (arith, common_steps)
 
-pub unreachable-unreachable : goal.unreachable-unreachable
-unreachable-unreachable c = grind (arith, common_steps)
-
 pub going_out-requires-in-Out : goal.going_out-requires-in-Out
 going_out-requires-in-Out c = grind (arith, common_steps)

@@ -26,3 +26,15 @@ of_number-requires-in-Out-Address c = grind (arith, common_steps)
 
 pub eq-requires : goal.eq-requires
 eq-requires c = grind (arith, common_steps)
+
+pub returns-in_default-2-clause-kind : goal.returns-in_default-2-clause-kind
+returns-in_default-2-clause-kind c = grind (arith, common_steps)
+
+pub returns-in_default-2-clause-told : goal.returns-in_default-2-clause-told
+returns-in_default-2-clause-told c = grind (arith, common_steps)
+
+pub returns-in_default-3-clause-kind : goal.returns-in_default-3-clause-kind
+returns-in_default-3-clause-kind c = grind (arith, common_steps)
+
+pub returns-in_default-3-clause-told : goal.returns-in_default-3-clause-told
+returns-in_default-3-clause-told c = grind (arith, common_steps)

@@ -8,3 +8,15 @@ first_cell-requires c = grind (arith, common_steps)
 
 pub of_kind-requires : goal.of_kind-requires
 of_kind-requires c = grind (arith, common_steps)
+
+pub returns-in_default-2-clause-kind : goal.returns-in_default-2-clause-kind
+returns-in_default-2-clause-kind c = grind (arith, common_steps)
+
+pub returns-in_default-2-clause-told : goal.returns-in_default-2-clause-told
+returns-in_default-2-clause-told c = grind (arith, common_steps)
+
+pub returns-in_default-4-clause-kind : goal.returns-in_default-4-clause-kind
+returns-in_default-4-clause-kind c = grind (arith, common_steps)
+
+pub returns-in_default-4-clause-told : goal.returns-in_default-4-clause-told
+returns-in_default-4-clause-told c = grind (arith, common_steps)

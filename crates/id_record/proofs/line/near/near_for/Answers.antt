@@ -20,3 +20,27 @@ returns-in-Asked-Address-clause-told c = grind (arith, common_steps)
 
 pub returns-in-Asked-Address-clause-small : goal.returns-in-Asked-Address-clause-small
 returns-in-Asked-Address-clause-small c = grind (arith, common_steps)
+
+pub returns-in_default-clause-told : goal.returns-in_default-clause-told
+returns-in_default-clause-told c = grind (arith, common_steps)
+
+pub returns-in_default-clause-small : goal.returns-in_default-clause-small
+returns-in_default-clause-small c = grind (arith, common_steps)
+
+pub returns-in_default-2-clause-told : goal.returns-in_default-2-clause-told
+returns-in_default-2-clause-told c = grind (arith, common_steps)
+
+pub returns-in_default-2-clause-small : goal.returns-in_default-2-clause-small
+returns-in_default-2-clause-small c = grind (arith, common_steps)
+
+pub returns-in_default-3-clause-told : goal.returns-in_default-3-clause-told
+returns-in_default-3-clause-told c = grind (arith, common_steps)
+
+pub returns-in_default-3-clause-small : goal.returns-in_default-3-clause-small
+returns-in_default-3-clause-small c = grind (arith, common_steps)
+
+pub returns-in_default-4-clause-told : goal.returns-in_default-4-clause-told
+returns-in_default-4-clause-told c = grind (arith, common_steps)
+
+pub returns-in_default-4-clause-small : goal.returns-in_default-4-clause-small
+returns-in_default-4-clause-small c = grind (arith, common_steps)

@@ -20,3 +20,15 @@ returns-in-Switched-Bool-clause-kind c = grind (arith, common_steps)
 
 pub returns-in-Switched-Bool-clause-told : goal.returns-in-Switched-Bool-clause-told
 returns-in-Switched-Bool-clause-told c = grind (arith, common_steps)
+
+pub returns-in_default-clause-kind : goal.returns-in_default-clause-kind
+returns-in_default-clause-kind c = grind (arith, common_steps)
+
+pub returns-in_default-clause-told : goal.returns-in_default-clause-told
+returns-in_default-clause-told c = grind (arith, common_steps)
+
+pub returns-in_default-3-clause-kind : goal.returns-in_default-3-clause-kind
+returns-in_default-3-clause-kind c = grind (arith, common_steps)
+
+pub returns-in_default-3-clause-told : goal.returns-in_default-3-clause-told
+returns-in_default-3-clause-told c = grind (arith, common_steps)
