@@ -5,6 +5,7 @@ ghost use Rattle.id_tag.specs.declared.Message.{Message};
 ghost use Rattle.id_tag.specs.declared.Tag.{Tag};
 ghost use Rattle.id_tag.specs.declared.Value.TheVariants as value;
 ghost use Rattle.id_tag.specs.declared.Payload.TheVariants.{Token, Read, Write};
+ghost use Rattle.id_tag.specs.declared.Sender.TheVariants.{Element};
 ghost use Rattle.id_graph.specs.declared.dests.Port.{Port};
 ghost use Rattle.id_flight.specs.declared.parcel.What.TheVariants.{Aside};
 ghost use Rattle.id_flight.specs.Parcels.{IsPacked, IsWithin, cell_in, index_in, own, said, structure_in, unpacked};
@@ -341,24 +342,53 @@ fn narrowed(message: &Message, tag: Tag, port: Port, value: Plain, what: What) -
     ensures tag { IfSome result (λ p. tag_of p.token ≡ tag) }
     ensures message { IfSome result (λ p. own p message.now.payload ≡ message.now) }
 {
-    let Sender::Element(sender) = message.sender else {
-        return None;
-    };
+    let (sender, output, position, stamp) = short_origin(message)?;
+    let (element, serial, iteration) = short_tag(tag)?;
     Some(Parcel {
         token: PlainToken {
             value,
-            serial: small(tag.context.serial)?,
-            iteration: small(tag.iteration)?,
+            serial,
+            iteration,
             instr: tag.instr,
-            position: small(message.position as u64)?,
-            stamp: small(message.stamp)?,
-            element: tiny(tag.context.element)?,
-            sender: tiny(sender)?,
-            output: tiniest(message.output)?,
+            position,
+            stamp,
+            element,
+            sender,
+            output,
             port,
         },
         what,
     })
+}
+
+/// The sender of a message, its output, the position and the stamp, where they are short.
+#[inline(always)]
+fn short_origin(message: &Message) -> Option<(u8, u8, u32, u32)>
+    ensures sender { IfSome result (λ s. message.now.sender ≡ Element s.0) }
+    ensures others { IfSome result (λ s. (s.1 ≡ message.now.output) × (s.2 ≡ message.now.position)
+        × (s.3 ≡ message.now.stamp)) }
+{
+    let Sender::Element(sender) = message.sender else {
+        return None;
+    };
+    Some((
+        tiny(sender)?,
+        tiniest(message.output)?,
+        small(message.position as u64)?,
+        small(message.stamp)?,
+    ))
+}
+
+/// The element and the serial number of a tag's context, and its iteration, where they are short.
+#[inline(always)]
+fn short_tag(tag: Tag) -> Option<(u8, u32, u32)>
+    ensures { IfSome result (λ s. (s.0 ≡ tag.context.element) × (s.1 ≡ tag.context.serial) × (s.2 ≡ tag.iteration)) }
+{
+    Some((
+        tiny(tag.context.element)?,
+        small(tag.context.serial)?,
+        small(tag.iteration)?,
+    ))
 }
 
 /// The number in 8 bits, where it fits in them.
