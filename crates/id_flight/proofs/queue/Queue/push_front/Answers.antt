@@ -42,3 +42,24 @@ invariant_of-self-2 c =
       grind (arith, common_steps),
       grind (arith, common_steps),
     )
+
+pub invariant_of-self : goal.invariant_of-self
+invariant_of-self c = grind (arith, common_steps)
+
+pub returns-in_err-reserve-clause-messages : goal.returns-in_err-reserve-clause-messages
+returns-in_err-reserve-clause-messages c = grind (arith, common_steps)
+
+pub returns-in_err-reserve-clause-err : goal.returns-in_err-reserve-clause-err
+returns-in_err-reserve-clause-err c = grind (arith, common_steps)
+
+pub parcel_for-parcel-requires : goal.parcel_for-parcel-requires
+parcel_for-parcel-requires c = grind (arith, common_steps)
+
+pub invariant_of-self-in_err-push_front : goal.invariant_of-self-in_err-push_front
+invariant_of-self-in_err-push_front c = grind (arith, common_steps)
+
+pub returns-in_err-push_front-clause-messages : goal.returns-in_err-push_front-clause-messages
+returns-in_err-push_front-clause-messages c = grind (arith, common_steps)
+
+pub returns-clause-err : goal.returns-clause-err
+returns-clause-err c = grind (arith, common_steps)
