@@ -339,9 +339,19 @@ fn params(
         if !is_param(row_at(checked, n).node) {
             break;
         }
-        entries.push(number_by(firsts, n) as u32)?;
+        push_param(&mut entries, firsts, n)?;
     }
     Ok(entries)
+}
+
+/// Adds the parameter at the row n as an entry.
+#[inline(always)]
+fn push_param(entries: &mut Vec<u32>, firsts: &[u32], n: usize) -> Result<(), BuildError>
+    ensures entries { OnOk result (entries.new.items ≡ entries.old.items ++ number_by firsts.now n 0 ∷ []) }
+    ensures memory { IfErr result (λ e. e ≡ BuildError.Memory) }
+{
+    entries.push(number_by(firsts, n) as u32)?;
+    Ok(())
 }
 
 /// The numbers of the entries of the loop with this head: its variables, and then its imports.

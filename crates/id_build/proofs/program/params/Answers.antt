@@ -1,5 +1,5 @@
 -- The entries are the parameters, which stand right behind the head.
-use Rattle.std.proofs.Common.{◌≡◌, ◌∙◌, ◌<◌, ◌++◌, ◌∷◌, [], true, ap, sym, map, arith}
+use Rattle.std.proofs.Common.{◌≡◌, ◌∙◌, ◌<◌, true, ap, sym, map, arith}
 use Rattle.id_parts.specs.declared.row.Row.{Row}
 use Rattle.id_parts.specs.Tables.{is_param}
 use Rattle.id_check.specs.Programs.{rows}
@@ -27,8 +27,7 @@ loop-n-preserved c =
     let is : is_param (node P n) ≡ true =
     ap (λ (r : Row). is_param r.node) (sym c.row_at.ensures) ∙ sym c.is_param.ensures ∙ c.if-not-is_param.false in
     let taken = is_taken P h n c.requires.within c.requires.head low high is in
-    entries_next P F c.loop-n.entries.items c.push.new.self.items h n taken c.loop-n.invariant
-    (c.in_ok-push.ensures.items ∙ ap (λ k. c.loop-n.entries.items ++ k ∷ []) c.number_by.ensures.number)
+    entries_next P F c.loop-n.entries.items c.push_param.new.entries.items h n taken c.loop-n.invariant c.in_ok-push_param.ensures.entries
 
 pub returns-clause-entries : goal.returns-clause-entries
 returns-clause-entries c =
