@@ -1,6 +1,7 @@
 -- The rows of blocks, chain by chain.
 use Rattle.std.proofs.Common.{◌≡◌, inl, inr, ℕ, zero, suc, ◌+◌, ◌-◌, ◌<◌, ◌≤◌, Bool, true, false, List, [], ◌∷◌, ◌++◌, Option, Some, None}
-use Rattle.std.proofs.Common.{refl, ap, sym, ◌∙◌, subst, arith, length, get_or, slice_set}
+use Rattle.std.proofs.Common.{refl, ap, sym, ◌∙◌, append-nil, subst, arith, length, get_or, slice_set}
+use Rattle.std.specs.Option.{is_some}
 use Rattle.std.specs.Prelude.{◌==◌, if◌then◌else◌}
 use Rattle.std.proofs.lemmas.Bool.{cases_lt}
 use Rattle.std.proofs.lemmas.Grind.{common_steps}
@@ -156,3 +157,15 @@ pub loops-no : (P : Checked) (n k : ℕ) → is_loop_head (at (rows P) k).node �
 loops-no P n k e =
     let next : k + 1 ≡ suc k = omega arith in
     ap (loops_by P n) next ∙ ap (λ t. if t then loops_by P n k ++ those (in_block P k) n else loops_by P n k) e
+
+-- where no row stands in its block, it adds none
+pub loops-empty : (P : Checked) (n k : ℕ) → IsFirstFrom (in_block P k) 0 n None → loops_by P n (k + 1) ≡ loops_by P n k
+loops-empty P n k none = by (is_loop_head (at (rows P) k).node) refl
+  where
+    by : (t : Bool) → is_loop_head (at (rows P) k).node ≡ t → loops_by P n (k + 1) ≡ loops_by P n k
+    by true e = loops-yes P n k e ∙ ap (λ z. loops_by P n k ++ z) (those-same (in_block P k) 0 n (omega arith) none) ∙ append-nil (loops_by P n k)
+    by false e = loops-no P n k e
+
+pub none_is : (o : Option ℕ) → is_some o ≡ false → o ≡ None
+none_is None e = refl
+none_is (Some x) e = cc

@@ -73,7 +73,7 @@ fn push_loops(
     }
     let chains = find_chains(alloc, checked, last)?;
     for head in first..last {
-        if is_loop_head(row_at(checked, head).node) {
+        if chains.firsts.get(head).is_some() && is_loop_head(row_at(checked, head).node) {
             push_block(checked, &chains, order, last, head)?;
         }
     }
