@@ -171,9 +171,25 @@ fn add_cell_values(
     ensures { OnOk result (values.new.items ≡ values.old.items
         ++ filter_map (cell_value_of (structure_by paths.now)) cells.entry) }
 {
-    let mut cells = cells;
     values.reserve(cells.len())?;
-    let mut at_hand = with_name(alloc, paths, NOTHING)?;
+    let at_hand = with_name(alloc, paths, NOTHING)?;
+    add_each_named(alloc, paths, at_hand, cells, values)
+}
+
+/// The same, with a structure at hand.
+fn add_each_named(
+    alloc: Global,
+    paths: &Paths<'_>,
+    at_hand: Named,
+    cells: Cells<'_>,
+    values: &mut Vec<CellValue>,
+) -> Result<(), AllocError>
+    requires { IsNamed paths.now at_hand }
+    ensures { OnOk result (values.new.items ≡ values.old.items
+        ++ filter_map (cell_value_of (structure_by paths.now)) cells.entry) }
+{
+    let mut cells = cells;
+    let mut at_hand = at_hand;
     while let Some(cell) = cells.next() {
         at_hand = add_named(alloc, paths, at_hand, cell, values)?;
     }

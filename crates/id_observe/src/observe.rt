@@ -560,16 +560,22 @@ fn add_puts(
     let mut cells = cells;
     puts.reserve(cells.len())?;
     while let Some(cell) = cells.next() {
-        add_put(put_of(alloc, paths, cell)?, puts)?;
+        add_put(alloc, paths, cell, puts)?;
     }
     Ok(())
 }
 
 /// Adds what is put into a cell, if that is a value of the source.
-fn add_put(put: Option<Put>, puts: &mut Vec<Put>) -> Result<(), AllocError>
-    ensures { OnOk result (puts.new.items ≡ puts.old.items ++ cons_option put []) }
+fn add_put(
+    alloc: Global,
+    paths: &Paths<'_>,
+    filled: Filled,
+    puts: &mut Vec<Put>,
+) -> Result<(), AllocError>
+    ensures { OnOk result (puts.new.items ≡ puts.old.items
+        ++ cons_option (put_of paths.now.graph.now (path_by paths.now) (structure_by paths.now) filled) []) }
 {
-    match put {
+    match put_of(alloc, paths, filled)? {
         Some(put) => {
             puts.push(put)?;
             Ok(())

@@ -66,11 +66,9 @@ fn add_record(
             makers,
             makings,
             values,
-        )?;
-        Ok(())
+        )
     } else {
-        add_each(graph, &events, enters, makers, makings, values)?;
-        Ok(())
+        add_each(graph, &events, enters, makers, makings, values)
     }
 }
 

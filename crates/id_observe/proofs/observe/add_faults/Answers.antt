@@ -1,5 +1,6 @@
 -- One more event adds the fault that it shows, if it shows one.
-use Rattle.std.proofs.Common.{append_assoc}
+use Rattle.std.proofs.lemmas.Grind.{common_steps}
+use Rattle.std.proofs.Common.{append_assoc, arith}
 use Rattle.id_observe.specs.Observed.{fault_of, structure_by}
 use Rattle.id_observe.specs.Paths.{path_by}
 use Rattle.id_observe.proofs.ObservedLemmas.{filter_map-next}
@@ -10,3 +11,12 @@ loop-position-preserved c =
     let next = filter_map-next (λ e. fault_of c.args.paths.now.graph.now (path_by c.args.paths.now) (structure_by c.args.paths.now) e.step) c.args.events.now
     c.loop-position.position _ c.event-event.ensures in
     rw (c.in_ok-add_fault.ensures, c.in_ok-source_fault.ensures, c.loop-position.invariant, next, append_assoc)
+
+pub returns-in_err-source_fault : goal.returns-in_err-source_fault
+returns-in_err-source_fault c = grind (arith, common_steps)
+
+pub returns-in_err-add_fault : goal.returns-in_err-add_fault
+returns-in_err-add_fault c = grind (arith, common_steps)
+
+pub returns : goal.returns
+returns c = grind (arith, common_steps)

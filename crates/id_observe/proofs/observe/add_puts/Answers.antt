@@ -1,5 +1,5 @@
 -- One more cell adds what is put into it.
-use Rattle.std.proofs.Common.{◌∙◌}
+use Rattle.std.proofs.Common.{refl, ◌∙◌}
 use Rattle.id_observe.specs.Observed.{put_of, structure_by}
 use Rattle.id_observe.specs.Paths.{path_by}
 use Rattle.id_observe.proofs.ObservedLemmas.{filter_map-before}
@@ -9,4 +9,4 @@ pub loop-cell-preserved : goal.loop-cell-preserved
 loop-cell-preserved c =
     let p = c.args.paths.now in
     let put = put_of p.graph.now (path_by p) (structure_by p) in
-    filter_map-before put _ _ _ _ _ _ c.in-Some.ensures.some c.in_ok-put_of.ensures c.in_ok-add_put.ensures ∙ c.loop-cell.invariant
+    filter_map-before put _ _ _ _ _ _ c.in-Some.ensures.some refl c.in_ok-add_put.ensures ∙ c.loop-cell.invariant

@@ -2,12 +2,12 @@
 use Rattle.std.proofs.Common.{◌∙◌, refl}
 use Rattle.id_observe.specs.Observed.{cell_value_of, structure_by}
 use Rattle.id_observe.proofs.ObservedLemmas.{filter_map-before}
-use Rattle.id_observe.proofs.holdings.add_cell_values.Goals as goal
+use Rattle.id_observe.proofs.holdings.add_each_named.Goals as goal
 
 pub loop-cell-preserved : goal.loop-cell-preserved
 loop-cell-preserved c =
     let holds = cell_value_of (structure_by c.args.paths.now) in
     record {
-      named = c.in_ok-at_hand-2.ensures.name;
-      values = filter_map-before holds _ _ _ _ _ _ c.in-Some.ensures.some refl c.in_ok-at_hand-2.ensures.values ∙ c.loop-cell.invariant.values;
+      named = c.in_ok-at_hand.ensures.name;
+      values = filter_map-before holds _ _ _ _ _ _ c.in-Some.ensures.some refl c.in_ok-at_hand.ensures.values ∙ c.loop-cell.invariant.values;
     }

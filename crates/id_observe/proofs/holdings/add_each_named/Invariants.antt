@@ -2,7 +2,7 @@
 use Rattle.std.proofs.Common.{◌≡◌, ◌++◌, length}
 use Rattle.std.specs.List.{filter_map}
 use Rattle.id_observe.specs.Observed.{IsNamed, cell_value_of, structure_by}
-use Rattle.id_observe.proofs.holdings.add_cell_values.Given as goal
+use Rattle.id_observe.proofs.holdings.add_each_named.Given as goal
 
 abbrev pub invariant-loop-cell : goal.invariant-loop-cell
 invariant-loop-cell l = record {
