@@ -68,3 +68,111 @@ returns-in-Write-clause-outputs c =
     subst (λ g. OnOk c.take_write.result (c.take_write.new.outputs.messages
     ≡ c.args.outputs.now.messages ++ outputs_of g c.args.self.now.log.element (state_of c.args.self.now) c.args.message.now)) (sym c.requires.own)
     c.take_write.ensures.outputs
+
+pub returns-in-Read-clause-err : goal.returns-in-Read-clause-err
+returns-in-Read-clause-err c = grind (arith, common_steps)
+
+pub returns-in-Read-clause-err_outputs : goal.returns-in-Read-clause-err_outputs
+returns-in-Read-clause-err_outputs c = grind (arith, common_steps)
+
+pub returns-in-Read-clause-graph : goal.returns-in-Read-clause-graph
+returns-in-Read-clause-graph c = grind (arith, common_steps)
+
+pub returns-in-Read-clause-last_left : goal.returns-in-Read-clause-last_left
+returns-in-Read-clause-last_left c = grind (arith, common_steps)
+
+pub returns-in-Read-clause-left : goal.returns-in-Read-clause-left
+returns-in-Read-clause-left c = grind (arith, common_steps)
+
+pub returns-in-Read-clause-number : goal.returns-in-Read-clause-number
+returns-in-Read-clause-number c = grind (arith, common_steps)
+
+pub returns-in-Token-clause-err : goal.returns-in-Token-clause-err
+returns-in-Token-clause-err c = grind (arith, common_steps)
+
+pub returns-in-Token-clause-err_outputs : goal.returns-in-Token-clause-err_outputs
+returns-in-Token-clause-err_outputs c = grind (arith, common_steps)
+
+pub returns-in-Token-clause-graph : goal.returns-in-Token-clause-graph
+returns-in-Token-clause-graph c = grind (arith, common_steps)
+
+pub returns-in-Token-clause-last_left : goal.returns-in-Token-clause-last_left
+returns-in-Token-clause-last_left c = grind (arith, common_steps)
+
+pub returns-in-Token-clause-left : goal.returns-in-Token-clause-left
+returns-in-Token-clause-left c = grind (arith, common_steps)
+
+pub returns-in-Token-clause-number : goal.returns-in-Token-clause-number
+returns-in-Token-clause-number c = grind (arith, common_steps)
+
+pub returns-in-Token-clause-outputs : goal.returns-in-Token-clause-outputs
+returns-in-Token-clause-outputs c = grind (arith, common_steps)
+
+pub returns-in-Token-clause-state : goal.returns-in-Token-clause-state
+returns-in-Token-clause-state c = grind (arith, common_steps)
+
+pub returns-in-Token-clause-step : goal.returns-in-Token-clause-step
+returns-in-Token-clause-step c = grind (arith, common_steps)
+
+pub returns-in-Write-clause-err : goal.returns-in-Write-clause-err
+returns-in-Write-clause-err c = grind (arith, common_steps)
+
+pub returns-in-Write-clause-err_outputs : goal.returns-in-Write-clause-err_outputs
+returns-in-Write-clause-err_outputs c = grind (arith, common_steps)
+
+pub returns-in-Write-clause-graph : goal.returns-in-Write-clause-graph
+returns-in-Write-clause-graph c = grind (arith, common_steps)
+
+pub returns-in-Write-clause-last_left : goal.returns-in-Write-clause-last_left
+returns-in-Write-clause-last_left c = grind (arith, common_steps)
+
+pub returns-in-Write-clause-left : goal.returns-in-Write-clause-left
+returns-in-Write-clause-left c = grind (arith, common_steps)
+
+pub returns-in-Write-clause-number : goal.returns-in-Write-clause-number
+returns-in-Write-clause-number c = grind (arith, common_steps)
+
+pub returns-in_err-stamp-clause-err : goal.returns-in_err-stamp-clause-err
+returns-in_err-stamp-clause-err c = grind (arith, common_steps)
+
+pub returns-in_err-stamp-clause-err_outputs : goal.returns-in_err-stamp-clause-err_outputs
+returns-in_err-stamp-clause-err_outputs c = grind (arith, common_steps)
+
+pub returns-in_err-stamp-clause-graph : goal.returns-in_err-stamp-clause-graph
+returns-in_err-stamp-clause-graph c = grind (arith, common_steps)
+
+pub returns-in_err-stamp-clause-number : goal.returns-in_err-stamp-clause-number
+returns-in_err-stamp-clause-number c = grind (arith, common_steps)
+
+pub take_read-requires-clause-is : goal.take_read-requires-clause-is
+take_read-requires-clause-is c = grind (arith, common_steps)
+
+pub take_read-requires-clause-stamp : goal.take_read-requires-clause-stamp
+take_read-requires-clause-stamp c = grind (arith, common_steps)
+
+pub take_token-requires-clause-contexts : goal.take_token-requires-clause-contexts
+take_token-requires-clause-contexts c = grind (arith, common_steps)
+
+pub take_token-requires-clause-fits : goal.take_token-requires-clause-fits
+take_token-requires-clause-fits c = grind (arith, common_steps)
+
+pub take_token-requires-clause-is : goal.take_token-requires-clause-is
+take_token-requires-clause-is c = grind (arith, common_steps)
+
+pub take_token-requires-clause-own : goal.take_token-requires-clause-own
+take_token-requires-clause-own c = grind (arith, common_steps)
+
+pub take_token-requires-clause-stamp : goal.take_token-requires-clause-stamp
+take_token-requires-clause-stamp c = grind (arith, common_steps)
+
+pub take_token-requires-clause-structures : goal.take_token-requires-clause-structures
+take_token-requires-clause-structures c = grind (arith, common_steps)
+
+pub take_token-requires-clause-valid : goal.take_token-requires-clause-valid
+take_token-requires-clause-valid c = grind (arith, common_steps)
+
+pub take_write-requires-clause-is : goal.take_write-requires-clause-is
+take_write-requires-clause-is c = grind (arith, common_steps)
+
+pub take_write-requires-clause-stamp : goal.take_write-requires-clause-stamp
+take_write-requires-clause-stamp c = grind (arith, common_steps)
