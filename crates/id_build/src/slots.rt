@@ -1,5 +1,5 @@
-//! Where an import stands among those of its head: by a look through the list where it is short, and else by one look-up
-//! for each use (docs/GRAPH.md, "Sources").
+//! Where an import stands among those of its head: by a look through the list where it is short, and else by one
+//! look-up for each use (docs/GRAPH.md, "Sources").
 
 ghost use Rattle.std.specs.Prelude.{◌≡◌, ◌<◌, ◌^◌, ◌==◌, None, if◌then◌else◌, nat_lt, IfErr, IfOk, OnOk};
 ghost use Rattle.std.specs.HashMap.{get};
@@ -25,8 +25,8 @@ pub struct Import {
     pub binder: u32,
 }
 
-/// The columns of a program, and how many binders stand before one among those that its head imports, for each head with
-/// more than `SHORT` of them.
+/// The columns of a program, and how many binders stand before one among those that its head imports, for each head
+/// with more than `SHORT` of them.
 #[derive(Drop)]
 pub struct Slots<'a> {
     pub columns: Columns<'a>,
