@@ -1,5 +1,4 @@
 -- The context goes to each destination, and what starts the block comes behind.
-use Rattle.std.proofs.lemmas.Grind.{common_steps}
 use Rattle.std.proofs.Common.{◌≡◌, ◌+◌, ◌++◌, length, map, refl, sym, ap, ◌∙◌, Some, append_assoc, arith}
 use Rattle.std.proofs.lemmas.List.{length-map}
 use Rattle.id_graph.specs.Graph.{arcs_on}
@@ -27,30 +26,3 @@ returns-in-Entered c =
     ap (λ xs. sent o xs c.args.tag (Entered x)) c.chosen-dests.ensures
     ∙ ap (λ f. sent o (arcs_on (side_of c.args.fired.now) c.args.instr.now) c.args.tag f) (sym c.in-Entered.is) in
     rw (c.send_start.ensures, c.send_all-in-Entered.ensures.messages, append_assoc, ← whole, apart) refl
-
-pub returns-in-Asked : goal.returns-in-Asked
-returns-in-Asked c = grind (arith, common_steps)
-
-pub returns-in-Failed : goal.returns-in-Failed
-returns-in-Failed c = grind (arith, common_steps)
-
-pub returns-in-Moved : goal.returns-in-Moved
-returns-in-Moved c = grind (arith, common_steps)
-
-pub returns-in-Out : goal.returns-in-Out
-returns-in-Out c = grind (arith, common_steps)
-
-pub returns-in-Sent : goal.returns-in-Sent
-returns-in-Sent c = grind (arith, common_steps)
-
-pub returns-in-Stored : goal.returns-in-Stored
-returns-in-Stored c = grind (arith, common_steps)
-
-pub send_start-requires-clause-number : goal.send_start-requires-clause-number
-send_start-requires-clause-number c = grind (arith, common_steps)
-
-pub send_start-requires-clause-room : goal.send_start-requires-clause-room
-send_start-requires-clause-room c = grind (arith, common_steps)
-
-pub send_start-requires-clause-second : goal.send_start-requires-clause-second
-send_start-requires-clause-second c = grind (arith, common_steps)

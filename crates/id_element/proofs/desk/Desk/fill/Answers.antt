@@ -1,6 +1,5 @@
 -- What is recorded is what was sent: the replies were added last.
-use Rattle.std.proofs.lemmas.Grind.{common_steps}
-use Rattle.std.proofs.Common.{◌≡◌, ◌∷◌, ◌++◌, [], List, length, refl, ap, ◌∙◌, arith}
+use Rattle.std.proofs.Common.{◌≡◌, ◌∷◌, ◌++◌, [], List, length, refl, ap, ◌∙◌}
 use Rattle.id_tag.specs.declared.Tag.{Tag}
 use Rattle.id_ops.specs.declared.Fired.TheVariants.{Nothing}
 use Rattle.id_record.specs.declared.line.Handled.{Handled}
@@ -48,30 +47,3 @@ returns-clause-state c =
     ∙ ap (λ v. shown v rs) verdict ∙ ap (shown (fill_verdict (tag_of x) c.args.answer.now)) c.readers_of-readers.ensures in
     ap state (c.push.ensures.events ∙ rw (c.send_replies.ensures.events, c.send_replies.ensures.number, c.send_replies.ensures.replies)
     (ap (λ e. log.events ++ e ∷ []) is))
-
-pub push-requires-clause-replies : goal.push-requires-clause-replies
-push-requires-clause-replies c = grind (arith, common_steps)
-
-pub push-requires-clause-room : goal.push-requires-clause-room
-push-requires-clause-room c = grind (arith, common_steps)
-
-pub push-requires-clause-room_aside : goal.push-requires-clause-room_aside
-push-requires-clause-room_aside c = grind (arith, common_steps)
-
-pub returns-clause-graph : goal.returns-clause-graph
-returns-clause-graph c = grind (arith, common_steps)
-
-pub returns-clause-number : goal.returns-clause-number
-returns-clause-number c = grind (arith, common_steps)
-
-pub returns-clause-outputs : goal.returns-clause-outputs
-returns-clause-outputs c = grind (arith, common_steps)
-
-pub returns-clause-verdict : goal.returns-clause-verdict
-returns-clause-verdict c = grind (arith, common_steps)
-
-pub send_replies-requires-clause-room : goal.send_replies-requires-clause-room
-send_replies-requires-clause-room c = grind (arith, common_steps)
-
-pub send_replies-requires-clause-room_for_replies : goal.send_replies-requires-clause-room_for_replies
-send_replies-requires-clause-room_for_replies c = grind (arith, common_steps)

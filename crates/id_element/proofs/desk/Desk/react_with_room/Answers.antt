@@ -1,6 +1,5 @@
 -- What comes is the outcome at the instruction, as what was reserved left the state; after an error all is as it was.
-use Rattle.std.proofs.lemmas.Grind.{common_steps}
-use Rattle.std.proofs.Common.{◌≡◌, ◌∙◌, ◌+◌, ◌<◌, ◌^◌, Some, ap, subst, sym, arith}
+use Rattle.std.proofs.Common.{◌≡◌, ◌∙◌, ◌+◌, ◌<◌, ◌^◌, Some, ap, subst, sym}
 use Rattle.id_ops.specs.declared.Fresh.{Fresh}
 use Rattle.id_element.specs.Desks.{state_of}
 use Rattle.id_element.specs.Steps.{Outcome, State, at_instr, fresh_numbers, next_numbers}
@@ -96,24 +95,3 @@ returns-in_err-reserve-clause-err c = on_err c.from_residual.result c.in_err-res
 pub returns-in_err-reaction-clause-err : goal.returns-in_err-reaction-clause-err
 returns-in_err-reaction-clause-err c =
     on_err c.from_residual-in_err-reaction.result (with_waiting (state_of c.reserve.new.self) _ _ c.in_err-reaction.ensures.err c.in_ok-reserve.ensures.state)
-
-pub returns-clause-room_in_outputs : goal.returns-clause-room_in_outputs
-returns-clause-room_in_outputs c = grind (arith, common_steps)
-
-pub returns-in_err-reaction-clause-graph : goal.returns-in_err-reaction-clause-graph
-returns-in_err-reaction-clause-graph c = grind (arith, common_steps)
-
-pub returns-in_err-reaction-clause-messages : goal.returns-in_err-reaction-clause-messages
-returns-in_err-reaction-clause-messages c = grind (arith, common_steps)
-
-pub returns-in_err-reaction-clause-number : goal.returns-in_err-reaction-clause-number
-returns-in_err-reaction-clause-number c = grind (arith, common_steps)
-
-pub returns-in_err-reserve-clause-graph : goal.returns-in_err-reserve-clause-graph
-returns-in_err-reserve-clause-graph c = grind (arith, common_steps)
-
-pub returns-in_err-reserve-clause-messages : goal.returns-in_err-reserve-clause-messages
-returns-in_err-reserve-clause-messages c = grind (arith, common_steps)
-
-pub returns-in_err-reserve-clause-number : goal.returns-in_err-reserve-clause-number
-returns-in_err-reserve-clause-number c = grind (arith, common_steps)

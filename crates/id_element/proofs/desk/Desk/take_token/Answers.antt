@@ -137,15 +137,3 @@ returns-clause-err c = tt
 
 pub returns-clause-err_outputs : goal.returns-clause-err_outputs
 returns-clause-err_outputs c = tt
-
-pub conclude-requires-clause-graph : goal.conclude-requires-clause-graph
-conclude-requires-clause-graph c = grind (arith, common_steps)
-
-pub offset_bounds-instrs-tag : goal.offset_bounds-instrs-tag
-offset_bounds-instrs-tag c = grind (arith, common_steps)
-
-pub overflow_cast-instr : goal.overflow_cast-instr
-overflow_cast-instr c = grind (arith, common_steps)
-
-pub react_with_room-requires-clause-iteration : goal.react_with_room-requires-clause-iteration
-react_with_room-requires-clause-iteration c = grind (arith, common_steps)

@@ -90,36 +90,3 @@ returns-in_err-verdict-clause-end c = grind (arith, common_steps)
 
 pub returns-clause-end : goal.returns-clause-end
 returns-clause-end c = grind (arith, common_steps)
-
-pub returns-clause-err : goal.returns-clause-err
-returns-clause-err c = grind (arith, common_steps)
-
-pub returns-clause-err_outputs : goal.returns-clause-err_outputs
-returns-clause-err_outputs c = grind (arith, common_steps)
-
-pub returns-in_err-verdict-clause-fits : goal.returns-in_err-verdict-clause-fits
-returns-in_err-verdict-clause-fits c = grind (arith, common_steps)
-
-pub returns-in_err-verdict-clause-outputs : goal.returns-in_err-verdict-clause-outputs
-returns-in_err-verdict-clause-outputs c = grind (arith, common_steps)
-
-pub returns-in_err-verdict-clause-state : goal.returns-in_err-verdict-clause-state
-returns-in_err-verdict-clause-state c = grind (arith, common_steps)
-
-pub returns-in_err-verdict-clause-step : goal.returns-in_err-verdict-clause-step
-returns-in_err-verdict-clause-step c = grind (arith, common_steps)
-
-pub take-requires-clause-counted : goal.take-requires-clause-counted
-take-requires-clause-counted c = grind (arith, common_steps)
-
-pub take-requires-clause-fits : goal.take-requires-clause-fits
-take-requires-clause-fits c = grind (arith, common_steps)
-
-pub take-requires-clause-numbered : goal.take-requires-clause-numbered
-take-requires-clause-numbered c = grind (arith, common_steps)
-
-pub take-requires-clause-own : goal.take-requires-clause-own
-take-requires-clause-own c = grind (arith, common_steps)
-
-pub take-requires-clause-valid : goal.take-requires-clause-valid
-take-requires-clause-valid c = grind (arith, common_steps)
