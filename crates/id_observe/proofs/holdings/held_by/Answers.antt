@@ -1,6 +1,4 @@
 -- An error shows nothing.
-use Rattle.std.proofs.Common.{arith}
-use Rattle.std.proofs.lemmas.Grind.{common_steps}
 use Rattle.id_element.proofs.ShortLemmas.{if_err}
 use Rattle.id_observe.proofs.holdings.held_by.Goals as goal
 
@@ -35,15 +33,3 @@ returns-in_err-answer c = record {
   cells = if_err _ c.from_residual-in_err-answer.result c.from_residual-in_err-answer.ensures.0;
   waiting = if_err _ c.from_residual-in_err-answer.result c.from_residual-in_err-answer.ensures.0;
 }
-
-pub returns-clause-answer : goal.returns-clause-answer
-returns-clause-answer c = grind (arith, common_steps)
-
-pub returns-clause-structures : goal.returns-clause-structures
-returns-clause-structures c = grind (arith, common_steps)
-
-pub returns-clause-cells : goal.returns-clause-cells
-returns-clause-cells c = grind (arith, common_steps)
-
-pub returns-clause-waiting : goal.returns-clause-waiting
-returns-clause-waiting c = grind (arith, common_steps)

@@ -1,5 +1,4 @@
 -- One more element replays, and the records of all of them can be merged.
-use Rattle.std.proofs.lemmas.Grind.{common_steps}
 use Rattle.std.proofs.Common.{◌≡◌, ◌+◌, ◌∷◌, ◌++◌, [], take, map, ap, ◌∙◌, arith, sym, subst}
 use Rattle.std.specs.List.{All}
 use Rattle.std.proofs.lemmas.List.{map_push, take_more, take_all}
@@ -43,9 +42,3 @@ push_reserved-requires c = omega arith
 pub returns-clause-records : goal.returns-clause-records
 returns-clause-records c =
     c.loop-element.invariant.2 ∙ ap (map (λ e. e.state.events)) (take_all c.loop-element.element-index c.args.elements.now c.loop-element-test.false)
-
-pub loop-element-init : goal.loop-element-init
-loop-element-init c = grind (arith, common_steps)
-
-pub offset_bounds-elements-element-index : goal.offset_bounds-elements-element-index
-offset_bounds-elements-element-index c = grind (arith, common_steps)

@@ -7,6 +7,3 @@ loop-instr-preserved c = grind (arith, common_steps)
 
 pub returns : goal.returns
 returns c = grind (arith, common_steps)
-
-pub returns-in_err-add_count : goal.returns-in_err-add_count
-returns-in_err-add_count c = grind (arith, common_steps)

@@ -1,5 +1,4 @@
 -- One more event adds what it tells.
-use Rattle.std.proofs.lemmas.Grind.{common_steps}
 use Rattle.std.proofs.Common.{◌≡◌, ◌∷◌, ◌++◌, [], sym, ap, ◌∙◌, append-nil, append_assoc, arith}
 use Rattle.std.proofs.lemmas.List.{take_all}
 use Rattle.std.specs.List.{cons_option}
@@ -71,6 +70,3 @@ returns c =
       makings = c.loop-position.invariant.makings ∙ ap (λ es. c.args.makings.now.items ++ makings_of g es) all;
       values = c.loop-position.invariant.values ∙ ap (λ es. c.args.values.now.items ++ answers es) all;
     }
-
-pub add_events-requires : goal.add_events-requires
-add_events-requires c = grind (arith, common_steps)

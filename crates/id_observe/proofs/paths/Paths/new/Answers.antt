@@ -1,6 +1,5 @@
 -- What the records tell names each structure.
-use Rattle.std.proofs.lemmas.Grind.{common_steps}
-use Rattle.std.proofs.Common.{map, refl, arith}
+use Rattle.std.proofs.Common.{map, refl}
 use Rattle.id_observe.specs.declared.paths.Paths.{Paths}
 use Rattle.id_observe.specs.Observed.{events_of}
 use Rattle.id_observe.proofs.PathsLemmas.{path_by-same, structure_by-same}
@@ -21,27 +20,3 @@ returns-clause-structures c =
       values = c.in_ok-enters.values;
     } in
     structure_by-same g es p refl (path_by-same g es p refl told.enters c.count_events-most.ensures) told.makers
-
-pub returns-in_err-enters-clause-paths : goal.returns-in_err-enters-clause-paths
-returns-in_err-enters-clause-paths c = grind (arith, common_steps)
-
-pub returns-in_err-enters-clause-structures : goal.returns-in_err-enters-clause-structures
-returns-in_err-enters-clause-structures c = grind (arith, common_steps)
-
-pub returns-in_err-enters-clause-makings : goal.returns-in_err-enters-clause-makings
-returns-in_err-enters-clause-makings c = grind (arith, common_steps)
-
-pub returns-in_err-enters-clause-graph : goal.returns-in_err-enters-clause-graph
-returns-in_err-enters-clause-graph c = grind (arith, common_steps)
-
-pub returns-in_err-enters-clause-values : goal.returns-in_err-enters-clause-values
-returns-in_err-enters-clause-values c = grind (arith, common_steps)
-
-pub returns-clause-makings : goal.returns-clause-makings
-returns-clause-makings c = grind (arith, common_steps)
-
-pub returns-clause-graph : goal.returns-clause-graph
-returns-clause-graph c = grind (arith, common_steps)
-
-pub returns-clause-values : goal.returns-clause-values
-returns-clause-values c = grind (arith, common_steps)
