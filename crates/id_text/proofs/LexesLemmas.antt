@@ -1,6 +1,6 @@
 -- How the reading of a text goes on, piece by piece, and what its tokens keep.
 use Rattle.std.proofs.Common.{◌≡◌, ◌≢◌, ℕ, ◌+◌, ◌<◌, ◌≤◌, Bool, true, List, [], ◌∷◌, ◌++◌, drop, length, Option, Some}
-use Rattle.std.proofs.Common.{None, refl, sym, ap, ◌∙◌, subst, arith, ⊎_elim, length-append, length-drop}
+use Rattle.std.proofs.Common.{None, refl, sym, ap, ◌∙◌, subst, arith, ⊎_elim, length-append, length-drop, append-nil}
 use Rattle.std.proofs.Common.{append_assoc, zero-add}
 use Rattle.std.specs.List.{prefix_len, AllByRecursion}
 use Rattle.std.specs.Char.{is_ascii_digit}
@@ -10,8 +10,8 @@ use Rattle.std.proofs.lemmas.List.Elements.{All-from_recursion}
 use Rattle.std.proofs.lemmas.List.Sums.{prefix_len-le-length}
 use Rattle.std.proofs.lemmas.Bool.Decides.{nat_tests}
 use Rattle.id_text.specs.Bytes.{is_blank, is_percent, is_comment_byte, is_letter, is_name_byte, sign_of}
-use Rattle.id_text.specs.Tokens.{EndsOnce, Rises, IsWithin}
-use Rattle.id_text.specs.Lexes.{Opens, HasSign, Begins, Lexes, Ending, IsRefusal, IsRefusedAt, token_of}
+use Rattle.id_text.specs.Tokens.{EndsOnce, Rises, IsWithin, IsPlaceWithin}
+use Rattle.id_text.specs.Lexes.{Opens, HasSign, Begins, Lexes, Ending, IsReadOn, IsRefusal, IsRefusedAt, token_of}
 use Rattle.id_text.specs.Lexes.Begins.{blank, comment, word, name, number, sign}
 use Rattle.id_text.specs.Lexes.Ending.{Whole, Refused}
 use Rattle.id_text.specs.Lexes.Lexes.{end, gap, token, too_large, bad_byte}
@@ -79,6 +79,13 @@ read_token text at n ts k read piece us e rest =
     subst (λ vs. Lexes 0 text vs e) (sym (append_assoc ts (token_of k at (at + n) ∷ []) us))
     (read (token_of k at (at + n) ∷ us) e (token k n piece (rw (drop-drop n at text) rest)))
 
+-- a piece adds its token, if it is one
+pub read_on : (text : List ℕ) (at stop : ℕ) (before after : List Token) → IsReadTo text at before → IsReadOn text at stop before after →
+    IsReadTo text stop after
+read_on text at stop before after read (None, n, piece, stops, adds) =
+    rw (stops, adds) (read_gap text at n (before ++ []) (rw (append-nil before) read) piece)
+read_on text at stop before after read (Some k, n, piece, stops, adds) = rw (adds, stops) (read_token text at n before k read piece)
+
 -- at the end of the text `End` comes
 pub read_end : (text : List ℕ) (at : ℕ) (ts : List Token) → length text ≤ at → IsReadTo text at ts → Lexes 0 text (ts ++ token_of End at at ∷ []) Whole
 read_end text at ts all read = read (token_of End at at ∷ []) Whole (rw (drop_all at text all) end)
@@ -143,6 +150,27 @@ pub within : {text : List ℕ} {ts : List Token} {e : Ending} → Lexes 0 text t
 within {text} {ts} read = All-from_recursion (IsWithin (length text)) ts
     (subst (λ i. AllByRecursion (IsWithin i) ts) (zero-add (length text)) (within_from read))
 
+-- the place of a refusal, if the text is refused and it has one, is at most n
+abbrev EndsWithin : ℕ → Ending → Type 0
+EndsWithin n Whole = Unit {0}
+EndsWithin n (Refused x) = IsPlaceWithin n x
+
+ends_within : {at : ℕ} {text : List ℕ} {ts : List Token} {e : Ending} → Lexes at text ts e → EndsWithin (at + length text) e
+ends_within end = tt
+ends_within {at} {text} {ts} {e} (gap n piece rest) =
+    subst (λ i. EndsWithin i e) (end_stays at n text (piece_within piece).1) (ends_within rest)
+ends_within {at} {text} {ts} {e} (token k n piece rest) =
+    subst (λ i. EndsWithin i e) (end_stays at n text (piece_within piece).1) (ends_within rest)
+ends_within (too_large large) = omega arith
+ends_within (bad_byte nothing) = omega arith
+
+-- a text is refused at a place within it
+pub refused_within : (text : List ℕ) (x : TextError) → IsRefusal text x → IsPlaceWithin (length text) x
+refused_within text TooLong large = tt
+refused_within text (BadByte at) (ts, read) = subst (λ n. at ≤ n) (zero-add (length text)) (ends_within read)
+refused_within text (NumberTooLarge at) (ts, read) = subst (λ n. at ≤ n) (zero-add (length text)) (ends_within read)
+refused_within text Memory any = tt
+
 -- a piece that is refused is the refusal of the text
 pub refusal_at : (text : List ℕ) (at : ℕ) (ts : List Token) (x : TextError) → IsReadTo text at ts → IsRefusedAt at (drop at text) x → IsRefusal text x
 refusal_at text at ts TooLong read refused = absurd refused
@@ -157,3 +185,8 @@ pub piece_fits : (text : List ℕ) (at : ℕ) (k : Option TokenKind) (n : ℕ) �
 piece_fits text at k n inside piece =
     let within = piece_within piece in
     (within.0, omega (arith, length-drop at text))
+
+pub read_on_fits : (text : List ℕ) (at stop : ℕ) (before after : List Token) → at ≤ length text → IsReadOn text at stop before after →
+    (at < stop) × (stop ≤ length text)
+read_on_fits text at stop before after inside (k, n, piece, stops, adds) =
+    let fits = piece_fits text at k n inside piece in (omega (arith, fits.0, stops), omega (arith, fits.1, stops))

@@ -2,7 +2,7 @@
 use Rattle.std.proofs.Common.{◌≡◌, ◌≢◌, ℕ, ◌+◌, ◌<◌, ◌≤◌, ◌^◌, ◌⊎◌, Bool, true, false, cond, not, ◌||◌, List, [], ◌∷◌}
 use Rattle.std.proofs.Common.{drop, length, Option, Some, None, Ok, Err, Vec, Global, pos, refl, sym, ap, ◌∙◌, subst}
 use Rattle.std.proofs.Common.{inl, inr, arith}
-use Rattle.std.specs.Prelude.{take_while, Result, IfOk, IfErr, MatchResult}
+use Rattle.std.specs.Prelude.{take_while, Result, MatchResult}
 use Rattle.std.specs.List.{prefix_len}
 use Rattle.std.specs.Char.{is_ascii_digit}
 use Rattle.std.proofs.lemmas.Bool.Decides.{nat_tests}
@@ -200,8 +200,8 @@ one_refusal text (NumberTooLarge at) refusal ts e short read = inr (sym (one_rea
 one_refusal text Memory refusal ts e short read = inl refl
 
 -- what came back is what any reading of the text has
-pub one_result : (text : List ℕ) (r : Result (Vec Token Global) TextError) → IfOk r (λ v. Lexes 0 text v.items Whole) → IfErr r (IsRefusal text) →
+pub one_result : (text : List ℕ) (r : Result (Vec Token Global) TextError) → MatchResult r (λ v. Lexes 0 text v.items Whole) (IsRefusal text) →
     (ts : List Token) (e : Ending) →
     length text ≤ MAX_BYTES → Lexes 0 text ts e → MatchResult r (λ v. (v.items ≡ ts) × (e ≡ Whole)) (λ x. (x ≡ Memory) ⊎ (e ≡ Refused x))
-one_result text (Ok v) tokens refused ts e short read = let same = one_reading tokens read in (same.0, sym same.1)
-one_result text (Err x) tokens refused ts e short read = one_refusal text x refused ts e short read
+one_result text (Ok v) tokens ts e short read = let same = one_reading tokens read in (same.0, sym same.1)
+one_result text (Err x) refused ts e short read = one_refusal text x refused ts e short read

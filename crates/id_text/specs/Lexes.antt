@@ -86,3 +86,13 @@ IsRefusedAt at text TooLong = ⊥
 IsRefusedAt at text (BadByte place) = (place ≡ at) × BeginsNothing text
 IsRefusedAt at text (NumberTooLarge place) = (place ≡ at) × BeginsLarge text
 IsRefusedAt at text Memory = Unit {0}
+
+-- the token of a piece from start up to stop, if it is one
+abbrev pub tokens_of : Option TokenKind → ℕ → ℕ → List Token
+tokens_of None start stop = []
+tokens_of (Some k) start stop = token_of k start stop ∷ []
+
+-- a piece takes the bytes from at up to stop, and its token, if it is one, comes behind those before
+abbrev pub IsReadOn : List ℕ → ℕ → ℕ → List Token → List Token → Type 0
+IsReadOn text at stop before after = (k : Option TokenKind) × (n : ℕ) ×
+    Begins (drop at text) k n × (stop ≡ at + n) × (after ≡ before ++ tokens_of k at stop)

@@ -7,7 +7,7 @@ ghost use Rattle.id_text.specs.Bytes.{is_letter, is_other};
 ghost use Rattle.id_text.specs.Tokens.{EndsOnce, Rises, IsWithin, IsPlaceWithin};
 ghost use Rattle.id_text.specs.Lexes.Ending.{Whole, Refused};
 ghost use Rattle.id_text.specs.declared.token.Token.{Token};
-ghost use Rattle.id_text.specs.Lexes.{Opens, Begins, Lexes, Ending, IsRefusal, IsRefusedAt};
+ghost use Rattle.id_text.specs.Lexes.{Opens, Begins, Lexes, Ending, IsReadOn, IsRefusal, IsRefusedAt};
 
 use crate::bytes::{comment_len, digits_len, is_blank, is_letter};
 use crate::identifier::Identifier;
@@ -56,23 +56,12 @@ const TOKEN_BYTES: usize = 2;
 /// The tokens of a text that is not too long, in order, and the `End`.
 fn read_all(alloc: Global, text: &str) -> Result<Vec<Token>, TextError>
     requires { length text.now ≤ MAX_BYTES }
-    ensures tokens { IfOk result (λ v. Lexes 0 text.now v.items Whole) }
-    ensures refused { IfErr result (IsRefusal text.now) }
-    ensures refused_within { IfErr result (IsPlaceWithin (length text.now)) }
+    ensures { MatchResult result (λ v. Lexes 0 text.now v.items Whole) (IsRefusal text.now) }
 {
     let mut tokens = Vec::with_capacity(alloc, text.len() / TOKEN_BYTES + 1)?;
     let mut at = 0;
     while at < text.len() {
-        let piece = read_piece(alloc, text, at)?;
-        let start = at;
-        at += piece.len;
-        if let Some(kind) = piece.kind {
-            tokens.push(Token {
-                kind,
-                start: start as u32,
-                end: at as u32,
-            })?;
-        }
+        at = read_on(alloc, text, at, &mut tokens)?;
     }
     tokens.push(Token {
         kind: TokenKind::End,
@@ -80,6 +69,31 @@ fn read_all(alloc: Global, text: &str) -> Result<Vec<Token>, TextError>
         end: at as u32,
     })?;
     Ok(tokens)
+}
+
+/// Appends the token of the piece at this place, if it is one, and gives the place behind the piece.
+#[inline]
+fn read_on(
+    alloc: Global,
+    text: &str,
+    at: usize,
+    tokens: &mut Vec<Token>,
+) -> Result<usize, TextError>
+    requires fits { length text.now ≤ MAX_BYTES }
+    requires before_end { at < length text.now }
+    ensures { MatchResult result (λ stop. IsReadOn text.now at stop tokens.old.items tokens.new.items)
+        (IsRefusedAt at (drop at text.now)) }
+{
+    let piece = read_piece(alloc, text, at)?;
+    let stop = at + piece.len;
+    if let Some(kind) = piece.kind {
+        tokens.push(Token {
+            kind,
+            start: at as u32,
+            end: stop as u32,
+        })?;
+    }
+    Ok(stop)
 }
 
 /// The piece at this place, which is before the text's end.
