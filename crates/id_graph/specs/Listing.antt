@@ -147,3 +147,22 @@ lines_text text n (i ∷ is) = line_text text n i ++ lines_text text (n + 1) is
 -- the listing of a graph of this text
 abbrev pub listing : List ℕ → Parts → List ℕ
 listing text g = lines_text text 0 g.instrs
+
+-- For use inside.
+
+-- the name of an operator that has no parameter, or a kind alone: then with the space between
+abbrev pub op_name : Op → List ℕ
+op_name (Unary f) = unary_name f
+op_name (Binary f) = dyadic_name f
+op_name (Merge k) = codes "merge "
+op_name (Switch k) = codes "switch "
+op_name (Back k) = codes "back "
+op_name (Next k) = codes "next "
+op_name (Reset k) = codes "reset "
+op_name Alloc = codes "alloc"
+op_name Address = codes "address"
+op_name Store = codes "store"
+op_name (Const v) = []
+op_name (Enter b r) = []
+op_name (Send k t) = []
+op_name (Fetch r) = []

@@ -1,6 +1,6 @@
 //! The picture of a graph, in the language of Graphviz (docs/GRAPH.md, "Picture").
 
-ghost use Rattle.std.specs.Prelude.{◌≡◌, ◌<◌, ◌++◌, ◌==◌, length, IfOk, OnOk, string_bytes};
+ghost use Rattle.std.specs.Prelude.{◌≡◌, ◌<◌, ◌++◌, ◌==◌, length, IfOk, OnOk, codes, string_bytes};
 ghost use Rattle.std.specs.List.{flat_map};
 ghost use Rattle.id_graph.specs.Begun.{Marks, TellsBegun};
 ghost use Rattle.id_graph.specs.Dot.{arrow_text, arrows_text, box_text, boxes_text, cluster_text, dot_text};
@@ -18,13 +18,35 @@ pub fn draw(alloc: Global, graph: &Graph) -> Result<String, AllocError>
     ensures { IfOk result (λ s. string_bytes s ≡ dot_text graph.now) }
 {
     let marks = find_begun(alloc, graph.blocks(), graph.instrs().len())?;
+    draw_marked(alloc, marks.as_slice(), graph)
+}
+
+/// The picture of a graph, where there is a mark at each beginning of a block.
+fn draw_marked(alloc: Global, marks: &[bool], graph: &Graph) -> Result<String, AllocError>
+    requires { TellsBegun graph.now.blocks (length graph.now.instrs) marks.now }
+    ensures { IfOk result (λ s. string_bytes s ≡ dot_text graph.now) }
+{
     let mut out = String::new(alloc);
-    write_opening(&mut out)?;
-    write_boxes(&mut out, marks.as_slice(), graph)?;
-    out.push_str("}\n")?;
-    write_links(alloc, &mut out, graph.instrs())?;
-    out.push_str("}\n")?;
+    write_all(alloc, &mut out, marks, graph)?;
     Ok(out)
+}
+
+/// Appends the picture of a graph, where there is a mark at each beginning of a block.
+fn write_all(
+    alloc: Global,
+    out: &mut String,
+    marks: &[bool],
+    graph: &Graph,
+) -> Result<(), AllocError>
+    requires { TellsBegun graph.now.blocks (length graph.now.instrs) marks.now }
+    ensures { OnOk result (string_bytes out.new ≡ string_bytes out.old ++ dot_text graph.now) }
+{
+    write_opening(out)?;
+    write_boxes(out, marks, graph)?;
+    out.push_str("}\n")?;
+    write_links(alloc, out, graph.instrs())?;
+    out.push_str("}\n")?;
+    Ok(())
 }
 
 /// Whether a block begins there, for each number below `count`.
@@ -202,6 +224,14 @@ fn write_arrow(
         dest.instr,
         port_number(dest.port)
     )?;
+    write_style(out, style)
+}
+
+/// Appends the style of an arrow.
+fn write_style(out: &mut String, style: &str) -> Result<(), AllocError>
+    ensures { OnOk result
+        (string_bytes out.new ≡ string_bytes out.old ++ codes " [style=" ++ style.now ++ codes "];\n") }
+{
     writeln!(out, " [style={style}];")
 }
 

@@ -1,11 +1,11 @@
 //! The listing of a graph, a line for each instruction (docs/GRAPH.md, "Listing").
 
-ghost use Rattle.std.specs.Prelude.{◌≡◌, ◌≤◌, ◌++◌, length, All, IfOk, OnOk, codes, string_bytes};
+ghost use Rattle.std.specs.Prelude.{◌≡◌, ◌<◌, ◌≤◌, ◌^◌, ◌++◌, length, All, IfOk, OnOk, codes, string_bytes};
 ghost use Rattle.std.specs.List.{flat_map};
 ghost use Rattle.std.specs.Fmt.{decimal, signed_decimal};
 ghost use Rattle.id_graph.specs.Listing.{arithmetic_name, comparison_name, constant_text, dest_text, dests_text};
 ghost use Rattle.id_graph.specs.Listing.{dyadic_name, false_text, head_text, in_order, kind_name, line_text};
-ghost use Rattle.id_graph.specs.Listing.{lines_text, listing, op_text, place_text, port_number, truth_name, unary_name};
+ghost use Rattle.id_graph.specs.Listing.{lines_text, listing, op_name, op_text, place_text, port_number, truth_name, unary_name};
 
 use crate::dests::{Dest, Port};
 use crate::graph::Graph;
@@ -25,8 +25,18 @@ pub fn list(alloc: Global, graph: &Graph, text: &str) -> Result<String, AllocErr
     ensures { IfOk result (λ s. string_bytes s ≡ listing text.now graph.now) }
 {
     let lines = Lines::new(alloc, text)?;
-    let mut out = String::with_capacity(alloc, graph.instrs().len() * LINE_BYTES)?;
-    write_lines(alloc, &mut out, &lines, graph.instrs())?;
+    list_by(alloc, graph.instrs(), &lines)
+}
+
+/// The listing of these instructions, where the text has these lines.
+#[inline]
+fn list_by(alloc: Global, instrs: &[Instr], lines: &Lines<'_>) -> Result<String, AllocError>
+    requires few { length instrs.now < 2 ^ 32 }
+    requires places { All (λ i. i.place ≤ length lines.now) instrs.now }
+    ensures { IfOk result (λ s. string_bytes s ≡ lines_text lines.now 0 instrs.now) }
+{
+    let mut out = String::with_capacity(alloc, instrs.len() * LINE_BYTES)?;
+    write_lines(alloc, &mut out, lines, instrs)?;
     Ok(out)
 }
 
@@ -144,19 +154,35 @@ pub fn write_op(out: &mut String, op: Op) -> Result<(), AllocError>
 {
     match op {
         Op::Const(constant) => write_const(out, constant),
-        Op::Unary(operator) => out.push_str(unary_name(operator)),
-        Op::Binary(operator) => out.push_str(dyadic_name(operator)),
-        Op::Merge(kind) => write_kind(out, "merge ", kind),
-        Op::Switch(kind) => write_kind(out, "switch ", kind),
-        Op::Back(kind) => write_kind(out, "back ", kind),
         Op::Enter { block, reply } => write_enter(out, block, reply),
         Op::Send { kind, target } => write_send(out, kind, target),
-        Op::Next(kind) => write_kind(out, "next ", kind),
-        Op::Reset(kind) => write_kind(out, "reset ", kind),
-        Op::Alloc => out.push_str("alloc"),
-        Op::Address => out.push_str("address"),
         Op::Fetch { reply } => write_after(out, "fetch ", reply),
-        Op::Store => out.push_str("store"),
+        Op::Merge(kind) | Op::Switch(kind) | Op::Back(kind) | Op::Next(kind) | Op::Reset(kind) => {
+            write_kind(out, op_name(op), kind)
+        }
+        Op::Unary(_) | Op::Binary(_) | Op::Alloc | Op::Address | Op::Store => {
+            out.push_str(op_name(op))
+        }
+    }
+}
+
+/// The name of an operator that has no parameter, or a kind alone: then with the space between.
+#[inline(always)]
+fn op_name(op: Op) -> &'static str
+    ensures { result.now ≡ op_name op }
+{
+    match op {
+        Op::Unary(operator) => unary_name(operator),
+        Op::Binary(operator) => dyadic_name(operator),
+        Op::Merge(_) => "merge ",
+        Op::Switch(_) => "switch ",
+        Op::Back(_) => "back ",
+        Op::Next(_) => "next ",
+        Op::Reset(_) => "reset ",
+        Op::Alloc => "alloc",
+        Op::Address => "address",
+        Op::Store => "store",
+        Op::Const(_) | Op::Enter { .. } | Op::Send { .. } | Op::Fetch { .. } => "",
     }
 }
 
