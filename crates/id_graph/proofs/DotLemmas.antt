@@ -6,7 +6,7 @@ use Rattle.std.proofs.lemmas.Grind.{common_steps}
 pub five_joined : (a b c d e : List ℕ) → a ++ (b ++ (c ++ (d ++ e))) ≡ a ++ b ++ c ++ d ++ e
 five_joined a b c d e = grind (arith, common_steps)
 
--- eight, the first five of them behind what was there, then one, and then two
-pub eight_joined : (out mid late a b c d e f g h c' g' : List ℕ) → mid ≡ out ++ (a ++ (b ++ (c ++ (d ++ e)))) → late ≡ mid ++ f
-    → c ≡ c' → g ≡ g' → late ++ (g ++ h) ≡ out ++ (a ++ b ++ c' ++ d ++ e ++ f ++ g' ++ h)
-eight_joined out mid late a b c d e f g h c' g' first second same same' = grind (arith, common_steps)
+-- eight: the first five of them behind what was there, then one, and then two
+pub eight_joined : (out mid late end a b c d e f g h : List ℕ) → mid ≡ out ++ a ++ b ++ c ++ d ++ e → late ≡ mid ++ f → end ≡ late ++ g ++ h
+    → end ≡ out ++ (a ++ b ++ c ++ d ++ e ++ f ++ g ++ h)
+eight_joined out mid late end a b c d e f g h first second third = grind (arith, common_steps)

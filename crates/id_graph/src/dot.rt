@@ -1,6 +1,7 @@
 //! The picture of a graph, in the language of Graphviz (docs/GRAPH.md, "Picture").
 
 ghost use Rattle.std.specs.Prelude.{◌≡◌, ◌<◌, ◌++◌, ◌==◌, length, IfOk, OnOk, codes, string_bytes};
+ghost use Rattle.std.specs.Fmt.{decimal};
 ghost use Rattle.std.specs.List.{flat_map};
 ghost use Rattle.id_graph.specs.Begun.{Marks, TellsBegun};
 ghost use Rattle.id_graph.specs.Dot.{arrow_text, arrows_text, box_text, boxes_text, cluster_text, dot_text};
@@ -116,8 +117,25 @@ fn write_cluster(out: &mut String, number: usize) -> Result<(), AllocError>
 fn write_box(out: &mut String, number: usize, op: Op) -> Result<(), AllocError>
     ensures { OnOk result (string_bytes out.new ≡ string_bytes out.old ++ box_text number op) }
 {
-    write!(out, "{number} [label=\"{{{}{number} ", ports_text(op))?;
+    write_label(out, number, op)?;
     write_op(out, op)?;
+    write_sides(out, op)
+}
+
+/// Appends what goes before the operator in the box of an instruction.
+#[inline]
+fn write_label(out: &mut String, number: usize, op: Op) -> Result<(), AllocError>
+    ensures { OnOk result (string_bytes out.new ≡ string_bytes out.old
+        ++ decimal number ++ codes " [label=\"{" ++ ports_text op ++ decimal number ++ codes " ") }
+{
+    write!(out, "{number} [label=\"{{{}{number} ", ports_text(op))
+}
+
+/// Appends what goes behind the operator in the box of an instruction.
+#[inline]
+fn write_sides(out: &mut String, op: Op) -> Result<(), AllocError>
+    ensures { OnOk result (string_bytes out.new ≡ string_bytes out.old ++ sides_text op ++ codes "}\"];\n") }
+{
     writeln!(out, "{}}}\"];", sides_text(op))
 }
 

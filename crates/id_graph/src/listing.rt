@@ -1,8 +1,9 @@
 //! The listing of a graph, a line for each instruction (docs/GRAPH.md, "Listing").
 
-ghost use Rattle.std.specs.Prelude.{◌≡◌, ◌<◌, ◌≤◌, ◌^◌, ◌++◌, length, All, IfOk, OnOk, codes, string_bytes};
+ghost use Rattle.std.specs.Prelude.{◌≡◌, ◌<◌, ◌≤◌, ◌^◌, ◌++◌, length, All, IfOk, OnOk, codes, string_bytes, true};
 ghost use Rattle.std.specs.List.{flat_map};
 ghost use Rattle.std.specs.Fmt.{decimal, signed_decimal};
+ghost use Rattle.id_graph.specs.Graph.{arcs_on};
 ghost use Rattle.id_graph.specs.Listing.{arithmetic_name, comparison_name, constant_text, dest_text, dests_text};
 ghost use Rattle.id_graph.specs.Listing.{dyadic_name, false_text, head_text, in_order, kind_name, line_text};
 ghost use Rattle.id_graph.specs.Listing.{lines_text, listing, op_name, op_text, place_text, port_number, truth_name, unary_name};
@@ -74,6 +75,15 @@ fn write_line(
         (string_bytes out.new ≡ string_bytes out.old ++ line_text lines.now number instr.now) }
 {
     write_head(out, near, lines, number, instr)?;
+    write_arcs(out, row, instr)
+}
+
+/// Appends an arrow, the destinations of an instruction, and the end of its line.
+#[inline]
+fn write_arcs(out: &mut String, row: &mut Vec<Dest>, instr: &Instr) -> Result<(), AllocError>
+    ensures { OnOk result (string_bytes out.new ≡ string_bytes out.old
+        ++ codes " ->" ++ dests_text (arcs_on true instr.now) ++ false_text instr.now ++ codes "\n") }
+{
     out.push_str(" ->")?;
     write_sorted(out, row, instr.dests.as_slice())?;
     write_false(out, row, instr)?;

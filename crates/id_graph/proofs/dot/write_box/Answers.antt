@@ -1,5 +1,7 @@
-use Rattle.std.proofs.Common.{◌≡◌, ℕ, List, OnOk, codes, string_bytes, subst}
+use Rattle.std.proofs.Common.{codes}
+use Rattle.std.proofs.lemmas.Result.{on_ok_weaker}
 use Rattle.std.specs.Fmt.{decimal}
+use Rattle.id_graph.specs.Dot.{ports_text, sides_text}
 use Rattle.id_graph.specs.Listing.{op_text}
 use Rattle.id_graph.proofs.DotLemmas.{eight_joined}
 use Rattle.id_graph.proofs.dot.write_box.Goals as goal
@@ -7,6 +9,7 @@ use Rattle.id_graph.proofs.dot.write_box.Goals as goal
 pub returns : goal.returns
 returns c =
     let n = decimal c.args.number in
-    subst (λ (b : List ℕ). OnOk c.writeln.result (string_bytes c.writeln.new.self ≡ b))
-    (eight_joined _ _ _ n (codes " [label=\"{") _ n (codes " ") (op_text c.args.op) _ (codes "}\"];\n") _ _
-    c.in_ok-write.ensures.bytes c.in_ok-write_op.ensures c.ports_text.ensures c.sides_text.ensures) c.writeln.ensures.bytes
+    let o = c.args.op in
+    on_ok_weaker c.write_sides.result
+    (eight_joined _ _ _ _ n (codes " [label=\"{") (ports_text o) n (codes " ") (op_text o) (sides_text o) (codes "}\"];\n")
+    c.in_ok-write_label.ensures c.in_ok-write_op.ensures) c.write_sides.ensures
