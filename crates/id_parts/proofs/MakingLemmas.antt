@@ -1,10 +1,14 @@
 -- What the maker adds at a form is what the definition adds.
-use Rattle.std.proofs.Common.{◌≡◌, ◌<◌, ℕ, suc, ◌+◌, get_or, drop, true, false, List, [], ◌∷◌, length, refl, sym, ap, ◌∙◌, arith, Vec, Box, Global}
+use Rattle.std.proofs.Common.{◌≡◌, ◌<◌, ℕ, suc, ◌+◌, get_or, drop, true, List, [], ◌∷◌, length, refl, sym, ap, ◌∙◌, arith, Box, Global, IfOk, OnOk, Result}
 use Rattle.std.proofs.lemmas.List.{drop_more}
+use Rattle.std.proofs.lemmas.Result.{IfOk-weaker, on_ok_weaker}
 use mathlib.Core.Former.{Count}
 use Rattle.id_value.specs.declared.Kind.{Kind}
+use Rattle.id_value.specs.declared.BinaryOp.{BinaryOp}
+use Rattle.id_value.specs.declared.UnaryOp.{UnaryOp}
 use Rattle.id_tree.specs.declared.tree.Expr.{Loop, Loop'}
-use Rattle.id_tree.specs.declared.tree.Expr.{Expr, Call, Call', Block, Block'}
+use Rattle.id_tree.specs.declared.tree.Expr.{Expr, Array, Binary, Fetch, If, Unary, Call, Call', Block, Block'}
+use Rattle.id_tree.specs.declared.tree.Pair.{Pair}
 use Rattle.id_tree.specs.declared.tree.Expr.{Row_of-Expr, end_of-Expr, more_of-Expr, items-the_row-Expr, items_hidden-the_row-Expr-0}
 use Rattle.id_tree.specs.declared.tree.Expr.{Row_of-Stmt, end_of-Stmt, more_of-Stmt, items-the_row-Stmt, items_hidden-the_row-Stmt-1}
 use Rattle.id_tree.specs.declared.tree.Triple.{Triple}
@@ -13,13 +17,16 @@ use Rattle.id_tree.specs.declared.tree.Block.{Block as Inner}
 use Rattle.id_tree.specs.declared.tree.Loop.{Loop as Round}
 use Rattle.id_tree.specs.declared.tree.Stmt.{Stmt}
 use Rattle.id_tree.specs.declared.tree.Stmt as stmt
-use Rattle.id_tree.specs.Tree.{Tree, call, block, binding, store, define, loop, more, tree_of, args_tree, stmt_tree, row_tree}
+use Rattle.id_tree.specs.Tree.{Tree, array, binary, call, block, binding, conditional, fetch, store, define, loop, more, unary}
+use Rattle.id_tree.specs.Tree.{tree_of, args_tree, stmt_tree, row_tree}
+use Rattle.id_parts.specs.declared.maker.Pairing.{Pairing}
+use Rattle.id_parts.specs.declared.maker.Pairing.TheVariants as pair
 use Rattle.id_parts.specs.declared.row.Stand.{Stand}
+use Rattle.id_parts.specs.declared.row.Node.{Node}
 use Rattle.id_parts.specs.declared.row.Node.TheVariants as node
 use Rattle.id_parts.specs.Names.{number_of, with_name}
 use Rattle.id_parts.specs.Rows.{Parts, add, add_arguments, add_nexts, arm, begin_loop, count_of, in_top, last, naming, size, with_row}
-use Rattle.id_parts.specs.Making.{add_body, add_next, exprs_tree, stmts_tree}
-use Rattle.id_parts.proofs.HasLemmas.{push-size}
+use Rattle.id_parts.specs.Making.{IsAdded, add_argument, add_body, add_next, end_loop, exprs_tree, other_side, pair_node, pair_tree, stmts_tree}
 
 row_tree-items : (n : _) (r : Row_of-Stmt n) → row_tree r ≡ stmts_tree (items-the_row-Stmt n r)
 row_tree-items _ end_of-Stmt = refl
@@ -50,31 +57,9 @@ tree_of-call place b =
 pub named : (T U : Parts) (x : List ℕ) → U.rows ≡ T.rows → U.names ≡ with_name T.names x → U ≡ naming T x
 named T U x h e = λ j. record { rows = h j; names = e j }
 
--- the rows of a binding, whose expression was added
-pub binding_parts : (s : Stand) (T U V W : Parts) (x : List ℕ) (a : Tree) (p f n i : ℕ)
-    → f ≡ size T → U ≡ add s T a → i + 1 ≡ size U → n ≡ number_of U.names x → V ≡ naming U x → W ≡ with_row V s p f (node.Binding n i)
-    → W ≡ add s T (binding x a p)
-binding_parts s T U V W x a p f n i h0 h1 h2 h3 h4 h5 =
-    let k : i ≡ last U = omega arith in
-    h5 ∙ ap (λ X. with_row X s p f (node.Binding n i)) h4 ∙ ap (λ m. with_row (naming U x) s p m (node.Binding n i)) h0
-    ∙ ap (λ m. with_row (naming U x) s p (size T) (node.Binding m i)) h3
-    ∙ ap (λ m. with_row (naming U x) s p (size T) (node.Binding (number_of U.names x) m)) k
-    ∙ ap (λ X. with_row (naming X x) s p (size T) (node.Binding (number_of X.names x) (last X))) h1
-
 count-exprs : (es : List Expr) → length es ≡ count_of (exprs_tree es)
 count-exprs [] = refl
 count-exprs (e ∷ es) = ap suc (count-exprs es)
-
--- the rows of a call, whose arguments were added
-pub call_parts : (s : Stand) (T N E U W : Parts) (x : List ℕ) (es : List Expr) (p e n c : ℕ)
-    → e ≡ size T → n ≡ number_of T.names x → N ≡ naming T x → E ≡ with_row N s p e (node.Enter n) → U ≡ add_arguments s p e 0 E (exprs_tree es)
-    → c ≡ length es → W ≡ with_row U s p e (node.Call e c) → W ≡ add s T (call x (exprs_tree es) p)
-call_parts s T N E U W x es p e n c h0 h1 h2 h3 h4 h5 h6 =
-    let a = exprs_tree es in
-    h6 ∙ ap (λ k. with_row U s p e (node.Call e k)) (h5 ∙ count-exprs es) ∙ ap (λ X. with_row X s p e (node.Call e (count_of a))) h4
-    ∙ ap (λ X. with_row (add_arguments s p e 0 X a) s p e (node.Call e (count_of a)))
-    (h3 ∙ ap (λ X. with_row X s p e (node.Enter n)) h2 ∙ ap (λ k. with_row (naming T x) s p e (node.Enter k)) h1)
-    ∙ ap (λ k. with_row (add_arguments s p k 0 (with_row (naming T x) s p k (node.Enter (number_of T.names x))) a) s p k (node.Call k (count_of a))) h0
 
 abbrev define_ending : Parts → List ℕ → Tree → Kind → Tree → ℕ → ℕ → Stand → Parts
 define_ending T x ps k b p m s =
@@ -83,13 +68,13 @@ define_ending T x ps k b p m s =
 
 -- the rows of a definition, whose parameters and body were added
 pub define_parts : (s : Stand) (T H U V W X : Parts) (x : List ℕ) (ps b : Tree) (k : Kind) (p h n i : ℕ)
-    → h ≡ size T → s ≡ in_top h → H ≡ with_row T s p h node.Head → U ≡ add s H ps → V ≡ add s U b → i + 1 ≡ size V → n ≡ number_of V.names x
+    → h ≡ size T → s ≡ in_top h → H ≡ with_row T s p h node.Head → U ≡ add s H ps → IsAdded i V (add s U b) → n ≡ number_of V.names x
     → W ≡ naming V x → X ≡ with_row W s p h (node.Def n h k i) → X ≡ add (in_top 0) T (define x ps k b p)
-define_parts s T H U V W X x ps b k p h n i h0 h1 h2 h3 h4 h5 h6 h7 h8 =
-    let j : i ≡ last V = omega arith in
+define_parts s T H U V W X x ps b k p h n i h0 h1 h2 h3 h4 h6 h7 h8 =
+    let j : i ≡ last V = h4.number ∙ ap last (sym h4.parts) in
     h8 ∙ ap (λ Y. with_row Y s p h (node.Def n h k i)) h7 ∙ ap (λ m. with_row (naming V x) s p h (node.Def m h k i)) h6
     ∙ ap (λ m. with_row (naming V x) s p h (node.Def (number_of V.names x) h k m)) j
-    ∙ ap (λ Y. with_row (naming Y x) s p h (node.Def (number_of Y.names x) h k (last Y))) (h4 ∙ ap (λ Y. add s Y b) (h3 ∙ ap (λ Y. add s Y ps) h2))
+    ∙ ap (λ Y. with_row (naming Y x) s p h (node.Def (number_of Y.names x) h k (last Y))) (h4.parts ∙ ap (λ Y. add s Y b) (h3 ∙ ap (λ Y. add s Y ps) h2))
     ∙ ap (define_ending T x ps k b p h) h1 ∙ ap (λ m. define_ending T x ps k b p m (in_top m)) h0
 
 abbrev loop_row_of : Expr → (n : Count) × Row_of-Stmt n
@@ -103,42 +88,6 @@ tree_of-loop place b =
     ap (λ t. loop (tree_of b.value.test) t (tree_of b.value.last) place)
     (row_tree-items row.0 row.1 ∙ ap stmts_tree (items_hidden-the_row-Stmt-1 b.value.statements))
 
-abbrev next_ending : Stand → ℕ → Tree → ℕ → Parts → ℕ → ℕ → Parts
-next_ending s i a p Y g m = let X = add s (with_row Y s p g (node.NextUse m)) a in with_row X s p g (node.Next m i g (last X))
-
--- the rows of a `next` statement, whose expression was added
-pub next_parts : (s : Stand) (T N E U W : Parts) (x : List ℕ) (a : Tree) (p f n i k : ℕ)
-    → f ≡ size T → n ≡ number_of T.names x → N ≡ naming T x → E ≡ with_row N s p f (node.NextUse n) → U ≡ add s E a → k + 1 ≡ size U
-    → W ≡ with_row U s p f (node.Next n i f k) → W ≡ add_next s i T x a p
-next_parts s T N E U W x a p f n i k h0 h1 h2 h3 h4 h5 h6 =
-    let j : k ≡ last U = omega arith in
-    h6 ∙ ap (λ q. with_row U s p f (node.Next n i f q)) j ∙ ap (λ X. with_row X s p f (node.Next n i f (last X))) (h4 ∙ ap (λ Y. add s Y a) h3)
-    ∙ ap (λ Y. next_ending s i a p Y f n) h2
-    ∙ ap (next_ending s i a p (naming T x) f) h1 ∙ ap (λ q. next_ending s i a p (naming T x) q (number_of T.names x)) h0
-
--- the rows of the body of a loop, whose statements were added
-pub body_parts : (s : Stand) (W B N D : Parts) (ss : Tree) (p q r : ℕ) → q ≡ size W → B ≡ with_row W s p q node.Turn → r ≡ size B
-    → N ≡ add_nexts s 0 B ss → D ≡ with_row N s p r node.Body → D ≡ add_body s W ss p
-body_parts s W B N D ss p q r h0 h1 h2 h3 h4 =
-    h4 ∙ ap (λ m. with_row N s p m node.Body) h2 ∙ ap (λ X. with_row X s p (size B) node.Body) h3
-    ∙ ap (λ Y. with_row (add_nexts s 0 Y ss) s p (size Y) node.Body) (h1 ∙ ap (λ m. with_row W s p m node.Turn) h0)
-
--- one statement of a loop more was added
-pub binding_step : (s : Stand) (k i : ℕ) (T U V : Parts) (xs : List Stmt) (x : List ℕ) (e : Expr) (p : ℕ) (d : Stmt) → i < length xs
-    → get_or xs i d ≡ stmt.Binding p x e → U ≡ add s T (binding x (tree_of e) p) → add_nexts s k T (stmts_tree (drop i xs)) ≡ V
-    → add_nexts s k U (stmts_tree (drop (i + 1) xs)) ≡ V
-binding_step s k i T U V xs x e p d l is u w =
-    ap (λ X. add_nexts s k X (stmts_tree (drop (i + 1) xs))) u
-    ∙ sym (ap (λ ss. add_nexts s k T (stmts_tree ss)) (drop_more xs i d l ∙ ap (λ y. y ∷ drop (i + 1) xs) is)) ∙ w
-
--- so it is where that is a store
-pub store_step : (s : Stand) (k i : ℕ) (T U V : Parts) (xs : List Stmt) (b : Box Triple Global) (v : Triple) (p : ℕ) (d : Stmt) → i < length xs
-    → get_or xs i d ≡ stmt.Store p b → v ≡ b.value → U ≡ add s T (store (tree_of v.first) (tree_of v.second) (tree_of v.third) p)
-    → add_nexts s k T (stmts_tree (drop i xs)) ≡ V → add_nexts s k U (stmts_tree (drop (i + 1) xs)) ≡ V
-store_step s k i T U V xs b v p d l is f u w =
-    ap (λ X. add_nexts s k X (stmts_tree (drop (i + 1) xs))) (u ∙ ap (λ x. add s T (store (tree_of x.first) (tree_of x.second) (tree_of x.third) p)) f)
-    ∙ sym (ap (λ ss. add_nexts s k T (stmts_tree ss)) (drop_more xs i d l ∙ ap (λ y. y ∷ drop (i + 1) xs) is)) ∙ w
-
 pub next_step : (s : Stand) (k i : ℕ) (T U V : Parts) (xs : List Stmt) (x : List ℕ) (e : Expr) (p : ℕ) (d : Stmt) → i < length xs
     → get_or xs i d ≡ stmt.Next p x e → U ≡ add_next s k T x (tree_of e) p → add_nexts s k T (stmts_tree (drop i xs)) ≡ V
     → add_nexts s (k + 1) U (stmts_tree (drop (i + 1) xs)) ≡ V
@@ -147,54 +96,211 @@ next_step s k i T U V xs x e p d l is u w =
     ap (λ n. add_nexts s n U (stmts_tree (drop (i + 1) xs))) one ∙ ap (λ X. add_nexts s (suc k) X (stmts_tree (drop (i + 1) xs))) u
     ∙ sym (ap (λ ss. add_nexts s k T (stmts_tree ss)) (drop_more xs i d l ∙ ap (λ y. y ∷ drop (i + 1) xs) is)) ∙ w
 
+-- a number and the parts that it was added to, by other words for these
+pub added_as : {E : Type 0} (r : Result ℕ E) (U V W : Parts) → V ≡ W → IfOk r (λ i. IsAdded i U V) → IfOk r (λ i. IsAdded i U W)
+added_as r U V W h = IfOk-weaker r (λ i. IsAdded i U V) (λ i. IsAdded i U W) (λ i a. record { parts = a.parts ∙ h; number = a.number ∙ ap last h })
+
+pub done_as : {E : Type 0} (r : Result (Unit {0}) E) (U V W : Parts) → V ≡ W → OnOk r (U ≡ V) → OnOk r (U ≡ W)
+done_as r U V W h = on_ok_weaker r (λ w. w ∙ h)
+
+-- the last row of each form, behind its parts
+pub unary_row : (s : Stand) (T U : Parts) (o : UnaryOp) (a : Tree) (p f i : ℕ) → f ≡ size T → IsAdded i U (add s T a)
+    → with_row U s p f (node.Unary o i) ≡ add s T (unary o a p)
+unary_row s T U o a p f i h w =
+    ap (λ q. with_row U s p q (node.Unary o i)) h ∙ ap (λ q. with_row U s p (size T) (node.Unary o q)) w.number
+    ∙ ap (λ X. with_row X s p (size T) (node.Unary o (last (add s T a)))) w.parts
+
+abbrev pair_ending : Stand → Pairing → Tree → Tree → ℕ → Parts → Parts
+pair_ending s m a b p T =
+    let U = add s T a in
+    let V = add s U b in
+    with_row V s p (size T) (pair_node m (last U) (last V))
+
+pair_ends : (s : Stand) (m : Pairing) (a b : Tree) (p : ℕ) (T : Parts) → pair_ending s m a b p T ≡ add s T (pair_tree m a b p)
+pair_ends s (pair.Binary o) a b p T = refl
+pair_ends s pair.Array a b p T = refl
+pair_ends s pair.Fetch a b p T = refl
+
+pub pair_row : (s : Stand) (T U V : Parts) (m : Pairing) (a b : Tree) (n : Node) (p f i j : ℕ) → n ≡ pair_node m i j → f ≡ size T
+    → IsAdded i U (add s T a) → IsAdded j V (add s U b) → with_row V s p f n ≡ add s T (pair_tree m a b p)
+pair_row s T U V m a b n p f i j e h u v =
+    let A = add s T a in
+    ap (λ q. with_row V s p f q) e ∙ ap (λ q. with_row V s p q (pair_node m i j)) h
+    ∙ ap (λ q. with_row V s p (size T) (pair_node m q j)) u.number ∙ ap (λ q. with_row V s p (size T) (pair_node m (last A) q)) v.number
+    ∙ ap (λ X. with_row X s p (size T) (pair_node m (last A) (last (add s U b)))) v.parts
+    ∙ ap (λ X. with_row (add s X b) s p (size T) (pair_node m (last A) (last (add s X b)))) u.parts ∙ pair_ends s m a b p T
+
+abbrev conditional_tail : Stand → Tree → Tree → ℕ → ℕ → Stand → Parts → Parts
+conditional_tail s x y p f b Y =
+    let X = add b Y x in
+    let Z = add (other_side b) X y in
+    with_row Z s p f (node.If b.region.head (last X) (last Z))
+
+pub conditional_row : (s b o : Stand) (T U W X Y : Parts) (t x y : Tree) (p f m k j : ℕ)
+    → f ≡ size T → IsAdded m U (add s T t) → W ≡ with_row U s p f (node.Split m) → b ≡ arm s (size U) true → IsAdded k X (add b W x)
+    → o ≡ other_side b → IsAdded j Y (add o X y) → with_row Y s p f (node.If b.region.head k j) ≡ add s T (conditional t x y p)
+conditional_row s b o T U W X Y t x y p f m k j h0 u h1 h2 v h3 w =
+    let A = add s T t in
+    let B = add b W x in
+    let n = b.region.head in
+    ap (λ q. with_row Y s p f (node.If n k q)) w.number ∙ ap (λ q. with_row Y s p f (node.If n q (last (add o X y)))) v.number
+    ∙ ap (λ Z. with_row Z s p f (node.If n (last B) (last (add o X y)))) w.parts
+    ∙ ap (λ q. with_row (add q X y) s p f (node.If n (last B) (last (add q X y)))) h3
+    ∙ ap (λ Z. with_row (add (other_side b) Z y) s p f (node.If n (last B) (last (add (other_side b) Z y)))) v.parts
+    ∙ ap (λ q. conditional_tail s x y p f q W) h2
+    ∙ ap (conditional_tail s x y p f (arm s (size U) true)) (h1 ∙ ap (λ q. with_row U s p f (node.Split q)) u.number)
+    ∙ ap (λ Z. conditional_tail s x y p f (arm s (size Z) true) (with_row Z s p f (node.Split (last A)))) u.parts
+    ∙ ap (λ q. conditional_tail s x y p q (arm s (size A) true) (with_row A s p q (node.Split (last A)))) h0
+
+abbrev call_tail : Stand → Tree → ℕ → ℕ → Parts → Parts
+call_tail s a p e E = with_row (add_arguments s p e 0 E a) s p e (node.Call e (count_of a))
+
+pub call_row : (s : Stand) (T E U : Parts) (x : List ℕ) (es : List Expr) (p e c : ℕ)
+    → e ≡ size T → E ≡ with_row (naming T x) s p (size T) (node.Enter (number_of T.names x)) → U ≡ add_arguments s p e 0 E (exprs_tree es)
+    → c ≡ length es → with_row U s p e (node.Call e c) ≡ add s T (call x (exprs_tree es) p)
+call_row s T E U x es p e c h0 h1 h2 h3 =
+    ap (λ k. with_row U s p e (node.Call e k)) (h3 ∙ count-exprs es) ∙ ap (λ X. with_row X s p e (node.Call e (count_of (exprs_tree es)))) h2
+    ∙ ap (call_tail s (exprs_tree es) p e) h1
+    ∙ ap (λ k. call_tail s (exprs_tree es) p k (with_row (naming T x) s p (size T) (node.Enter (number_of T.names x)))) h0
+
+pub argument_row : (s : Stand) (T U : Parts) (a : Tree) (p e i v : ℕ) → IsAdded v U (add s T a)
+    → with_row U s p e (node.Arg e i v) ≡ add_argument s p e i T a
+argument_row s T U a p e i v w =
+    ap (λ q. with_row U s p e (node.Arg e i q)) w.number ∙ ap (λ X. with_row X s p e (node.Arg e i (last (add s T a)))) w.parts
+
+pub block_row : (s : Stand) (T U V : Parts) (ss b : Tree) (p f i : ℕ) → f ≡ size T → U ≡ add s T ss → IsAdded i V (add s U b)
+    → with_row V s p f (node.Block i) ≡ add s T (block ss b p)
+block_row s T U V ss b p f i h u v =
+    ap (λ q. with_row V s p q (node.Block i)) h ∙ ap (λ q. with_row V s p (size T) (node.Block q)) v.number
+    ∙ ap (λ X. with_row X s p (size T) (node.Block (last (add s U b)))) v.parts
+    ∙ ap (λ X. with_row (add s X b) s p (size T) (node.Block (last (add s X b)))) u
+
+pub binding_row : (s : Stand) (T U : Parts) (x : List ℕ) (a : Tree) (p f i : ℕ) → f ≡ size T → IsAdded i U (add s T a)
+    → with_row (naming U x) s p f (node.Binding (number_of U.names x) i) ≡ add s T (binding x a p)
+binding_row s T U x a p f i h w =
+    ap (λ q. with_row (naming U x) s p q (node.Binding (number_of U.names x) i)) h
+    ∙ ap (λ q. with_row (naming U x) s p (size T) (node.Binding (number_of U.names x) q)) w.number
+    ∙ ap (λ X. with_row (naming X x) s p (size T) (node.Binding (number_of X.names x) (last (add s T a)))) w.parts
+
+abbrev store_tail : Stand → Tree → ℕ → ℕ → Parts → ℕ → Parts
+store_tail s e p f Y k = let X = add s Y e in with_row X s p f (node.Store k (last X))
+
+abbrev store_ending : Stand → Tree → Tree → ℕ → ℕ → ℕ → Parts → Parts
+store_ending s x e p f i Y = let V = add s Y x in store_tail s e p f (with_row V s p f (node.Address i (last V))) (size V)
+
+pub store_row : (s : Stand) (T U V W X : Parts) (t x e : Tree) (p f i j k v : ℕ)
+    → f ≡ size T → IsAdded i U (add s T t) → IsAdded j V (add s U x) → W ≡ with_row V s p f (node.Address i j) → k ≡ size V
+    → IsAdded v X (add s W e) → with_row X s p f (node.Store k v) ≡ add s T (store t x e p)
+store_row s T U V W X t x e p f i j k v h0 u y h1 h2 z =
+    ap (λ q. with_row X s p f (node.Store k q)) z.number ∙ ap (λ Y. with_row Y s p f (node.Store k (last (add s W e)))) z.parts
+    ∙ ap (λ Y. store_tail s e p f Y k) h1 ∙ ap (store_tail s e p f (with_row V s p f (node.Address i j))) h2
+    ∙ ap (λ q. store_tail s e p f (with_row V s p f (node.Address i q)) (size V)) y.number
+    ∙ ap (λ Y. store_tail s e p f (with_row Y s p f (node.Address i (last (add s U x)))) (size Y)) y.parts
+    ∙ ap (λ q. store_ending s x e p f q U) u.number ∙ ap (store_ending s x e p f (last (add s T t))) u.parts
+    ∙ ap (λ q. store_ending s x e p q (last (add s T t)) (add s T t)) h0
+
+abbrev next_ending : Stand → ℕ → Tree → ℕ → ℕ → ℕ → Parts → Parts
+next_ending s i a p g m Y = let X = add s Y a in with_row X s p g (node.Next m i g (last X))
+
+pub next_row : (s : Stand) (T E U : Parts) (x : List ℕ) (a : Tree) (p f n i k : ℕ)
+    → f ≡ size T → E ≡ with_row (naming T x) s p (size T) (node.NextUse (number_of T.names x)) → n ≡ number_of T.names x
+    → IsAdded k U (add s E a) → with_row U s p f (node.Next n i f k) ≡ add_next s i T x a p
+next_row s T E U x a p f n i k h0 h1 h2 w =
+    ap (λ q. with_row U s p f (node.Next n i f q)) w.number ∙ ap (λ X. with_row X s p f (node.Next n i f (last (add s E a)))) w.parts
+    ∙ ap (next_ending s i a p f n) h1 ∙ ap (λ q. next_ending s i a p q n (with_row (naming T x) s p (size T) (node.NextUse (number_of T.names x)))) h0
+    ∙ ap (λ q. next_ending s i a p (size T) q (with_row (naming T x) s p (size T) (node.NextUse (number_of T.names x)))) h2
+
+-- the rows of the body of a loop, whose statements were added
+pub body_row : (s : Stand) (W B N : Parts) (ss : Tree) (p r : ℕ) → B ≡ with_row W s p (size W) node.Turn → r ≡ size B
+    → N ≡ add_nexts s 0 B ss → with_row N s p r node.Body ≡ add_body s W ss p
+body_row s W B N ss p r h0 h1 h2 =
+    ap (λ m. with_row N s p m node.Body) h1 ∙ ap (λ X. with_row X s p (size B) node.Body) h2
+    ∙ ap (λ Y. with_row (add_nexts s 0 Y ss) s p (size Y) node.Body) h0
+
 -- those of a loop from the end of its body on
-abbrev loop_tail : Stand → Tree → ℕ → Stand → ℕ → ℕ → ℕ → Parts → Parts
-loop_tail s l p o v n f Y = let V = add o Y l in with_row (with_row V o p (size Y) (node.Reset (last V))) s p f (node.Loop n v (last V))
+abbrev loop_tail : Stand → Tree → ℕ → ℕ → Stand → Parts → Parts
+loop_tail s l p f o Y = let V = add o Y l in end_loop s o p f (size Y) (last V) V
 
 -- from its switches on
-abbrev loop_ending : Stand → Tree → Tree → ℕ → Stand → ℕ → ℕ → ℕ → Parts → Parts
-loop_ending s ss l p i n f v Y = loop_tail s l p (arm i v false) v n f (add_body (arm i v true) Y ss p)
+abbrev loop_ending : Stand → Tree → Tree → ℕ → ℕ → Stand → Parts → Parts
+loop_ending s ss l p f b Y = loop_tail s l p f (other_side b) (add_body b Y ss p)
 
 -- from its predicate on
-abbrev loop_rest : Stand → Tree → Tree → Tree → ℕ → Stand → ℕ → ℕ → Parts → Parts
-loop_rest s t ss l p i n f Y = let V = add i Y t in loop_ending s ss l p i n f (size V) (with_row V i p (size Y) (node.Switches (last V)))
+abbrev loop_rest : Stand → Tree → Tree → Tree → ℕ → ℕ → Stand → Parts → Parts
+loop_rest s t ss l p f i Y =
+    let V = add i Y t in
+    loop_ending s ss l p f (arm i (size V) true) (with_row V i p (size Y) (node.Switches (last V)))
 
 -- the rows of a loop, whose parts were added
-pub loop_parts : (s i b o : Stand) (T E U W D L Z X : Parts) (t ss l : Tree) (p f h g m w r k : ℕ)
-    → f ≡ size T → E ≡ begin_loop s T ss p → h ≡ size T + 1 → i ≡ in_top h → g ≡ size E → U ≡ add i E t → m + 1 ≡ size U
-    → W ≡ with_row U i p g (node.Switches m) → w + 1 ≡ size W → b ≡ arm i w true → D ≡ add_body b W ss p → o ≡ arm i w false → r ≡ size D
-    → L ≡ add o D l → k + 1 ≡ size L → Z ≡ with_row L o p r (node.Reset k) → X ≡ with_row Z s p f (node.Loop h w k) → X ≡ add s T (loop t ss l p)
-loop_parts s i b o T E U W D L Z X t ss l p f h g m w r k h0 h1 h2 h3 h4 h5 h6 h7 h8 h9 h10 h11 h12 h13 h14 h15 h16 =
-    let high : h ≡ suc (size T) = omega arith in
-    let test : m ≡ last U = omega arith in
-    let end : k ≡ last L = omega arith in
-    let long : size W ≡ suc (size U) = ap size h7 ∙ push-size U.rows _ in
-    let side : w ≡ size U = omega arith in
-    h16 ∙ ap (λ Y. with_row Y s p f (node.Loop h w k)) h15 ∙ ap (λ q. with_row (with_row L o p r (node.Reset q)) s p f (node.Loop h w q)) end
-    ∙ ap (λ q. with_row (with_row L o p q (node.Reset (last L))) s p f (node.Loop h w (last L))) h12
-    ∙ ap (λ Y. with_row (with_row Y o p (size D) (node.Reset (last Y))) s p f (node.Loop h w (last Y))) h13
-    ∙ ap (λ q. loop_tail s l p q w h f D) h11 ∙ ap (loop_tail s l p (arm i w false) w h f) (h10 ∙ ap (λ q. add_body q W ss p) h9)
-    ∙ ap (loop_ending s ss l p i h f w) (h7 ∙ ap (λ q. with_row U i p g (node.Switches q)) test ∙ ap (λ q. with_row U i p q (node.Switches (last U))) h4)
-    ∙ ap (λ q. loop_ending s ss l p i h f q (with_row U i p (size E) (node.Switches (last U)))) side
-    ∙ ap (λ Y. loop_ending s ss l p i h f (size Y) (with_row Y i p (size E) (node.Switches (last Y)))) h5
-    ∙ ap (λ q. loop_rest s t ss l p q h f E) h3 ∙ ap (loop_rest s t ss l p (in_top h) h f) h1
-    ∙ ap (λ q. loop_rest s t ss l p (in_top q) q f (begin_loop s T ss p)) high
-    ∙ ap (λ q. loop_rest s t ss l p (in_top (suc (size T))) (suc (size T)) q (begin_loop s T ss p)) h0
+pub loop_row : (s i b o : Stand) (T E U W D L : Parts) (t ss l : Tree) (p f g m r k : ℕ)
+    → f ≡ size T → E ≡ begin_loop s T ss p → i ≡ in_top (size T + 1) → g ≡ size E → IsAdded m U (add i E t)
+    → W ≡ with_row U i p g (node.Switches m) → b ≡ arm i (size U) true → D ≡ add_body b W ss p → o ≡ other_side b → r ≡ size D
+    → IsAdded k L (add o D l) → end_loop s o p f r k L ≡ add s T (loop t ss l p)
+loop_row s i b o T E U W D L t ss l p f g m r k h0 h1 h2 h3 u h4 h5 h6 h7 h8 v =
+    let high : size T + 1 ≡ suc (size T) = omega arith in
+    ap (λ q. end_loop s o p f r q L) v.number ∙ ap (λ Y. end_loop s o p f r (last (add o D l)) Y) v.parts
+    ∙ ap (λ q. end_loop s o p f q (last (add o D l)) (add o D l)) h8
+    ∙ ap (λ q. loop_tail s l p f q D) h7 ∙ ap (loop_tail s l p f (other_side b)) h6
+    ∙ ap (λ q. loop_ending s ss l p f q W) h5
+    ∙ ap (loop_ending s ss l p f (arm i (size U) true)) (h4 ∙ ap (λ q. with_row U i p q (node.Switches m)) h3
+    ∙ ap (λ q. with_row U i p (size E) (node.Switches q)) u.number)
+    ∙ ap (λ Y. loop_ending s ss l p f (arm i (size Y) true) (with_row Y i p (size E) (node.Switches (last (add i E t))))) u.parts
+    ∙ ap (λ q. loop_rest s t ss l p f q E) (h2 ∙ ap in_top high) ∙ ap (loop_rest s t ss l p f (in_top (suc (size T)))) h1
+    ∙ ap (λ q. loop_rest s t ss l p q (in_top (suc (size T))) (begin_loop s T ss p)) h0
 
--- what is added for a call, a block or a loop is what is added for its tree
-pub of_call : (s : Stand) (T U : Parts) (e : Expr) (place : ℕ) (b : Box Passing Global) (v : Passing) → v ≡ b.value → e ≡ Call place b
-    → U ≡ add s T (call v.name (exprs_tree v.args.items) place) → U ≡ add s T (tree_of e)
-of_call s T U e place b v h0 h1 w =
-    w ∙ ap (λ x. add s T (call x.name (exprs_tree x.args.items) place)) h0 ∙ ap (add s T) (sym (tree_of-call place b)) ∙ ap (λ y. add s T (tree_of y)) (sym h1)
+-- one statement of a block more was added
+pub statement_step : (s : Stand) (i : ℕ) (T U V : Parts) (xs : List Stmt) (d : Stmt) → i < length xs
+    → U ≡ add s T (stmt_tree (get_or xs i d)) → add s T (stmts_tree (drop i xs)) ≡ V → add s U (stmts_tree (drop (i + 1) xs)) ≡ V
+statement_step s i T U V xs d l u w =
+    ap (λ X. add s X (stmts_tree (drop (i + 1) xs))) u ∙ sym (ap (λ ss. add s T (stmts_tree ss)) (drop_more xs i d l)) ∙ w
 
-pub of_block : (s : Stand) (T U : Parts) (e : Expr) (place : ℕ) (b : Box Inner Global) (v : Inner) → v ≡ b.value → e ≡ Block place b
-    → U ≡ add s T (block (stmts_tree v.statements.items) (tree_of v.body) place) → U ≡ add s T (tree_of e)
-of_block s T U e place b v h0 h1 w =
-    w ∙ ap (λ x. add s T (block (stmts_tree x.statements.items) (tree_of x.body) place)) h0 ∙ ap (add s T) (sym (tree_of-block place b))
-    ∙ ap (λ y. add s T (tree_of y)) (sym h1)
+-- a statement of a loop that is no `next` is added as in a block
+nexts_other : (s : Stand) (k : ℕ) (T : Parts) (r : Tree) (d : Stmt) → ((p : ℕ) (x : List ℕ) (e : Expr) → d ≡ stmt.Next p x e → ⊥)
+    → add_nexts s k (add s T (stmt_tree d)) r ≡ add_nexts s k T (more (stmt_tree d) r)
+nexts_other s k T r (stmt.Binding p x e) h = refl
+nexts_other s k T r (stmt.Next p x e) h = absurd (h p x e refl)
+nexts_other s k T r (stmt.Store' p q a b c) h = refl
 
-pub of_loop : (s : Stand) (T U : Parts) (e : Expr) (place : ℕ) (b : Box Round Global) (v : Round) → v ≡ b.value → e ≡ Loop place b
-    → U ≡ add s T (loop (tree_of v.test) (stmts_tree v.statements.items) (tree_of v.last) place) → U ≡ add s T (tree_of e)
-of_loop s T U e place b v h0 h1 w =
-    w ∙ ap (λ x. add s T (loop (tree_of x.test) (stmts_tree x.statements.items) (tree_of x.last) place)) h0 ∙ ap (add s T) (sym (tree_of-loop place b))
-    ∙ ap (λ y. add s T (tree_of y)) (sym h1)
+pub other_step : (s : Stand) (k i : ℕ) (T U V : Parts) (xs : List Stmt) (d : Stmt) → i < length xs → d ≡ get_or xs i d
+    → ((p : ℕ) (x : List ℕ) (e : Expr) → d ≡ stmt.Next p x e → ⊥) → U ≡ add s T (stmt_tree d)
+    → add_nexts s k T (stmts_tree (drop i xs)) ≡ V → add_nexts s k U (stmts_tree (drop (i + 1) xs)) ≡ V
+other_step s k i T U V xs d l is h u w =
+    ap (λ X. add_nexts s k X (stmts_tree (drop (i + 1) xs))) u ∙ nexts_other s k T (stmts_tree (drop (i + 1) xs)) d h
+    ∙ sym (ap (λ ss. add_nexts s k T (stmts_tree ss)) (drop_more xs i d l ∙ ap (λ y. y ∷ drop (i + 1) xs) (sym is))) ∙ w
+
+-- the trees of what an expression holds, in its tree
+pub call_tree : (e : Expr) (place : ℕ) (b : Box Passing Global) (v : Passing) → v ≡ b.value → e ≡ Call place b
+    → call v.name (exprs_tree v.args.items) place ≡ tree_of e
+call_tree e place b v h0 h1 =
+    ap (λ x. call x.name (exprs_tree x.args.items) place) h0 ∙ sym (tree_of-call place b) ∙ ap tree_of (sym h1)
+
+pub block_tree : (e : Expr) (place : ℕ) (b : Box Inner Global) (v : Inner) → v ≡ b.value → e ≡ Block place b
+    → block (stmts_tree v.statements.items) (tree_of v.body) place ≡ tree_of e
+block_tree e place b v h0 h1 =
+    ap (λ x. block (stmts_tree x.statements.items) (tree_of x.body) place) h0 ∙ sym (tree_of-block place b) ∙ ap tree_of (sym h1)
+
+pub loop_tree : (e : Expr) (place : ℕ) (b : Box Round Global) (v : Round) → v ≡ b.value → e ≡ Loop place b
+    → loop (tree_of v.test) (stmts_tree v.statements.items) (tree_of v.last) place ≡ tree_of e
+loop_tree e place b v h0 h1 =
+    ap (λ x. loop (tree_of x.test) (stmts_tree x.statements.items) (tree_of x.last) place) h0 ∙ sym (tree_of-loop place b) ∙ ap tree_of (sym h1)
+
+pub unary_tree : (e : Expr) (o : UnaryOp) (place : ℕ) (b : Box Expr Global) (v : Expr) → v ≡ b.value → e ≡ Unary o place b
+    → unary o (tree_of v) place ≡ tree_of e
+unary_tree e o place b v h0 h1 = ap (λ x. unary o (tree_of x) place) h0 ∙ ap tree_of (sym h1)
+
+pub binary_tree : (e : Expr) (o : BinaryOp) (place : ℕ) (b : Box Pair Global) (v : Pair) → v ≡ b.value → e ≡ Binary o place b
+    → binary o (tree_of v.first) (tree_of v.second) place ≡ tree_of e
+binary_tree e o place b v h0 h1 = ap (λ x. binary o (tree_of x.first) (tree_of x.second) place) h0 ∙ ap tree_of (sym h1)
+
+pub array_tree : (e : Expr) (place : ℕ) (b : Box Pair Global) (v : Pair) → v ≡ b.value → e ≡ Array place b
+    → array (tree_of v.first) (tree_of v.second) place ≡ tree_of e
+array_tree e place b v h0 h1 = ap (λ x. array (tree_of x.first) (tree_of x.second) place) h0 ∙ ap tree_of (sym h1)
+
+pub fetch_tree : (e : Expr) (place : ℕ) (b : Box Pair Global) (v : Pair) → v ≡ b.value → e ≡ Fetch place b
+    → fetch (tree_of v.first) (tree_of v.second) place ≡ tree_of e
+fetch_tree e place b v h0 h1 = ap (λ x. fetch (tree_of x.first) (tree_of x.second) place) h0 ∙ ap tree_of (sym h1)
+
+pub conditional_tree : (e : Expr) (place : ℕ) (b : Box Triple Global) (v : Triple) → v ≡ b.value → e ≡ If place b
+    → conditional (tree_of v.first) (tree_of v.second) (tree_of v.third) place ≡ tree_of e
+conditional_tree e place b v h0 h1 =
+    ap (λ x. conditional (tree_of x.first) (tree_of x.second) (tree_of x.third) place) h0 ∙ ap tree_of (sym h1)

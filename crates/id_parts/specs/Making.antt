@@ -1,14 +1,18 @@
 -- What the maker of the table has made so far.
-use Rattle.std.specs.Prelude.{◌≡◌, ℕ, List, [], ◌∷◌}
+use Rattle.std.specs.Prelude.{◌≡◌, ℕ, false, List, [], ◌∷◌}
 use Rattle.id_tree.specs.declared.tree.Stmt.{Stmt}
 use Rattle.id_tree.specs.declared.tree.Expr.{Expr}
-use Rattle.id_tree.specs.Tree.{Tree, none, more, stmt_tree, tree_of}
+use Rattle.id_tree.specs.Tree.{Tree, array, binary, fetch, none, more, stmt_tree, tree_of}
 use Rattle.id_parts.specs.declared.maker.Maker.{Maker}
+use Rattle.id_parts.specs.declared.maker.Pairing.{Pairing}
+use Rattle.id_parts.specs.declared.maker.Pairing.TheVariants.{Binary, Array, Fetch}
 use Rattle.id_parts.specs.declared.spelled.Spelled.{Spelled}
 use Rattle.id_parts.specs.Names.{first_names, number_of}
 use Rattle.id_parts.specs.declared.row.Stand.{Stand}
-use Rattle.id_parts.specs.declared.row.Node.TheVariants.{Arg, Body, Next, NextUse, Turn}
-use Rattle.id_parts.specs.Rows.{Parts, add, add_nexts, last, naming, size, with_row}
+use Rattle.id_parts.specs.declared.row.Node.{Node}
+use Rattle.id_parts.specs.declared.row.Node.TheVariants as node
+use Rattle.id_parts.specs.declared.row.Node.TheVariants.{Arg, Body, Loop, Next, NextUse, Reset, Turn}
+use Rattle.id_parts.specs.Rows.{Parts, add, add_nexts, arm_at, last, naming, size, with_row}
 
 -- the texts of the names
 abbrev pub texts : List Spelled → List (List ℕ)
@@ -23,6 +27,27 @@ parts m = record { rows = m.rows.items; names = texts m.numbers.keys }
 pub record IsStart (m : Maker) : Type 0 where
   pub rows : m.rows.items ≡ []
   pub names : texts m.numbers.keys ≡ first_names
+
+-- the first parts are the second, whose last row has this number
+pub record IsAdded (i : ℕ) (U V : Parts) : Type 0 where
+  pub parts : U ≡ V
+  pub number : i ≡ last V
+
+-- on the other side of the switches on whose true side it is
+abbrev pub other_side : Stand → Stand
+other_side s = record { block = s.block; region = arm_at s.region.head false }
+
+-- the tree of this form of two expressions
+abbrev pub pair_tree : Pairing → Tree → Tree → ℕ → Tree
+pair_tree (Binary o) a b p = binary o a b p
+pair_tree Array a b p = array a b p
+pair_tree Fetch a b p = fetch a b p
+
+-- the node of this form with these parts
+abbrev pub pair_node : Pairing → ℕ → ℕ → Node
+pair_node (Binary o) a b = node.Binary o a b
+pair_node Array a b = node.Array a b
+pair_node Fetch a b = node.Fetch a b
 
 -- the trees of expressions, in order
 abbrev pub exprs_tree : List Expr → Tree
@@ -50,3 +75,7 @@ abbrev pub add_body : Stand → Parts → Tree → ℕ → Parts
 add_body s T ss p =
     let B = with_row T s p (size T) Turn in
     with_row (add_nexts s 0 B ss) s p (size B) Body
+
+-- the parts with the last rows of a loop, whose last expression i stands in o, with its rows from r on
+abbrev pub end_loop : Stand → Stand → ℕ → ℕ → ℕ → ℕ → Parts → Parts
+end_loop s o p f r i L = with_row (with_row L o p r (Reset i)) s p f (Loop o.block o.region.head i)

@@ -1,21 +1,22 @@
 //! The maker of the table: one walk over the tree, in which a name gets its number where it first stands.
 
-ghost use Rattle.std.specs.Prelude.{ℕ, ◌≡◌, ◌+◌, ◌++◌, ◌∷◌, [], codes, length, map, IfOk, OnOk};
-ghost use Rattle.id_tree.specs.Tree.{unary, binary, name as name_tree, conditional};
-ghost use Rattle.id_tree.specs.Tree.{call, block, binding, loop as loop_tree, array, fetch, store};
-ghost use Rattle.id_tree.specs.Tree.{tree_of, params_tree, def_tree, defs_tree, program_tree};
+ghost use Rattle.std.specs.Prelude.{ℕ, ◌≡◌, ◌+◌, ◌∷◌, [], codes, length, true, IfOk, OnOk};
+ghost use Rattle.id_tree.specs.Tree.{literal, unary, name as name_tree, conditional};
+ghost use Rattle.id_tree.specs.Tree.{call, block, binding, loop as loop_tree, store};
+ghost use Rattle.id_tree.specs.Tree.{tree_of, stmt_tree, params_tree, def_tree, defs_tree, program_tree};
 ghost use Rattle.id_parts.specs.Names.{number_of, with_name};
-ghost use Rattle.id_parts.specs.Rows.{arm, in_top, value_of, with_row, add, add_arguments, add_nexts};
+ghost use Rattle.id_parts.specs.Rows.{arm, in_top, value_of, with_row, add, add_arguments, naming};
 ghost use Rattle.id_parts.specs.Rows.{add_variables, begin_loop, parts_of, rows_of, size};
 ghost use Rattle.id_parts.specs.declared.row.Node.TheVariants as variant;
-ghost use Rattle.id_parts.specs.declared.row.Node.TheVariants.{Variable, If, Arg, Next};
-ghost use Rattle.id_parts.specs.Making.{add_argument, add_next, parts, texts, exprs_tree, stmts_tree, IsStart};
+ghost use Rattle.id_parts.specs.declared.row.Node.TheVariants.{Variable, If, Arg, Next, NextUse, Enter, Turn};
+ghost use Rattle.id_parts.specs.Making.{add_argument, add_body, add_next, end_loop, other_side, pair_node, pair_tree};
+ghost use Rattle.id_parts.specs.Making.{parts, texts, exprs_tree, stmts_tree, IsAdded, IsStart};
 
 use crate::row::{Node, Region, Row, Stand, Table};
 use crate::spelled::Spelled;
 use id_text::Identifier;
 use id_tree::{Block, Call, Def, Expr, Loop, Pair, Param, Program, Stmt, Triple};
-use id_value::{BinaryOp, Kind, UnaryOp};
+use id_value::{BinaryOp, Constant, Kind, UnaryOp};
 use indexmap::IndexSet;
 use std::alloc::{AllocError, Global};
 
@@ -157,14 +158,43 @@ fn def_node(name: usize, head: usize, kind: Kind, body: usize) -> Result<Node, A
 }
 
 /// The node of a conditional. Takes no memory.
-fn if_node(split: usize, then: usize, otherwise: usize) -> Result<Node, AllocError>
+fn if_node(split: u32, then: usize, otherwise: usize) -> Result<Node, AllocError>
     ensures { IfOk result (λ n. n ≡ If split then otherwise) }
 {
     Ok(Node::If {
-        split: short(split)?,
+        split,
         then: short(then)?,
         otherwise: short(otherwise)?,
     })
+}
+
+/// A form of two expressions.
+#[derive(Clone, Copy)]
+pub enum Pairing {
+    Binary { op: BinaryOp },
+    Array,
+    Fetch,
+}
+
+/// The node of this form with these parts. Takes no memory.
+fn pair_node(form: Pairing, first: usize, second: usize) -> Node
+    ensures { result ≡ pair_node form first second }
+{
+    match form {
+        Pairing::Binary { op } => Node::Binary {
+            op,
+            left: first,
+            right: second,
+        },
+        Pairing::Array => Node::Array {
+            low: first,
+            high: second,
+        },
+        Pairing::Fetch => Node::Fetch {
+            target: first,
+            index: second,
+        },
+    }
 }
 
 /// The node of an argument. Takes no memory.
@@ -175,17 +205,6 @@ fn arg_node(enter: usize, index: usize, value: usize) -> Result<Node, AllocError
         enter: short(enter)?,
         index: short(index)?,
         value: short(value)?,
-    })
-}
-
-/// The node of a loop. Takes no memory.
-fn loop_node(head: usize, switches: usize, last: usize) -> Result<Node, AllocError>
-    ensures { IfOk result (λ n. n ≡ variant.Loop head switches last) }
-{
-    Ok(Node::Loop {
-        head: short(head)?,
-        switches: short(switches)?,
-        last: short(last)?,
     })
 }
 
@@ -212,15 +231,31 @@ fn stand_in(head: usize) -> Result<Stand, AllocError>
     })
 }
 
-/// Where this arm of a conditional stands, whose switches are at the row `split`.
-fn in_arm(stand: Stand, split: usize, side: bool) -> Result<Stand, AllocError>
-    ensures { IfOk result (λ s. s ≡ arm stand split side) }
+/// Where the true side of the switches at the row `split` stands.
+fn in_arm(stand: Stand, split: usize) -> Result<Stand, AllocError>
+    ensures { IfOk result (λ s. s ≡ arm stand split true) }
 {
-    let head = short(split)?;
+    let split = short(split)?;
     Ok(Stand {
         block: stand.block,
-        region: Region { head, side },
+        region: Region {
+            head: split,
+            side: true,
+        },
     })
+}
+
+/// Where the other side of the switches stands, behind their true side.
+fn other_side(stand: Stand) -> Stand
+    ensures { result ≡ other_side stand }
+{
+    Stand {
+        block: stand.block,
+        region: Region {
+            head: stand.region.head,
+            side: false,
+        },
+    }
 }
 
 impl<'a> Maker<'a> {
@@ -273,8 +308,9 @@ impl<'a> Maker<'a> {
         first: usize,
         node: Node,
     ) -> Result<usize, AllocError>
-        ensures added { OnOk result (parts self.new ≡ with_row (parts self.old) stand place first node) }
-        ensures number { IfOk result (λ i. i + 1 ≡ length self.new.rows.items) }
+        ensures added { IfOk result (λ i. IsAdded i (parts self.new)
+            (with_row (parts self.old) stand place first node)) }
+        ensures number { IfOk result (λ i. i ≡ size (parts self.old)) }
     {
         let number = self.rows.len();
         let first = short(first)?;
@@ -290,14 +326,37 @@ impl<'a> Maker<'a> {
         Ok(number)
     }
 
+    /// Adds a row.
+    #[inline(always)]
+    fn put(&mut self, stand: Stand, place: u32, first: usize, node: Node) -> Result<(), AllocError>
+        ensures { OnOk result (parts self.new ≡ with_row (parts self.old) stand place first node) }
+    {
+        self.push(stand, place, first, node)?;
+        Ok(())
+    }
+
+    /// Adds the row of switches, and gives where their true side stands.
+    fn push_sides(
+        &mut self,
+        stand: Stand,
+        place: u32,
+        first: usize,
+        node: Node,
+    ) -> Result<Stand, AllocError>
+        ensures added { OnOk result (parts self.new ≡ with_row (parts self.old) stand place first node) }
+        ensures side { IfOk result (λ s. s ≡ arm stand (size (parts self.old)) true) }
+    {
+        let split = self.push(stand, place, first, node)?;
+        in_arm(stand, split)
+    }
+
     /// Adds the rows of the definitions, and the last row.
     fn add_program(&mut self, program: &'a Program) -> Result<(), AllocError>
         ensures { OnOk result (IsStart self.old → parts self.new ≡ parts_of (program_tree program.now)) }
     {
         self.add_defs(program.defs.as_slice())?;
         let stand = stand_in(0)?;
-        self.push(stand, 0, 0, Node::Program)?;
-        Ok(())
+        self.put(stand, 0, 0, Node::Program)
     }
 
     fn add_defs(&mut self, defs: &'a [Def]) -> Result<(), AllocError>
@@ -314,13 +373,12 @@ impl<'a> Maker<'a> {
     {
         let head = self.rows.len();
         let stand = stand_in(head)?;
-        self.push(stand, def.place, head, Node::Head)?;
+        self.put(stand, def.place, head, Node::Head)?;
         self.add_params(stand, def.params.as_slice())?;
         let body = self.add_expr(stand, &def.body)?;
         let name = self.number(&def.name)?;
         let node = def_node(name, head, def.result, body)?;
-        self.push(stand, def.place, head, node)?;
-        Ok(())
+        self.put(stand, def.place, head, node)
     }
 
     fn add_params(&mut self, stand: Stand, params: &'a [Param]) -> Result<(), AllocError>
@@ -337,7 +395,7 @@ impl<'a> Maker<'a> {
     {
         let first = self.rows.len();
         let name = self.number(&param.name)?;
-        self.push(
+        self.put(
             stand,
             param.place,
             first,
@@ -345,31 +403,40 @@ impl<'a> Maker<'a> {
                 name,
                 kind: param.kind,
             },
-        )?;
-        Ok(())
+        )
     }
 
     /// Adds the rows of an expression, and gives the number of its own.
     #[cycle(add)]
     fn add_expr(&mut self, stand: Stand, expr: &'a Expr) -> Result<usize, AllocError>
-        ensures added { OnOk result (parts self.new ≡ add stand (parts self.old) (tree_of expr.now)) }
-        ensures number { IfOk result (λ i. i + 1 ≡ length self.new.rows.items) }
+        ensures { IfOk result (λ i. IsAdded i (parts self.new) (add stand (parts self.old) (tree_of expr.now))) }
     {
         match expr {
-            Expr::Literal { place, value } => {
-                let first = self.rows.len();
-                self.push(stand, *place, first, Node::Literal { value: *value })
-            }
+            Expr::Literal { place, value } => self.add_literal(stand, *value, *place),
             Expr::Name { place, name } => self.add_name(stand, name, *place),
             Expr::Unary { op, place, operand } => self.add_unary(stand, *op, operand, *place),
-            Expr::Binary { op, place, inside } => self.add_binary(stand, *op, inside, *place),
+            Expr::Binary { op, place, inside } => {
+                self.add_pair(stand, Pairing::Binary { op: *op }, inside, *place)
+            }
             Expr::If { place, inside } => self.add_conditional(stand, inside, *place),
             Expr::Call { place, inside } => self.add_call(stand, inside, *place),
             Expr::Block { place, inside } => self.add_block(stand, inside, *place),
             Expr::Loop { place, inside } => self.add_loop(stand, inside, *place),
-            Expr::Array { place, inside } => self.add_array(stand, inside, *place),
-            Expr::Fetch { place, inside } => self.add_fetch(stand, inside, *place),
+            Expr::Array { place, inside } => self.add_pair(stand, Pairing::Array, inside, *place),
+            Expr::Fetch { place, inside } => self.add_pair(stand, Pairing::Fetch, inside, *place),
         }
+    }
+
+    fn add_literal(
+        &mut self,
+        stand: Stand,
+        value: Constant,
+        place: u32,
+    ) -> Result<usize, AllocError>
+        ensures { IfOk result (λ i. IsAdded i (parts self.new) (add stand (parts self.old) (literal value place))) }
+    {
+        let first = self.rows.len();
+        self.push(stand, place, first, Node::Literal { value })
     }
 
     fn add_name(
@@ -378,8 +445,8 @@ impl<'a> Maker<'a> {
         name: &'a Identifier,
         place: u32,
     ) -> Result<usize, AllocError>
-        ensures added { OnOk result (parts self.new ≡ add stand (parts self.old) (name_tree name.now place)) }
-        ensures number { IfOk result (λ i. i + 1 ≡ length self.new.rows.items) }
+        ensures { IfOk result (λ i. IsAdded i (parts self.new)
+            (add stand (parts self.old) (name_tree name.now place))) }
     {
         let first = self.rows.len();
         let name = self.number(name)?;
@@ -394,55 +461,30 @@ impl<'a> Maker<'a> {
         operand: &'a Expr,
         place: u32,
     ) -> Result<usize, AllocError>
-        ensures added { OnOk result (parts self.new
-            ≡ add stand (parts self.old) (unary op (tree_of operand.now) place)) }
-        ensures number { IfOk result (λ i. i + 1 ≡ length self.new.rows.items) }
+        ensures { IfOk result (λ i. IsAdded i (parts self.new)
+            (add stand (parts self.old) (unary op (tree_of operand.now) place))) }
     {
         let first = self.rows.len();
         let operand = self.add_expr(stand, operand)?;
         self.push(stand, place, first, Node::Unary { op, operand })
     }
 
+    /// Adds the rows of a form of two expressions.
     #[cycle(add)]
-    fn add_binary(
+    fn add_pair(
         &mut self,
         stand: Stand,
-        op: BinaryOp,
+        form: Pairing,
         inside: &'a Pair,
         place: u32,
     ) -> Result<usize, AllocError>
-        ensures added { OnOk result (parts self.new
-            ≡ add stand (parts self.old) (binary op (tree_of inside.now.first) (tree_of inside.now.second) place)) }
-        ensures number { IfOk result (λ i. i + 1 ≡ length self.new.rows.items) }
+        ensures { IfOk result (λ i. IsAdded i (parts self.new) (add stand (parts self.old)
+            (pair_tree form (tree_of inside.now.first) (tree_of inside.now.second) place))) }
     {
-        let first = self.rows.len();
-        let left = self.add_expr(stand, &inside.first)?;
-        let right = self.add_expr(stand, &inside.second)?;
-        self.push(stand, place, first, Node::Binary { op, left, right })
-    }
-
-    #[cycle(add)]
-    fn add_array(&mut self, stand: Stand, inside: &'a Pair, place: u32) -> Result<usize, AllocError>
-        ensures added { OnOk result (parts self.new
-            ≡ add stand (parts self.old) (array (tree_of inside.now.first) (tree_of inside.now.second) place)) }
-        ensures number { IfOk result (λ i. i + 1 ≡ length self.new.rows.items) }
-    {
-        let first = self.rows.len();
-        let low = self.add_expr(stand, &inside.first)?;
-        let high = self.add_expr(stand, &inside.second)?;
-        self.push(stand, place, first, Node::Array { low, high })
-    }
-
-    #[cycle(add)]
-    fn add_fetch(&mut self, stand: Stand, inside: &'a Pair, place: u32) -> Result<usize, AllocError>
-        ensures added { OnOk result (parts self.new
-            ≡ add stand (parts self.old) (fetch (tree_of inside.now.first) (tree_of inside.now.second) place)) }
-        ensures number { IfOk result (λ i. i + 1 ≡ length self.new.rows.items) }
-    {
-        let first = self.rows.len();
-        let target = self.add_expr(stand, &inside.first)?;
-        let index = self.add_expr(stand, &inside.second)?;
-        self.push(stand, place, first, Node::Fetch { target, index })
+        let start = self.rows.len();
+        let first = self.add_expr(stand, &inside.first)?;
+        let second = self.add_expr(stand, &inside.second)?;
+        self.push(stand, place, start, pair_node(form, first, second))
     }
 
     #[cycle(add)]
@@ -452,37 +494,62 @@ impl<'a> Maker<'a> {
         inside: &'a Triple,
         place: u32,
     ) -> Result<usize, AllocError>
-        ensures added { OnOk result (parts self.new ≡ add stand (parts self.old)
-            (conditional (tree_of inside.now.first) (tree_of inside.now.second) (tree_of inside.now.third) place)) }
-        ensures number { IfOk result (λ i. i + 1 ≡ length self.new.rows.items) }
+        ensures { IfOk result (λ i. IsAdded i (parts self.new) (add stand (parts self.old)
+            (conditional (tree_of inside.now.first) (tree_of inside.now.second) (tree_of inside.now.third) place))) }
     {
         let first = self.rows.len();
         let test = self.add_expr(stand, &inside.first)?;
-        let split = self.push(stand, place, first, Node::Split { test })?;
-        let where_true = in_arm(stand, split, true)?;
-        let then = self.add_expr(where_true, &inside.second)?;
-        let where_false = in_arm(stand, split, false)?;
-        let otherwise = self.add_expr(where_false, &inside.third)?;
-        let node = if_node(split, then, otherwise)?;
+        let side = self.push_sides(stand, place, first, Node::Split { test })?;
+        let then = self.add_expr(side, &inside.second)?;
+        let otherwise = self.add_expr(other_side(side), &inside.third)?;
+        self.push_if(stand, place, first, side, then, otherwise)
+    }
+
+    /// Adds the row of a conditional whose `then` arm stands on this side.
+    fn push_if(
+        &mut self,
+        stand: Stand,
+        place: u32,
+        first: usize,
+        side: Stand,
+        then: usize,
+        otherwise: usize,
+    ) -> Result<usize, AllocError>
+        ensures { IfOk result (λ i. IsAdded i (parts self.new)
+            (with_row (parts self.old) stand place first (If side.region.head then otherwise))) }
+    {
+        let node = if_node(side.region.head, then, otherwise)?;
         self.push(stand, place, first, node)
     }
 
     #[cycle(add)]
     fn add_call(&mut self, stand: Stand, inside: &'a Call, place: u32) -> Result<usize, AllocError>
-        ensures added { OnOk result (parts self.new
-            ≡ add stand (parts self.old) (call inside.now.name (exprs_tree inside.now.args.items) place)) }
-        ensures number { IfOk result (λ i. i + 1 ≡ length self.new.rows.items) }
+        ensures { IfOk result (λ i. IsAdded i (parts self.new) (add stand (parts self.old)
+            (call inside.now.name (exprs_tree inside.now.args.items) place))) }
     {
-        let enter = self.rows.len();
-        let name = self.number(&inside.name)?;
-        self.push(stand, place, enter, Node::Enter { name })?;
+        let enter = self.push_enter(stand, &inside.name, place)?;
         let args = inside.args.as_slice();
         self.add_arguments(stand, place, enter, args)?;
         let count = args.len();
         self.push(stand, place, enter, Node::Call { enter, count })
     }
 
-    /// Adds the rows of the arguments of the call at this place whose `Enter` is at this row.
+    /// Adds the row where a call of this name begins, and gives its number.
+    fn push_enter(
+        &mut self,
+        stand: Stand,
+        name: &'a Identifier,
+        place: u32,
+    ) -> Result<usize, AllocError>
+        ensures added { OnOk result (parts self.new ≡ with_row (naming (parts self.old) name.now) stand place
+            (size (parts self.old)) (Enter (number_of (parts self.old).names name.now))) }
+        ensures number { IfOk result (λ e. e ≡ size (parts self.old)) }
+    {
+        let enter = self.rows.len();
+        let name = self.number(name)?;
+        self.push(stand, place, enter, Node::Enter { name })
+    }
+
     #[cycle(add)]
     fn add_arguments(
         &mut self,
@@ -516,9 +583,23 @@ impl<'a> Maker<'a> {
             ≡ add_argument stand place enter index (parts self.old) (tree_of argument.now)) }
     {
         let value = self.add_expr(stand, argument)?;
+        self.push_arg(stand, place, enter, index, value)
+    }
+
+    /// Adds the row of what the argument of this index sends.
+    fn push_arg(
+        &mut self,
+        stand: Stand,
+        place: u32,
+        enter: usize,
+        index: usize,
+        value: usize,
+    ) -> Result<(), AllocError>
+        ensures { OnOk result (parts self.new
+            ≡ with_row (parts self.old) stand place enter (Arg enter index value)) }
+    {
         let node = arg_node(enter, index, value)?;
-        self.push(stand, place, enter, node)?;
-        Ok(())
+        self.put(stand, place, enter, node)
     }
 
     #[cycle(add)]
@@ -528,9 +609,8 @@ impl<'a> Maker<'a> {
         inside: &'a Block,
         place: u32,
     ) -> Result<usize, AllocError>
-        ensures added { OnOk result (parts self.new ≡ add stand (parts self.old)
-            (block (stmts_tree inside.now.statements.items) (tree_of inside.now.body) place)) }
-        ensures number { IfOk result (λ i. i + 1 ≡ length self.new.rows.items) }
+        ensures { IfOk result (λ i. IsAdded i (parts self.new) (add stand (parts self.old)
+            (block (stmts_tree inside.now.statements.items) (tree_of inside.now.body) place))) }
     {
         let first = self.rows.len();
         self.add_statements(stand, inside.statements.as_slice())?;
@@ -543,65 +623,74 @@ impl<'a> Maker<'a> {
         ensures { OnOk result (parts self.new ≡ add stand (parts self.old) (stmts_tree statements.now)) }
     {
         for statement in statements {
-            match statement {
-                Stmt::Binding { place, name, value } => {
-                    self.add_binding(stand, name, value, *place)?
-                }
-                Stmt::Next { place, name, value } => self.add_binding(stand, name, value, *place)?,
-                Stmt::Store { place, inside } => self.add_store(stand, inside, *place)?,
-            }
+            self.add_statement(stand, statement)?;
         }
         Ok(())
     }
 
+    /// Adds the rows of a statement of a block, or of one of a loop that is no `next`.
+    #[cycle(add)]
+    fn add_statement(&mut self, stand: Stand, statement: &'a Stmt) -> Result<(), AllocError>
+        ensures { OnOk result (parts self.new ≡ add stand (parts self.old) (stmt_tree statement.now)) }
+    {
+        match statement {
+            Stmt::Binding { place, name, value } => self.add_binding(stand, name, value, *place),
+            Stmt::Next { place, name, value } => self.add_binding(stand, name, value, *place),
+            Stmt::Store { place, inside } => self.add_store(stand, inside, *place),
+        }
+    }
+
     #[cycle(add)]
     fn add_loop(&mut self, stand: Stand, round: &'a Loop, place: u32) -> Result<usize, AllocError>
-        ensures added { OnOk result (parts self.new ≡ add stand (parts self.old)
+        ensures { IfOk result (λ i. IsAdded i (parts self.new) (add stand (parts self.old)
             (loop_tree (tree_of round.now.test) (stmts_tree round.now.statements.items)
-            (tree_of round.now.last) place)) }
-        ensures number { IfOk result (λ i. i + 1 ≡ length self.new.rows.items) }
+            (tree_of round.now.last) place))) }
     {
         let start = self.rows.len();
         let statements = round.statements.as_slice();
-        let head = self.begin_loop(stand, statements, place)?;
-        let inside = stand_in(head)?;
+        let inside = self.begin_loop(stand, statements, place)?;
         let entered = self.rows.len();
         let test = self.add_expr(inside, &round.test)?;
-        let switches = self.push(inside, place, entered, Node::Switches { test })?;
-        let body = in_arm(inside, switches, true)?;
-        let turned = self.rows.len();
-        self.push(body, place, turned, Node::Turn)?;
-        let begun = self.rows.len();
-        self.add_nexts(body, statements)?;
-        self.push(body, place, begun, Node::Body)?;
-        let behind = in_arm(inside, switches, false)?;
+        let body = self.push_sides(inside, place, entered, Node::Switches { test })?;
+        self.add_body(body, statements, place)?;
+        let behind = other_side(body);
         let closed = self.rows.len();
         let last = self.add_expr(behind, &round.last)?;
-        self.push(behind, place, closed, Node::Reset { value: last })?;
-        let node = loop_node(head, switches, last)?;
-        self.push(stand, place, start, node)
+        self.end_loop(stand, behind, place, start, closed, last)
     }
 
-    /// Adds the rows of a loop before its predicate, and gives the number of its head.
+    /// Adds the rows of a loop before its predicate, and gives where that stands.
     fn begin_loop(
         &mut self,
         stand: Stand,
         statements: &'a [Stmt],
         place: u32,
-    ) -> Result<usize, AllocError>
+    ) -> Result<Stand, AllocError>
         ensures added { OnOk result (parts self.new
             ≡ begin_loop stand (parts self.old) (stmts_tree statements.now) place) }
-        ensures number { IfOk result (λ h. h ≡ length self.old.rows.items + 1) }
+        ensures inside { IfOk result (λ s. s ≡ in_top (length self.old.rows.items + 1)) }
     {
-        let start = self.rows.len();
-        self.push(stand, place, start, Node::Start)?;
-        let head = self.rows.len();
-        let inside = stand_in(head)?;
-        self.push(inside, place, head, Node::LoopHead { start })?;
+        let inside = self.push_head(stand, place)?;
         self.add_variables(inside, statements)?;
         let first = self.rows.len();
-        self.push(inside, place, first, Node::Entries)?;
-        Ok(head)
+        self.put(inside, place, first, Node::Entries)?;
+        Ok(inside)
+    }
+
+    /// Adds the rows of a loop before its variables, and gives where they stand.
+    fn push_head(&mut self, stand: Stand, place: u32) -> Result<Stand, AllocError>
+        ensures added { OnOk result (parts self.new ≡ with_row
+            (with_row (parts self.old) stand place (size (parts self.old)) variant.Start)
+            (in_top (size (parts self.old) + 1)) place (size (parts self.old) + 1)
+            (variant.LoopHead (size (parts self.old)))) }
+        ensures inside { IfOk result (λ s. s ≡ in_top (size (parts self.old) + 1)) }
+    {
+        let start = self.rows.len();
+        self.put(stand, place, start, Node::Start)?;
+        let head = self.rows.len();
+        let inside = stand_in(head)?;
+        self.put(inside, place, head, Node::LoopHead { start })?;
+        Ok(inside)
     }
 
     /// Adds the row of a variable for each `next` among the statements.
@@ -623,29 +712,63 @@ impl<'a> Maker<'a> {
             ≡ with_row (parts self.old) stand place (size (parts self.old)) Variable) }
     {
         let first = self.rows.len();
-        self.push(stand, place, first, Node::Variable)?;
-        Ok(())
+        self.put(stand, place, first, Node::Variable)
     }
 
-    /// Adds the rows of the statements of a loop.
-    #[cycle(add)]
-    fn add_nexts(&mut self, stand: Stand, statements: &'a [Stmt]) -> Result<(), AllocError>
-        ensures { OnOk result (parts self.new ≡ add_nexts stand 0 (parts self.old) (stmts_tree statements.now)) }
+    /// Adds the rows of a loop behind its last expression, whose number this is, where that stands on this side.
+    fn end_loop(
+        &mut self,
+        stand: Stand,
+        side: Stand,
+        place: u32,
+        start: usize,
+        closed: usize,
+        last: usize,
+    ) -> Result<usize, AllocError>
+        ensures { IfOk result (λ i. IsAdded i (parts self.new)
+            (end_loop stand side place start closed last (parts self.old))) }
     {
+        self.put(side, place, closed, Node::Reset { value: last })?;
+        let node = Node::Loop {
+            head: side.block,
+            switches: side.region.head,
+            last: short(last)?,
+        };
+        self.push(stand, place, start, node)
+    }
+
+    /// Adds the rows of the body of a loop.
+    #[cycle(add)]
+    fn add_body(
+        &mut self,
+        stand: Stand,
+        statements: &'a [Stmt],
+        place: u32,
+    ) -> Result<(), AllocError>
+        ensures { OnOk result (parts self.new ≡ add_body stand (parts self.old) (stmts_tree statements.now) place) }
+    {
+        let begun = self.push_turn(stand, place)?;
         let mut index = 0;
         for statement in statements {
             match statement {
-                Stmt::Binding { place, name, value } => {
-                    self.add_binding(stand, name, value, *place)?
-                }
                 Stmt::Next { place, name, value } => {
                     self.add_next(stand, index, name, value, *place)?;
                     index += 1;
                 }
-                Stmt::Store { place, inside } => self.add_store(stand, inside, *place)?,
+                _ => self.add_statement(stand, statement)?,
             }
         }
-        Ok(())
+        self.put(stand, place, begun, Node::Body)
+    }
+
+    /// Adds the row where the body of a loop begins, and gives the number of the next one.
+    fn push_turn(&mut self, stand: Stand, place: u32) -> Result<usize, AllocError>
+        ensures { IfOk result (λ n. (parts self.new
+            ≡ with_row (parts self.old) stand place (size (parts self.old)) Turn) × (n ≡ size (parts self.new))) }
+    {
+        let turned = self.rows.len();
+        self.put(stand, place, turned, Node::Turn)?;
+        Ok(self.rows.len())
     }
 
     /// Adds the rows of the `next` statement of this index.
@@ -662,12 +785,43 @@ impl<'a> Maker<'a> {
             ≡ add_next stand index (parts self.old) name.now (tree_of expr.now) place) }
     {
         let outer = self.rows.len();
-        let number = self.number(name)?;
-        self.push(stand, place, outer, Node::NextUse { name: number })?;
+        let number = self.push_use(stand, name, place)?;
         let value = self.add_expr(stand, expr)?;
-        let node = next_node(number, index, outer, value)?;
-        self.push(stand, place, outer, node)?;
-        Ok(())
+        self.push_next(stand, place, number, index, outer, value)
+    }
+
+    /// Adds the row of the use that a `next` statement makes of the outer name, and gives the number of the name.
+    fn push_use(
+        &mut self,
+        stand: Stand,
+        name: &'a Identifier,
+        place: u32,
+    ) -> Result<usize, AllocError>
+        ensures added { OnOk result (parts self.new ≡ with_row (naming (parts self.old) name.now) stand place
+            (size (parts self.old)) (NextUse (number_of (parts self.old).names name.now))) }
+        ensures number { IfOk result (λ n. n ≡ number_of (parts self.old).names name.now) }
+    {
+        let outer = self.rows.len();
+        let number = self.number(name)?;
+        self.put(stand, place, outer, Node::NextUse { name: number })?;
+        Ok(number)
+    }
+
+    /// Adds the row of a `next` statement.
+    fn push_next(
+        &mut self,
+        stand: Stand,
+        place: u32,
+        name: usize,
+        index: usize,
+        outer: usize,
+        value: usize,
+    ) -> Result<(), AllocError>
+        ensures { OnOk result (parts self.new
+            ≡ with_row (parts self.old) stand place outer (Next name index outer value)) }
+    {
+        let node = next_node(name, index, outer, value)?;
+        self.put(stand, place, outer, node)
     }
 
     #[cycle(add)]
@@ -683,9 +837,23 @@ impl<'a> Maker<'a> {
     {
         let first = self.rows.len();
         let value = self.add_expr(stand, value)?;
+        self.push_binding(stand, name, place, first, value)
+    }
+
+    /// Adds the row of a binding behind its expression, whose number this is.
+    fn push_binding(
+        &mut self,
+        stand: Stand,
+        name: &'a Identifier,
+        place: u32,
+        first: usize,
+        value: usize,
+    ) -> Result<(), AllocError>
+        ensures { OnOk result (parts self.new ≡ with_row (naming (parts self.old) name.now) stand place first
+            (variant.Binding (number_of (parts self.old).names name.now) value)) }
+    {
         let name = self.number(name)?;
-        self.push(stand, place, first, Node::Binding { name, value })?;
-        Ok(())
+        self.put(stand, place, first, Node::Binding { name, value })
     }
 
     #[cycle(add)]
@@ -698,7 +866,6 @@ impl<'a> Maker<'a> {
         let index = self.add_expr(stand, &inside.second)?;
         let address = self.push(stand, place, first, Node::Address { target, index })?;
         let value = self.add_expr(stand, &inside.third)?;
-        self.push(stand, place, first, Node::Store { address, value })?;
-        Ok(())
+        self.put(stand, place, first, Node::Store { address, value })
     }
 }

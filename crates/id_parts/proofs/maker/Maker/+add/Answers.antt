@@ -1,135 +1,222 @@
-use Rattle.std.proofs.Common.{◌≡◌, ◌+◌, sym, ap, ◌∙◌, drop, length, subst, arith}
-use Rattle.std.proofs.lemmas.Result.{on_ok_weaker}
-use Rattle.id_tree.specs.Tree.{tree_of}
-use Rattle.id_parts.specs.declared.row.Node.TheVariants.{Next}
-use Rattle.id_parts.specs.Rows.{add_arguments, add_nexts, begin_loop, with_row}
-use Rattle.id_parts.specs.Making.{exprs_tree, parts, stmts_tree}
-use Rattle.id_parts.proofs.MakingLemmas.{binding_parts, binding_step, body_parts, call_parts, loop_parts, store_step}
-use Rattle.id_parts.proofs.MakingLemmas.{named, next_parts, next_step, of_block, of_call, of_loop}
-use Rattle.id_parts.proofs.maker.Maker.+add.Goals.{add_nexts-in-Binding+in_ok-add_binding-in-Binding, add_nexts-in-Next+in_ok-add_next-in-Next}
-use Rattle.id_parts.proofs.maker.Maker.+add.Goals.{add_nexts-in-Store+in_ok-add_store-in-Store}
+use Rattle.std.proofs.Common.{◌+◌, sym, ap, ◌∙◌, drop, length, arith}
+use Rattle.std.proofs.lemmas.List.{drop_all}
+use Rattle.id_tree.specs.Tree.{tree_of, stmt_tree}
+use Rattle.id_parts.specs.Rows.{add, add_arguments, add_nexts, begin_loop}
+use Rattle.id_parts.specs.Making.{add_body, exprs_tree, parts, stmts_tree}
+use Rattle.id_parts.proofs.MakingLemmas.{added_as, done_as, unary_row, pair_row, conditional_row, call_row, argument_row, block_row, binding_row, store_row}
+use Rattle.id_parts.proofs.MakingLemmas.{next_row, body_row, loop_row, statement_step, other_step, next_step}
+use Rattle.id_parts.proofs.MakingLemmas.{call_tree, block_tree, loop_tree, unary_tree, binary_tree, array_tree, fetch_tree, conditional_tree}
+use Rattle.id_parts.proofs.maker.Maker.+add.Goals.{add_body-in-Next+in_ok-add_next-in-Next, add_body-in_default+in_ok-add_statement-in_default}
 use Rattle.id_parts.proofs.maker.Maker.+add.Goals as goal
 
-pub add_expr-returns-in-Block-clause-added : goal.add_expr-returns-in-Block-clause-added
-add_expr-returns-in-Block-clause-added t c =
-    let a = c.in-Block in
-    on_ok_weaker c.add_block.result
-    (of_block c.args.stand (parts c.args.self.now) (parts c.add_block.new.self) c.args.expr.now a.place a.inside c.deref-in-Block.result.now
-    c.deref-in-Block.ensures a.is)
-    c.add_block.ensures.added
+pub add_expr-returns-in-Unary : goal.add_expr-returns-in-Unary
+add_expr-returns-in-Unary t c =
+    let a = c.in-Unary in
+    let d = c.deref in
+    added_as c.add_unary.result (parts c.add_unary.new.self) _ _
+    (ap (add c.args.stand (parts c.args.self.now)) (unary_tree c.args.expr.now a.op a.place a.operand d.result.now d.ensures a.is))
+    c.add_unary.ensures
 
-pub add_expr-returns-in-Call-clause-added : goal.add_expr-returns-in-Call-clause-added
-add_expr-returns-in-Call-clause-added t c =
+pub add_expr-returns-in-Binary : goal.add_expr-returns-in-Binary
+add_expr-returns-in-Binary t c =
+    let a = c.in-Binary in
+    let d = c.deref-in-Binary in
+    added_as c.add_pair.result (parts c.add_pair.new.self) _ _
+    (ap (add c.args.stand (parts c.args.self.now)) (binary_tree c.args.expr.now a.op a.place a.inside d.result.now d.ensures a.is))
+    c.add_pair.ensures
+
+pub add_expr-returns-in-If : goal.add_expr-returns-in-If
+add_expr-returns-in-If t c =
+    let a = c.in-If in
+    let d = c.deref-in-If in
+    added_as c.add_conditional.result (parts c.add_conditional.new.self) _ _
+    (ap (add c.args.stand (parts c.args.self.now)) (conditional_tree c.args.expr.now a.place a.inside d.result.now d.ensures a.is))
+    c.add_conditional.ensures
+
+pub add_expr-returns-in-Call : goal.add_expr-returns-in-Call
+add_expr-returns-in-Call t c =
     let a = c.in-Call in
-    on_ok_weaker c.add_call.result
-    (of_call c.args.stand (parts c.args.self.now) (parts c.add_call.new.self) c.args.expr.now a.place a.inside c.deref-in-Call.result.now
-    c.deref-in-Call.ensures a.is)
-    c.add_call.ensures.added
+    let d = c.deref-in-Call in
+    added_as c.add_call.result (parts c.add_call.new.self) _ _
+    (ap (add c.args.stand (parts c.args.self.now)) (call_tree c.args.expr.now a.place a.inside d.result.now d.ensures a.is))
+    c.add_call.ensures
 
-pub add_expr-returns-in-Loop-clause-added : goal.add_expr-returns-in-Loop-clause-added
-add_expr-returns-in-Loop-clause-added t c =
+pub add_expr-returns-in-Block : goal.add_expr-returns-in-Block
+add_expr-returns-in-Block t c =
+    let a = c.in-Block in
+    let d = c.deref-in-Block in
+    added_as c.add_block.result (parts c.add_block.new.self) _ _
+    (ap (add c.args.stand (parts c.args.self.now)) (block_tree c.args.expr.now a.place a.inside d.result.now d.ensures a.is))
+    c.add_block.ensures
+
+pub add_expr-returns-in-Loop : goal.add_expr-returns-in-Loop
+add_expr-returns-in-Loop t c =
     let a = c.in-Loop in
-    on_ok_weaker c.add_loop.result
-    (of_loop c.args.stand (parts c.args.self.now) (parts c.add_loop.new.self) c.args.expr.now a.place a.inside c.deref-in-Loop.result.now
-    c.deref-in-Loop.ensures a.is)
-    c.add_loop.ensures.added
+    let d = c.deref-in-Loop in
+    added_as c.add_loop.result (parts c.add_loop.new.self) _ _
+    (ap (add c.args.stand (parts c.args.self.now)) (loop_tree c.args.expr.now a.place a.inside d.result.now d.ensures a.is))
+    c.add_loop.ensures
 
-pub add_nexts-loop-statement-preserved : goal.add_nexts-loop-statement-preserved
-add_nexts-loop-statement-preserved t c =
+pub add_expr-returns-in-Array : goal.add_expr-returns-in-Array
+add_expr-returns-in-Array t c =
+    let a = c.in-Array in
+    let d = c.deref-in-Array in
+    added_as c.add_pair-in-Array.result (parts c.add_pair-in-Array.new.self) _ _
+    (ap (add c.args.stand (parts c.args.self.now)) (array_tree c.args.expr.now a.place a.inside d.result.now d.ensures a.is))
+    c.add_pair-in-Array.ensures
+
+pub add_expr-returns-in-Fetch : goal.add_expr-returns-in-Fetch
+add_expr-returns-in-Fetch t c =
+    let a = c.in-Fetch in
+    let d = c.deref-in-Fetch in
+    added_as c.add_pair-in-Fetch.result (parts c.add_pair-in-Fetch.new.self) _ _
+    (ap (add c.args.stand (parts c.args.self.now)) (fetch_tree c.args.expr.now a.place a.inside d.result.now d.ensures a.is))
+    c.add_pair-in-Fetch.ensures
+
+pub add_unary-returns : goal.add_unary-returns
+add_unary-returns t c =
+    let U = parts c.add_expr.new.self in
+    added_as c.push.result (parts c.push.new.self) _ _
+    (unary_row c.args.stand (parts c.args.self.now) U c.args.op (tree_of c.args.operand.now) c.args.place c.len-first.result c.in_ok-operand.operand
+    (omega arith) c.in_ok-operand.ensures)
+    c.push.ensures.added
+
+pub add_pair-returns : goal.add_pair-returns
+add_pair-returns t c =
+    let U = parts c.add_expr.new.self in
+    let V = parts c.add_expr-2.new.self in
+    let v = c.args.inside.now in
+    added_as c.push.result (parts c.push.new.self) _ _
+    (pair_row c.args.stand (parts c.args.self.now) U V c.args.form (tree_of v.first) (tree_of v.second) c.pair_node.result c.args.place c.len-start.result
+    c.in_ok-first.first c.in_ok-second.second c.pair_node.ensures (omega arith) c.in_ok-first.ensures c.in_ok-second.ensures)
+    c.push.ensures.added
+
+pub add_conditional-returns : goal.add_conditional-returns
+add_conditional-returns t c =
+    let v = c.args.inside.now in
+    added_as c.push_if.result (parts c.push_if.new.self) _ _
+    (conditional_row c.args.stand c.in_ok-side.side c.other_side.result (parts c.args.self.now) (parts c.add_expr.new.self)
+    (parts c.push_sides.new.self) (parts c.add_expr-2.new.self) (parts c.add_expr-3.new.self) (tree_of v.first) (tree_of v.second) (tree_of v.third)
+    c.args.place c.len-first.result c.in_ok-test.test c.in_ok-then.then c.in_ok-otherwise.otherwise (omega arith) c.in_ok-test.ensures
+    c.in_ok-side.ensures.added c.in_ok-side.ensures.side c.in_ok-then.ensures c.other_side.ensures c.in_ok-otherwise.ensures)
+    c.push_if.ensures
+
+pub add_call-returns : goal.add_call-returns
+add_call-returns t c =
+    let T = parts c.args.self.now in
+    let E = parts c.push_enter.new.self in
+    let es = c.args.inside.now.args.items in
+    let s = c.as_slice-args.ensures.value in
+    added_as c.push.result (parts c.push.new.self) _ _
+    (call_row c.args.stand T E (parts c.add_arguments.new.self) c.args.inside.now.name es c.args.place c.in_ok-enter.enter _
+    c.in_ok-enter.ensures.number c.in_ok-enter.ensures.added
+    (c.in_ok-add_arguments.ensures ∙ ap (λ v. add_arguments c.args.stand c.args.place c.in_ok-enter.enter 0 E (exprs_tree v)) s)
+    (ap length s))
+    c.push.ensures.added
+
+pub add_argument-returns : goal.add_argument-returns
+add_argument-returns t c =
+    done_as c.push_arg.result (parts c.push_arg.new.self) _ _
+    (argument_row c.args.stand (parts c.args.self.now) (parts c.add_expr.new.self) (tree_of c.args.argument.now) c.args.place c.args.enter
+    c.args.index c.in_ok-value.value c.in_ok-value.ensures)
+    c.push_arg.ensures
+
+pub add_block-returns : goal.add_block-returns
+add_block-returns t c =
+    let T = parts c.args.self.now in
+    let U = parts c.add_statements.new.self in
+    let v = c.args.inside.now in
+    added_as c.push.result (parts c.push.new.self) _ _
+    (block_row c.args.stand T U (parts c.add_expr.new.self) (stmts_tree v.statements.items) (tree_of v.body) c.args.place c.len-first.result
+    c.in_ok-body.body (omega arith) (c.in_ok-add_statements.ensures ∙ ap (λ ss. add c.args.stand T (stmts_tree ss)) c.as_slice.ensures.value)
+    c.in_ok-body.ensures)
+    c.push.ensures.added
+
+pub add_statements-loop-statement-preserved : goal.add_statements-loop-statement-preserved
+add_statements-loop-statement-preserved t c =
     let s = c.args.stand in
     let T = parts c.loop-statement.self in
-    let V = add_nexts s 0 (parts c.args.self.now) (stmts_tree c.args.statements.now) in
+    statement_step s c.loop-statement.statement-index T (parts c.add_statement.new.self) (add s (parts c.args.self.now) (stmts_tree c.args.statements.now))
+    c.args.statements.now c.statement-item.result c.loop-statement-test.true
+    (c.in_ok-add_statement.ensures ∙ ap (λ x. add s T (stmt_tree x)) c.statement-item.is) c.loop-statement.invariant
+
+pub add_binding-returns : goal.add_binding-returns
+add_binding-returns t c =
+    done_as c.push_binding.result (parts c.push_binding.new.self) _ _
+    (binding_row c.args.stand (parts c.args.self.now) (parts c.add_expr.new.self) c.args.name.now (tree_of c.args.value.now) c.args.place
+    c.len-first.result c.in_ok-value.value (omega arith) c.in_ok-value.ensures)
+    c.push_binding.ensures
+
+pub add_store-returns : goal.add_store-returns
+add_store-returns t c =
+    let v = c.args.inside.now in
+    done_as c.put.result (parts c.put.new.self) _ _
+    (store_row c.args.stand (parts c.args.self.now) (parts c.add_expr.new.self) (parts c.add_expr-2.new.self) (parts c.push.new.self)
+    (parts c.add_expr-3.new.self) (tree_of v.first) (tree_of v.second) (tree_of v.third) c.args.place c.len-first.result c.in_ok-target.target
+    c.in_ok-index.index c.in_ok-address.address c.in_ok-value.value (omega arith) c.in_ok-target.ensures c.in_ok-index.ensures
+    c.in_ok-address.ensures.added.parts c.in_ok-address.ensures.number c.in_ok-value.ensures)
+    c.put.ensures
+
+pub add_next-returns : goal.add_next-returns
+add_next-returns t c =
+    done_as c.push_next.result (parts c.push_next.new.self) _ _
+    (next_row c.args.stand (parts c.args.self.now) (parts c.push_use.new.self) (parts c.add_expr.new.self) c.args.name.now
+    (tree_of c.args.expr.now) c.args.place c.len-outer.result c.in_ok-number.number c.args.index c.in_ok-value.value (omega arith)
+    c.in_ok-number.ensures.added c.in_ok-number.ensures.number c.in_ok-value.ensures)
+    c.push_next.ensures
+
+pub add_body-loop-statement-preserved : goal.add_body-loop-statement-preserved
+add_body-loop-statement-preserved t c =
+    let s = c.args.stand in
+    let T = parts c.loop-statement.self in
+    let V = add_nexts s 0 (parts c.push_turn.new.self) (stmts_tree c.args.statements.now) in
     let xs = c.args.statements.now in
     let k = c.loop-statement.index in
     let i = c.loop-statement.statement-index in
     let d = c.statement-item.result in
     elim c.match-statement.branch [
-      | add_nexts-in-Binding+in_ok-add_binding-in-Binding w ↦ record {
-        counted = omega (arith, c.loop-statement.invariant.counted, w.index-is);
-        rest = ap (λ n. add_nexts s n (parts c.match-statement.self) (stmts_tree (drop (i + 1) xs))) w.index-is
-            ∙ binding_step s k i T (parts c.match-statement.self) V xs w.in-Binding.name w.in-Binding.value w.in-Binding.place d c.loop-statement-test.true
-            (sym c.statement-item.is ∙ w.in-Binding.is) (ap parts w.self-is ∙ w.in_ok-add_binding-in-Binding.ensures) c.loop-statement.invariant.rest;
-      }
-      | add_nexts-in-Next+in_ok-add_next-in-Next w ↦ record {
+      | add_body-in-Next+in_ok-add_next-in-Next w ↦ record {
         counted = omega (arith, c.loop-statement.invariant.counted, w.index-is);
         rest = ap (λ n. add_nexts s n (parts c.match-statement.self) (stmts_tree (drop (i + 1) xs))) w.index-is
             ∙ next_step s k i T (parts c.match-statement.self) V xs w.in-Next.name w.in-Next.value w.in-Next.place d c.loop-statement-test.true
             (sym c.statement-item.is ∙ w.in-Next.is) (ap parts w.self-is ∙ w.in_ok-add_next-in-Next.ensures) c.loop-statement.invariant.rest;
       }
-      | add_nexts-in-Store+in_ok-add_store-in-Store w ↦ record {
+      | add_body-in_default+in_ok-add_statement-in_default w ↦ record {
         counted = omega (arith, c.loop-statement.invariant.counted, w.index-is);
         rest = ap (λ n. add_nexts s n (parts c.match-statement.self) (stmts_tree (drop (i + 1) xs))) w.index-is
-            ∙ store_step s k i T (parts c.match-statement.self) V xs w.in-Store.inside w.deref.result.now w.in-Store.place d
-            c.loop-statement-test.true (sym c.statement-item.is ∙ w.in-Store.is) w.deref.ensures
-            (ap parts w.self-is ∙ w.in_ok-add_store-in-Store.ensures)
-            c.loop-statement.invariant.rest;
+            ∙ other_step s k i T (parts c.match-statement.self) V xs d c.loop-statement-test.true c.statement-item.is w.in_default.not-Next
+            (ap parts w.self-is ∙ w.in_ok-add_statement-in_default.ensures) c.loop-statement.invariant.rest;
       }
     ]
 
-pub add_call-returns-clause-added : goal.add_call-returns-clause-added
-add_call-returns-clause-added t c =
-    let T = parts c.args.self.now in
-    let N = parts c.number.new.self in
-    let E = parts c.push.new.self in
-    let U = parts c.add_arguments.new.self in
-    let x = c.args.inside.now.name in
-    let es = c.args.inside.now.args.items in
-    let name = named T N x (ap (λ v. v.items) c.in_ok-name.ensures.rows) c.in_ok-name.ensures.names in
-    on_ok_weaker c.push-2.result
-    (λ w. call_parts c.args.stand T N E U (parts c.push-2.new.self) x es c.args.place c.len-enter.result c.in_ok-name.name _
-    (omega arith) c.in_ok-name.ensures.number name c.in_ok-push.ensures.added
-    (c.in_ok-add_arguments.ensures ∙ ap (λ v. add_arguments c.args.stand c.args.place c.len-enter.result 0 E (exprs_tree v)) c.as_slice-args.ensures.value)
-    (ap length c.as_slice-args.ensures.value) w)
-    c.push-2.ensures.added
-
-pub add_binding-returns : goal.add_binding-returns
-add_binding-returns t c =
-    let U = parts c.add_expr.new.self in
-    binding_parts c.args.stand (parts c.args.self.now) U (parts c.number.new.self) (parts c.push.new.self) c.args.name.now (tree_of c.args.value.now)
-    c.args.place c.len-first.result c.in_ok-name.name c.in_ok-value.value (omega arith) c.in_ok-value.ensures.added c.in_ok-value.ensures.number
-    c.in_ok-name.ensures.number (named U (parts c.number.new.self) c.args.name.now
-    (ap (λ v. v.items) c.in_ok-name.ensures.rows) c.in_ok-name.ensures.names) c.in_ok-push.ensures.added
-
-pub add_loop-returns-clause-added : goal.add_loop-returns-clause-added
-add_loop-returns-clause-added t c =
-    let T = parts c.args.self.now in
-    let E = parts c.begin_loop.new.self in
-    let U = parts c.add_expr.new.self in
-    let W = parts c.push.new.self in
-    let B = parts c.push-2.new.self in
-    let N = parts c.add_nexts.new.self in
-    let D = parts c.push-3.new.self in
-    let L = parts c.add_expr-2.new.self in
-    let Z = parts c.push-4.new.self in
-    let body = body_parts c.in_ok-body.body W B N D (stmts_tree c.args.round.now.statements.items) c.args.place c.len-turned.result c.len-begun.result
-    (omega arith) c.in_ok-push.ensures.added (omega arith)
-    (c.in_ok-add_nexts.ensures ∙ ap (λ v. add_nexts c.in_ok-body.body 0 B (stmts_tree v)) c.as_slice-statements.ensures.value)
-    c.in_ok-push-2.ensures.added in
-    on_ok_weaker c.push-5.result
-    (λ w. loop_parts c.args.stand c.in_ok-inside.inside c.in_ok-body.body c.in_ok-behind.behind T E U W D L Z (parts c.push-5.new.self)
-    (tree_of c.args.round.now.test) (stmts_tree c.args.round.now.statements.items) (tree_of c.args.round.now.last)
-    c.args.place c.len-start.result c.in_ok-head.head c.len-entered.result c.in_ok-test.test c.in_ok-switches.switches c.len-closed.result c.in_ok-last.last
-    (omega arith)
-    (c.in_ok-head.ensures.added ∙ ap (λ v. begin_loop c.args.stand T (stmts_tree v) c.args.place) c.as_slice-statements.ensures.value)
-    (omega (arith, c.in_ok-head.ensures.number)) c.in_ok-inside.ensures (omega arith)
-    c.in_ok-test.ensures.added c.in_ok-test.ensures.number c.in_ok-switches.ensures.added c.in_ok-switches.ensures.number c.in_ok-body.ensures
-    body c.in_ok-behind.ensures (omega arith) c.in_ok-last.ensures.added c.in_ok-last.ensures.number c.in_ok-push-3.ensures.added
-    (subst (λ n. parts c.push-5.new.self ≡ with_row Z c.args.stand c.args.place c.len-start.result n) c.in_ok-node.ensures w))
-    c.push-5.ensures.added
-
-pub add_next-returns : goal.add_next-returns
-add_next-returns t c =
+pub add_body-returns : goal.add_body-returns
+add_body-returns t c =
     let s = c.args.stand in
+    let B = parts c.push_turn.new.self in
+    let N = parts c.loop-statement.self in
+    let xs = c.args.statements.now in
+    let k = c.loop-statement.index in
+    let begun = c.in_ok-begun.ensures in
+    let none = drop_all c.loop-statement.statement-index xs c.loop-statement-test.false in
+    done_as c.put.result (parts c.put.new.self) _ _
+    (body_row s (parts c.args.self.now) B N (stmts_tree xs) c.args.place c.in_ok-begun.begun begun.0 begun.1
+    (ap (λ ys. add_nexts s k N (stmts_tree ys)) (sym none) ∙ c.loop-statement.invariant.rest))
+    c.put.ensures
+
+pub add_loop-returns : goal.add_loop-returns
+add_loop-returns t c =
     let T = parts c.args.self.now in
-    let N = parts c.number.new.self in
-    let E = parts c.push.new.self in
-    let U = parts c.add_expr.new.self in
-    let V = parts c.push-2.new.self in
-    let o = c.len-outer.result in
-    let v = c.in_ok-value.value in
-    let added : V ≡ with_row U s c.args.place o (Next c.in_ok-number.number c.args.index o v) =
-    subst (λ n. V ≡ with_row U s c.args.place o n) c.in_ok-node.ensures c.in_ok-push-2.ensures.added in
-    next_parts s T N E U V c.args.name.now (tree_of c.args.expr.now)
-    c.args.place o c.in_ok-number.number c.args.index v (omega arith) c.in_ok-number.ensures.number
-    (named T N c.args.name.now (ap (λ v. v.items) c.in_ok-number.ensures.rows) c.in_ok-number.ensures.names) c.in_ok-push.ensures.added
-    c.in_ok-value.ensures.added c.in_ok-value.ensures.number added
+    let W = parts c.push_sides.new.self in
+    let v = c.args.round.now in
+    let p = c.args.place in
+    let s = c.as_slice-statements.ensures.value in
+    let b = c.in_ok-body.body in
+    added_as c.end_loop.result (parts c.end_loop.new.self) _ _
+    (loop_row c.args.stand c.in_ok-inside.inside b c.other_side-behind.result T (parts c.begin_loop.new.self) (parts c.add_expr.new.self) W
+    (parts c.add_body.new.self) (parts c.add_expr-2.new.self) (tree_of v.test) (stmts_tree v.statements.items) (tree_of v.last) p
+    c.len-start.result c.len-entered.result c.in_ok-test.test c.len-closed.result c.in_ok-last.last (omega arith)
+    (c.in_ok-inside.ensures.added ∙ ap (λ ss. begin_loop c.args.stand T (stmts_tree ss) p) s) c.in_ok-inside.ensures.inside (omega arith)
+    c.in_ok-test.ensures c.in_ok-body.ensures.added c.in_ok-body.ensures.side
+    (c.in_ok-add_body.ensures ∙ ap (λ ss. add_body b W (stmts_tree ss) p) s) c.other_side-behind.ensures (omega arith)
+    c.in_ok-last.ensures)
+    c.end_loop.ensures

@@ -13,14 +13,8 @@ decreases-add_expr l = 4 * goal.size-add_expr l
 abbrev pub decreases-add_unary : goal.decreases-add_unary
 decreases-add_unary l = 4 * goal.size-add_unary l + 1
 
-abbrev pub decreases-add_binary : goal.decreases-add_binary
-decreases-add_binary l = 4 * goal.size-add_binary l + 1
-
-abbrev pub decreases-add_array : goal.decreases-add_array
-decreases-add_array l = 4 * goal.size-add_array l + 1
-
-abbrev pub decreases-add_fetch : goal.decreases-add_fetch
-decreases-add_fetch l = 4 * goal.size-add_fetch l + 1
+abbrev pub decreases-add_pair : goal.decreases-add_pair
+decreases-add_pair l = 4 * goal.size-add_pair l + 1
 
 abbrev pub decreases-add_store : goal.decreases-add_store
 decreases-add_store l = 4 * goal.size-add_store l + 1
@@ -45,25 +39,28 @@ invariant-add_arguments-loop-argument l = record {
 }
 
 abbrev pub decreases-add_block : goal.decreases-add_block
-decreases-add_block l = 4 * goal.size-add_block l + 1
+decreases-add_block l = 4 * goal.size-add_block l + 3
 
 abbrev pub decreases-add_binding : goal.decreases-add_binding
 decreases-add_binding l = 4 * goal.size-add_binding l + 1
 
 abbrev pub decreases-add_statements : goal.decreases-add_statements
-decreases-add_statements l = 4 * goal.size-add_statements l
+decreases-add_statements l = 4 * goal.size-add_statements l + 2
+
+abbrev pub decreases-add_statement : goal.decreases-add_statement
+decreases-add_statement l = 4 * goal.size-add_statement l + 1
 
 abbrev pub decreases-add_loop : goal.decreases-add_loop
-decreases-add_loop l = 4 * goal.size-add_loop l + 1
+decreases-add_loop l = 4 * goal.size-add_loop l + 3
 
-abbrev pub decreases-add_nexts : goal.decreases-add_nexts
-decreases-add_nexts l = 4 * goal.size-add_nexts l
+abbrev pub decreases-add_body : goal.decreases-add_body
+decreases-add_body l = 4 * goal.size-add_body l + 2
 
 abbrev pub decreases-add_next : goal.decreases-add_next
 decreases-add_next l = 4 * goal.size-add_next l + 1
 
-abbrev pub invariant-add_nexts-loop-statement : goal.invariant-add_nexts-loop-statement
-invariant-add_nexts-loop-statement l = record {
+abbrev pub invariant-add_body-loop-statement : goal.invariant-add_body-loop-statement
+invariant-add_body-loop-statement l = record {
   counted : l.index ≤ l.statement-index;
   rest : add_nexts l.stand l.index (parts l.self) (stmts_tree (drop l.statement-index l.statements))
       ≡ add_nexts l.stand 0 (parts l.initial.self) (stmts_tree l.statements);
