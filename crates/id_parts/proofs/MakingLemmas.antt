@@ -15,16 +15,17 @@ use Rattle.id_tree.specs.declared.tree.Triple.{Triple}
 use Rattle.id_tree.specs.declared.tree.Call.{Call as Passing}
 use Rattle.id_tree.specs.declared.tree.Block.{Block as Inner}
 use Rattle.id_tree.specs.declared.tree.Loop.{Loop as Round}
+use Rattle.id_tree.specs.declared.tree.Def.{Def}
 use Rattle.id_tree.specs.declared.tree.Stmt.{Stmt}
 use Rattle.id_tree.specs.declared.tree.Stmt as stmt
 use Rattle.id_tree.specs.Tree.{Tree, array, binary, call, block, binding, conditional, fetch, store, define, loop, more, unary}
-use Rattle.id_tree.specs.Tree.{tree_of, args_tree, stmt_tree, row_tree}
-use Rattle.id_parts.specs.declared.maker.Pairing.{Pairing}
-use Rattle.id_parts.specs.declared.maker.Pairing.TheVariants as pair
+use Rattle.id_tree.specs.Tree.{tree_of, args_tree, stmt_tree, row_tree, def_tree, defs_tree}
+use Rattle.id_parts.specs.declared.node.Pairing.{Pairing}
+use Rattle.id_parts.specs.declared.node.Pairing.TheVariants as pair
 use Rattle.id_parts.specs.declared.row.Stand.{Stand}
 use Rattle.id_parts.specs.declared.row.Node.{Node}
 use Rattle.id_parts.specs.declared.row.Node.TheVariants as node
-use Rattle.id_parts.specs.Names.{number_of, with_name}
+use Rattle.id_parts.specs.Names.{number_of}
 use Rattle.id_parts.specs.Rows.{Parts, add, add_arguments, add_nexts, arm, begin_loop, count_of, in_top, last, naming, size, with_row}
 use Rattle.id_parts.specs.Making.{IsAdded, add_argument, add_body, add_next, end_loop, exprs_tree, other_side, pair_node, pair_tree, stmts_tree}
 
@@ -54,28 +55,32 @@ tree_of-call place b =
     let row = args_of (Call place b) in
     ap (λ t. call b.value.name t place) (args_tree-items row.0 row.1 ∙ ap exprs_tree (items_hidden-the_row-Expr-0 b.value.args))
 
-pub named : (T U : Parts) (x : List ℕ) → U.rows ≡ T.rows → U.names ≡ with_name T.names x → U ≡ naming T x
-named T U x h e = λ j. record { rows = h j; names = e j }
-
 count-exprs : (es : List Expr) → length es ≡ count_of (exprs_tree es)
 count-exprs [] = refl
 count-exprs (e ∷ es) = ap suc (count-exprs es)
 
-abbrev define_ending : Parts → List ℕ → Tree → Kind → Tree → ℕ → ℕ → Stand → Parts
-define_ending T x ps k b p m s =
-    let Y = add s (add s (with_row T s p m node.Head) ps) b in
-    with_row (naming Y x) s p m (node.Def (number_of Y.names x) m k (last Y))
+abbrev define_ending : Stand → List ℕ → Tree → Kind → Tree → ℕ → Parts → Parts
+define_ending s x ps k b p H =
+    let Y = add s (add s H ps) b in
+    with_row (naming Y x) s p s.block (node.Def (number_of Y.names x) s.block k (last Y))
 
 -- the rows of a definition, whose parameters and body were added
-pub define_parts : (s : Stand) (T H U V W X : Parts) (x : List ℕ) (ps b : Tree) (k : Kind) (p h n i : ℕ)
-    → h ≡ size T → s ≡ in_top h → H ≡ with_row T s p h node.Head → U ≡ add s H ps → IsAdded i V (add s U b) → n ≡ number_of V.names x
-    → W ≡ naming V x → X ≡ with_row W s p h (node.Def n h k i) → X ≡ add (in_top 0) T (define x ps k b p)
-define_parts s T H U V W X x ps b k p h n i h0 h1 h2 h3 h4 h6 h7 h8 =
-    let j : i ≡ last V = h4.number ∙ ap last (sym h4.parts) in
-    h8 ∙ ap (λ Y. with_row Y s p h (node.Def n h k i)) h7 ∙ ap (λ m. with_row (naming V x) s p h (node.Def m h k i)) h6
-    ∙ ap (λ m. with_row (naming V x) s p h (node.Def (number_of V.names x) h k m)) j
-    ∙ ap (λ Y. with_row (naming Y x) s p h (node.Def (number_of Y.names x) h k (last Y))) (h4.parts ∙ ap (λ Y. add s Y b) (h3 ∙ ap (λ Y. add s Y ps) h2))
-    ∙ ap (define_ending T x ps k b p h) h1 ∙ ap (λ m. define_ending T x ps k b p m (in_top m)) h0
+pub define_row : (s : Stand) (T H U V : Parts) (x : List ℕ) (ps b : Tree) (k : Kind) (p i : ℕ)
+    → s ≡ in_top (size T) → H ≡ with_row T (in_top (size T)) p (size T) node.Head → U ≡ add s H ps → IsAdded i V (add s U b)
+    → with_row (naming V x) s p s.block (node.Def (number_of V.names x) s.block k i) ≡ add (in_top 0) T (define x ps k b p)
+define_row s T H U V x ps b k p i h0 h1 h2 v =
+    let h = s.block in
+    ap (λ q. with_row (naming V x) s p h (node.Def (number_of V.names x) h k q)) v.number
+    ∙ ap (λ Y. with_row (naming Y x) s p h (node.Def (number_of Y.names x) h k (last (add s U b)))) v.parts
+    ∙ ap (λ Z. let Y = add s Z b in with_row (naming Y x) s p h (node.Def (number_of Y.names x) h k (last Y))) h2
+    ∙ ap (define_ending s x ps k b p) h1
+    ∙ ap (λ q. define_ending q x ps k b p (with_row T (in_top (size T)) p (size T) node.Head)) h0
+
+-- one definition more was added
+pub def_step : (i : ℕ) (T U V : Parts) (xs : List Def) (d : Def) → i < length xs → U ≡ add (in_top 0) T (def_tree (get_or xs i d))
+    → add (in_top 0) T (defs_tree (drop i xs)) ≡ V → add (in_top 0) U (defs_tree (drop (i + 1) xs)) ≡ V
+def_step i T U V xs d l u w =
+    ap (λ X. add (in_top 0) X (defs_tree (drop (i + 1) xs))) u ∙ sym (ap (λ ds. add (in_top 0) T (defs_tree ds)) (drop_more xs i d l)) ∙ w
 
 abbrev loop_row_of : Expr → (n : Count) × Row_of-Stmt n
 loop_row_of (Loop' place p test _ r last) = (_, r)

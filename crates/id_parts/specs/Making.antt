@@ -4,8 +4,8 @@ use Rattle.id_tree.specs.declared.tree.Stmt.{Stmt}
 use Rattle.id_tree.specs.declared.tree.Expr.{Expr}
 use Rattle.id_tree.specs.Tree.{Tree, array, binary, fetch, none, more, stmt_tree, tree_of}
 use Rattle.id_parts.specs.declared.maker.Maker.{Maker}
-use Rattle.id_parts.specs.declared.maker.Pairing.{Pairing}
-use Rattle.id_parts.specs.declared.maker.Pairing.TheVariants.{Binary, Array, Fetch}
+use Rattle.id_parts.specs.declared.node.Pairing.{Pairing}
+use Rattle.id_parts.specs.declared.node.Pairing.TheVariants.{Binary, Array, Fetch}
 use Rattle.id_parts.specs.declared.spelled.Spelled.{Spelled}
 use Rattle.id_parts.specs.Names.{first_names, number_of}
 use Rattle.id_parts.specs.declared.row.Stand.{Stand}

@@ -27,6 +27,7 @@
 #![tactic(auto)]
 
 mod maker;
+mod node;
 mod row;
 mod spelled;
 

@@ -1,23 +1,27 @@
 //! The maker of the table: one walk over the tree, in which a name gets its number where it first stands.
 
-ghost use Rattle.std.specs.Prelude.{ℕ, ◌≡◌, ◌+◌, ◌∷◌, [], codes, length, true, IfOk, OnOk};
+ghost use Rattle.std.specs.Prelude.{ℕ, ◌≡◌, ◌+◌, ◌++◌, ◌∷◌, [], codes, length, true, IfOk, OnOk};
 ghost use Rattle.id_tree.specs.Tree.{literal, unary, name as name_tree, conditional};
 ghost use Rattle.id_tree.specs.Tree.{call, block, binding, loop as loop_tree, store};
 ghost use Rattle.id_tree.specs.Tree.{tree_of, stmt_tree, params_tree, def_tree, defs_tree, program_tree};
-ghost use Rattle.id_parts.specs.Names.{number_of, with_name};
+ghost use Rattle.id_parts.specs.Names.{first_names, number_of, with_name};
 ghost use Rattle.id_parts.specs.Rows.{arm, in_top, value_of, with_row, add, add_arguments, naming};
 ghost use Rattle.id_parts.specs.Rows.{add_variables, begin_loop, parts_of, rows_of, size};
 ghost use Rattle.id_parts.specs.declared.row.Node.TheVariants as variant;
 ghost use Rattle.id_parts.specs.declared.row.Node.TheVariants.{Variable, If, Arg, Next, NextUse, Enter, Turn};
-ghost use Rattle.id_parts.specs.Making.{add_argument, add_body, add_next, end_loop, other_side, pair_node, pair_tree};
+ghost use Rattle.id_parts.specs.Making.{add_argument, add_body, add_next, end_loop, pair_tree};
 ghost use Rattle.id_parts.specs.Making.{parts, texts, exprs_tree, stmts_tree, IsAdded, IsStart};
 
-use crate::row::{Node, Region, Row, Stand, Table};
+use crate::node::{
+    Pairing, arg_node, def_node, if_node, in_arm, next_node, other_side, pair_node, short, stand_in,
+};
+use crate::row::{Node, Row, Stand, Table};
 use crate::spelled::Spelled;
 use id_text::Identifier;
 use id_tree::{Block, Call, Def, Expr, Loop, Pair, Param, Program, Stmt, Triple};
-use id_value::{BinaryOp, Constant, Kind, UnaryOp};
+use id_value::{Constant, UnaryOp};
 use indexmap::IndexSet;
+use indexmap::set::IntoIter;
 use std::alloc::{AllocError, Global};
 
 /// The rows so far, and the names in them, each once. After an error neither is of use.
@@ -33,7 +37,16 @@ pub fn table_of(alloc: Global, program: &Program) -> Result<Table, AllocError>
     ensures names { IfOk result (λ t. t.names.items ≡ (parts_of (program_tree program.now)).names) }
 {
     let main = Identifier::new(alloc, "main")?;
-    let mut maker = Maker::new(alloc, about_rows(program), about_names(program), &main)?;
+    table_from(alloc, program, &main)
+}
+
+/// The table of the program, with this as the name `main`.
+fn table_from(alloc: Global, program: &Program, main: &Identifier) -> Result<Table, AllocError>
+    requires { main.now ≡ codes "main" }
+    ensures rows { IfOk result (λ t. t.rows.items ≡ rows_of (program_tree program.now)) }
+    ensures names { IfOk result (λ t. t.names.items ≡ (parts_of (program_tree program.now)).names) }
+{
+    let mut maker = Maker::new(alloc, about_rows(program), about_names(program), main)?;
     maker.add_program(program)?;
     let Maker { rows, numbers } = maker;
     let names = names_of(alloc, numbers)?;
@@ -114,10 +127,18 @@ fn keys_of<'a>(
     let count = numbers.len();
     let rest = numbers.into_iter();
     let mut keys = Vec::with_capacity(alloc, count)?;
+    push_keys(&mut keys, rest)?;
+    Ok(keys)
+}
+
+/// Adds the rest of the keys, in order.
+fn push_keys<'a>(keys: &mut Vec<Spelled<'a>>, rest: IntoIter<Spelled<'a>>) -> Result<(), AllocError>
+    ensures { OnOk result (keys.new.items ≡ keys.old.items ++ rest.entry) }
+{
     for key in rest {
         keys.push(key)?;
     }
-    Ok(keys)
+    Ok(())
 }
 
 /// These names, in order.
@@ -131,131 +152,18 @@ fn copy_names(alloc: Global, keys: &[Spelled<'_>]) -> Result<Vec<Identifier>, Al
     Ok(names)
 }
 
-/// The greatest number of 32 bits.
-const GREATEST: usize = 0xffff_ffff;
-
-/// The number in 32 bits. A greater one, which no text leads to, is told as want of memory.
-fn short(number: usize) -> Result<u32, AllocError>
-    ensures { IfOk result (λ n. n ≡ number) }
+/// The name `main` alone, with room for so many names.
+fn main_alone<'a>(
+    alloc: Global,
+    names: usize,
+    main: &'a Identifier,
+) -> Result<IndexSet<Spelled<'a>>, AllocError>
+    requires { main.now ≡ codes "main" }
+    ensures { IfOk result (λ n. texts n.keys ≡ first_names) }
 {
-    if number <= GREATEST {
-        Ok(number as u32)
-    } else {
-        Err(AllocError)
-    }
-}
-
-/// The node of a definition. Takes no memory.
-fn def_node(name: usize, head: usize, kind: Kind, body: usize) -> Result<Node, AllocError>
-    ensures { IfOk result (λ n. n ≡ variant.Def name head kind body) }
-{
-    Ok(Node::Def {
-        name: short(name)?,
-        head: short(head)?,
-        result: kind,
-        body: short(body)?,
-    })
-}
-
-/// The node of a conditional. Takes no memory.
-fn if_node(split: u32, then: usize, otherwise: usize) -> Result<Node, AllocError>
-    ensures { IfOk result (λ n. n ≡ If split then otherwise) }
-{
-    Ok(Node::If {
-        split,
-        then: short(then)?,
-        otherwise: short(otherwise)?,
-    })
-}
-
-/// A form of two expressions.
-#[derive(Clone, Copy)]
-pub enum Pairing {
-    Binary { op: BinaryOp },
-    Array,
-    Fetch,
-}
-
-/// The node of this form with these parts. Takes no memory.
-fn pair_node(form: Pairing, first: usize, second: usize) -> Node
-    ensures { result ≡ pair_node form first second }
-{
-    match form {
-        Pairing::Binary { op } => Node::Binary {
-            op,
-            left: first,
-            right: second,
-        },
-        Pairing::Array => Node::Array {
-            low: first,
-            high: second,
-        },
-        Pairing::Fetch => Node::Fetch {
-            target: first,
-            index: second,
-        },
-    }
-}
-
-/// The node of an argument. Takes no memory.
-fn arg_node(enter: usize, index: usize, value: usize) -> Result<Node, AllocError>
-    ensures { IfOk result (λ n. n ≡ Arg enter index value) }
-{
-    Ok(Node::Arg {
-        enter: short(enter)?,
-        index: short(index)?,
-        value: short(value)?,
-    })
-}
-
-/// The node of a `next` statement. Takes no memory.
-fn next_node(name: usize, index: usize, outer: usize, value: usize) -> Result<Node, AllocError>
-    ensures { IfOk result (λ n. n ≡ Next name index outer value) }
-{
-    Ok(Node::Next {
-        name: short(name)?,
-        index: short(index)?,
-        outer: short(outer)?,
-        value: short(value)?,
-    })
-}
-
-/// Where the body of the procedure with this head stands.
-fn stand_in(head: usize) -> Result<Stand, AllocError>
-    ensures { IfOk result (λ s. s ≡ in_top head) }
-{
-    let head = short(head)?;
-    Ok(Stand {
-        block: head,
-        region: Region { head, side: true },
-    })
-}
-
-/// Where the true side of the switches at the row `split` stands.
-fn in_arm(stand: Stand, split: usize) -> Result<Stand, AllocError>
-    ensures { IfOk result (λ s. s ≡ arm stand split true) }
-{
-    let split = short(split)?;
-    Ok(Stand {
-        block: stand.block,
-        region: Region {
-            head: split,
-            side: true,
-        },
-    })
-}
-
-/// Where the other side of the switches stands, behind their true side.
-fn other_side(stand: Stand) -> Stand
-    ensures { result ≡ other_side stand }
-{
-    Stand {
-        block: stand.block,
-        region: Region {
-            head: stand.region.head,
-            side: false,
-        },
-    }
+    let mut numbers = IndexSet::with_capacity(alloc, names)?;
+    numbers.insert(Spelled { name: main })?;
+    Ok(numbers)
 }
 
 impl<'a> Maker<'a> {
@@ -271,8 +179,7 @@ impl<'a> Maker<'a> {
         ensures { IfOk result IsStart }
     {
         let rows = Vec::with_capacity(alloc, rows)?;
-        let mut numbers = IndexSet::with_capacity(alloc, names)?;
-        numbers.insert(Spelled { name: main })?;
+        let numbers = main_alone(alloc, names, main)?;
         Ok(Maker { rows, numbers })
     }
 
@@ -371,14 +278,33 @@ impl<'a> Maker<'a> {
     fn add_def(&mut self, def: &'a Def) -> Result<(), AllocError>
         ensures { OnOk result (parts self.new ≡ add (in_top 0) (parts self.old) (def_tree def.now)) }
     {
-        let head = self.rows.len();
-        let stand = stand_in(head)?;
-        self.put(stand, def.place, head, Node::Head)?;
+        let stand = self.begin_def(def.place)?;
         self.add_params(stand, def.params.as_slice())?;
         let body = self.add_expr(stand, &def.body)?;
+        self.end_def(stand, def, body)
+    }
+
+    /// Adds the row where a definition begins, and gives where its parts stand.
+    fn begin_def(&mut self, place: u32) -> Result<Stand, AllocError>
+        ensures added { OnOk result (parts self.new ≡ with_row (parts self.old)
+            (in_top (size (parts self.old))) place (size (parts self.old)) variant.Head) }
+        ensures stand { IfOk result (λ s. s ≡ in_top (size (parts self.old))) }
+    {
+        let head = self.rows.len();
+        let stand = stand_in(head)?;
+        self.put(stand, place, head, Node::Head)?;
+        Ok(stand)
+    }
+
+    /// Adds the row of a definition behind its body, whose number this is, where its parts stand here.
+    fn end_def(&mut self, stand: Stand, def: &'a Def, body: usize) -> Result<(), AllocError>
+        ensures { OnOk result (parts self.new
+            ≡ with_row (naming (parts self.old) def.now.name) stand def.now.place stand.block
+            (variant.Def (number_of (parts self.old).names def.now.name) stand.block def.now.result body)) }
+    {
         let name = self.number(&def.name)?;
-        let node = def_node(name, head, def.result, body)?;
-        self.put(stand, def.place, head, node)
+        let node = def_node(name, stand.block, def.result, body)?;
+        self.put(stand, def.place, stand.block as usize, node)
     }
 
     fn add_params(&mut self, stand: Stand, params: &'a [Param]) -> Result<(), AllocError>

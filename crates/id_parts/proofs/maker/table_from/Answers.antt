@@ -5,7 +5,7 @@ use Rattle.id_parts.specs.Tables.{AreNamed, IsFormed, IsNested}
 use Rattle.id_parts.proofs.NumbersLemmas.{AreNamed-parts_of}
 use Rattle.id_parts.proofs.TableLemmas.{IsTable-rows_of}
 use Rattle.id_parts.proofs.TreeLemmas.{IsProgramTree-program_tree}
-use Rattle.id_parts.proofs.maker.table_of.Goals as goal
+use Rattle.id_parts.proofs.maker.table_from.Goals as goal
 
 pub invariant_of-result : goal.invariant_of-result
 invariant_of-result c =
