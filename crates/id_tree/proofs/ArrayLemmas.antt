@@ -17,7 +17,7 @@ use Rattle.id_tree.specs.Grammar.{Unary, Postfix, Atom, Tail, Rest, done, word, 
 use Rattle.id_tree.specs.Grammar.{statement_of, array_of, fetch_of, store_of, assigned_of, Opens, by_array}
 use Rattle.id_tree.specs.Machine.{opening, Frame, Target, Inside, Want, Have, Next, run}
 use Rattle.id_tree.specs.Readers.{first_kind, first_start, Leads, Fails, Takes, Misses, BeginsWithName, Encloses}
-use Rattle.id_tree.specs.Readers.{Exposes, Adds, Assigns, Misassigns, Indexes, Misindexes}
+use Rattle.id_tree.specs.Readers.{Exposes, Surrounds, Bares, Adds, Assigns, Misassigns, Indexes, Misindexes}
 use Rattle.id_tree.proofs.RunLemmas.{Unopened, run-bare, run-postfix, run-target, run-fetch, run-fetch-deep, run-chosen, run-done, run-part}
 use Rattle.id_tree.proofs.ReaderLemmas.{EndsBy-at, At, At-opens, first_of, no_word}
 use Rattle.id_tree.proofs.BlockLemmas.{At-statement}
@@ -121,6 +121,14 @@ module _ {ts us : List Token} {o : Scope} {d : ℕ} {x : List ℕ} {p h : ℕ} w
   pub Misassigns-enclosed : {w : Word} {f : Tree → Rest} {y : TreeError} →
       Behind ts o d x p us (enclosed w f) h → Exposes us (d + 0) w y → Misassigns ts o d x p y
   Misassigns-enclosed {f = f} {y = y} b q = record { fails = λ K. EndsBy-at y (b.comes K) (q.fails f h 0 K) }
+
+  pub Behind-surrounded : {v w : Word} {f : Tree → Rest} {vs : List Token} {a : Tree} {m : ℕ} →
+      Behind ts o d x p us (word v (enclosed w f)) h → Surrounds us (d + 0) v w vs a m → Behind ts o d x p vs (f a) (max h m)
+  Behind-surrounded {f = f} b q = record { comes = λ K. b.comes K ∙ q.comes f h 0 K }
+
+  pub Misassigns-surrounded : {v w : Word} {f : Tree → Rest} {y : TreeError} →
+      Behind ts o d x p us (word v (enclosed w f)) h → Bares us (d + 0) v w y → Misassigns ts o d x p y
+  Misassigns-surrounded {f = f} {y = y} b q = record { fails = λ K. EndsBy-at y (b.comes K) (q.fails f h 0 K) }
 
   -- behind the store the tail is wanted again
   pub Assigns-done : {s r : Tree} {k : ℕ} → r ≡ s → k ≡ h → Behind ts o d x p us (part (Tail o) (λ a. done (with_statement s a))) h → Assigns ts o d x p us r k

@@ -17,7 +17,7 @@ use Rattle.id_tree.specs.Grammar.{assigned_of, last_of, block_of, loop_of, Opens
 use Rattle.id_tree.specs.Grammar.{by_body, by_last}
 use Rattle.id_tree.specs.Machine.{opening, Inside, Want, Have, name_in, run}
 use Rattle.id_tree.specs.Readers.{first_kind, second_kind, IsRead, IsGathered, Leads, Fails, BeginsWithName}
-use Rattle.id_tree.specs.Readers.{LacksName, Encloses, Exposes, onto, last_word, Adds, Gathers}
+use Rattle.id_tree.specs.Readers.{LacksName, Encloses, Exposes, Surrounds, Bares, onto, last_word, Adds, Gathers}
 use Rattle.id_tree.proofs.RunLemmas.{run-none, run-done, run-part, run-inside}
 use Rattle.id_tree.proofs.ReaderLemmas.{EndsBy-at, At, At-opens, At-chosen, At-left_out, At-enclosed, Fails-enclosed, Leads-done, Leads-at}
 
@@ -51,6 +51,12 @@ Encloses-tail {ts = ts} {us = us} {d = d} {h = h} {w = w} {e = e} q = subst (λ 
 
 pub Exposes-tail : {ts : List Token} {d : ℕ} {w : Word} {x : TreeError} → Exposes ts d w x → Exposes ts (d + 0) w x
 Exposes-tail {ts = ts} {d = d} {w = w} {x = x} q = subst (λ k. Exposes ts k w x) (sym (add-zero d)) q
+
+pub Surrounds-tail : {ts us : List Token} {d h : ℕ} {v w : Word} {e : Tree} → Surrounds ts d v w us e h → Surrounds ts (d + 0) v w us e h
+Surrounds-tail {ts = ts} {us = us} {d = d} {h = h} {v = v} {w = w} {e = e} q = subst (λ k. Surrounds ts k v w us e h) (sym (add-zero d)) q
+
+pub Bares-tail : {ts : List Token} {d : ℕ} {v w : Word} {x : TreeError} → Bares ts d v w x → Bares ts (d + 0) v w x
+Bares-tail {ts = ts} {d = d} {v = v} {w = w} {x = x} q = subst (λ k. Bares ts k v w x) (sym (add-zero d)) q
 
 -- a binding or a store begins with a name
 pub At-statement : {ts us : List Token} {x : List ℕ} {p : ℕ} (o : Scope) (d : ℕ) → d + 1 ≤ 200 → BeginsWithName ts x p us →

@@ -6,6 +6,7 @@ mod FinishLemmas
 mod RefusedLemmas
 mod DistinctLemmas
 pub mod StartsLemmas
+mod ReadLemmas
 mod ReaderLemmas
 mod BlockLemmas
 mod ParamLemmas

@@ -31,7 +31,7 @@ use Rattle.id_tree.specs.Machine.{Have, Next, Finished, is_word, name_in, takes,
 use Rattle.id_tree.specs.Machine.{Accepted, Refused, run}
 use Rattle.id_tree.specs.Readers.{first_kind, first_start, truth_in, IsBehind, IsRead, EndsBy, IsPrefix, Leads, Fails}
 use Rattle.id_tree.specs.Readers.{Defines, Grows, Stunts, Takes, Misses, BeginsWithName, NoName, LacksName, Encloses}
-use Rattle.id_tree.specs.Readers.{Exposes, def_trees, Amasses, is_within, rung, beyond, ladder, may_deny, open_behind}
+use Rattle.id_tree.specs.Readers.{Exposes, Surrounds, Bares, def_trees, Amasses, is_within, rung, beyond, ladder, may_deny, open_behind}
 use Rattle.id_tree.specs.Readers.{operator_in, kept_within, operator_within, open_first, Rises}
 use Rattle.id_tree.proofs.RowLemmas.{opening-from_opens, same-is_word}
 use Rattle.id_tree.proofs.RunLemmas.{First, Unopened, run-step, run-deep, run-none, run-word, run-name, run-chosen}
@@ -264,6 +264,26 @@ pub Exposes-part : (w : Word) {ts : List Token} {d : ℕ} {x : TreeError} → Fa
 Exposes-part w {ts = ts} {d = d} {x = x} q = record {
   fails = λ f m c K. EndsBy-at x (run-part 200 ts Expression (λ a. word w (f a)) m d c K) (q.fails (Inside (λ a. word w (f a)) m d c ∷ K));
 }
+
+-- The same, behind a word.
+pub Bares-word : (v w : Word) {ts : List Token} {d : ℕ} {x : TreeError} → Misses (word v) ts x → Bares ts d v w x
+Bares-word v w {d = d} q = record { fails = λ f m c K. q.fails (enclosed w f) m d c K }
+
+module _ {ts us : List Token} {d : ℕ} {v w : Word} (p : Takes (word v) ts us) where
+  pub Surrounds-done : {vs : List Token} {e : Tree} {h : ℕ} → Encloses us d w vs e h → Surrounds ts d v w vs e h
+  Surrounds-done q = record { comes = λ f m c K. p.comes (enclosed w f) m d c K ∙ q.comes f m c K }
+
+  pub Bares-part : {x : TreeError} → Exposes us d w x → Bares ts d v w x
+  Bares-part {x = x} q = record { fails = λ f m c K. EndsBy-at x (p.comes (enclosed w f) m d c K) (q.fails f m c K) }
+
+module _ {ts us : List Token} {s : Phrase} {d h : ℕ} where
+  pub At-surrounded : {v w : Word} {f : Tree → Rest} {vs : List Token} {a : Tree} {m : ℕ} →
+      At ts s d us (word v (enclosed w f)) h → Surrounds us (d + own_height s) v w vs a m → At ts s d vs (f a) (max h m)
+  At-surrounded {f = f} p q = record { comes = λ K. p.comes K ∙ q.comes f h (own_height s) K }
+
+  pub Fails-surrounded : {v w : Word} {f : Tree → Rest} {x : TreeError} →
+      At ts s d us (word v (enclosed w f)) h → Bares us (d + own_height s) v w x → Fails ts s d x
+  Fails-surrounded {f = f} {x = x} p q = record { fails = λ K. EndsBy-at x (p.comes K) (q.fails f h (own_height s) K) }
 
 -- Levels: an operand has come, and the levels round it are open.
 first-none : (l : Level) (vs : List Token) → operator_of l (first_kind vs) ≡ None → First (λ k. operator_of l k ≡ None) vs

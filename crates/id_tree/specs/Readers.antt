@@ -25,7 +25,7 @@ use Rattle.id_tree.specs.declared.tree.TreeError.{TreeError}
 use Rattle.id_tree.specs.declared.tree.TreeError.TheVariants.{Unexpected, TooDeep, Memory}
 use Rattle.id_tree.specs.Tree.{Tree, tree_of, stmt_tree, def_tree, unary, param, more}
 use Rattle.id_tree.specs.Grammar.{Phrase, Definition, Parameters, MoreParameters, Arguments, MoreArguments, Tail, Rest}
-use Rattle.id_tree.specs.Grammar.{named_of, assigned_of, done, of_kind, part, sign, enclosed, with_statement, Opens}
+use Rattle.id_tree.specs.Grammar.{named_of, assigned_of, done, word, of_kind, part, sign, enclosed, with_statement, Opens}
 use Rattle.id_tree.specs.Grammar.{Grouped, operand, operator_of}
 use Rattle.id_tree.specs.Machine.{Frame, Left, Target, Inside, again, Begin, Want, Have, Next, Outcome, Refused}
 use Rattle.id_tree.specs.Machine.{name_in, run}
@@ -262,6 +262,16 @@ pub record Encloses (ts : List Token) (d : ℕ) (w : Word) (us : List Token) (e 
 -- the run ends so at an expression of a production or the word behind it
 pub record Exposes (ts : List Token) (d : ℕ) (w : Word) (x : TreeError) : Type 0 where
   pub fails : (f : Tree → Rest) (m c : ℕ) (K : List Frame) → EndsBy (run 200 ts (Next (enclosed w f) m d c K)) x
+
+-- the run takes a word, an expression of a production and the word behind it
+pub record Surrounds (ts : List Token) (d : ℕ) (v w : Word) (us : List Token) (e : Tree) (h : ℕ) : Type 0 where
+  pub comes : (f : Tree → Rest) (m c : ℕ) (K : List Frame) →
+      run 200 ts (Next (word v (enclosed w f)) m d c K) ≡ run 200 us (Next (f e) (max m h) d c K)
+
+-- the run ends so at a word, an expression of a production or the word behind it
+pub record Bares (ts : List Token) (d : ℕ) (v w : Word) (x : TreeError) : Type 0 where
+  pub fails : (f : Tree → Rest) (m c : ℕ) (K : List Frame) →
+      EndsBy (run 200 ts (Next (word v (enclosed w f)) m d c K)) x
 
 -- the statements' trees, in order, put before a list of trees
 abbrev pub onto : List Stmt → Tree → Tree

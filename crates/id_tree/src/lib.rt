@@ -8,6 +8,16 @@
 //! Not here: tokens (`id_text`), operators (`id_value`), names and kinds (`id_check`).
 #![tactic(auto)]
 
+/// What is found, unless it is an error, which is the answer then.
+macro_rules! found {
+    ($result:expr) => {
+        match $result {
+            Ok(found) => found,
+            Err(error) => return Err(error),
+        }
+    };
+}
+
 mod operators;
 mod parser;
 mod part;

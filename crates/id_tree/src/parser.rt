@@ -3,57 +3,24 @@
 //! A reader takes the tokens from its part on, and how many expressions stand round the part.
 //! It gives the part back with the tokens behind it.
 
-ghost use Rattle.std.specs.Prelude.{Some, ◌≡◌, ◌≢◌, ◌+◌, ◌<◌, ◌≤◌, ◌↔◌, IsTrue, IfOk, IfErr};
+ghost use Rattle.std.specs.Prelude.{Some, ◌≡◌, ◌≢◌, ◌+◌, ◌<◌, ◌≤◌, ◌↔◌, IsTrue, MatchResult};
 ghost use Rattle.id_text.specs.Tokens.{EndsOnce};
 ghost use Rattle.id_tree.specs.Tree.{tree_of, stmt_tree, none};
-ghost use Rattle.id_tree.specs.Grammar.{
-  Expression,
-  Grouped,
-  Negation,
-  Unary,
-  Postfix,
-  Atom,
-  Arguments,
-  Tail,
-  operand,
-  operator_of,
-};
-ghost use Rattle.id_tree.specs.Readers.{
-  first_kind,
-  second_kind,
-  last_word,
-  may_deny,
-  open_first,
-  IsRead,
-  IsPrefix,
-  Leads,
-  Fails,
-  Grows,
-  Stunts,
-  Encloses,
-  Exposes,
-  Indexes,
-  Misindexes,
-  Adds,
-  Assigns,
-  Misassigns,
-  Gathers,
-  IsGathered,
-  Applies,
-  Misapplies,
-  Hands,
-  passed,
-  Rises,
-};
+ghost use Rattle.id_tree.specs.Grammar.{Expression, Grouped, Negation, Unary, Postfix, Atom, Arguments};
+ghost use Rattle.id_tree.specs.Grammar.{Tail, operand, operator_of};
+ghost use Rattle.id_tree.specs.Readers.{first_kind, second_kind, last_word, may_deny, open_first, IsRead};
+ghost use Rattle.id_tree.specs.Readers.{IsPrefix, Leads, Fails, Grows, Stunts, Encloses, Exposes};
+ghost use Rattle.id_tree.specs.Readers.{Surrounds, Bares, Indexes, Misindexes, Adds, Assigns, Misassigns};
+ghost use Rattle.id_tree.specs.Readers.{Gathers, IsGathered, Applies, Misapplies, Hands, passed, Rises};
 
 use crate::operators::{begins_with_bracket, denies, open_behind, open_first, operator_within};
 use crate::part::{
-    Part, array, binary, binding, block, call, conditional, fetch, fitted, name, next, number,
-    store, truth, unary, whole_loop, with_rest,
+    Part, add_argument, add_statement, array, binary, binding, block, call, conditional, fetch,
+    fitted, name, next, number, store, truth, unary, whole_loop, with_rest,
 };
 use crate::tokens::{
-    Word, begins_with, begins_with_sign, enter, expect_name, expect_word, is_sign, no_room, split,
-    truth_of, unexpected,
+    Word, begins_with, begins_with_sign, copied, enter, expect_name, expect_word, is_sign, no_room,
+    split, truth_of, unexpected,
 };
 use crate::tree::{Expr, MAX_NESTING, Stmt, TreeError};
 use id_text::{Identifier, Keyword, Symbol, Token, TokenKind};
@@ -86,10 +53,10 @@ fn parse_expression(
 ) -> Result<(Part, &[Token]), TreeError>
     requires ends { EndsOnce tokens.now }
     requires room { depth < MAX_NESTING }
-    ensures read { IfOk result (λ x. IsRead tokens.now x.1.now depth x.0.height) }
-    ensures ok { IfOk result (λ x.
-        Leads tokens.now Expression depth x.1.now (tree_of x.0.expr) x.0.height) }
-    ensures err { IfErr result (Fails tokens.now Expression depth) }
+    ensures { MatchResult result
+        (λ x. IsRead tokens.now x.1.now depth x.0.height
+        × Leads tokens.now Expression depth x.1.now (tree_of x.0.expr) x.0.height)
+        (Fails tokens.now Expression depth) }
 {
     if begins_with(tokens, Keyword::If) {
         parse_conditional(alloc, tokens, depth)
@@ -108,16 +75,21 @@ fn parse_conditional(
     requires ends { EndsOnce tokens.now }
     requires begins { first_kind tokens.now ≡ TokenKind.Key Keyword.If }
     requires room { depth < MAX_NESTING }
-    ensures read { IfOk result (λ x. IsRead tokens.now x.1.now depth x.0.height) }
-    ensures ok { IfOk result (λ x.
-        Leads tokens.now Expression depth x.1.now (tree_of x.0.expr) x.0.height) }
-    ensures err { IfErr result (Fails tokens.now Expression depth) }
+    ensures { MatchResult result
+        (λ x. IsRead tokens.now x.1.now depth x.0.height
+        × Leads tokens.now Expression depth x.1.now (tree_of x.0.expr) x.0.height)
+        (Fails tokens.now Expression depth) }
 {
     let inner = depth + 1;
-    let (first, begun) = enter(tokens, inner + 1)?;
-    let (test, behind_then) = parse_enclosed(alloc, begun, Word::Key(Keyword::Then), inner)?;
-    let (then, behind_else) = parse_enclosed(alloc, behind_then, Word::Key(Keyword::Else), inner)?;
-    let (otherwise, rest) = parse_expression(alloc, behind_else, inner)?;
+    let (first, begun) = found!(enter(tokens, inner + 1));
+    let (test, behind_then) = found!(parse_enclosed(alloc, begun, Word::Key(Keyword::Then), inner));
+    let (then, behind_else) = found!(parse_enclosed(
+        alloc,
+        behind_then,
+        Word::Key(Keyword::Else),
+        inner
+    ));
+    let (otherwise, rest) = found!(parse_expression(alloc, behind_else, inner));
     with_rest(conditional(alloc, test, then, otherwise, first.start), rest)
 }
 
@@ -136,16 +108,16 @@ fn parse_grouped(
 ) -> Result<(Part, &[Token]), TreeError>
     requires ends { EndsOnce tokens.now }
     requires room { depth < MAX_NESTING }
-    ensures read { IfOk result (λ x. IsRead tokens.now x.1.now depth x.0.height) }
-    ensures ok { IfOk result (λ x.
-        Leads tokens.now (Grouped level) depth x.1.now (tree_of x.0.expr) x.0.height) }
-    ensures err { IfErr result (Fails tokens.now (Grouped level) depth) }
+    ensures { MatchResult result
+        (λ x. IsRead tokens.now x.1.now depth x.0.height
+        × Leads tokens.now (Grouped level) depth x.1.now (tree_of x.0.expr) x.0.height)
+        (Fails tokens.now (Grouped level) depth) }
 {
     let denied = denies(tokens, level);
-    let (mut left, mut rest) = parse_first(alloc, tokens, denied, level, depth)?;
+    let (mut left, mut rest) = found!(parse_first(alloc, tokens, denied, level, depth));
     let mut inner = open_first(denied);
     'operators: while let Some((at, op)) = operator_within(rest, inner, level) {
-        let (grown, behind) = parse_right(alloc, left, op, rest, at, depth)?;
+        let (grown, behind) = found!(parse_right(alloc, left, op, rest, at, depth));
         left = grown;
         inner = open_behind(at);
         rest = behind;
@@ -167,10 +139,10 @@ fn parse_first(
     requires denied { IsTrue denied ↔
         (may_deny level × (first_kind tokens.now ≡ TokenKind.Key Keyword.Not)) }
     requires room { depth < MAX_NESTING }
-    ensures read { IfOk result (λ x. IsRead tokens.now x.1.now depth x.0.height) }
-    ensures ok { IfOk result (λ x.
-        Rises tokens.now level depth (open_first denied) x.1.now (tree_of x.0.expr) x.0.height) }
-    ensures err { IfErr result (Fails tokens.now (Grouped level) depth) }
+    ensures { MatchResult result
+        (λ x. IsRead tokens.now x.1.now depth x.0.height
+        × Rises tokens.now level depth (open_first denied) x.1.now (tree_of x.0.expr) x.0.height)
+        (Fails tokens.now (Grouped level) depth) }
 {
     if denied {
         parse_prefixed(alloc, UnaryOp::Not, tokens, Level::And, depth)
@@ -193,14 +165,13 @@ fn parse_right(
     requires operator { operator_of level (first_kind tokens.now) ≡ Some op }
     requires some { 0 < left.height }
     requires fits { depth + left.height ≤ MAX_NESTING }
-    ensures read { IfOk result (λ x. IsRead tokens.now x.1.now depth x.0.height) }
-    ensures ok { IfOk result (λ x.
-        Grows tokens.now level depth (tree_of left.expr) left.height
-        x.1.now (tree_of x.0.expr) x.0.height) }
-    ensures err { IfErr result (Stunts tokens.now level depth (tree_of left.expr) left.height) }
+    ensures { MatchResult result
+        (λ x. IsRead tokens.now x.1.now depth x.0.height
+        × Grows tokens.now level depth (tree_of left.expr) left.height x.1.now (tree_of x.0.expr) x.0.height)
+        (Stunts tokens.now level depth (tree_of left.expr) left.height) }
 {
-    let (first, behind) = enter(tokens, depth + left.height + 1)?;
-    let (right, rest) = parse_operand(alloc, behind, level, depth + 1)?;
+    let (first, behind) = found!(enter(tokens, depth + left.height + 1));
+    let (right, rest) = found!(parse_operand(alloc, behind, level, depth + 1));
     with_rest(binary(alloc, op, left, right, first.start), rest)
 }
 
@@ -215,10 +186,10 @@ fn parse_operand(
 ) -> Result<(Part, &[Token]), TreeError>
     requires ends { EndsOnce tokens.now }
     requires room { depth < MAX_NESTING }
-    ensures read { IfOk result (λ x. IsRead tokens.now x.1.now depth x.0.height) }
-    ensures ok { IfOk result (λ x.
-        Leads tokens.now (operand level) depth x.1.now (tree_of x.0.expr) x.0.height) }
-    ensures err { IfErr result (Fails tokens.now (operand level) depth) }
+    ensures { MatchResult result
+        (λ x. IsRead tokens.now x.1.now depth x.0.height
+        × Leads tokens.now (operand level) depth x.1.now (tree_of x.0.expr) x.0.height)
+        (Fails tokens.now (operand level) depth) }
 {
     match level {
         Level::Or => parse_grouped(alloc, tokens, Level::And, depth),
@@ -238,10 +209,10 @@ fn parse_negation(
 ) -> Result<(Part, &[Token]), TreeError>
     requires ends { EndsOnce tokens.now }
     requires room { depth < MAX_NESTING }
-    ensures read { IfOk result (λ x. IsRead tokens.now x.1.now depth x.0.height) }
-    ensures ok { IfOk result (λ x.
-        Leads tokens.now Negation depth x.1.now (tree_of x.0.expr) x.0.height) }
-    ensures err { IfErr result (Fails tokens.now Negation depth) }
+    ensures { MatchResult result
+        (λ x. IsRead tokens.now x.1.now depth x.0.height
+        × Leads tokens.now Negation depth x.1.now (tree_of x.0.expr) x.0.height)
+        (Fails tokens.now Negation depth) }
 {
     if begins_with(tokens, Keyword::Not) {
         parse_prefixed(alloc, UnaryOp::Not, tokens, Level::And, depth)
@@ -262,14 +233,14 @@ fn parse_prefixed(
     requires ends { EndsOnce tokens.now }
     requires prefix { IsPrefix level op (first_kind tokens.now) }
     requires room { depth < MAX_NESTING }
-    ensures read { IfOk result (λ x. IsRead tokens.now x.1.now depth x.0.height) }
-    ensures ok { IfOk result (λ x.
-        Leads tokens.now (operand level) depth x.1.now (tree_of x.0.expr) x.0.height) }
-    ensures err { IfErr result (Fails tokens.now (operand level) depth) }
+    ensures { MatchResult result
+        (λ x. IsRead tokens.now x.1.now depth x.0.height
+        × Leads tokens.now (operand level) depth x.1.now (tree_of x.0.expr) x.0.height)
+        (Fails tokens.now (operand level) depth) }
 {
     let inner = depth + 1;
-    let (first, behind) = enter(tokens, inner + 1)?;
-    let (operand, rest) = parse_operand(alloc, behind, level, inner)?;
+    let (first, behind) = found!(enter(tokens, inner + 1));
+    let (operand, rest) = found!(parse_operand(alloc, behind, level, inner));
     with_rest(unary(alloc, op, operand, first.start), rest)
 }
 
@@ -281,10 +252,10 @@ fn parse_prefixed(
 fn parse_unary(alloc: Global, tokens: &[Token], depth: usize) -> Result<(Part, &[Token]), TreeError>
     requires ends { EndsOnce tokens.now }
     requires room { depth < MAX_NESTING }
-    ensures read { IfOk result (λ x. IsRead tokens.now x.1.now depth x.0.height) }
-    ensures ok { IfOk result (λ x.
-        Leads tokens.now Unary depth x.1.now (tree_of x.0.expr) x.0.height) }
-    ensures err { IfErr result (Fails tokens.now Unary depth) }
+    ensures { MatchResult result
+        (λ x. IsRead tokens.now x.1.now depth x.0.height
+        × Leads tokens.now Unary depth x.1.now (tree_of x.0.expr) x.0.height)
+        (Fails tokens.now Unary depth) }
 {
     let (first, rest) = split(tokens);
     match &first.kind {
@@ -295,7 +266,7 @@ fn parse_unary(alloc: Global, tokens: &[Token], depth: usize) -> Result<(Part, &
         }
         TokenKind::Name(x) => {
             if !begins_with_bracket(rest) {
-                let whole = name(x.copy(alloc)?, first.start);
+                let whole = name(found!(copied(alloc, x)), first.start);
                 return Ok((whole, rest));
             }
         }
@@ -315,10 +286,10 @@ fn parse_signed(
 ) -> Result<(Part, &[Token]), TreeError>
     requires ends { EndsOnce tokens.now }
     requires room { depth < MAX_NESTING }
-    ensures read { IfOk result (λ x. IsRead tokens.now x.1.now depth x.0.height) }
-    ensures ok { IfOk result (λ x.
-        Leads tokens.now Unary depth x.1.now (tree_of x.0.expr) x.0.height) }
-    ensures err { IfErr result (Fails tokens.now Unary depth) }
+    ensures { MatchResult result
+        (λ x. IsRead tokens.now x.1.now depth x.0.height
+        × Leads tokens.now Unary depth x.1.now (tree_of x.0.expr) x.0.height)
+        (Fails tokens.now Unary depth) }
 {
     if begins_with_sign(tokens, Symbol::Minus) {
         parse_prefixed(alloc, UnaryOp::Neg, tokens, Level::Product, depth)
@@ -336,14 +307,14 @@ fn parse_postfix(
 ) -> Result<(Part, &[Token]), TreeError>
     requires ends { EndsOnce tokens.now }
     requires room { depth < MAX_NESTING }
-    ensures read { IfOk result (λ x. IsRead tokens.now x.1.now depth x.0.height) }
-    ensures ok { IfOk result (λ x.
-        Leads tokens.now Postfix depth x.1.now (tree_of x.0.expr) x.0.height) }
-    ensures err { IfErr result (Fails tokens.now Postfix depth) }
+    ensures { MatchResult result
+        (λ x. IsRead tokens.now x.1.now depth x.0.height
+        × Leads tokens.now Postfix depth x.1.now (tree_of x.0.expr) x.0.height)
+        (Fails tokens.now Postfix depth) }
 {
-    let (mut target, mut rest) = parse_atom(alloc, tokens, depth)?;
+    let (mut target, mut rest) = found!(parse_atom(alloc, tokens, depth));
     'fetches: while begins_with_sign(rest, Symbol::LeftBracket) {
-        let (whole, behind) = parse_fetch(alloc, target, rest, depth)?;
+        let (whole, behind) = found!(parse_fetch(alloc, target, rest, depth));
         target = whole;
         rest = behind;
     }
@@ -362,15 +333,14 @@ fn parse_fetch(
     requires begins { first_kind tokens.now ≡ TokenKind.Sign Symbol.LeftBracket }
     requires some { 0 < target.height }
     requires fits { depth + target.height ≤ MAX_NESTING }
-    ensures read { IfOk result (λ x. IsRead tokens.now x.1.now depth x.0.height) }
-    ensures ok { IfOk result (λ x.
-        Indexes tokens.now depth (tree_of target.expr) target.height
-        x.1.now (tree_of x.0.expr) x.0.height) }
-    ensures err { IfErr result (Misindexes tokens.now depth (tree_of target.expr) target.height) }
+    ensures { MatchResult result
+        (λ x. IsRead tokens.now x.1.now depth x.0.height
+        × Indexes tokens.now depth (tree_of target.expr) target.height x.1.now (tree_of x.0.expr) x.0.height)
+        (Misindexes tokens.now depth (tree_of target.expr) target.height) }
 {
-    let (first, begun) = enter(tokens, depth + target.height + 1)?;
+    let (first, begun) = found!(enter(tokens, depth + target.height + 1));
     let bracket = Word::Sign(Symbol::RightBracket);
-    let (index, rest) = parse_enclosed(alloc, begun, bracket, depth + 1)?;
+    let (index, rest) = found!(parse_enclosed(alloc, begun, bracket, depth + 1));
     with_rest(fetch(alloc, target, index, first.start), rest)
 }
 
@@ -379,10 +349,10 @@ fn parse_fetch(
 fn parse_atom(alloc: Global, tokens: &[Token], depth: usize) -> Result<(Part, &[Token]), TreeError>
     requires ends { EndsOnce tokens.now }
     requires room { depth < MAX_NESTING }
-    ensures read { IfOk result (λ x. IsRead tokens.now x.1.now depth x.0.height) }
-    ensures ok { IfOk result (λ x.
-        Leads tokens.now Atom depth x.1.now (tree_of x.0.expr) x.0.height) }
-    ensures err { IfErr result (Fails tokens.now Atom depth) }
+    ensures { MatchResult result
+        (λ x. IsRead tokens.now x.1.now depth x.0.height
+        × Leads tokens.now Atom depth x.1.now (tree_of x.0.expr) x.0.height)
+        (Fails tokens.now Atom depth) }
 {
     if begins_with_sign(tokens, Symbol::LeftParen) {
         parse_parens(alloc, tokens, depth)
@@ -401,16 +371,21 @@ fn parse_array(alloc: Global, tokens: &[Token], depth: usize) -> Result<(Part, &
     requires ends { EndsOnce tokens.now }
     requires begins { first_kind tokens.now ≡ TokenKind.Key Keyword.Array }
     requires room { depth < MAX_NESTING }
-    ensures read { IfOk result (λ x. IsRead tokens.now x.1.now depth x.0.height) }
-    ensures ok { IfOk result (λ x.
-        Leads tokens.now Atom depth x.1.now (tree_of x.0.expr) x.0.height) }
-    ensures err { IfErr result (Fails tokens.now Atom depth) }
+    ensures { MatchResult result
+        (λ x. IsRead tokens.now x.1.now depth x.0.height
+        × Leads tokens.now Atom depth x.1.now (tree_of x.0.expr) x.0.height)
+        (Fails tokens.now Atom depth) }
 {
     let inner = depth + 1;
-    let (first, behind) = enter(tokens, inner + 1)?;
-    let opened = expect_word(behind, Word::Sign(Symbol::LeftParen))?;
-    let (low, begun) = parse_enclosed(alloc, opened, Word::Sign(Symbol::Comma), inner)?;
-    let (high, rest) = parse_enclosed(alloc, begun, Word::Sign(Symbol::RightParen), inner)?;
+    let (first, behind) = found!(enter(tokens, inner + 1));
+    let (low, begun) = found!(parse_between(
+        alloc,
+        behind,
+        Symbol::LeftParen,
+        Symbol::Comma,
+        inner
+    ));
+    let (high, rest) = found!(parse_enclosed(alloc, begun, Word::Sign(Symbol::RightParen), inner));
     with_rest(array(alloc, low, high, first.start), rest)
 }
 
@@ -424,14 +399,19 @@ fn parse_parens(
     requires ends { EndsOnce tokens.now }
     requires begins { first_kind tokens.now ≡ TokenKind.Sign Symbol.LeftParen }
     requires room { depth < MAX_NESTING }
-    ensures read { IfOk result (λ x. IsRead tokens.now x.1.now depth x.0.height) }
-    ensures ok { IfOk result (λ x.
-        Leads tokens.now Atom depth x.1.now (tree_of x.0.expr) x.0.height) }
-    ensures err { IfErr result (Fails tokens.now Atom depth) }
+    ensures { MatchResult result
+        (λ x. IsRead tokens.now x.1.now depth x.0.height
+        × Leads tokens.now Atom depth x.1.now (tree_of x.0.expr) x.0.height)
+        (Fails tokens.now Atom depth) }
 {
     let inner = depth + 1;
-    let (_, opened) = enter(tokens, inner + 1)?;
-    let (mut inside, rest) = parse_enclosed(alloc, opened, Word::Sign(Symbol::RightParen), inner)?;
+    let (_, opened) = found!(enter(tokens, inner + 1));
+    let (mut inside, rest) = found!(parse_enclosed(
+        alloc,
+        opened,
+        Word::Sign(Symbol::RightParen),
+        inner
+    ));
     inside.height += 1;
     Ok((inside, rest))
 }
@@ -446,14 +426,35 @@ pub(crate) fn parse_enclosed(
 ) -> Result<(Part, &[Token]), TreeError>
     requires ends { EndsOnce tokens.now }
     requires room { depth < MAX_NESTING }
-    ensures read { IfOk result (λ x. IsRead tokens.now x.1.now depth x.0.height) }
-    ensures ok { IfOk result (λ x.
-        Encloses tokens.now depth closing x.1.now (tree_of x.0.expr) x.0.height) }
-    ensures err { IfErr result (Exposes tokens.now depth closing) }
+    ensures { MatchResult result
+        (λ x. IsRead tokens.now x.1.now depth x.0.height
+        × Encloses tokens.now depth closing x.1.now (tree_of x.0.expr) x.0.height)
+        (Exposes tokens.now depth closing) }
 {
-    let (inside, closed) = parse_expression(alloc, tokens, depth)?;
-    let rest = expect_word(closed, closing)?;
+    let (inside, closed) = found!(parse_expression(alloc, tokens, depth));
+    let rest = found!(expect_word(closed, closing));
     Ok((inside, rest))
+}
+
+/// A sign, an expression, and the sign behind it.
+#[inline(always)]
+#[cycle(expr)]
+fn parse_between(
+    alloc: Global,
+    tokens: &[Token],
+    opening: Symbol,
+    closing: Symbol,
+    depth: usize,
+) -> Result<(Part, &[Token]), TreeError>
+    requires ends { EndsOnce tokens.now }
+    requires room { depth < MAX_NESTING }
+    ensures { MatchResult result
+        (λ x. IsRead tokens.now x.1.now depth x.0.height
+        × Surrounds tokens.now depth (Word.Sign opening) (Word.Sign closing) x.1.now (tree_of x.0.expr) x.0.height)
+        (Bares tokens.now depth (Word.Sign opening) (Word.Sign closing)) }
+{
+    let begun = found!(expect_word(tokens, Word::Sign(opening)));
+    parse_enclosed(alloc, begun, Word::Sign(closing), depth)
 }
 
 /// `block | loop`
@@ -466,10 +467,10 @@ fn parse_braces(
     requires ends { EndsOnce tokens.now }
     requires begins { first_kind tokens.now ≡ TokenKind.Sign Symbol.LeftBrace }
     requires room { depth < MAX_NESTING }
-    ensures read { IfOk result (λ x. IsRead tokens.now x.1.now depth x.0.height) }
-    ensures ok { IfOk result (λ x.
-        Leads tokens.now Atom depth x.1.now (tree_of x.0.expr) x.0.height) }
-    ensures err { IfErr result (Fails tokens.now Atom depth) }
+    ensures { MatchResult result
+        (λ x. IsRead tokens.now x.1.now depth x.0.height
+        × Leads tokens.now Atom depth x.1.now (tree_of x.0.expr) x.0.height)
+        (Fails tokens.now Atom depth) }
 {
     let (_, opened) = split(tokens);
     if begins_with(opened, Keyword::While) {
@@ -486,16 +487,16 @@ fn parse_block(alloc: Global, tokens: &[Token], depth: usize) -> Result<(Part, &
     requires begins { first_kind tokens.now ≡ TokenKind.Sign Symbol.LeftBrace }
     requires no_while { second_kind tokens.now ≢ TokenKind.Key Keyword.While }
     requires room { depth < MAX_NESTING }
-    ensures read { IfOk result (λ x. IsRead tokens.now x.1.now depth x.0.height) }
-    ensures ok { IfOk result (λ x.
-        Leads tokens.now Atom depth x.1.now (tree_of x.0.expr) x.0.height) }
-    ensures err { IfErr result (Fails tokens.now Atom depth) }
+    ensures { MatchResult result
+        (λ x. IsRead tokens.now x.1.now depth x.0.height
+        × Leads tokens.now Atom depth x.1.now (tree_of x.0.expr) x.0.height)
+        (Fails tokens.now Atom depth) }
 {
     let inner = depth + 1;
-    let (first, opened) = enter(tokens, inner + 1)?;
-    let (statements, height, last) = parse_statements(alloc, opened, Scope::Block, inner)?;
+    let (first, opened) = found!(enter(tokens, inner + 1));
+    let (statements, height, last) = found!(parse_statements(alloc, opened, Scope::Block, inner));
     let (_, begun) = split(last);
-    let (body, rest) = parse_enclosed(alloc, begun, Word::Sign(Symbol::RightBrace), inner)?;
+    let (body, rest) = found!(parse_enclosed(alloc, begun, Word::Sign(Symbol::RightBrace), inner));
     with_rest(block(alloc, statements, height, body, first.start), rest)
 }
 
@@ -506,18 +507,18 @@ fn parse_loop(alloc: Global, tokens: &[Token], depth: usize) -> Result<(Part, &[
     requires begins { first_kind tokens.now ≡ TokenKind.Sign Symbol.LeftBrace }
     requires loops { second_kind tokens.now ≡ TokenKind.Key Keyword.While }
     requires room { depth < MAX_NESTING }
-    ensures read { IfOk result (λ x. IsRead tokens.now x.1.now depth x.0.height) }
-    ensures ok { IfOk result (λ x.
-        Leads tokens.now Atom depth x.1.now (tree_of x.0.expr) x.0.height) }
-    ensures err { IfErr result (Fails tokens.now Atom depth) }
+    ensures { MatchResult result
+        (λ x. IsRead tokens.now x.1.now depth x.0.height
+        × Leads tokens.now Atom depth x.1.now (tree_of x.0.expr) x.0.height)
+        (Fails tokens.now Atom depth) }
 {
     let inner = depth + 1;
-    let (first, opened) = enter(tokens, inner + 1)?;
+    let (first, opened) = found!(enter(tokens, inner + 1));
     let (_, tested) = split(opened);
-    let (test, begun) = parse_enclosed(alloc, tested, Word::Key(Keyword::Do), inner)?;
-    let (statements, height, ending) = parse_statements(alloc, begun, Scope::Loop, inner)?;
+    let (test, begun) = found!(parse_enclosed(alloc, tested, Word::Key(Keyword::Do), inner));
+    let (statements, height, ending) = found!(parse_statements(alloc, begun, Scope::Loop, inner));
     let (_, left) = split(ending);
-    let (last, rest) = parse_enclosed(alloc, left, Word::Sign(Symbol::RightBrace), inner)?;
+    let (last, rest) = found!(parse_enclosed(alloc, left, Word::Sign(Symbol::RightBrace), inner));
     with_rest(
         whole_loop(alloc, test, statements, height, last, first.start),
         rest,
@@ -534,17 +535,18 @@ fn parse_statements(
 ) -> Result<(Vec<Stmt>, usize, &[Token]), TreeError>
     requires ends { EndsOnce tokens.now }
     requires room { depth < MAX_NESTING }
-    ensures read { IfOk result (λ x. IsGathered tokens.now x.2.now depth x.1) }
-    ensures last { IfOk result (λ x. first_kind x.2.now ≡ TokenKind.Key (last_word scope)) }
-    ensures ok { IfOk result (λ x. Gathers tokens.now scope depth x.2.now x.0.items x.1) }
-    ensures err { IfErr result (Fails tokens.now (Tail scope) depth) }
+    ensures { MatchResult result
+        (λ x. IsGathered tokens.now x.2.now depth x.1
+        × first_kind x.2.now ≡ TokenKind.Key (last_word scope)
+        × Gathers tokens.now scope depth x.2.now x.0.items x.1)
+        (Fails tokens.now (Tail scope) depth) }
 {
     let mut statements = Vec::new(alloc);
     let mut height = 0usize;
     let mut rest = tokens;
     'stmts: while !begins_with(rest, last_word(scope)) {
-        let (statement, own, behind) = parse_statement(alloc, rest, scope, depth)?;
-        statements.push(statement)?;
+        let (statement, own, behind) = found!(parse_statement(alloc, rest, scope, depth));
+        found!(add_statement(&mut statements, statement));
         height = height.max(own);
         rest = behind;
     }
@@ -562,19 +564,25 @@ fn parse_statement(
     requires ends { EndsOnce tokens.now }
     requires not_last { first_kind tokens.now ≢ TokenKind.Key (last_word scope) }
     requires room { depth < MAX_NESTING }
-    ensures read { IfOk result (λ x. IsRead tokens.now x.2.now depth x.1) }
-    ensures ok { IfOk result (λ x. Adds tokens.now scope depth x.2.now (stmt_tree x.0) x.1) }
-    ensures err { IfErr result (Fails tokens.now (Tail scope) depth) }
+    ensures { MatchResult result
+        (λ x. IsRead tokens.now x.2.now depth x.1
+        × Adds tokens.now scope depth x.2.now (stmt_tree x.0) x.1)
+        (Fails tokens.now (Tail scope) depth) }
 {
     if begins_next(tokens, scope) {
         return parse_next(alloc, tokens, depth);
     }
-    let (x, place, named) = expect_name(alloc, tokens)?;
+    let (x, place, named) = found!(expect_name(alloc, tokens));
     if begins_with_sign(named, Symbol::LeftBracket) {
         return parse_store(alloc, x, place, named, scope, depth);
     }
-    let begun = expect_word(named, Word::Sign(Symbol::Becomes))?;
-    let (value, rest) = parse_enclosed(alloc, begun, Word::Sign(Symbol::Semicolon), depth)?;
+    let (value, rest) = found!(parse_between(
+        alloc,
+        named,
+        Symbol::Becomes,
+        Symbol::Semicolon,
+        depth
+    ));
     let height = value.height;
     let statement = binding(x, value, place);
     Ok((statement, height, rest))
@@ -594,19 +602,24 @@ fn parse_store(
     requires ends { EndsOnce tokens.now }
     requires begins { first_kind tokens.now ≡ TokenKind.Sign Symbol.LeftBracket }
     requires room { depth < MAX_NESTING }
-    ensures read { IfOk result (λ y. IsRead tokens.now y.2.now depth y.1) }
-    ensures ok { IfOk result (λ y.
-        Assigns tokens.now scope depth x place y.2.now (stmt_tree y.0) y.1) }
-    ensures err { IfErr result (Misassigns tokens.now scope depth x place) }
+    ensures { MatchResult result
+        (λ y. IsRead tokens.now y.2.now depth y.1
+        × Assigns tokens.now scope depth x place y.2.now (stmt_tree y.0) y.1)
+        (Misassigns tokens.now scope depth x place) }
 {
     let (first, opened) = split(tokens);
     let bracket = Word::Sign(Symbol::RightBracket);
-    let (index, closed) = parse_enclosed(alloc, opened, bracket, depth)?;
-    let begun = expect_word(closed, Word::Sign(Symbol::Becomes))?;
-    let (value, rest) = parse_enclosed(alloc, begun, Word::Sign(Symbol::Semicolon), depth)?;
+    let (index, closed) = found!(parse_enclosed(alloc, opened, bracket, depth));
+    let (value, rest) = found!(parse_between(
+        alloc,
+        closed,
+        Symbol::Becomes,
+        Symbol::Semicolon,
+        depth
+    ));
     let height = index.height.max(value.height);
     let target = name(x, place);
-    let statement = store(alloc, target, index, value, first.start)?;
+    let statement = found!(store(alloc, target, index, value, first.start));
     Ok((statement, height, rest))
 }
 
@@ -620,14 +633,20 @@ fn parse_next(
     requires ends { EndsOnce tokens.now }
     requires begins { first_kind tokens.now ≡ TokenKind.Key Keyword.Next }
     requires room { depth < MAX_NESTING }
-    ensures read { IfOk result (λ x. IsRead tokens.now x.2.now depth x.1) }
-    ensures ok { IfOk result (λ x. Adds tokens.now Scope.Loop depth x.2.now (stmt_tree x.0) x.1) }
-    ensures err { IfErr result (Fails tokens.now (Tail Scope.Loop) depth) }
+    ensures { MatchResult result
+        (λ x. IsRead tokens.now x.2.now depth x.1
+        × Adds tokens.now Scope.Loop depth x.2.now (stmt_tree x.0) x.1)
+        (Fails tokens.now (Tail Scope.Loop) depth) }
 {
     let (first, rest) = split(tokens);
-    let (name, _, named) = expect_name(alloc, rest)?;
-    let begun = expect_word(named, Word::Sign(Symbol::Becomes))?;
-    let (value, behind) = parse_enclosed(alloc, begun, Word::Sign(Symbol::Semicolon), depth)?;
+    let (name, _, named) = found!(expect_name(alloc, rest));
+    let (value, behind) = found!(parse_between(
+        alloc,
+        named,
+        Symbol::Becomes,
+        Symbol::Semicolon,
+        depth
+    ));
     let height = value.height;
     let statement = next(name, value, first.start);
     Ok((statement, height, behind))
@@ -641,10 +660,10 @@ fn parse_leaf(alloc: Global, tokens: &[Token], depth: usize) -> Result<(Part, &[
     requires no_brace { first_kind tokens.now ≢ TokenKind.Sign Symbol.LeftBrace }
     requires no_array { first_kind tokens.now ≢ TokenKind.Key Keyword.Array }
     requires room { depth < MAX_NESTING }
-    ensures read { IfOk result (λ x. IsRead tokens.now x.1.now depth x.0.height) }
-    ensures ok { IfOk result (λ x.
-        Leads tokens.now Atom depth x.1.now (tree_of x.0.expr) x.0.height) }
-    ensures err { IfErr result (Fails tokens.now Atom depth) }
+    ensures { MatchResult result
+        (λ x. IsRead tokens.now x.1.now depth x.0.height
+        × Leads tokens.now Atom depth x.1.now (tree_of x.0.expr) x.0.height)
+        (Fails tokens.now Atom depth) }
 {
     let (first, rest) = split(tokens);
     match &first.kind {
@@ -652,7 +671,10 @@ fn parse_leaf(alloc: Global, tokens: &[Token], depth: usize) -> Result<(Part, &[
             let whole = number(value, first.start);
             Ok((whole, rest))
         }
-        TokenKind::Name(x) => parse_named(alloc, x.copy(alloc)?, first.start, rest, depth),
+        TokenKind::Name(x) => {
+            let name = found!(copied(alloc, x));
+            parse_named(alloc, name, first.start, rest, depth)
+        }
         TokenKind::Key(_) => match truth_of(first) {
             Some(value) => {
                 let whole = truth(value, first.start);
@@ -676,15 +698,14 @@ fn parse_named(
 ) -> Result<(Part, &[Token]), TreeError>
     requires ends { EndsOnce tokens.now }
     requires room { depth < MAX_NESTING }
-    ensures read { IfOk result (λ y.
-        (0 < y.0.height) × IsGathered tokens.now y.1.now depth y.0.height) }
-    ensures ok { IfOk result (λ y.
-        Applies tokens.now depth x place y.1.now (tree_of y.0.expr) y.0.height) }
-    ensures err { IfErr result (Misapplies tokens.now depth x place) }
+    ensures { MatchResult result
+        (λ y. (0 < y.0.height) × IsGathered tokens.now y.1.now depth y.0.height
+        × Applies tokens.now depth x place y.1.now (tree_of y.0.expr) y.0.height)
+        (Misapplies tokens.now depth x place) }
 {
     if begins_with_sign(tokens, Symbol::LeftParen) {
         let (_, opened) = split(tokens);
-        let (args, height, rest) = parse_arguments(alloc, opened, depth + 1)?;
+        let (args, height, rest) = found!(parse_arguments(alloc, opened, depth + 1));
         with_rest(call(alloc, x, args, height, place), rest)
     } else {
         let whole = name(x, place);
@@ -701,10 +722,10 @@ fn parse_arguments(
 ) -> Result<(Vec<Expr>, usize, &[Token]), TreeError>
     requires ends { EndsOnce tokens.now }
     requires room { depth ≤ MAX_NESTING }
-    ensures read { IfOk result (λ x. IsGathered tokens.now x.2.now depth x.1) }
-    ensures ok { IfOk result (λ x.
-        Leads tokens.now Arguments depth x.2.now (passed x.0.items none) x.1) }
-    ensures err { IfErr result (Fails tokens.now Arguments depth) }
+    ensures { MatchResult result
+        (λ x. IsGathered tokens.now x.2.now depth x.1
+        × Leads tokens.now Arguments depth x.2.now (passed x.0.items none) x.1)
+        (Fails tokens.now Arguments depth) }
 {
     let (first, closed) = split(tokens);
     if is_sign(first, Symbol::RightParen) {
@@ -713,7 +734,7 @@ fn parse_arguments(
     if depth >= MAX_NESTING {
         return Err(no_room(tokens));
     }
-    let (args, height, rest) = parse_some_arguments(alloc, tokens, depth)?;
+    let (args, height, rest) = found!(parse_some_arguments(alloc, tokens, depth));
     let (last, closed) = split(rest);
     if is_sign(last, Symbol::RightParen) {
         Ok((args, height, closed))
@@ -732,21 +753,20 @@ fn parse_some_arguments(
     requires ends { EndsOnce tokens.now }
     requires not_closed { first_kind tokens.now ≢ TokenKind.Sign Symbol.RightParen }
     requires room { depth < MAX_NESTING }
-    ensures read { IfOk result (λ x. IsRead tokens.now x.2.now depth x.1) }
-    ensures last { IfOk result (λ x. first_kind x.2.now ≢ TokenKind.Sign Symbol.Comma) }
-    ensures ok { IfOk result (λ x. Hands tokens.now depth x.2.now x.0.items x.1) }
-    ensures err { IfErr result (Fails tokens.now Arguments depth) }
+    ensures { MatchResult result
+        (λ x. IsRead tokens.now x.2.now depth x.1
+        × first_kind x.2.now ≢ TokenKind.Sign Symbol.Comma
+        × Hands tokens.now depth x.2.now x.0.items x.1)
+        (Fails tokens.now Arguments depth) }
 {
     let mut args = Vec::with_capacity(alloc, 1)?;
-    let (first, begun) = parse_expression(alloc, tokens, depth)?;
-    let mut height = first.height;
-    args.push(first.into_expr())?;
+    let (first, begun) = found!(parse_expression(alloc, tokens, depth));
+    let mut height = found!(add_argument(&mut args, first));
     let mut rest = begun;
     'arguments: while begins_with_sign(rest, Symbol::Comma) {
         let (_, next) = split(rest);
-        let (arg, behind) = parse_expression(alloc, next, depth)?;
-        height = height.max(arg.height);
-        args.push(arg.into_expr())?;
+        let (arg, behind) = found!(parse_expression(alloc, next, depth));
+        height = height.max(found!(add_argument(&mut args, arg)));
         rest = behind;
     }
     Ok((fitted(args), height, rest))

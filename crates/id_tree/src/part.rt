@@ -1,6 +1,7 @@
 //! Parts that were read, and how the expressions round them are made of them.
 
-ghost use Rattle.std.specs.Prelude.{Ok, Err, ◌≡◌, ◌+◌, ◌<◌, ◌^◌, IfOk, IfErr, max};
+ghost use Rattle.std.specs.Prelude.{Ok, Err, ◌≡◌, ◌+◌, ◌<◌, ◌^◌, [], ◌∷◌, ◌++◌};
+ghost use Rattle.std.specs.Prelude.{IfOk, IfErr, MatchResult, max};
 ghost use Rattle.id_tree.specs.declared.tree.TreeError.TheVariants.{Memory};
 ghost use Rattle.id_value.specs.declared.Constant.TheVariants as constant;
 ghost use Rattle.id_tree.specs.Tree.{tree_of, stmt_tree, none};
@@ -73,9 +74,10 @@ pub fn call(
     place: u32,
 ) -> Result<Part, TreeError>
     requires { height < 2 ^ 63 }
-    ensures height { IfOk result (λ p. p.height ≡ height + 1) }
-    ensures tree { IfOk result (λ p. tree_of p.expr ≡ tree.call name (passed args.items none) place) }
-    ensures err { IfErr result (λ e. e ≡ Memory) }
+    ensures { MatchResult result
+        (λ p. (p.height ≡ height + 1)
+        × (tree_of p.expr ≡ tree.call name (passed args.items none) place))
+        (λ e. e ≡ Memory) }
 {
     let height = height + 1;
     let inside = Box::new(alloc, Call { name, args })?;
@@ -86,9 +88,10 @@ pub fn call(
 /// The operand behind an operator.
 pub fn unary(alloc: Global, op: UnaryOp, operand: Part, place: u32) -> Result<Part, TreeError>
     requires { operand.height < 2 ^ 63 }
-    ensures height { IfOk result (λ p. p.height ≡ operand.height + 1) }
-    ensures tree { IfOk result (λ p. tree_of p.expr ≡ tree.unary op (tree_of operand.expr) place) }
-    ensures err { IfErr result (λ e. e ≡ Memory) }
+    ensures { MatchResult result
+        (λ p. (p.height ≡ operand.height + 1)
+        × (tree_of p.expr ≡ tree.unary op (tree_of operand.expr) place))
+        (λ e. e ≡ Memory) }
 {
     let height = operand.height + 1;
     let operand = Box::new(alloc, operand.into_expr())?;
@@ -139,13 +142,13 @@ pub fn binary(
 ) -> Result<Part, TreeError>
     requires low { left.height < 2 ^ 63 }
     requires high { right.height < 2 ^ 63 }
-    ensures height { IfOk result (λ p. p.height ≡ max left.height right.height + 1) }
-    ensures tree { IfOk result (λ p. tree_of p.expr
-        ≡ tree.binary op (tree_of left.expr) (tree_of right.expr) place) }
-    ensures err { IfErr result (λ e. e ≡ Memory) }
+    ensures { MatchResult result
+        (λ p. (p.height ≡ max left.height right.height + 1)
+        × (tree_of p.expr ≡ tree.binary op (tree_of left.expr) (tree_of right.expr) place))
+        (λ e. e ≡ Memory) }
 {
     let height = left.height.max(right.height) + 1;
-    let inside = pair(alloc, left, right)?;
+    let inside = found!(pair(alloc, left, right));
     let expr = Expr::Binary { op, place, inside };
     Ok(Part { expr, height })
 }
@@ -161,14 +164,13 @@ pub fn conditional(
     requires low { test.height < 2 ^ 63 }
     requires middle { then.height < 2 ^ 63 }
     requires high { otherwise.height < 2 ^ 63 }
-    ensures height { IfOk result (λ p.
-        p.height ≡ max (max test.height then.height) otherwise.height + 1) }
-    ensures tree { IfOk result (λ p. tree_of p.expr
-        ≡ tree.conditional (tree_of test.expr) (tree_of then.expr) (tree_of otherwise.expr) place) }
-    ensures err { IfErr result (λ e. e ≡ Memory) }
+    ensures { MatchResult result
+        (λ p. (p.height ≡ max (max test.height then.height) otherwise.height + 1)
+        × (tree_of p.expr ≡ tree.conditional (tree_of test.expr) (tree_of then.expr) (tree_of otherwise.expr) place))
+        (λ e. e ≡ Memory) }
 {
     let height = test.height.max(then.height).max(otherwise.height) + 1;
-    let inside = triple(alloc, test, then, otherwise)?;
+    let inside = found!(triple(alloc, test, then, otherwise));
     let expr = Expr::If { place, inside };
     Ok(Part { expr, height })
 }
@@ -177,13 +179,13 @@ pub fn conditional(
 pub fn array(alloc: Global, low: Part, high: Part, place: u32) -> Result<Part, TreeError>
     requires low { low.height < 2 ^ 63 }
     requires high { high.height < 2 ^ 63 }
-    ensures height { IfOk result (λ p. p.height ≡ max low.height high.height + 1) }
-    ensures tree { IfOk result (λ p. tree_of p.expr
-        ≡ tree.array (tree_of low.expr) (tree_of high.expr) place) }
-    ensures err { IfErr result (λ e. e ≡ Memory) }
+    ensures { MatchResult result
+        (λ p. (p.height ≡ max low.height high.height + 1)
+        × (tree_of p.expr ≡ tree.array (tree_of low.expr) (tree_of high.expr) place))
+        (λ e. e ≡ Memory) }
 {
     let height = low.height.max(high.height) + 1;
-    let inside = pair(alloc, low, high)?;
+    let inside = found!(pair(alloc, low, high));
     let expr = Expr::Array { place, inside };
     Ok(Part { expr, height })
 }
@@ -192,13 +194,13 @@ pub fn array(alloc: Global, low: Part, high: Part, place: u32) -> Result<Part, T
 pub fn fetch(alloc: Global, target: Part, index: Part, place: u32) -> Result<Part, TreeError>
     requires low { target.height < 2 ^ 63 }
     requires high { index.height < 2 ^ 63 }
-    ensures height { IfOk result (λ p. p.height ≡ max target.height index.height + 1) }
-    ensures tree { IfOk result (λ p. tree_of p.expr
-        ≡ tree.fetch (tree_of target.expr) (tree_of index.expr) place) }
-    ensures err { IfErr result (λ e. e ≡ Memory) }
+    ensures { MatchResult result
+        (λ p. (p.height ≡ max target.height index.height + 1)
+        × (tree_of p.expr ≡ tree.fetch (tree_of target.expr) (tree_of index.expr) place))
+        (λ e. e ≡ Memory) }
 {
     let height = target.height.max(index.height) + 1;
-    let inside = pair(alloc, target, index)?;
+    let inside = found!(pair(alloc, target, index));
     let expr = Expr::Fetch { place, inside };
     Ok(Part { expr, height })
 }
@@ -209,10 +211,11 @@ pub fn with_rest(
     whole: Result<Part, TreeError>,
     rest: &[Token],
 ) -> Result<(Part, &[Token]), TreeError>
-    ensures ok { IfOk result (λ x. (whole ≡ Ok x.0) × (x.1.now ≡ rest.now)) }
-    ensures err { IfErr result (λ e. whole ≡ Err e) }
+    ensures { MatchResult result
+        (λ x. (whole ≡ Ok x.0) × (x.1.now ≡ rest.now))
+        (λ e. whole ≡ Err e) }
 {
-    let whole = whole?;
+    let whole = found!(whole);
     Ok((whole, rest))
 }
 
@@ -240,12 +243,36 @@ pub fn store(
     value: Part,
     place: u32,
 ) -> Result<Stmt, TreeError>
-    ensures ok { IfOk result (λ s. stmt_tree s
-        ≡ tree.store (tree_of target.expr) (tree_of index.expr) (tree_of value.expr) place) }
-    ensures err { IfErr result (λ e. e ≡ Memory) }
+    ensures { MatchResult result
+        (λ s. stmt_tree s
+        ≡ tree.store (tree_of target.expr) (tree_of index.expr) (tree_of value.expr) place)
+        (λ e. e ≡ Memory) }
 {
-    let inside = triple(alloc, target, index, value)?;
+    let inside = found!(triple(alloc, target, index, value));
     Ok(Stmt::Store { place, inside })
+}
+
+/// Adds the argument behind those before it, and gives its height.
+#[inline(always)]
+pub fn add_argument(args: &mut Vec<Expr>, arg: Part) -> Result<usize, TreeError>
+    ensures { MatchResult result
+        (λ h. (args.new.items ≡ args.old.items ++ arg.expr ∷ []) × (h ≡ arg.height))
+        (λ e. e ≡ Memory) }
+{
+    let height = arg.height;
+    args.push(arg.into_expr())?;
+    Ok(height)
+}
+
+/// Adds the statement behind those before it.
+#[inline(always)]
+pub fn add_statement(statements: &mut Vec<Stmt>, statement: Stmt) -> Result<(), TreeError>
+    ensures { MatchResult result
+        (λ _. statements.new.items ≡ statements.old.items ++ statement ∷ [])
+        (λ e. e ≡ Memory) }
+{
+    statements.push(statement)?;
+    Ok(())
 }
 
 /// The statements, whose parts have at most this height, round the body.
@@ -258,10 +285,10 @@ pub fn block(
 ) -> Result<Part, TreeError>
     requires low { height < 2 ^ 63 }
     requires high { body.height < 2 ^ 63 }
-    ensures height { IfOk result (λ p. p.height ≡ max height body.height + 1) }
-    ensures tree { IfOk result (λ p. tree_of p.expr
-        ≡ tree.block (onto statements.items none) (tree_of body.expr) place) }
-    ensures err { IfErr result (λ e. e ≡ Memory) }
+    ensures { MatchResult result
+        (λ p. (p.height ≡ max height body.height + 1)
+        × (tree_of p.expr ≡ tree.block (onto statements.items none) (tree_of body.expr) place))
+        (λ e. e ≡ Memory) }
 {
     let height = height.max(body.height) + 1;
     let body = body.into_expr();
@@ -282,11 +309,10 @@ pub fn whole_loop(
     requires low { test.height < 2 ^ 63 }
     requires middle { height < 2 ^ 63 }
     requires high { last.height < 2 ^ 63 }
-    ensures height { IfOk result (λ p.
-        p.height ≡ max (max test.height height) last.height + 1) }
-    ensures tree { IfOk result (λ p. tree_of p.expr
-        ≡ tree.loop (tree_of test.expr) (onto statements.items none) (tree_of last.expr) place) }
-    ensures err { IfErr result (λ e. e ≡ Memory) }
+    ensures { MatchResult result
+        (λ p. (p.height ≡ max (max test.height height) last.height + 1)
+        × (tree_of p.expr ≡ tree.loop (tree_of test.expr) (onto statements.items none) (tree_of last.expr) place))
+        (λ e. e ≡ Memory) }
 {
     let height = test.height.max(height).max(last.height) + 1;
     let test = test.into_expr();

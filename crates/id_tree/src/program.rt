@@ -5,7 +5,7 @@
 ghost use Rattle.std.specs.Prelude.{◌≡◌, [], ◌∷◌, ◌++◌, IfOk, IfErr, MatchResult};
 ghost use Rattle.id_text.specs.Tokens.{EndsOnce, Rises};
 ghost use Rattle.id_text.specs.declared.token.TokenKind.TheVariants.{Key};
-ghost use Rattle.id_tree.specs.Tree.{Tree, params_tree, def_tree, program_tree};
+ghost use Rattle.id_tree.specs.Tree.{Tree, define, tree_of, params_tree, def_tree, program_tree};
 ghost use Rattle.id_tree.specs.declared.tree.Param.{Param};
 ghost use Rattle.id_tree.specs.Accepted.{Accepts, RefusedBy, IsMemory};
 ghost use Rattle.id_tree.specs.Distinct.{Distinct};
@@ -17,13 +17,13 @@ ghost use Rattle.id_tree.specs.Readers.{Declares, Undeclares, Heads};
 ghost use Rattle.id_tree.specs.Readers.{Beheads};
 
 use crate::parser::parse_enclosed;
-use crate::part::fitted;
+use crate::part::{Part, fitted};
 use crate::tokens::{
     Word, begins_with, begins_with_sign, expect_end, expect_kind, expect_name, expect_word,
     is_sign, split, unexpected,
 };
 use crate::tree::{Def, Param, Program, TreeError};
-use id_text::{Keyword, Sequence, Symbol, Token};
+use id_text::{Identifier, Keyword, Sequence, Symbol, Token};
 use id_value::Kind;
 use std::alloc::Global;
 
@@ -56,11 +56,11 @@ fn parse_program(alloc: Global, tokens: &[Token]) -> Result<Program, TreeError>
     let mut defs = Vec::new(alloc);
     let mut rest = tokens;
     'defs: while begins_with(rest, Keyword::Def) {
-        let (def, behind) = parse_def(alloc, rest)?;
+        let (def, behind) = found!(parse_def(alloc, rest));
         defs.push(def)?;
         rest = behind;
     }
-    expect_end(rest)?;
+    found!(expect_end(rest));
     Ok(Program {
         defs: Sequence::new(defs),
     })
@@ -70,59 +70,88 @@ fn parse_program(alloc: Global, tokens: &[Token]) -> Result<Program, TreeError>
 fn parse_def(alloc: Global, tokens: &[Token]) -> Result<(Def, &[Token]), TreeError>
     requires ends { EndsOnce tokens.now }
     requires begins { first_kind tokens.now ≡ Key Keyword.Def }
-    ensures behind { IfOk result (λ x. IsBehind x.1.now tokens.now) }
-    ensures ok { IfOk result (λ x. Defines tokens.now x.1.now (def_tree x.0)) }
-    ensures err { IfErr result (Fails tokens.now Definition 0) }
+    ensures { MatchResult result
+        (λ x. IsBehind x.1.now tokens.now × Defines tokens.now x.1.now (def_tree x.0))
+        (Fails tokens.now Definition 0) }
 {
     let (_, named) = split(tokens);
-    let (name, place, headed) = expect_name(alloc, named)?;
-    let (params, result, begun) = parse_heading(alloc, headed)?;
-    let (body, rest) = parse_enclosed(alloc, begun, Word::Sign(Symbol::Semicolon), 0)?;
-    let def = Def {
+    let (name, place, headed) = found!(expect_name(alloc, named));
+    let (params, kind, begun) = found!(parse_heading(alloc, headed));
+    let (body, rest) = found!(parse_enclosed(alloc, begun, Word::Sign(Symbol::Semicolon), 0));
+    Ok((definition(name, place, params, kind, body), rest))
+}
+
+/// The definition of this name, at this place.
+#[inline(always)]
+fn definition(name: Identifier, place: u32, params: Vec<Param>, kind: Kind, body: Part) -> Def
+    ensures { def_tree result
+        ≡ define name (params_tree params.items) kind (tree_of body.expr) place }
+{
+    Def {
         name,
         params: Sequence::new(fitted(params)),
-        result,
+        result: kind,
         body: body.into_expr(),
         place,
-    };
-    Ok((def, rest))
+    }
 }
 
 /// `"(" [ param { "," param } ] ")" ":" kind "="`
 fn parse_heading(alloc: Global, tokens: &[Token]) -> Result<(Vec<Param>, Kind, &[Token]), TreeError>
     requires { EndsOnce tokens.now }
-    ensures behind { IfOk result (λ x. IsBehind x.2.now tokens.now) }
-    ensures ok { IfOk result (λ x. Heads tokens.now x.2.now (params_tree x.0.items) x.1) }
-    ensures err { IfErr result (Beheads tokens.now) }
+    ensures { MatchResult result
+        (λ x. IsBehind x.2.now tokens.now
+        × Heads tokens.now x.2.now (params_tree x.0.items) x.1)
+        (Beheads tokens.now) }
 {
-    let opened = expect_word(tokens, Word::Sign(Symbol::LeftParen))?;
-    let (params, closed) = parse_params(alloc, opened)?;
-    let (kind, headed) = expect_kind(closed)?;
-    let rest = expect_word(headed, Word::Sign(Symbol::Becomes))?;
+    let opened = found!(expect_word(tokens, Word::Sign(Symbol::LeftParen)));
+    let (params, closed) = found!(parse_params(alloc, opened));
+    let (kind, headed) = found!(expect_kind(closed));
+    let rest = found!(expect_word(headed, Word::Sign(Symbol::Becomes)));
     Ok((params, kind, rest))
 }
 
 /// `[ param { "," param } ] ")"`
 fn parse_params(alloc: Global, tokens: &[Token]) -> Result<(Vec<Param>, &[Token]), TreeError>
     requires { EndsOnce tokens.now }
-    ensures behind { IfOk result (λ x. IsBehind x.1.now tokens.now) }
-    ensures ok { IfOk result (λ x.
-        Leads tokens.now Parameters 0 x.1.now (params_tree x.0.items) 0) }
-    ensures err { IfErr result (Fails tokens.now Parameters 0) }
+    ensures { MatchResult result
+        (λ x. IsBehind x.1.now tokens.now
+        × Leads tokens.now Parameters 0 x.1.now (params_tree x.0.items) 0)
+        (Fails tokens.now Parameters 0) }
 {
     let mut params = Vec::with_capacity(alloc, 2)?;
+    let rest = found!(add_params(alloc, &mut params, tokens));
+    Ok((params, rest))
+}
+
+/// The same, where the parameters are added to a list that has none.
+///
+/// Gives the tokens behind them.
+#[inline(always)]
+fn add_params<'a>(
+    alloc: Global,
+    params: &mut Vec<Param>,
+    tokens: &'a [Token],
+) -> Result<&'a [Token], TreeError>
+    requires ends { EndsOnce tokens.now }
+    requires none { params.old.items ≡ [] }
+    ensures { MatchResult result
+        (λ rest. IsBehind rest.now tokens.now
+        × Leads tokens.now Parameters 0 rest.now (params_tree params.new.items) 0)
+        (Fails tokens.now Parameters 0) }
+{
     let (first, closed) = split(tokens);
     if is_sign(first, Symbol::RightParen) {
-        return Ok((params, closed));
+        return Ok(closed);
     }
-    let mut rest = add_param(alloc, &mut params, tokens)?;
+    let mut rest = found!(add_param(alloc, params, tokens));
     'params: while begins_with_sign(rest, Symbol::Comma) {
         let (_, named) = split(rest);
-        rest = add_param(alloc, &mut params, named)?;
+        rest = found!(add_param(alloc, params, named));
     }
     let (last, closed) = split(rest);
     if is_sign(last, Symbol::RightParen) {
-        Ok((params, closed))
+        Ok(closed)
     } else {
         Err(unexpected(rest))
     }
@@ -137,13 +166,13 @@ fn add_param<'a>(
     tokens: &'a [Token],
 ) -> Result<&'a [Token], TreeError>
     requires { EndsOnce tokens.now }
-    ensures behind { IfOk result (λ rest. IsBehind rest.now tokens.now) }
-    ensures ok { IfOk result (λ rest.
-        (p : Param) × (params.new.items ≡ params.old.items ++ p ∷ []) × Declares tokens.now rest.now p) }
-    ensures err { IfErr result (Undeclares tokens.now) }
+    ensures { MatchResult result
+        (λ rest. IsBehind rest.now tokens.now × ((p : Param)
+        × (params.new.items ≡ params.old.items ++ p ∷ []) × Declares tokens.now rest.now p))
+        (Undeclares tokens.now) }
 {
-    let (name, place, typed) = expect_name(alloc, tokens)?;
-    let (kind, rest) = expect_kind(typed)?;
+    let (name, place, typed) = found!(expect_name(alloc, tokens));
+    let (kind, rest) = found!(expect_kind(typed));
     params.push(Param { name, kind, place })?;
     Ok(rest)
 }

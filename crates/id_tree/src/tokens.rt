@@ -1,6 +1,6 @@
 //! One token at a time, at the front of a list that ends in `End`.
 
-ghost use Rattle.std.specs.Prelude.{◌≡◌, ◌≢◌, ◌∷◌, ◌<◌, ◌≤◌, ◌↔◌, IsTrue, IfOk, IfErr};
+ghost use Rattle.std.specs.Prelude.{◌≡◌, ◌≢◌, ◌∷◌, ◌<◌, ◌≤◌, ◌↔◌, IsTrue, IfOk, IfErr, MatchResult};
 ghost use Rattle.id_text.specs.Tokens.{EndsOnce};
 ghost use Rattle.id_tree.specs.Readers.{
   first_kind,
@@ -187,6 +187,15 @@ pub fn expect_word(tokens: &[Token], wanted: Word) -> Result<&[Token], TreeError
     } else {
         Err(unexpected(tokens))
     }
+}
+
+/// The same name, in memory of its own.
+#[inline(always)]
+pub fn copied(alloc: Global, name: &Identifier) -> Result<Identifier, TreeError>
+    ensures { MatchResult result (λ n. n ≡ name.now) (λ e. e ≡ TreeError.Memory) }
+{
+    let copy = name.copy(alloc)?;
+    Ok(copy)
 }
 
 /// The name that the tokens begin with, its place, and the tokens behind it.

@@ -63,16 +63,16 @@ abbrev pub decreases-parse_enclosed : goal.decreases-parse_enclosed
 decreases-parse_enclosed l = (200 - l.depth) * 32 + 18
 
 abbrev pub decreases-parse_next : goal.decreases-parse_next
-decreases-parse_next l = (200 - l.depth) * 32 + 19
+decreases-parse_next l = (200 - l.depth) * 32 + 20
 
 abbrev pub decreases-parse_store : goal.decreases-parse_store
-decreases-parse_store l = (200 - l.depth) * 32 + 19
+decreases-parse_store l = (200 - l.depth) * 32 + 20
 
 abbrev pub decreases-parse_statement : goal.decreases-parse_statement
-decreases-parse_statement l = (200 - l.depth) * 32 + 20
+decreases-parse_statement l = (200 - l.depth) * 32 + 21
 
 abbrev pub decreases-parse_statements : goal.decreases-parse_statements
-decreases-parse_statements l = (200 - l.depth) * 32 + 21
+decreases-parse_statements l = (200 - l.depth) * 32 + 22
 
 abbrev pub decreases-parse_leaf : goal.decreases-parse_leaf
 decreases-parse_leaf l = (200 - l.depth) * 32 + 1
@@ -115,3 +115,6 @@ invariant-parse_statements-stmts l = IsGathered l.fn.tokens l.rest l.depth l.hei
 
 abbrev pub decreases-parse_statements-stmts : goal.decreases-parse_statements-stmts
 decreases-parse_statements-stmts l = length l.rest
+
+abbrev pub decreases-parse_between : goal.decreases-parse_between
+decreases-parse_between l = (200 - l.depth) * 32 + 19

@@ -1,12 +1,14 @@
 -- The row of a block's statements, read as their list.
-use Rattle.std.proofs.Common.{ap, ◌∙◌}
+use Rattle.std.proofs.Common.{rules, ap, ◌∙◌}
 use Rattle.id_tree.specs.Tree.{tree_of, block, none}
 use Rattle.id_tree.specs.Readers.{onto}
 use Rattle.id_tree.proofs.StatementLemmas.{tree-block}
 use Rattle.id_tree.proofs.part.block.Goals as goal
 
-pub returns-clause-tree : goal.returns-clause-tree
-returns-clause-tree c =
-    tree-block c.args.place c.in_ok-inside.inside
-    ∙ ap (λ b. block (onto b.statements.items none) (tree_of b.body) c.args.place) c.in_ok-inside.ensures.ok
-    ∙ ap (λ e. block (onto c.args.statements.items none) (tree_of e) c.args.place) c.into_expr-body.ensures
+pub returns : goal.returns
+returns c = (
+  search rules,
+  tree-block c.args.place c.in_ok-inside.inside
+      ∙ ap (λ b. block (onto b.statements.items none) (tree_of b.body) c.args.place) c.in_ok-inside.ensures.ok
+      ∙ ap (λ e. block (onto c.args.statements.items none) (tree_of e) c.args.place) c.into_expr-body.ensures,
+)

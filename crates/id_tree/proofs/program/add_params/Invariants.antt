@@ -1,7 +1,7 @@
 -- Each parameter takes a token at least.
 use Rattle.std.proofs.Common.{length}
 use Rattle.id_tree.specs.Readers.{IsBehind, Counts}
-use Rattle.id_tree.proofs.program.parse_params.Given as goal
+use Rattle.id_tree.proofs.program.add_params.Given as goal
 
 -- parameters have come, and more may
 abbrev pub invariant-params : goal.invariant-params
