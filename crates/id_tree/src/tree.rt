@@ -149,9 +149,15 @@ pub struct Def {
 }
 
 /// The definitions of a text, in order.
-#[derive(Drop)]
 pub struct Program {
     pub defs: Sequence<Def>,
+}
+
+/// A drop of its own, so that who holds a program lets it go by one call.
+impl Drop for Program {
+    fn drop(self) {
+        let Program { defs: _ } = self;
+    }
 }
 
 /// Why a list of tokens is no program.
