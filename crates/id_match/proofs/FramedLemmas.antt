@@ -1,10 +1,11 @@
 -- Lemmas on specs/Rear.antt.
 use Rattle.std.proofs.Common.{◌≡◌, ◌≢◌, ℕ, zero, suc, ◌<◌, drop, drop-cons, Bool, true, false, cond, ◌&&◌, nat_eq, List, [], ◌∷◌, ◌++◌}
-use Rattle.std.proofs.Common.{length, get_or, Option, Some, None, IsSome, is_some, IfSome, IsPermutation, swap_remove, insert, refl, sym, ◌∙◌, ap, subst, arith}
+use Rattle.std.proofs.Common.{length, get_or, Option, Some, None, IsSome, is_some, IfSome, IsPermutation, Result, swap_remove, insert, refl, sym, ◌∙◌, ap, subst, arith}
 use Rattle.std.specs.Cmp.{IsEquivalence}
 use Rattle.std.specs.List.{IsDistinct, Contains}
 use Rattle.std.specs.Map.{lookup, keys_of}
 use Rattle.std.specs.Option.{option_or}
+use Rattle.std.specs.declared.alloc.AllocError.{AllocError}
 use Rattle.std.proofs.lemmas.Bool.Decides.{nat_tests}
 use Rattle.std.proofs.lemmas.Cmp.{nat_eq_equiv}
 use Rattle.std.proofs.lemmas.Grind.{common_steps}
@@ -21,11 +22,12 @@ use Rattle.id_tag.specs.Tags.{same_tag, same_context}
 use Rattle.id_tag.proofs.TagsLemmas.{same_tag_laws, one_from_same_tag}
 use Rattle.id_match.specs.declared.Half.{Half}
 use Rattle.id_match.specs.declared.Offered.{Offered}
+use Rattle.id_match.specs.declared.rear.Came.{Came}
 use Rattle.id_match.specs.declared.rear.Frame.{Frame}
 use Rattle.id_match.specs.declared.rear.Name.{Name}
 use Rattle.id_match.specs.Halves.{half_after}
 use Rattle.id_match.specs.Rear.{name_of, same_name, tag_at, halves_in, halves_by, halves_of, rear_half, frame_entries, rear_entries}
-use Rattle.id_match.specs.Rear.{IsFramed, Sets, Holds, after_said}
+use Rattle.id_match.specs.Rear.{IsFramed, Sets, Holds, MakesFrame, TellsOf, WritesFrame, after_came, after_said}
 use Rattle.id_match.proofs.FrontLemmas.{lookup-append, not_passed, numbers_one, numbers_apart}
 
 -- ---- names
@@ -363,6 +365,63 @@ module _ (keys : List (Name × ℕ)) (frames : Slab Frame) (was : IsFramed keys 
           here = here keys frames more slab t n own p [] o held below (sets.under distinct);
           there = there keys frames more slab t n own p [] o held below (sets.under distinct);
         }
+
+-- ---- what an offer to the frames comes to
+
+-- no frame has changed
+pub stayed : (keys : List (Name × ℕ)) (frames : Slab Frame) (more : List (Name × ℕ)) (slab : Slab Frame) (t : Tag) → IsFramed keys frames
+    → more ≡ keys → slab.slots ≡ frames.slots → Holds keys frames more slab t (rear_half keys frames t)
+stayed keys frames more slab t was same slots =
+    subst (λ l. Holds keys frames l slab t (rear_half keys frames t)) (sym same)
+    (subst (λ l. Holds keys frames keys (record { slots = l; vacant_key = slab.vacant_key; capacity = slab.capacity }) t (rear_half keys frames t))
+    (sym slots) (record {
+      framed = record { unique = was.unique; held = was.held; apart = was.apart; single = was.single };
+      here = refl;
+      there = λ u apart. refl;
+    }))
+
+module _ (keys : List (Name × ℕ)) (frames : Slab Frame) (was : IsFramed keys frames) (t : Tag) (n : Name) (own : n ≡ name_of t) where
+  -- what waits under a tag whose name the table has not
+  pub none_in : lookup (same_name n) keys ≡ None → rear_half keys frames t ≡ None
+  none_in absent =
+      ap (λ m. lookup (nat_eq t.instr) (halves_of keys frames m)) (sym own) ∙ ap (λ o. lookup (nat_eq t.instr) (halves_by frames o)) absent
+
+  pub made_in : (more : List (Name × ℕ)) (slab : Slab Frame) (key : ℕ) (h : Half) → lookup (same_name n) keys ≡ None
+      → ((m : Name) → lookup (same_name m) more ≡ cond (same_name n m) (Some key) (lookup (same_name m) keys))
+      → IsDistinct same_name (keys_of more) → MakesFrame frames slab key t.instr h
+      → Holds keys frames more slab t (half_after (rear_half keys frames t) h.port h.value)
+  made_in more slab key h absent tells unique makes =
+      subst (Holds keys frames more slab t) (sym (ap (λ o. half_after o h.port h.value) (none_in absent)))
+      (made keys frames was t n own key more slab makes.frame h absent makes.vacant tells unique makes.updates makes.only)
+
+  module _ (key : ℕ) (found : lookup (same_name n) keys ≡ Some key) where
+    -- what waits under a tag stands in its frame
+    pub half_in : rear_half keys frames t ≡ lookup (nat_eq t.instr) (halves_in (get frames key))
+    half_in =
+        ap (λ m. lookup (nat_eq t.instr) (halves_of keys frames m)) (sym own) ∙ ap (λ o. lookup (nat_eq t.instr) (halves_by frames o)) found
+
+    pub tells_in : (r : Result Came AllocError) (h : Half) (short room : Bool)
+        → TellsOf r h short room (lookup (nat_eq t.instr) (halves_in (get frames key))) → TellsOf r h short room (rear_half keys frames t)
+    tells_in r h short room tells = subst (TellsOf r h short room) (sym half_in) tells
+
+    module _ (more : List (Name × ℕ)) (mid : Slab Frame) (r : Result Came AllocError) (h : Half)
+        (writes : WritesFrame frames mid key t.instr (after_came r h (lookup (nat_eq t.instr) (halves_in (get frames key))))) where
+      pub wrote_in : (slab : Slab Frame) → more ≡ keys → slab ≡ mid → Holds keys frames more slab t (after_came r h (rear_half keys frames t))
+      wrote_in slab same stays =
+          subst (λ s. Holds keys frames more s t (after_came r h (rear_half keys frames t))) (sym stays)
+          (subst (λ o. Holds keys frames more mid t (after_came r h o)) (sym half_in)
+          (wrote keys frames was t n own key more mid found (halves_in (get frames key)) refl _ writes.frame same writes.updates writes.sets))
+
+      pub left_in : (slab : Slab Frame) → ((m : Name) → lookup (same_name m) more ≡ cond (same_name n m) None (lookup (same_name m) keys))
+          → IsDistinct same_name (keys_of more) → (halves_in (get mid key) ≡ []) × Updates mid slab key None
+          → Holds keys frames more slab t (after_came r h (rear_half keys frames t))
+      left_in slab tells unique gives =
+          let o = after_came r h (lookup (nat_eq t.instr) (halves_in (get frames key))) in
+          let empty : writes.frame.halves.items ≡ [] = ap halves_in (sym writes.updates.changed) ∙ gives.0 in
+          subst (λ o. Holds keys frames more slab t (after_came r h o)) (sym half_in)
+          (left keys frames was t n own key more slab found (halves_in (get frames key)) refl o tells unique
+          (updates_twice frames mid slab key (Some writes.frame) None writes.updates gives.1)
+          (subst (λ l. Sets (halves_in (get frames key)) l t.instr o) empty writes.sets))
 
 -- ---- what an offer to a frame sets
 

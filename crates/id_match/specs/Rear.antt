@@ -1,12 +1,13 @@
 -- The rear of the store: what waits behind its front, in frames.
 use Rattle.std.specs.Prelude.{◌≡◌, ℕ, Bool, ◌==◌, ◌&&◌, if◌then◌else◌, nat_eq, Option, Some, None, List, [], map, true}
-use Rattle.std.specs.Prelude.{Result, Ok, Err, false}
+use Rattle.std.specs.Prelude.{Result, Ok, Err, false, ◌≢◌, ◌∷◌, IfSome, IsTrue}
 use Rattle.std.specs.declared.alloc.AllocError.{AllocError}
 use Rattle.std.specs.List.{flat_map, IsDistinct}
 use Rattle.std.specs.Map.{lookup, keys_of}
-use Rattle.slab.specs.Slab.{Slab, ContainsKey, get}
+use Rattle.slab.specs.Slab.{Slab, ContainsKey, Updates, get}
 use Rattle.id_tag.specs.declared.Tag.{Tag}
 use Rattle.id_tag.specs.Plains.{whole}
+use Rattle.id_tag.specs.declared.Value.{Value}
 use Rattle.id_tag.specs.Tags.{same_context, same_tag}
 use Rattle.id_match.specs.declared.Half.{Half}
 use Rattle.id_match.specs.declared.Offered.{Offered}
@@ -15,7 +16,7 @@ use Rattle.id_match.specs.declared.rear.Came.{Came}
 use Rattle.id_match.specs.declared.rear.Came.TheVariants.{Kept, Plain, Partner, Apart}
 use Rattle.id_match.specs.declared.rear.Frame.{Frame}
 use Rattle.id_match.specs.declared.rear.Name.{Name}
-use Rattle.id_match.specs.Halves.{half_after}
+use Rattle.id_match.specs.Halves.{answer_at, half_after}
 use Rattle.id_match.specs.Waiting.{pair_of}
 
 -- the name of a tag's frame
@@ -93,3 +94,28 @@ after_said (Some a) h o = half_after o h.port h.value
 abbrev pub after_came : Result Came AllocError → Half → Option Half → Option Half
 after_came (Ok came) h o = after_said (said came h) h o
 after_came (Err e) h o = o
+
+-- what an offer of the half h tells of o, the half that waited under its tag
+pub record Tells (came : Came) (h : Half) (short room : Bool) (o : Option Half) : Type 0 where
+  pub answer : IfSome (said came h) (λ a. a ≡ answer_at o h.port h.value)
+  pub taken : short ≡ false → said came h ≡ None → answer_at o h.port h.value ≡ offered.Taken
+  pub plain : IsTrue short → (v : Value) → came ≢ Partner v
+  pub full : room ≡ false → came ≢ Kept
+
+-- what its result tells: an error, that nothing waited
+abbrev pub TellsOf : Result Came AllocError → Half → Bool → Bool → Option Half → Type 0
+TellsOf (Ok came) h short room o = Tells came h short room o
+TellsOf (Err e) h short room o = o ≡ None
+
+-- a frame in which this value alone waits stands at the key, where none stood, and every other stays
+pub record MakesFrame (frames slab : Slab Frame) (key i : ℕ) (h : Half) : Type 0 where
+  pub vacant : get frames key ≡ None
+  pub frame : Frame
+  pub only : frame.halves.items ≡ (i, h) ∷ []
+  pub updates : Updates frames slab key (Some frame)
+
+-- o is at the instruction i in the frame with this key, which keeps the rest, and every other frame stays
+pub record WritesFrame (frames slab : Slab Frame) (key i : ℕ) (o : Option Half) : Type 0 where
+  pub frame : Frame
+  pub sets : Sets (halves_in (get frames key)) frame.halves.items i o
+  pub updates : Updates frames slab key (Some frame)

@@ -250,6 +250,23 @@ impl Pair {
         }
     }
 
+    /// Offers any value, if it has the tag's value.
+    #[inline(always)]
+    fn take(&mut self, tag: Tag, port: Port, value: Value) -> Option<Offered>
+        ensures met { IsSingle self.old → IfSome result (λ a. MeetsIn self.old self.new tag port value a) }
+        ensures found { IfSome result (λ _. IsSome (pair_half self.old tag)) }
+        ensures none { result ≡ None → self.new ≡ self.old }
+        ensures free { result ≡ None → pair_half self.old tag ≡ None }
+        ensures mark { self.new.first.behind ≡ self.old.first.behind }
+    {
+        let half = self.half(tag)?;
+        if half.port == port {
+            return Some(Offered::Taken);
+        }
+        self.clear(tag);
+        Some(pair(port, value, half.value))
+    }
+
     /// Puts the slot, under whose tag it keeps nothing, in the place of one that keeps nothing, if there is one.
     #[inline(always)]
     fn put(&mut self, slot: Slot) -> bool
@@ -367,12 +384,7 @@ pub(crate) fn take(front: &mut Vec<Pair>, tag: Tag, port: Port, value: Value) ->
         return None;
     }
     let at = place_of(tag.context.serial, tag.iteration, tag.instr, front.len());
-    let half = front[at].half(tag)?;
-    if half.port == port {
-        return Some(Offered::Taken);
-    }
-    front[at].clear(tag);
-    Some(pair(port, value, half.value))
+    front[at].take(tag, port, value)
 }
 
 /// Whether a value waits in the front under a tag.

@@ -21,7 +21,8 @@ ghost use Rattle.id_match.specs.Waiting.{entry_at, pair_of};
 ghost use Rattle.id_match.specs.Halves.{answer_at, half_after};
 ghost use Rattle.id_match.specs.Meetings.{told};
 ghost use Rattle.id_match.specs.Rear.{Holds, IsFramed, Sets, after_came, frame_entries, name_of, rear_entries};
-ghost use Rattle.id_match.specs.Rear.{rear_half, said, tag_at};
+ghost use Rattle.id_match.specs.Rear.{MakesFrame, TellsOf, WritesFrame, halves_in, rear_half, said, tag_at};
+ghost use Rattle.slab.specs.Slab.{ContainsKey, Updates, get};
 ghost use Rattle.id_tag.specs.Plains.{tag_in, whole};
 
 use crate::{Entry, Half, Met, Offered, pair};
@@ -140,18 +141,9 @@ impl Frame {
 
     // Offers a value to the port of an instruction. Where it is to be short, a partner that isn't plain stays.
     fn offer(&mut self, instr: u32, half: Half, short: bool, room: bool) -> Result<Came, AllocError>
-        ensures answer { IfOk result (λ came. IfSome (said came half) (λ a.
-            a ≡ answer_at (lookup (nat_eq instr) self.old.halves.items) half.port half.value)) }
-        ensures sets { IfOk result (λ came. IfSome (said came half) (λ _.
-            Sets self.old.halves.items self.new.halves.items instr
-            (half_after (lookup (nat_eq instr) self.old.halves.items) half.port half.value))) }
-        ensures apart { IfOk result (λ came. said came half ≡ None → self.new.halves.items ≡ self.old.halves.items) }
-        ensures taken { short ≡ false → IfOk result (λ came. said came half ≡ None
-            → answer_at (lookup (nat_eq instr) self.old.halves.items) half.port half.value ≡ Taken) }
-        ensures plain { IsTrue short → IfOk result (λ came. (v : Value) → came ≢ coming.Partner v) }
-        ensures full { room ≡ false → IfOk result (λ came. came ≢ coming.Kept) }
-        ensures grows { OnErr result (lookup (nat_eq instr) self.old.halves.items ≡ None) }
-        ensures err { OnErr result (self.new.halves.items ≡ self.old.halves.items) }
+        ensures tells { TellsOf result half short room (lookup (nat_eq instr) self.old.halves.items) }
+        ensures sets { Sets self.old.halves.items self.new.halves.items instr
+            (after_came result half (lookup (nat_eq instr) self.old.halves.items)) }
     {
         let Some(at) = self.find(instr) else {
             if !room {
@@ -193,6 +185,57 @@ fn leaving(partner: Value, short: bool) -> Option<Came>
     }
 }
 
+// Makes a frame for a value, if there is to be room for it. Memory is had before any change.
+fn make_frame(
+    alloc: Global,
+    frames: &mut Slab<Frame>,
+    instr: u32,
+    half: Half,
+    room: bool,
+) -> Result<usize, AllocError>
+    ensures makes { IfOk result (λ key. MakesFrame frames.old frames.new key instr half) }
+    ensures room { OnOk result (IsTrue room) }
+    ensures err { OnErr result (frames.new.slots ≡ frames.old.slots) }
+{
+    if !room {
+        return Err(AllocError);
+    }
+    frames.reserve(1)?;
+    let mut halves = Vec::new(alloc);
+    halves.push((instr, half))?;
+    Ok(frames.insert_reserved(Frame { halves }))
+}
+
+// Offers a value to the frame with this key.
+fn offer_in(
+    frames: &mut Slab<Frame>,
+    key: usize,
+    instr: u32,
+    half: Half,
+    short: bool,
+    room: bool,
+) -> Result<Came, AllocError>
+    requires { ContainsKey frames.old key }
+    ensures tells { TellsOf result half short room (lookup (nat_eq instr) (halves_in (get frames.old key))) }
+    ensures writes { WritesFrame frames.old frames.new key instr
+        (after_came result half (lookup (nat_eq instr) (halves_in (get frames.old key)))) }
+{
+    frames[key].offer(instr, half, short, room)
+}
+
+// Gives the frame with this key back, if nothing waits in it, and answers whether it did.
+fn give_back(frames: &mut Slab<Frame>, key: usize) -> bool
+    requires { ContainsKey frames.old key }
+    ensures left { IsTrue result → (halves_in (get frames.old key) ≡ []) × Updates frames.old frames.new key None }
+    ensures stays { result ≡ false → frames.new ≡ frames.old }
+{
+    let is_left = frames[key].is_empty();
+    if is_left {
+        frames.remove(key);
+    }
+    is_left
+}
+
 // An offer to the frames, in one look-up. Room is made where the name is new, and only there, before any change.
 fn offer_to(
     alloc: Global,
@@ -206,33 +249,24 @@ fn offer_to(
     requires { IsFramed keys.old.entries frames.old }
     ensures holds { Holds keys.old.entries frames.old keys.new.entries frames.new tag
         (after_came result half (rear_half keys.old.entries frames.old tag)) }
-    ensures answer { IfOk result (λ came. IfSome (said came half) (λ a.
-        a ≡ answer_at (rear_half keys.old.entries frames.old tag) half.port half.value)) }
-    ensures taken { short ≡ false → IfOk result (λ came. said came half ≡ None
-        → answer_at (rear_half keys.old.entries frames.old tag) half.port half.value ≡ Taken) }
-    ensures plain { IsTrue short → IfOk result (λ came. (v : Value) → came ≢ coming.Partner v) }
-    ensures full { room ≡ false → IfOk result (λ came. came ≢ coming.Kept) }
-    ensures grows { OnErr result (rear_half keys.old.entries frames.old tag ≡ None) }
+    ensures tells { TellsOf result half short room (rear_half keys.old.entries frames.old tag) }
 {
-    match keys.entry(name_of(tag))? {
-        Place::Vacant(place) => {
-            if !room {
-                return Err(AllocError);
+    match keys.entry(name_of(tag)) {
+        Err(_) => Err(AllocError),
+        Ok(Place::Vacant(place)) => match make_frame(alloc, frames, tag.instr, half, room) {
+            Err(e) => Err(e),
+            Ok(key) => {
+                place.insert(key);
+                Ok(Came::Kept)
             }
-            frames.reserve(1)?;
-            let mut halves = Vec::new(alloc);
-            halves.push((tag.instr, half))?;
-            place.insert(frames.insert_reserved(Frame { halves }));
-            Ok(Came::Kept)
-        }
-        Place::Occupied(place) => {
+        },
+        Ok(Place::Occupied(place)) => {
             let key = *place.get();
-            let came = frames[key].offer(tag.instr, half, short, room)?;
-            if frames[key].is_empty() {
-                frames.remove(key);
+            let came = offer_in(frames, key, tag.instr, half, short, room);
+            if give_back(frames, key) {
                 place.remove();
             }
-            Ok(came)
+            came
         }
     }
 }

@@ -1,8 +1,8 @@
 -- the value is added at the end, or its partner is taken
-use Rattle.std.proofs.Common.{◌≡◌, ◌∙◌, ◌++◌, [], ◌∷◌, Some, None, IfSome, refl, sym, ap, subst, nat_eq}
+use Rattle.std.proofs.Common.{◌≡◌, ◌∙◌, ◌++◌, [], ◌∷◌, Some, None, refl, sym, ap, subst, nat_eq}
 use Rattle.std.specs.Map.{lookup}
 use Rattle.id_match.specs.Halves.{half_after}
-use Rattle.id_match.specs.Rear.{Sets}
+use Rattle.id_match.specs.Rear.{Sets, after_said}
 use Rattle.id_match.proofs.CallLemmas.{apart_ports}
 use Rattle.id_match.proofs.FramedLemmas.{sets_push, sets_taken}
 use Rattle.id_match.proofs.FrontLemmas.{gone}
@@ -25,8 +25,8 @@ returns-in-Some-leaving-clause-sets c =
     let none : half_after (lookup (nat_eq c.args.instr) p) c.args.half.port c.args.half.value ≡ None =
     gone _ c.index.result.now.1 c.args.half.port c.args.half.value was
     (apart_ports c.index.result.now.1.port c.args.half.port (sym c.if-eq.ensures)) in
-    subst (λ a. IfSome a (λ _. Sets p c.swap_remove.new.self.items c.args.instr
-    (half_after (lookup (nat_eq c.args.instr) p) c.args.half.port c.args.half.value))) (sym (c.in-Some-leaving.ensures.partner c.args.half))
+    subst (λ a. Sets p c.swap_remove.new.self.items c.args.instr (after_said a c.args.half (lookup (nat_eq c.args.instr) p)))
+    (sym (c.in-Some-leaving.ensures.partner c.args.half))
     (subst (λ o. Sets p c.swap_remove.new.self.items c.args.instr o) (sym none)
     (sets_taken p c.in-Some.at c.swap_remove.result c.swap_remove.new.self.items c.args.instr c.in-Some.ensures.within
     c.swap_remove.ensures.value
