@@ -1,6 +1,6 @@
 -- Lemmas on specs/Rear.antt.
 use Rattle.std.proofs.Common.{◌≡◌, ◌≢◌, ℕ, zero, suc, ◌<◌, drop, drop-cons, Bool, true, false, cond, ◌&&◌, nat_eq, List, [], ◌∷◌, ◌++◌}
-use Rattle.std.proofs.Common.{length, get_or, Option, Some, None, IsSome, is_some, IfSome, IsPermutation, Result, swap_remove, insert, refl, sym, ◌∙◌, ap, subst, arith}
+use Rattle.std.proofs.Common.{length, get_or, Option, Some, None, IsSome, is_some, IfSome, IsTrue, IsPermutation, Result, swap_remove, insert, refl, sym, ◌∙◌, ap, subst, arith}
 use Rattle.std.specs.Cmp.{IsEquivalence}
 use Rattle.std.specs.List.{IsDistinct, Contains}
 use Rattle.std.specs.Map.{lookup, keys_of}
@@ -25,9 +25,10 @@ use Rattle.id_match.specs.declared.Offered.{Offered}
 use Rattle.id_match.specs.declared.rear.Came.{Came}
 use Rattle.id_match.specs.declared.rear.Frame.{Frame}
 use Rattle.id_match.specs.declared.rear.Name.{Name}
-use Rattle.id_match.specs.Halves.{half_after}
+use Rattle.id_match.specs.declared.rear.Came.TheVariants.{Kept}
+use Rattle.id_match.specs.Halves.{answer_at, half_after}
 use Rattle.id_match.specs.Rear.{name_of, same_name, tag_at, halves_in, halves_by, halves_of, rear_half, frame_entries, rear_entries}
-use Rattle.id_match.specs.Rear.{IsFramed, Sets, Holds, MakesFrame, TellsOf, WritesFrame, after_came, after_said}
+use Rattle.id_match.specs.Rear.{IsFramed, Sets, Holds, MakesFrame, Tells, TellsOf, WritesFrame, after_came, after_said}
 use Rattle.id_match.proofs.FrontLemmas.{lookup-append, not_passed, numbers_one, numbers_apart}
 
 -- ---- names
@@ -367,6 +368,15 @@ module _ (keys : List (Name × ℕ)) (frames : Slab Frame) (was : IsFramed keys 
         }
 
 -- ---- what an offer to the frames comes to
+
+-- a value waits that was offered where nothing waited
+pub tells_kept : (h : Half) (short room : Bool) (o : Option Half) → o ≡ None → IsTrue room → Tells Kept h short room o
+tells_kept h short room o none roomy = record {
+  answer = sym (ap (λ x. answer_at x h.port h.value) none);
+  taken = λ long e. cc;
+  plain = λ s v e. cc;
+  full = λ e. cc;
+}
 
 -- no frame has changed
 pub stayed : (keys : List (Name × ℕ)) (frames : Slab Frame) (more : List (Name × ℕ)) (slab : Slab Frame) (t : Tag) → IsFramed keys frames

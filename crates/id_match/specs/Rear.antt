@@ -119,3 +119,9 @@ pub record WritesFrame (frames slab : Slab Frame) (key i : ℕ) (o : Option Half
   pub frame : Frame
   pub sets : Sets (halves_in (get frames key)) frame.halves.items i o
   pub updates : Updates frames slab key (Some frame)
+
+-- an offer under a tag that comes to this result leaves what it says, and tells it
+pub record IsOffered (keys : List (Name × ℕ)) (frames : Slab Frame) (more : List (Name × ℕ)) (slab : Slab Frame)
+    (t : Tag) (h : Half) (short room : Bool) (r : Result Came AllocError) : Type 0 where
+  pub holds : Holds keys frames more slab t (after_came r h (rear_half keys frames t))
+  pub tells : TellsOf r h short room (rear_half keys frames t)

@@ -20,7 +20,7 @@ ghost use Rattle.id_match.specs.Front.{half_entry};
 ghost use Rattle.id_match.specs.Waiting.{entry_at, pair_of};
 ghost use Rattle.id_match.specs.Halves.{answer_at, half_after};
 ghost use Rattle.id_match.specs.Meetings.{told};
-ghost use Rattle.id_match.specs.Rear.{Holds, IsFramed, Sets, after_came, frame_entries, name_of, rear_entries};
+ghost use Rattle.id_match.specs.Rear.{IsFramed, IsOffered, Sets, after_came, frame_entries, name_of, rear_entries};
 ghost use Rattle.id_match.specs.Rear.{MakesFrame, TellsOf, WritesFrame, halves_in, rear_half, said, tag_at};
 ghost use Rattle.slab.specs.Slab.{ContainsKey, Updates, get};
 ghost use Rattle.id_tag.specs.Plains.{tag_in, whole};
@@ -247,9 +247,7 @@ fn offer_to(
     room: bool,
 ) -> Result<Came, AllocError>
     requires { IsFramed keys.old.entries frames.old }
-    ensures holds { Holds keys.old.entries frames.old keys.new.entries frames.new tag
-        (after_came result half (rear_half keys.old.entries frames.old tag)) }
-    ensures tells { TellsOf result half short room (rear_half keys.old.entries frames.old tag) }
+    ensures { IsOffered keys.old.entries frames.old keys.new.entries frames.new tag half short room result }
 {
     match keys.entry(name_of(tag)) {
         Err(_) => Err(AllocError),
