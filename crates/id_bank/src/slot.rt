@@ -1,7 +1,7 @@
 //! How a cell is kept, and what a read and a write make of it.
 
 ghost use Rattle.std.specs.Prelude.{◌≡◌, ◌++◌, ◌∷◌, ◌↔◌, [], IsTrue, IfOk, IfSome, OnOk, OnErr};
-ghost use Rattle.std.specs.Prelude.{map as map_list, None, Some};
+ghost use Rattle.std.specs.Prelude.{map as map_list, None, Ok, Some};
 ghost use Rattle.std.specs.List.{flat_map};
 ghost use Rattle.id_tag.specs.declared.Value.TheVariants.{Int};
 ghost use Rattle.id_bank.specs.declared.ReadAnswer.TheVariants.{Deferred as PutOff};
@@ -152,21 +152,34 @@ impl Slot {
         ensures grows { OnErr result (read_answer (state_of self.old) ≡ PutOff) }
         ensures err { OnErr result (state_of self.new ≡ state_of self.old) }
     {
-        let next = match self {
-            Slot::Number(_, _, number) => return Ok(ReadAnswer::Now(Value::Int(*number))),
-            Slot::Wide(kept) => return kept.read(reply),
-            Slot::Absent => Slot::one(alloc, reply)?,
-            Slot::One(element, first) => Slot::two(alloc, *element, *first, reply)?,
+        match self {
+            Slot::Number(_, _, number) => Ok(ReadAnswer::Now(Value::Int(*number))),
+            Slot::Wide(kept) => kept.read(reply),
+            Slot::Absent => self.defer(Slot::one(alloc, reply)),
+            Slot::One(element, first) => {
+                let next = Slot::two(alloc, *element, *first, reply);
+                self.defer(next)
+            }
             Slot::Two(element, other, first, second) => {
-                Slot::three(
+                let next = Slot::three(
                     alloc,
                     tag_of(*element, *first),
                     tag_of(*other, *second),
                     reply,
-                )?
+                );
+                self.defer(next)
             }
-        };
-        *self = next;
+        }
+    }
+
+    // Holds what it is to hold now that a reply waits, if there was memory for that.
+    #[inline(always)]
+    fn defer(&mut self, next: Result<Slot, AllocError>) -> Result<ReadAnswer, AllocError>
+        ensures answer { IfOk result (λ answer. answer ≡ PutOff) }
+        ensures after { OnOk result (next ≡ Ok self.new) }
+        ensures err { OnErr result (self.new ≡ self.old) }
+    {
+        *self = next?;
         Ok(ReadAnswer::Deferred)
     }
 
