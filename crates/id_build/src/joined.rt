@@ -2,7 +2,7 @@
 
 ghost use Rattle.std.specs.Prelude.{◌≡◌, ◌<◌, ◌^◌, ◌++◌, [], fold, length, vec_len, OnOk, All};
 ghost use Rattle.id_build.specs.Rows.{op_by};
-ghost use Rattle.id_build.specs.Made.{Fits, instrs_from, IsBetween, connected, number_by};
+ghost use Rattle.id_build.specs.Made.{Fits, instrs_from, IsBetween, connected, number_by, with_dest};
 
 use crate::arc::{Arc, Form, Piece};
 use crate::feeds::number_by;
@@ -73,11 +73,17 @@ fn connect(alloc: Global, instrs: &mut Vec<Instr>, arc: &Arc) -> Result<(), Allo
         instr: arc.to as u32,
         port: arc.port,
     };
-    let instr = &mut instrs[arc.from];
-    if arc.side {
-        instr.dests.push(dest)?;
+    add_dest(alloc, &mut instrs[arc.from], arc.side, dest)
+}
+
+/// Adds a destination on a side of an instruction.
+#[inline]
+fn add_dest(alloc: Global, instr: &mut Instr, side: bool, dest: Dest) -> Result<(), AllocError>
+    ensures { OnOk result (instr.new ≡ with_dest side instr.old dest) }
+{
+    if side {
+        instr.dests.push(dest)
     } else {
-        instr.others.push(alloc, dest)?;
+        instr.others.push(alloc, dest)
     }
-    Ok(())
 }
