@@ -1,11 +1,13 @@
 //! The instructions of a row (docs/GRAPH.md, "Schemas").
 
-ghost use Rattle.std.specs.Prelude.{[], ◌∷◌, ◌≡◌, ◌++◌, ◌<◌, ◌^◌, length, map, false, IfErr, OnOk};
+ghost use Rattle.std.specs.Prelude.{[], ◌∷◌, ◌≡◌, ◌++◌, ◌<◌, ◌^◌, length, map, false, true, IfErr, OnOk};
 ghost use Rattle.id_check.specs.Programs as programs;
 ghost use Rattle.id_parts.specs.Tables.{is_thing};
 ghost use Rattle.id_parts.specs.declared.row.Node.TheVariants.{Start};
-ghost use Rattle.id_build.specs.Rows.{for_each, import_entries, made, made_of, result_of, send_to, switches};
-ghost use Rattle.id_build.specs.Rows.{variable_entries};
+ghost use Rattle.id_desugar.specs.Regions.{is_loop_head};
+ghost use Rattle.id_build.specs.Made.{is_of_loop};
+ghost use Rattle.id_build.specs.Rows.{for_each, import_entries, loop_entries, made, made_of, result_of, send_to};
+ghost use Rattle.id_build.specs.Rows.{switches, variable_entries};
 ghost use Rattle.id_build.specs.Rows as rows;
 ghost use Rattle.id_build.specs.Slots.{AreColumns};
 ghost use Rattle.id_build.specs.declared.arc.Form.TheVariants.{Plain, EnterAt, FetchAt};
@@ -109,6 +111,34 @@ fn push_marker(
             let param = param_of(checked, enter as usize, index as usize);
             push_send(checked, param, param, 0, place, pieces)
         }
+        Node::Start | Node::LoopHead { .. } | Node::Variable | Node::Entries | Node::Turn => {
+            push_of_loop(checked, columns, n, place, node, pieces)
+        }
+        Node::Reset { value } => push(pieces, Op::Reset(port_at(checked, value)), place),
+        Node::Address { .. } => push(pieces, Op::Address, place),
+        Node::Program => push_answer(checked, pieces),
+        _ => Ok(()),
+    }
+}
+
+/// Adds the instructions of the row n of this place and node, which is a marker of a loop that has some.
+#[inline(always)]
+fn push_of_loop(
+    checked: &Checked,
+    columns: Columns<'_>,
+    n: usize,
+    place: usize,
+    node: Node,
+    pieces: &mut Vec<Piece>,
+) -> Result<(), BuildError>
+    requires columns { AreColumns checked.now columns }
+    requires within { n < length (programs.rows checked.now) }
+    requires node { node ≡ rows.node checked.now n }
+    requires marker { is_of_loop node ≡ true }
+    ensures pieces { OnOk result (pieces.new.items ≡ pieces.old.items ++ made_of checked.now n place node) }
+    ensures memory { IfErr result (λ e. e ≡ BuildError.Memory) }
+{
+    match node {
         Node::Start => push_start(checked, columns, n, place, pieces),
         Node::LoopHead { .. } => {
             push_head(port_at(checked, columns.end(checked, n)), place, pieces)
@@ -125,9 +155,6 @@ fn push_marker(
             let head = row_at(checked, n).block as usize;
             push_turn(checked, columns.imports(checked, head), place, pieces)
         }
-        Node::Reset { value } => push(pieces, Op::Reset(port_at(checked, value)), place),
-        Node::Address { .. } => push(pieces, Op::Address, place),
-        Node::Program => push_answer(checked, pieces),
         _ => Ok(()),
     }
 }
@@ -216,6 +243,24 @@ fn push_start(
 {
     let head = n + 1;
     push_enter(head, columns.end(checked, head), place, pieces)?;
+    push_sends(checked, columns, head, place, pieces)
+}
+
+/// Adds the `send`s to the entries of the loop with this head.
+#[inline]
+fn push_sends(
+    checked: &Checked,
+    columns: Columns<'_>,
+    head: usize,
+    place: usize,
+    pieces: &mut Vec<Piece>,
+) -> Result<(), BuildError>
+    requires columns { AreColumns checked.now columns }
+    requires head { is_loop_head (rows.node checked.now head) ≡ true }
+    ensures pieces { OnOk result (pieces.new.items
+        ≡ pieces.old.items ++ map (send_to checked.now place) (loop_entries checked.now head)) }
+    ensures memory { IfErr result (λ e. e ≡ BuildError.Memory) }
+{
     let nexts = nexts_at(checked, columns, head);
     push_variable_sends(checked, nexts, head + 1, place, pieces)?;
     let entries = entries_row(checked, columns, head);
