@@ -1,14 +1,16 @@
 //! The graph of a program (docs/GRAPH.md, "Schemas").
 
-ghost use Rattle.std.specs.Prelude.{◌≡◌, ◌++◌, ◌∷◌, [], true, ℕ, ◌<◌, ◌≤◌, length, map};
+ghost use Rattle.std.specs.Prelude.{◌≡◌, ◌++◌, ◌∷◌, [], true, ℕ, ◌+◌, ◌<◌, ◌≤◌, length, map, MatchResult};
 ghost use Rattle.std.specs.Prelude.{◌^◌, All, IfOk, IfErr, OnOk, fold};
 ghost use Rattle.id_list.specs.List.{AllDiffer, Among};
 ghost use Rattle.id_check.specs.Programs as programs;
 ghost use Rattle.id_desugar.specs.Regions as regions;
+ghost use Rattle.id_desugar.specs.Regions.{imports_of, nexts_of};
 ghost use Rattle.id_graph.specs.Graph.{PortsExist, parts};
 ghost use Rattle.id_parts.specs.Tables as tables;
+ghost use Rattle.id_parts.specs.Turns.{heads_below};
 ghost use Rattle.id_build.specs.Rows as rows;
-ghost use Rattle.id_build.specs.Rows.{feeds, made, size};
+ghost use Rattle.id_build.specs.Rows.{feeds, import_entries, made, size, variable_entries};
 ghost use Rattle.id_build.specs.Schemas.{Schemas, all_heads, block_of, loop_heads_below};
 ghost use Rattle.id_build.specs.Made.{AreFirsts, EntriesFit, Fits, IsBetween, arc_of, connected, graph_by};
 ghost use Rattle.id_build.specs.Made.{instrs_from, number_by, pieces_in};
@@ -59,13 +61,31 @@ fn build_parts(
 ) -> Result<(Vec<Block>, Vec<Instr>), BuildError>
     requires columns { AreColumns checked.now columns }
     requires order { order.now ≡ regions.order_of checked.now }
-    ensures schemas { IfOk result (λ g. Schemas checked.now (parts g.0.items g.1.items)) }
-    ensures exist { IfOk result (λ g. PortsExist (parts g.0.items g.1.items)) }
-    ensures few { IfOk result (λ g. length g.1.items ≤ 1000000) }
+    ensures parts { MatchResult result
+        (λ g. Schemas checked.now (parts g.0.items g.1.items) × (length g.1.items ≤ 1000000))
+        (λ e. e ≡ BuildError.TooLarge → 1000000 < size checked.now) }
     ensures small { OnOk result (size checked.now ≤ 1000000) }
-    ensures large { IfErr result (λ e. e ≡ BuildError.TooLarge → 1000000 < size checked.now) }
 {
     let numbers = number(alloc, checked, columns, order)?;
+    parts_by(alloc, checked, columns, order, numbers)
+}
+
+/// The blocks and instructions of the program, where this is the order of its rows, with these imports and numbers.
+fn parts_by(
+    alloc: Global,
+    checked: &Checked,
+    columns: Columns<'_>,
+    order: &[u32],
+    numbers: Numbers,
+) -> Result<(Vec<Block>, Vec<Instr>), BuildError>
+    requires columns { AreColumns checked.now columns }
+    requires order { order.now ≡ regions.order_of checked.now }
+    requires firsts { AreFirsts checked.now order.now numbers.firsts.items }
+    requires few { length (pieces_in checked.now order.now) ≤ 1000000 }
+    ensures { MatchResult result
+        (λ g. Schemas checked.now (parts g.0.items g.1.items) × (length g.1.items ≤ 1000000))
+        (λ e. e ≡ BuildError.Memory) }
+{
     let blocks = blocks(alloc, checked, columns, numbers.firsts.as_slice())?;
     let instrs = connected(alloc, checked, columns, order, numbers)?;
     Ok((blocks, instrs))
@@ -259,13 +279,15 @@ fn blocks(
     let mut blocks = Vec::new(alloc);
     let mut loops = Vec::new(alloc);
     for head in 0..checked.table.rows.len() {
-        let node = row_at(checked, head).node;
-        if is_head(node) {
-            let entries = params(alloc, checked, columns, firsts, head)?;
-            add_block(firsts, head, entries, &mut blocks)?;
-        } else if is_loop_head(node) {
-            loops.push(head)?;
-        }
+        add_head(
+            alloc,
+            checked,
+            columns,
+            firsts,
+            head,
+            &mut blocks,
+            &mut loops,
+        )?;
     }
     push_loops(
         alloc,
@@ -276,6 +298,58 @@ fn blocks(
         &mut blocks,
     )?;
     Ok(blocks)
+}
+
+/// Adds the block of the procedure that begins at a row, or the row to the heads of loops where a loop begins there.
+#[inline]
+fn add_head(
+    alloc: Global,
+    checked: &Checked,
+    columns: Columns<'_>,
+    firsts: &[u32],
+    head: usize,
+    blocks: &mut Vec<Block>,
+    loops: &mut Vec<usize>,
+) -> Result<(), BuildError>
+    requires columns { AreColumns checked.now columns }
+    requires within { head < length (programs.rows checked.now) }
+    requires blocks { blocks.old.items
+        ≡ map (block_of checked.now (number_by firsts.now)) (heads_below (programs.rows checked.now) head) }
+    requires loops { loops.old.items ≡ loop_heads_below checked.now head }
+    ensures blocks { OnOk result (blocks.new.items
+        ≡ map (block_of checked.now (number_by firsts.now)) (heads_below (programs.rows checked.now) (head + 1))) }
+    ensures loops { OnOk result (loops.new.items ≡ loop_heads_below checked.now (head + 1)) }
+    ensures memory { IfErr result (λ e. e ≡ BuildError.Memory) }
+{
+    let node = row_at(checked, head).node;
+    if is_head(node) {
+        return add_procedure(alloc, checked, columns, firsts, head, blocks);
+    }
+    if is_loop_head(node) {
+        loops.push(head)?;
+    }
+    Ok(())
+}
+
+/// Adds the block of the procedure with this head.
+#[inline]
+fn add_procedure(
+    alloc: Global,
+    checked: &Checked,
+    columns: Columns<'_>,
+    firsts: &[u32],
+    head: usize,
+    blocks: &mut Vec<Block>,
+) -> Result<(), BuildError>
+    requires columns { AreColumns checked.now columns }
+    requires within { head < length (programs.rows checked.now) }
+    requires head { tables.is_head (rows.node checked.now head) ≡ true }
+    ensures blocks { OnOk result (blocks.new.items
+        ≡ blocks.old.items ++ block_of checked.now (number_by firsts.now) head ∷ []) }
+    ensures memory { IfErr result (λ e. e ≡ BuildError.Memory) }
+{
+    let entries = params(alloc, checked, columns, firsts, head)?;
+    add_block(firsts, head, entries, blocks)
 }
 
 /// Adds the blocks of all loops, which have these heads.
@@ -295,10 +369,31 @@ fn push_loops(
     ensures memory { IfErr result (λ e. e ≡ BuildError.Memory) }
 {
     for head in heads {
-        let entries = loop_entries(alloc, checked, columns, firsts, *head)?;
-        add_block(firsts, *head, entries, blocks)?;
+        add_loop(alloc, checked, columns, firsts, *head, blocks)?;
     }
     Ok(())
+}
+
+/// Adds the block of the loop with this head.
+#[inline]
+fn add_loop(
+    alloc: Global,
+    checked: &Checked,
+    columns: Columns<'_>,
+    firsts: &[u32],
+    head: usize,
+    blocks: &mut Vec<Block>,
+) -> Result<(), BuildError>
+    requires columns { AreColumns checked.now columns }
+    requires fit { EntriesFit checked.now firsts.now }
+    requires within { head < length (programs.rows checked.now) }
+    requires head { regions.is_loop_head (rows.node checked.now head) ≡ true }
+    ensures blocks { OnOk result (blocks.new.items
+        ≡ blocks.old.items ++ block_of checked.now (number_by firsts.now) head ∷ []) }
+    ensures memory { IfErr result (λ e. e ≡ BuildError.Memory) }
+{
+    let entries = loop_entries(alloc, checked, columns, firsts, head)?;
+    add_block(firsts, head, entries, blocks)
 }
 
 /// Adds the block with this head and these entries.
@@ -372,14 +467,54 @@ fn loop_entries(
 {
     let mut entries = Vec::new(alloc);
     let imported = entries_row(checked, columns, head);
+    push_variables(checked, firsts, head, imported, &mut entries)?;
+    push_imported(checked, columns, firsts, head, imported, &mut entries)?;
+    Ok(entries)
+}
+
+/// Adds the entries of the variables of the loop with this head, up to the row of those of its imports.
+#[inline]
+fn push_variables(
+    checked: &Checked,
+    firsts: &[u32],
+    head: usize,
+    imported: usize,
+    entries: &mut Vec<u32>,
+) -> Result<(), BuildError>
+    requires within { head < length (programs.rows checked.now) }
+    requires imported { imported ≡ rows.entries_row checked.now head }
+    ensures entries { OnOk result (entries.new.items ≡ entries.old.items
+        ++ map (λ q. number_by firsts.now q.row q.part) (variable_entries (head + 1) (nexts_of checked.now head))) }
+    ensures memory { IfErr result (λ e. e ≡ BuildError.Memory) }
+{
+    let _ = checked;
     for variable in head + 1..imported {
         entries.push(number_by(firsts, variable) as u32)?;
     }
+    Ok(())
+}
+
+/// Adds the entries of the imports of the loop with this head, which are the parts of the row `imported`.
+#[inline]
+fn push_imported(
+    checked: &Checked,
+    columns: Columns<'_>,
+    firsts: &[u32],
+    head: usize,
+    imported: usize,
+    entries: &mut Vec<u32>,
+) -> Result<(), BuildError>
+    requires columns { AreColumns checked.now columns }
+    requires fit { number_by firsts.now imported (length (imports_of checked.now head)) ≤ 2 ^ 32 }
+    ensures entries { OnOk result (entries.new.items ≡ entries.old.items
+        ++ map (λ q. number_by firsts.now q.row q.part) (import_entries imported 0 (imports_of checked.now head))) }
+    ensures memory { IfErr result (λ e. e ≡ BuildError.Memory) }
+{
     let first = number_by(firsts, imported);
     for part in 0..columns.imports(checked, head).len() {
         entries.push((first + part) as u32)?;
     }
-    Ok(entries)
+    Ok(())
 }
 
 fn is_head(node: Node) -> bool

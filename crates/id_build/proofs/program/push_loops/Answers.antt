@@ -9,13 +9,13 @@ use Rattle.id_check.specs.Programs.{rows}
 use Rattle.id_build.proofs.BlocksLemmas.{loop_head_at}
 use Rattle.id_build.proofs.program.push_loops.Goals as goal
 
-pub loop_entries-requires-clause-within : goal.loop_entries-requires-clause-within
-loop_entries-requires-clause-within c =
+pub add_loop-requires-clause-within : goal.add_loop-requires-clause-within
+add_loop-requires-clause-within c =
     let P = c.args.checked.now in
     (loop_head_at P c.args.heads.now (length (rows P)) c.loop-head.head-index c.requires.heads c.loop-head-test.true).0
 
-pub loop_entries-requires-clause-head : goal.loop_entries-requires-clause-head
-loop_entries-requires-clause-head c =
+pub add_loop-requires-clause-head : goal.add_loop-requires-clause-head
+add_loop-requires-clause-head c =
     let P = c.args.checked.now in
     (loop_head_at P c.args.heads.now (length (rows P)) c.loop-head.head-index c.requires.heads c.loop-head-test.true).1
 
@@ -26,20 +26,12 @@ loop-head-preserved c =
     let i = c.loop-head.head-index in
     let h = get_or hs i 0 in
     let old = c.args.blocks.now.items in
-    c.in_ok-add_block.ensures.blocks
-    ∙ ap (λ z. c.loop-head.blocks.items ++ record { first = number_by c.args.firsts.now h 0; entries = z } ∷ []) c.in_ok-entries.ensures.entries
-    ∙ ap (λ (l : List Block). l ++ f h ∷ []) c.loop-head.invariant
+    c.in_ok-add_loop.ensures.blocks ∙ ap (λ (l : List Block). l ++ f h ∷ []) c.loop-head.invariant
     ∙ append_assoc old (map f (take i hs)) (f h ∷ [])
     ∙ ap (λ l. old ++ l) (sym (map-append f (take i hs) (h ∷ [])) ∙ ap (map f) (sym (take_more hs i 0 c.loop-head-test.true)))
 
-pub returns-in_err-entries : goal.returns-in_err-entries
-returns-in_err-entries c = record {
+pub returns-in_err-add_loop : goal.returns-in_err-add_loop
+returns-in_err-add_loop c = record {
   blocks = if_ok _ c.from_residual.result c.from_residual.ensures.0;
-  memory = if_err _ c.from_residual.result _ c.from_residual.ensures.1 c.in_err-entries.ensures.memory;
-}
-
-pub returns-in_err-add_block : goal.returns-in_err-add_block
-returns-in_err-add_block c = record {
-  blocks = if_ok _ c.from_residual-in_err-add_block.result c.from_residual-in_err-add_block.ensures.0;
-  memory = if_err _ c.from_residual-in_err-add_block.result _ c.from_residual-in_err-add_block.ensures.1 c.in_err-add_block.ensures.memory;
+  memory = if_err _ c.from_residual.result _ c.from_residual.ensures.1 c.in_err-add_loop.ensures.memory;
 }

@@ -1,0 +1,55 @@
+-- The variables of a loop stand one behind another, from the row behind its head up to those of its imports.
+use Rattle.std.proofs.Common.{◌≡◌, ◌∙◌, ◌+◌, ◌-◌, ◌<◌, ◌≤◌, ◌++◌, ◌∷◌, [], List, ℕ, ap, add-zero, arith, length, map, drop, refl, sym}
+use Rattle.id_desugar.specs.Regions.{nexts_of}
+use Rattle.id_build.specs.Made.{number_by}
+use Rattle.id_build.specs.Rows.{Entry, entries_row, variable_entries}
+use Rattle.id_build.proofs.FeedsLemmas.{rest_done}
+use Rattle.id_build.proofs.ResultLemmas.{is_err, on_ok}
+use Rattle.id_build.proofs.SendsLemmas.{variable_entries-next}
+use Rattle.id_build.proofs.program.push_variables.Goals as goal
+
+pub loop-variable-init : goal.loop-variable-init
+loop-variable-init c =
+    let F = c.args.firsts.now in
+    let f : Entry → ℕ = λ q. number_by F q.row q.part in
+    let h = c.args.head + 1 in
+    let none : h - h ≡ 0 = omega arith in
+    let old : List ℕ = c.args.entries.now.items in
+    let ns = nexts_of c.args.checked.now c.args.head in
+    ap (λ k. old ++ map f (variable_entries (h + k) (drop k ns))) none ∙ ap (λ v. old ++ map f (variable_entries v ns)) (add-zero h)
+
+pub loop-variable-preserved : goal.loop-variable-preserved
+loop-variable-preserved c =
+    let P = c.args.checked.now in
+    let h = c.args.head in
+    let F = c.args.firsts.now in
+    let v = c.loop-variable.variable in
+    let i = v - (h + 1) in
+    let f : Entry → ℕ = λ q. number_by F q.row q.part in
+    let low = c.loop-variable.auto.variable in
+    let high : v < entries_row P h = omega (arith, c.loop-variable-test.true, c.requires.imported) in
+    let less : i < length (nexts_of P h) = omega (arith, low, high) in
+    let up : (v + 1) - (h + 1) ≡ i + 1 = omega (arith, low) in
+    let row : h + 1 + i ≡ v = omega (arith, low) in
+    let pushed = c.in_ok-push.ensures.items ∙ ap (λ n. c.loop-variable.entries.items ++ n ∷ [])
+    (c.number_by.ensures.number ∙ ap (λ k. number_by F k 0) (sym row)) in
+    variable_entries-next f (h + 1) i ((v + 1) - (h + 1)) (nexts_of P h) c.loop-variable.entries.items c.push.new.self.items
+    (c.args.entries.now.items ++ map f (variable_entries (h + 1) (nexts_of P h))) less up c.loop-variable.invariant pushed
+
+pub returns-clause-entries : goal.returns-clause-entries
+returns-clause-entries c =
+    let P = c.args.checked.now in
+    let h = c.args.head in
+    let f : Entry → ℕ = λ q. number_by c.args.firsts.now q.row q.part in
+    let i = c.loop-variable.variable - (h + 1) in
+    let end : length (nexts_of P h) ≤ i = omega (arith, c.loop-variable-test.false, c.requires.imported) in
+    rest_done (λ z. map f (variable_entries (h + 1 + i) z)) i (nexts_of P h) c.loop-variable.entries.items _ refl end c.loop-variable.invariant
+
+pub returns-in_err-push : goal.returns-in_err-push
+returns-in_err-push c = record {
+  entries = on_ok _ c.from_residual.result c.from_residual.ensures.0;
+  memory = is_err _ c.from_residual.result c.from_residual.ensures.1;
+}
+
+pub overflow_cast-number_by : goal.overflow_cast-number_by
+overflow_cast-number_by c = omega (arith, c.number_by.ensures.few)
