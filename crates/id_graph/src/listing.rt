@@ -6,7 +6,8 @@ ghost use Rattle.std.specs.Fmt.{decimal, signed_decimal};
 ghost use Rattle.id_graph.specs.Graph.{arcs_on};
 ghost use Rattle.id_graph.specs.Listing.{arithmetic_name, comparison_name, constant_text, dest_text, dests_text};
 ghost use Rattle.id_graph.specs.Listing.{dyadic_name, false_text, head_text, in_order, kind_name, line_text};
-ghost use Rattle.id_graph.specs.Listing.{lines_text, listing, op_name, op_text, place_text, port_number, truth_name, unary_name};
+ghost use Rattle.id_graph.specs.Listing.{lines_text, listing, op_name, op_text, place_text, port_number};
+ghost use Rattle.id_graph.specs.Listing.{truth_name, unary_name};
 
 use crate::dests::{Dest, Port};
 use crate::graph::Graph;
