@@ -6,7 +6,7 @@ ghost use Rattle.id_list.specs.List.{AllDiffer, Among};
 ghost use Rattle.id_check.specs.Programs as programs;
 ghost use Rattle.id_desugar.specs.Regions as regions;
 ghost use Rattle.id_desugar.specs.Regions.{imports_of, nexts_of};
-ghost use Rattle.id_graph.specs.Graph.{PortsExist, parts};
+ghost use Rattle.id_graph.specs.Graph.{parts};
 ghost use Rattle.id_parts.specs.Tables as tables;
 ghost use Rattle.id_parts.specs.Turns.{heads_below};
 ghost use Rattle.id_build.specs.Rows as rows;
