@@ -25,8 +25,8 @@ use Rattle.id_tree.specs.declared.tree.TreeError.{TreeError}
 use Rattle.id_tree.specs.declared.tree.TreeError.TheVariants.{Unexpected, TooDeep, Memory}
 use Rattle.id_tree.specs.Tree.{Tree, tree_of, stmt_tree, def_tree, unary, param, more}
 use Rattle.id_tree.specs.Grammar.{Phrase, Definition, Parameters, MoreParameters, Arguments, MoreArguments, Tail, Rest}
-use Rattle.id_tree.specs.Grammar.{named_of, assigned_of, done, word, of_kind, part, sign, enclosed, with_statement, Opens}
-use Rattle.id_tree.specs.Grammar.{Grouped, operand, operator_of}
+use Rattle.id_tree.specs.Grammar.{named_of, assigned_of, done, of_kind, part, sign, enclosed, with_statement, Opens}
+use Rattle.id_tree.specs.Grammar.{Grouped, word, operand, operator_of}
 use Rattle.id_tree.specs.Machine.{Frame, Left, Target, Inside, again, Begin, Want, Have, Next, Outcome, Refused}
 use Rattle.id_tree.specs.Machine.{name_in, run}
 
