@@ -2,8 +2,10 @@
 use Rattle.std.proofs.Common.{◌≡◌, inl, inr, ℕ, zero, suc, ◌+◌, ◌-◌, ◌≤◌, ◌<◌, List, [], ◌∷◌, ◌++◌, length, drop, take, refl, ap, sym, ◌∙◌, subst, arith}
 use Rattle.std.proofs.Math.Seq.{drop-append_seam}
 use Rattle.std.proofs.lemmas.List.{append-nil, length-append, length-drop, nil_from_length, take_all}
+use Rattle.std.specs.Prelude.{Result, Ok, Err, IfErr, IsErrAnd}
 use Rattle.id_list.specs.List.{Among}
 use Rattle.id_list.proofs.AmongLemmas.{Among-left, Among-right}
+use Rattle.id_check.specs.declared.checked.Checked.{Checked}
 use Rattle.id_check.specs.Programs.{place, rows}
 use Rattle.id_meaning.specs.declared.Fact.{Fact}
 use Rattle.id_meaning.specs.declared.Fact.TheVariants as fact
@@ -15,6 +17,9 @@ use Rattle.id_meaning.specs.declared.cells.RowValue.{RowValue}
 use Rattle.id_meaning.specs.declared.cells.Trail.TheVariants.{Below}
 use Rattle.id_meaning.specs.declared.links.Links.{Links}
 use Rattle.id_meaning.specs.declared.queues.Queues.{Queues}
+use Rattle.id_meaning.specs.declared.round.RoundsError.{RoundsError}
+use Rattle.id_meaning.specs.declared.round.RoundsError.TheVariants.{BadRounds, TooManyFacts, Memory}
+use Rattle.id_meaning.specs.declared.run.Followed.{Followed}
 use Rattle.id_meaning.specs.Sources.{Source}
 use Rattle.id_meaning.specs.Rounds.{Every, Rounds}
 use Rattle.id_meaning.specs.Computed.{HasMoreFacts}
@@ -22,7 +27,8 @@ use Rattle.id_meaning.specs.Links.{AreArgs, AreReads, AreTurns}
 use Rattle.id_meaning.specs.Cells.{AddsFacts, AreChained, all_learnt, fact_at, items, path_of, row_of}
 use Rattle.id_meaning.specs.Effects.{all_effects, first_facts}
 use Rattle.id_meaning.specs.Listed.{IsRound, fact_of, path_at, value_at}
-use Rattle.id_meaning.specs.Waits.{AreWaits, Goes, Waits, width}
+use Rattle.id_meaning.specs.Waits.{AreWaits, Goes, Waits}
+use Rattle.id_meaning.specs.Following.{AreFirst, FollowsNews, IsFewRound, IsFresh, IsStop, news_behind}
 use Rattle.id_meaning.proofs.AllFollowLemmas.{all-follow}
 use Rattle.id_meaning.proofs.CompleteLemmas.{among-inside}
 use Rattle.id_meaning.proofs.GivenLemmas.{all-effects-only}
@@ -78,42 +84,32 @@ few-numbers S r fs s small i k n v h =
 -- ---- round after round
 
 -- the list without its first d
-abbrev pub behind : ℕ → List RowFact → List RowFact
-behind d fs = take (length fs - d) (drop d fs)
+behind-all : (d : ℕ) (fs ns : List RowFact) → ns ≡ take (length fs - d) (drop d fs) → ns ≡ drop d fs
+behind-all d fs ns e = let l = length-drop d fs in e ∙ take_all (length fs - d) (drop d fs) (omega arith)
 
-behind-all : (d : ℕ) (fs : List RowFact) → behind d fs ≡ drop d fs
-behind-all d fs = let l = length-drop d fs in take_all (length fs - d) (drop d fs) (omega arith)
-
--- the facts are those of round r, and those of the cells of the one before, from which all that follows is there
-pub record Front (S : Source) (l : Links) (r : ℕ) (c : Cells) (fs : List RowFact) (W : Queues) (done : ℕ) : Type 0 where
+-- the facts are those of round r, and those followed are those of the one before, from which all that follows is there
+pub record Front (S : Source) (l : Links) (r : ℕ) (a : Followed) (fs : List RowFact) : Type 0 where
   pub before : ℕ
   pub next : suc before ≡ r
   pub news : List RowFact
-  pub parts : fs ≡ items c ++ news
-  pub counted : done ≡ length (items c)
-  pub chained : AreChained c
-  pub old : IsRound S before (items c)
+  pub parts : fs ≡ items a.cells ++ news
+  pub chained : AreChained a.cells
+  pub old : IsRound S before (items a.cells)
   pub now : IsRound S r fs
-  pub all : (x : RowFact) → Arises S (items c) x → Among x fs
-  pub waits : AreWaits S.checked l (items c) W
+  pub all : (x : RowFact) → Arises S (items a.cells) x → Among x fs
+  pub waits : AreWaits S.checked l (items a.cells) a.waits
   pub few : length fs ≤ 1000000
 
 -- after the first round, the facts are those that follow from none
-module _ (S : Source) (olds fs given found : List RowFact) (a : olds ≡ []) (g : given ≡ found) (f : found ≡ first_facts S.checked S.inputs)
-    (e : fs ≡ all_learnt olds given) where
-  whole : fs ≡ all_learnt [] (first_facts S.checked S.inputs)
-  whole = e ∙ ap (λ y. all_learnt olds y) (g ∙ f) ∙ ap (λ y. all_learnt y (first_facts S.checked S.inputs)) a
+module _ (S : Source) (fs : List RowFact) where
+  pub first-more : fs ≡ all_learnt [] (first_facts S.checked S.inputs) → 1000000 < length fs → HasMoreFacts S 1 1000000
+  first-more whole m = more-facts S 1 1 1000000 fs (part S 1 fs (first-round S fs whole)) (omega arith) m
 
-  first : IsRound S 1 fs
-  first = first-round S fs whole
-
-  pub first-more : (n : ℕ) → 0 < n → 1000000 < length fs → HasMoreFacts S n 1000000
-  first-more n l m = more-facts S 1 n 1000000 fs (part S 1 fs first) (omega arith) m
-
-  pub first-front : (l : Links) (c : Cells) (W : Queues) → items c ≡ [] → AreChained c → width W ≡ 65536 → length fs ≤ 1000000 → Front S l 1 c fs W 0
-  first-front l c W z chained w few =
+  pub first-front : (l : Links) (a : Followed) → IsFresh a → AreFirst S.checked S.inputs fs → Front S l 1 a fs
+  first-front l a fresh f =
+      let z = fresh.none in
       let n = none-round S in
-      let start = learns-so [] fs (first_facts S.checked S.inputs) whole in
+      let start = learns-so [] fs (first_facts S.checked S.inputs) f.facts in
       let arisen : (x : RowFact) → Arises S [] x → Among x fs =
       λ x h. learnt-has S 0 [] fs (first_facts S.checked S.inputs) n (first-arises S) start x (first-all S x h) in
       let R : List RowFact → Type 0 = λ y. IsRound S 0 y in
@@ -122,120 +118,162 @@ module _ (S : Source) (olds fs given found : List RowFact) (a : olds ≡ []) (g 
         next = refl;
         news = fs;
         parts = ap (λ y. y ++ fs) (sym z);
-        counted = ap length (sym z);
-        chained = chained;
+        chained = fresh.chained;
         old = subst R (sym z) n;
-        now = first;
+        now = first-round S fs f.facts;
         all = λ x h. arisen x (let F : List RowFact → Type 0 = λ y. Arises S y x in subst F z h);
-        waits = record { wide = w; all = λ p m u on h. absurd (let F : List RowFact → Type 0 = λ y. Among (On p m) y in let b : ⊥ = subst F z on in b) };
-        few = few;
+        waits =
+            record {
+              wide = fresh.wide;
+              all = λ p m u on h. absurd (let F : List RowFact → Type 0 = λ y. Among (On p m) y in let b : ⊥ = subst F z on in b);
+            };
+        few = f.few;
       }
 
 -- where what follows from the news is learnt
-module _ (S : Source) (l : Links) (turns : AreTurns (rows S.checked) l.turns) (reads : AreReads S.checked l.reads) (args : AreArgs S.checked l.args) (r : ℕ)
-    (b : Cells) (V : Queues) (fs : List RowFact) (done : ℕ) (f : Front S l r b fs V done) where
-  -- what is taken behind those of the cells are the news
-  news-are : (ns : List RowFact) → ns ≡ behind done fs → ns ≡ f.news
-  news-are ns e = e ∙ behind-all done fs ∙ ap (λ d. drop d fs) f.counted ∙ ap (λ y. drop (length (items b)) y) f.parts ∙ drop-append_seam (items b) f.news
+module _ (S : Source) (l : Links) (r : ℕ) (a : Followed) (fs : List RowFact) (f : Front S l r a fs) where
+  news-are : news_behind a fs ≡ f.news
+  news-are = ap (λ y. drop (length (items a.cells)) y) f.parts ∙ drop-append_seam (items a.cells) f.news
 
-  pub front-round : IsRound S r fs
-  front-round = f.now
+  pub front-within : length (items a.cells) ≤ length fs
+  front-within = let h = ap length f.parts in let k = length-append (items a.cells) f.news in omega arith
+
+  pub front-round : (n : ℕ) → r ≡ n → IsFewRound S n fs
+  front-round n e = let N : ℕ → Type 0 = λ k. IsRound S k fs in record { round = subst N e f.now; few = f.few }
 
   -- where nothing is news, the facts are those of each later round
-  pub front-rest : (n : ℕ) → r ≤ n → done ≡ length fs → IsRound S n fs
+  pub front-rest : (n : ℕ) → r ≤ n → length (items a.cells) ≡ length fs → IsFewRound S n fs
   front-rest n m e =
       let j = f.next in
       let q : n - suc f.before + suc f.before ≡ n = omega (arith, j) in
       let h = ap length f.parts in
-      let k = length-append (items b) f.news in
-      let d = f.counted in
+      let k = length-append (items a.cells) f.news in
       let none : f.news ≡ [] = nil_from_length f.news (omega arith) in
-      let same : items b ≡ fs = sym (append-nil (items b)) ∙ ap (λ y. items b ++ y) (sym none) ∙ sym f.parts in
+      let same : items a.cells ≡ fs = sym (append-nil (items a.cells)) ∙ ap (λ y. items a.cells ++ y) (sym none) ∙ sym f.parts in
       let R : List RowFact → Type 0 = λ y. IsRound S f.before y in
       let N : ℕ → Type 0 = λ k. IsRound S k fs in
-      subst N q (still S (n - suc f.before) f.before fs (subst R same f.old) (subst N (sym j) f.now))
+      record { round = subst N q (still S (n - suc f.before) f.before fs (subst R same f.old) (subst N (sym j) f.now)); few = f.few }
 
-  module _ (c : Cells) (W : Queues) (ns : List RowFact) (small : r < 18446744073709551615) (n : ns ≡ behind done fs) (adds : AddsFacts b c ns)
-      (w : Waits S.checked l (items c) V W ns) where
-    items-are : items c ≡ fs
-    items-are = adds.items ∙ ap (λ y. items b ++ y) (news-are ns n) ∙ sym f.parts
+  module _ (turns : AreTurns (rows S.checked) l.turns) (reads : AreReads S.checked l.reads) (args : AreArgs S.checked l.args)
+      (small : r < 18446744073709551615) (b : Followed) (ds : List RowFact) (g : FollowsNews S.checked l a b fs ds) where
+    items-are : items b.cells ≡ fs
+    items-are = g.adds.items ∙ ap (λ y. items a.cells ++ y) news-are ∙ sym f.parts
 
-    chained : AreChained c
-    chained = adds.chained f.chained
+    chained : AreChained b.cells
+    chained = g.adds.chained f.chained
 
-    now : IsRound S r (items c)
+    now : IsRound S r (items b.cells)
     now = let R : List RowFact → Type 0 = λ y. IsRound S r y in subst R (sym items-are) f.now
 
-    waiting : AreWaits S.checked l (items c) W
+    waiting : AreWaits S.checked l (items b.cells) b.waits
     waiting =
-        let F : List RowFact → Type 0 = λ y. Waits S.checked l y V W ns in
-        let G : List RowFact → Type 0 = λ y. AreWaits S.checked l y W in
-        subst G (sym adds.items)
-        (AreWaits-more S.checked l (items b) ns V W f.old.found.before (λ p m h. among-inside (items b) f.old.found.before (On p m) h) f.waits
-        (subst F adds.items w))
+        let ns = news_behind a fs in
+        let F : List RowFact → Type 0 = λ y. Waits S.checked l y a.waits b.waits ns in
+        let G : List RowFact → Type 0 = λ y. AreWaits S.checked l y b.waits in
+        subst G (sym g.adds.items)
+        (AreWaits-more S.checked l (items a.cells) ns a.waits b.waits f.old.found.before
+        (λ p m h. among-inside (items a.cells) f.old.found.before (On p m) h) f.waits (subst F g.adds.items g.waits))
 
     abbrev effects : List RowFact → List RowFact
-    effects gs = all_effects S.checked l W c gs
+    effects gs = all_effects S.checked l b.waits b.cells gs
 
-    module _ (gs ds : List RowFact) (e : gs ≡ behind done (items c)) (g : Goes S.checked l W c gs fs ds) where
-      front-parts : f.news ≡ g.front ++ g.rest
-      front-parts = sym (news-are gs (e ∙ ap (λ y. behind done y) items-are)) ∙ g.parts
+    front-parts : f.news ≡ g.goes.front ++ g.goes.rest
+    front-parts = sym (ap (λ y. news_behind a y) items-are ∙ news-are) ∙ g.goes.parts
 
-      is-there : (x : RowFact) → Among x g.front → Among x (items c)
-      is-there x h =
-          let F : List RowFact → Type 0 = λ y. Among x y in
-          subst F (sym (items-are ∙ f.parts))
-          (Among-right x (items b) f.news (subst F (sym front-parts) (Among-left x g.front g.rest h)))
+    is-there : (x : RowFact) → Among x g.goes.front → Among x (items b.cells)
+    is-there x h =
+        let F : List RowFact → Type 0 = λ y. Among x y in
+        subst F (sym (items-are ∙ f.parts))
+        (Among-right x (items a.cells) f.news (subst F (sym front-parts) (Among-left x g.goes.front g.goes.rest h)))
 
-      rises : (x : RowFact) → Among x (effects g.front) → Arises S fs x
-      rises x h =
-          let y = all-effects-only S l W c chained turns now.found g.front is-there x h in
-          let F : List RowFact → Type 0 = λ z. Arises S z x in
-          let a : Arises S (items c) x = record { premises = y.premises; rule = y.rule; known = y.known } in
-          subst F items-are a
+    rises : (x : RowFact) → Among x (effects g.goes.front) → Arises S fs x
+    rises x h =
+        let y = all-effects-only S l b.waits b.cells chained turns now.found g.goes.front is-there x h in
+        let F : List RowFact → Type 0 = λ z. Arises S z x in
+        let a : Arises S (items b.cells) x = record { premises = y.premises; rule = y.rule; known = y.known } in
+        subst F items-are a
 
-      learns : Learns fs ds (effects g.front)
-      learns = learns-so fs ds (effects g.front) g.facts
+    learns : Learns fs ds (effects g.goes.front)
+    learns = learns-so fs ds (effects g.goes.front) g.goes.facts
 
-      pub front-more : (m : ℕ) → r < m → 1000000 < length ds → HasMoreFacts S m 1000000
-      front-more m k h = more-facts S (suc r) m 1000000 ds (learnt-part S r fs ds (effects g.front) f.now rises learns) (omega arith) h
+    pub front-more : (m : ℕ) → r < m → 1000000 < length ds → HasMoreFacts S m 1000000
+    front-more m k h = more-facts S (suc r) m 1000000 ds (learnt-part S r fs ds (effects g.goes.front) f.now rises learns) (omega arith) h
 
-      -- where all news have been followed, all that follows is there
-      module _ (done-all : g.rest ≡ []) where
-        all-news : f.news ≡ g.front
-        all-news = front-parts ∙ ap (λ y. g.front ++ y) done-all ∙ append-nil g.front
+    -- where all news have been followed, all that follows is there
+    module _ (done-all : g.goes.rest ≡ []) where
+      all-news : f.news ≡ g.goes.front
+      all-news = front-parts ∙ ap (λ y. g.goes.front ++ y) done-all ∙ append-nil g.goes.front
 
-        arisen : (x : RowFact) → Arises S (items c) x → Among x ds
-        arisen x a = elim (arises-old-or-new S (items b) (items c) f.news (items-are ∙ f.parts) f.old.found.before now.found.apart x a) [
-          | inl o ↦ learnt-kept S r fs ds (effects g.front) f.now rises learns x (f.all x o)
-          | inr o ↦
-              let F : List RowFact → Type 0 = λ y. Among o.0 y in
-              let few = few-numbers S r (items c) now small in
-              let h = all-follow S l W c chained now.found turns reads args waiting few a.rule a.known o.0 o.1 g.front (subst F all-news o.2) in
-              learnt-has S r fs ds (effects g.front) f.now rises learns x h
-        ]
-
-        pub round-next : IsRound S (suc r) ds
-        round-next =
-            let F : RowFact → List RowFact → Type 0 = λ x y. Arises S y x in
-            learnt-round S r fs ds (effects g.front) f.now rises learns (λ x a. arisen x (subst (F x) (sym items-are) a))
-
-      pub front-next : (m d : ℕ) → m ≡ suc r → d ≡ length (items c) → length ds ≤ 1000000 → Front S l m c ds W d
-      front-next m d q k few = elim g.done [
-        | inl z ↦
-            let N : ℕ → Type 0 = λ y. IsRound S y ds in
-            record {
-              before = r;
-              next = sym q;
-              news = learns.news;
-              parts = learns.grows ∙ ap (λ y. y ++ learns.news) (sym items-are);
-              counted = k;
-              chained = chained;
-              old = now;
-              now = subst N (sym q) (round-next z);
-              all = arisen z;
-              waits = waiting;
-              few = few;
-            }
-        | inr z ↦ absurd (omega arith)
+      arisen : (x : RowFact) → Arises S (items b.cells) x → Among x ds
+      arisen x h = elim (arises-old-or-new S (items a.cells) (items b.cells) f.news (items-are ∙ f.parts) f.old.found.before now.found.apart x h) [
+        | inl o ↦ learnt-kept S r fs ds (effects g.goes.front) f.now rises learns x (f.all x o)
+        | inr o ↦
+            let F : List RowFact → Type 0 = λ y. Among o.0 y in
+            let few = few-numbers S r (items b.cells) now small in
+            let e = all-follow S l b.waits b.cells chained now.found turns reads args waiting few h.rule h.known o.0 o.1 g.goes.front (subst F all-news o.2) in
+            learnt-has S r fs ds (effects g.goes.front) f.now rises learns x e
       ]
+
+      round-next : IsRound S (suc r) ds
+      round-next =
+          let F : RowFact → List RowFact → Type 0 = λ x y. Arises S y x in
+          learnt-round S r fs ds (effects g.goes.front) f.now rises learns (λ x a. arisen x (subst (F x) (sym items-are) a))
+
+    pub front-next : (m : ℕ) → m ≡ suc r → length ds ≤ 1000000 → Front S l m b ds
+    front-next m q few = elim g.goes.done [
+      | inl z ↦
+          let N : ℕ → Type 0 = λ y. IsRound S y ds in
+          record {
+            before = r;
+            next = sym q;
+            news = learns.news;
+            parts = learns.grows ∙ ap (λ y. y ++ learns.news) (sym items-are);
+            chained = chained;
+            old = now;
+            now = subst N (sym q) (round-next z);
+            all = arisen z;
+            waits = waiting;
+            few = few;
+          }
+      | inr z ↦ absurd (omega arith)
+    ]
+
+-- ---- how a run ends
+
+-- want of memory is a reason to stop
+pub stop-memory : {A : Type 0} → (S : Source) (n : ℕ) (r : Result A RoundsError) → IsErrAnd r (λ e. e ≡ Memory) → IfErr r (IsStop S n)
+stop-memory S n (Ok a) is = tt
+stop-memory S n (Err e) is = let F : RoundsError → Type 0 = λ y. IsStop S n y in subst F (sym is) tt
+
+-- a reason to stop before round m is one before each later round
+pub stop-later : (S : Source) (m n : ℕ) → m ≤ n → (e : RoundsError) → IsStop S m e → IsStop S n e
+stop-later S m n l BadRounds h = h
+stop-later S m n l TooManyFacts h =
+    let w = h.up_to in
+    record { round = h.round; up_to = omega arith; facts = h.facts; only = h.only; once = h.once; more = h.more }
+stop-later S m n l Memory h = tt
+
+-- what a reason to stop is not, and what it is
+pub stop-asked : (S : Source) (n : ℕ) (e : RoundsError) → IsStop S n e → e ≡ BadRounds → ⊥
+stop-asked S n e h is = let F : RoundsError → Type 0 = λ y. IsStop S n y in subst F is h
+
+pub stop-many : (S : Source) (n : ℕ) (e : RoundsError) → IsStop S n e → e ≡ TooManyFacts → HasMoreFacts S n 1000000
+stop-many S n e h is = let F : RoundsError → Type 0 = λ y. IsStop S n y in subst F is h
+
+-- what follows from the facts of the cells behind the first d
+pub goes-behind : (P : Checked) (l : Links) (W : Queues) (c : Cells) (d : ℕ) (xs fs ds : List RowFact) → xs ≡ items c
+    → Goes P l W c (take (length xs - d) (drop d xs)) fs ds → Goes P l W c (drop d (items c)) fs ds
+goes-behind P l W c d xs fs ds e g =
+    let F : List RowFact → Type 0 = λ y. Goes P l W c y fs ds in
+    subst F (behind-all d xs _ refl ∙ ap (λ y. drop d y) e) g
+
+-- the news have been added and followed
+pub follows-news : (P : Checked) (l : Links) (a b : Followed) (d : ℕ) (fs xs ds : List RowFact) → d ≡ length (items a.cells) → xs ≡ fs
+    → AddsFacts a.cells b.cells (take (length xs - d) (drop d xs)) → Waits P l (items b.cells) a.waits b.waits (take (length xs - d) (drop d xs))
+    → Goes P l b.waits b.cells (drop d (items b.cells)) fs ds → FollowsNews P l a b fs ds
+follows-news P l a b d fs xs ds k e h w g =
+    let n : take (length xs - d) (drop d xs) ≡ news_behind a fs = behind-all d xs _ refl ∙ ap (λ y. drop d y) e ∙ ap (λ y. drop y fs) k in
+    let F : List RowFact → Type 0 = λ y. AddsFacts a.cells b.cells y in
+    let W : List RowFact → Type 0 = λ y. Waits P l (items b.cells) a.waits b.waits y in
+    let G : List RowFact → Type 0 = λ y. Goes P l b.waits b.cells y fs ds in
+    record { adds = subst F n h; waits = subst W n w; goes = subst G (ap (λ y. drop y (items b.cells)) k) g }

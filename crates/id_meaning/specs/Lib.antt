@@ -12,4 +12,5 @@ pub mod Cells
 pub mod Effects
 pub mod Listed
 pub mod Waits
+pub mod Following
 pub mod Reading

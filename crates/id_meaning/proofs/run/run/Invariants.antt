@@ -1,7 +1,0 @@
--- The facts are those of the round so far, and the cells have those of the one before, from which all has been followed.
-use Rattle.id_meaning.specs.Sources.{source}
-use Rattle.id_meaning.proofs.RunLemmas.{Front}
-use Rattle.id_meaning.proofs.run.run.Given as goal
-
-abbrev pub invariant-loop-round : goal.invariant-loop-round
-invariant-loop-round l = Front (source l.checked l.inputs) l.links l._round l.cells l.facts l.waits l.done
