@@ -3,6 +3,7 @@
 ghost use Rattle.std.specs.Prelude.{◌≡◌, IfOk};
 ghost use Rattle.std.specs.Cmp.Lexicographic.{slice_cmp};
 ghost use Rattle.id_check.specs.Programs.{place};
+ghost use Rattle.id_meaning.specs.declared.cells.RowFact.TheVariants.{Ask as RowAsk, Has as RowHas, Put as RowPut};
 ghost use Rattle.id_meaning.specs.Listed.{AreShown, ask_cmp, cell_cmp, fact_cmp, fact_of, facts_in, name_at, path_at};
 ghost use Rattle.id_meaning.specs.Listed.{point_cmp, put_cmp, shape_cmp, site_at, site_cmp, sort_of, step_at, value_at};
 ghost use Rattle.id_meaning.specs.Listed.{value_cmp};
@@ -50,11 +51,7 @@ fn fact_of(
             path: path_at(alloc, checked, facts, path)?,
             place: place_of(checked, row),
         }),
-        RowFact::Has { path, row, value } => Ok(Fact::Has {
-            path: path_at(alloc, checked, facts, path)?,
-            place: place_of(checked, row),
-            value: source_value(alloc, checked, facts, value)?,
-        }),
+        RowFact::Has { path, row, value } => has_of(alloc, checked, facts, path, row, value),
         RowFact::Shape { name, low, high } => Ok(Fact::Shape(Shape {
             name: name_at(alloc, checked, facts, name)?,
             low,
@@ -66,23 +63,75 @@ fn fact_of(
             name,
             index,
             value,
-        } => Ok(Fact::Put(Put {
-            name: name_at(alloc, checked, facts, name)?,
-            index,
-            value: source_value(alloc, checked, facts, value)?,
-            store: site_at(alloc, checked, facts, path, row)?,
-        })),
+        } => put_of(alloc, checked, facts, path, row, name, index, value),
         RowFact::Ask {
             path,
             row,
             name,
             index,
-        } => Ok(Fact::Ask(Ask {
-            fetch: site_at(alloc, checked, facts, path, row)?,
-            name: name_at(alloc, checked, facts, name)?,
-            index,
-        })),
+        } => ask_of(alloc, checked, facts, path, row, name, index),
     }
+}
+
+/// That the row Has the value at the path, as a fact of the source.
+fn has_of(
+    alloc: Global,
+    checked: &Checked,
+    facts: &Facts,
+    path: Trail,
+    row: usize,
+    value: RowValue,
+) -> Result<Fact, AllocError>
+    ensures { IfOk result (λ v. v ≡ fact_of checked.now facts.now (RowHas path row value)) }
+{
+    let path = path_at(alloc, checked, facts, path)?;
+    let value = source_value(alloc, checked, facts, value)?;
+    Ok(Fact::Has {
+        path,
+        place: place_of(checked, row),
+        value,
+    })
+}
+
+/// That the store at the path and row puts the value into the cell, as a fact of the source.
+fn put_of(
+    alloc: Global,
+    checked: &Checked,
+    facts: &Facts,
+    path: Trail,
+    row: usize,
+    name: usize,
+    index: i64,
+    value: RowValue,
+) -> Result<Fact, AllocError>
+    ensures { IfOk result (λ v. v ≡ fact_of checked.now facts.now (RowPut path row name index value)) }
+{
+    let name = name_at(alloc, checked, facts, name)?;
+    let value = source_value(alloc, checked, facts, value)?;
+    let store = site_at(alloc, checked, facts, path, row)?;
+    Ok(Fact::Put(Put {
+        name,
+        index,
+        value,
+        store,
+    }))
+}
+
+/// That the fetch at the path and row asks for the cell, as a fact of the source.
+fn ask_of(
+    alloc: Global,
+    checked: &Checked,
+    facts: &Facts,
+    path: Trail,
+    row: usize,
+    name: usize,
+    index: i64,
+) -> Result<Fact, AllocError>
+    ensures { IfOk result (λ v. v ≡ fact_of checked.now facts.now (RowAsk path row name index)) }
+{
+    let fetch = site_at(alloc, checked, facts, path, row)?;
+    let name = name_at(alloc, checked, facts, name)?;
+    Ok(Fact::Ask(Ask { fetch, name, index }))
 }
 
 /// The value of the source that this one is.
