@@ -1,6 +1,7 @@
 //! Facts by path and row, and what finds them (docs/MEANING.md, "Rounds").
 
 ghost use Rattle.std.specs.Prelude.{◌≡◌, ◌<◌, [], ◌∷◌, IfOk, OnOk};
+ghost use Rattle.id_meaning.specs.declared.cells.RowFact.TheVariants.{Ask, Has, Put, Shape};
 ghost use Rattle.id_meaning.specs.Cells.{AddsFacts, AreChained, ask_by, asks, bounds_by};
 ghost use Rattle.id_meaning.specs.Cells.{chain_at, chain_by, chain_of, fact_at, find};
 ghost use Rattle.id_meaning.specs.Cells.{index_mark, is_inside, is_on, is_path_inside, is_value_inside, items, mark_of};
@@ -395,60 +396,87 @@ fn same_value(a: RowValue, b: RowValue) -> bool
 fn same_fact(a: RowFact, b: RowFact) -> bool
     ensures { result ≡ same_fact a b }
 {
-    match (a, b) {
-        (RowFact::On { path, row }, _) => is_on(b, path, row),
-        (
-            RowFact::Has { path, row, value },
-            RowFact::Has {
-                path: there,
-                row: other,
-                value: last,
-            },
-        ) => same_trail(path, there) && row == other && same_value(value, last),
-        (
-            RowFact::Shape { name, low, high },
-            RowFact::Shape {
-                name: other,
-                low: first,
-                high: last,
-            },
-        ) => name == other && low == first && high == last,
-        (
-            RowFact::Put {
-                path,
-                row,
-                name,
-                index,
-                value,
-            },
-            RowFact::Put {
-                path: there,
-                row: other,
-                name: second,
-                index: next,
-                value: last,
-            },
-        ) => {
+    match a {
+        RowFact::On { path, row } => is_on(b, path, row),
+        RowFact::Has { path, row, value } => is_has(b, path, row, value),
+        RowFact::Shape { name, low, high } => is_shape(b, name, low, high),
+        RowFact::Put {
+            path,
+            row,
+            name,
+            index,
+            value,
+        } => is_put(b, path, row, name, index, value),
+        RowFact::Ask {
+            path,
+            row,
+            name,
+            index,
+        } => is_ask(b, path, row, name, index),
+    }
+}
+
+/// Whether the fact is that the row Has the value at the path.
+fn is_has(fact: RowFact, path: Trail, row: usize, value: RowValue) -> bool
+    ensures { result ≡ same_fact (Has path row value) fact }
+{
+    match fact {
+        RowFact::Has {
+            path: there,
+            row: other,
+            value: last,
+        } => same_trail(path, there) && row == other && same_value(value, last),
+        _ => false,
+    }
+}
+
+/// Whether the fact is that the structure has these bounds.
+fn is_shape(fact: RowFact, name: usize, low: i64, high: i64) -> bool
+    ensures { result ≡ same_fact (Shape name low high) fact }
+{
+    match fact {
+        RowFact::Shape {
+            name: other,
+            low: first,
+            high: last,
+        } => name == other && low == first && high == last,
+        _ => false,
+    }
+}
+
+/// Whether the fact is that the store puts the value into the cell.
+fn is_put(fact: RowFact, path: Trail, row: usize, name: usize, index: i64, value: RowValue) -> bool
+    ensures { result ≡ same_fact (Put path row name index value) fact }
+{
+    match fact {
+        RowFact::Put {
+            path: there,
+            row: other,
+            name: second,
+            index: next,
+            value: last,
+        } => {
             same_trail(path, there)
                 && row == other
                 && name == second
                 && index == next
                 && same_value(value, last)
         }
-        (
-            RowFact::Ask {
-                path,
-                row,
-                name,
-                index,
-            },
-            RowFact::Ask {
-                path: there,
-                row: other,
-                name: second,
-                index: next,
-            },
-        ) => same_trail(path, there) && row == other && name == second && index == next,
+        _ => false,
+    }
+}
+
+/// Whether the fact is that the fetch asks for the cell.
+fn is_ask(fact: RowFact, path: Trail, row: usize, name: usize, index: i64) -> bool
+    ensures { result ≡ same_fact (Ask path row name index) fact }
+{
+    match fact {
+        RowFact::Ask {
+            path: there,
+            row: other,
+            name: second,
+            index: next,
+        } => same_trail(path, there) && row == other && name == second && index == next,
         _ => false,
     }
 }
