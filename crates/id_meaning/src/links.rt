@@ -1,12 +1,12 @@
 //! Which rows' facts lead to facts of which rows (docs/MEANING.md, "Rules").
 
-ghost use Rattle.std.specs.Prelude.{◌≡◌, ◌<◌, [], ◌∷◌, length, IfOk, OnOk};
+ghost use Rattle.std.specs.Prelude.{◌≡◌, ◌<◌, [], ◌∷◌, ◌++◌, length, IfOk, OnOk};
 ghost use Rattle.id_parts.specs.Rows.{at};
 ghost use Rattle.id_check.specs.Programs.{binder, rows};
 ghost use Rattle.id_meaning.specs.Links.{AreArgs, AreOpen, AreReads, AreTurns, Gains, GainsFrom, GainsTo, Statements};
 ghost use Rattle.id_meaning.specs.Links.{StatementsRise, TakesAll, asker_of, awaited, beyond, far, far_from, index_of};
-ghost use Rattle.id_meaning.specs.Links.{linked_of, nexts_turned, parts_turned, some_row, switches_of, target_of};
-ghost use Rattle.id_meaning.specs.Links.{test_of};
+ghost use Rattle.id_meaning.specs.Links.{linked_of, nexts_turned, parts_turned, some_row, store_parts, switches_of};
+ghost use Rattle.id_meaning.specs.Links.{target_of, test_of};
 
 use crate::edges::Edges;
 use crate::params::node_of;
@@ -115,27 +115,37 @@ fn add_parts(turns: &mut Edges, rows: &[Row], n: usize, node: Node) -> Result<()
 {
     match node {
         Node::Unary { operand, .. } => turns.add(n, operand),
-        Node::Binary { left, right, .. } => {
-            turns.add(n, left)?;
-            turns.add(n, right)
-        }
+        Node::Binary { left, right, .. } => add_two(turns, n, left, right),
         Node::If { split, .. } => add_some(turns, n, test_at(rows, split as usize)),
         Node::Block { body } => turns.add(n, body),
-        Node::Array { low, high } => {
-            turns.add(n, low)?;
-            turns.add(n, high)
-        }
-        Node::Fetch { target, index } => {
-            turns.add(n, target)?;
-            turns.add(n, index)
-        }
-        Node::Store { address, value } => {
-            add_some(turns, n, target_at(rows, address))?;
-            add_some(turns, n, index_at(rows, address))?;
-            turns.add(n, value)
-        }
+        Node::Array { low, high } => add_two(turns, n, low, high),
+        Node::Fetch { target, index } => add_two(turns, n, target, index),
+        Node::Store { address, value } => add_store_parts(turns, rows, n, address, value),
         _ => Ok(()),
     }
+}
+
+/// Adds edges to both rows.
+fn add_two(turns: &mut Edges, n: usize, first: usize, second: usize) -> Result<(), AllocError>
+    ensures { OnOk result (Gains turns.old turns.new n (first ∷ second ∷ [])) }
+{
+    turns.add(n, first)?;
+    turns.add(n, second)
+}
+
+/// Adds the parts of the store with this address and this value.
+fn add_store_parts(
+    turns: &mut Edges,
+    rows: &[Row],
+    n: usize,
+    address: usize,
+    value: usize,
+) -> Result<(), AllocError>
+    ensures { OnOk result (Gains turns.old turns.new n (store_parts rows.now address value)) }
+{
+    add_some(turns, n, target_at(rows, address))?;
+    add_some(turns, n, index_at(rows, address))?;
+    turns.add(n, value)
 }
 
 /// Adds an edge to the row, if there is one.
@@ -251,10 +261,7 @@ fn add_reads(
             then,
             otherwise,
             ..
-        } => {
-            add_read(reads, n, beyond)?;
-            add_both(reads, n, then as usize, otherwise as usize)
-        }
+        } => add_if_reads(reads, n, beyond, then as usize, otherwise as usize),
         Node::Arg { value, .. } => add_read(reads, n, Some(value as usize)),
         Node::Call { enter, .. } => add_read(reads, n, Some(enter)),
         Node::Switches { test } => add_read(reads, n, Some(test)),
@@ -263,13 +270,38 @@ fn add_reads(
         Node::Binding { value, .. } => add_read(reads, n, Some(value)),
         Node::Array { low, high } => add_both(reads, n, low, high),
         Node::Fetch { target, index } => add_both(reads, n, target, index),
-        Node::Store { address, value } => {
-            add_read(reads, n, target_at(rows, address))?;
-            add_read(reads, n, index_at(rows, address))?;
-            add_read(reads, n, Some(value))
-        }
+        Node::Store { address, value } => add_store_reads(reads, rows, n, address, value),
         _ => Ok(()),
     }
+}
+
+/// Adds what a conditional reads: its predicate, if there is one, and its arms.
+fn add_if_reads(
+    reads: &mut Edges,
+    n: usize,
+    test: Option<usize>,
+    then: usize,
+    otherwise: usize,
+) -> Result<(), AllocError>
+    ensures { OnOk result (GainsTo reads.old reads.new (some_row test ++ then ∷ otherwise ∷ []) n) }
+{
+    add_read(reads, n, test)?;
+    add_both(reads, n, then, otherwise)
+}
+
+/// Adds what the store with this address and this value reads.
+fn add_store_reads(
+    reads: &mut Edges,
+    rows: &[Row],
+    n: usize,
+    address: usize,
+    value: usize,
+) -> Result<(), AllocError>
+    ensures { OnOk result (GainsTo reads.old reads.new (store_parts rows.now address value) n) }
+{
+    add_read(reads, n, target_at(rows, address))?;
+    add_read(reads, n, index_at(rows, address))?;
+    add_read(reads, n, Some(value))
 }
 
 fn add_both(reads: &mut Edges, n: usize, left: usize, right: usize) -> Result<(), AllocError>
