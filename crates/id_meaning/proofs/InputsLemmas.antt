@@ -1,7 +1,7 @@
 -- Words that are read from left to right give the parameters their values.
-use Rattle.std.proofs.Common.{◌≡◌, inl, inr, ℕ, zero, suc, ◌+◌, ◌<◌, ◌==◌, eqb, Bool, true, false, not, cond, ◌&&◌, ◌||◌, if◌then◌else◌, ℤ, List, [], ◌∷◌, ◌++◌}
+use Rattle.std.proofs.Common.{◌≡◌, inl, inr, ℕ, zero, suc, ◌+◌, ◌<◌, ◌≤◌, ◌==◌, eqb, Bool, true, false, not, cond, ◌&&◌, ◌||◌, if◌then◌else◌, ℤ, List, [], ◌∷◌}
 use Rattle.std.proofs.Common.{map, take, drop, set, length, get_or, Bor, Option, None, Some, IsSome, IfSome, refl, ap, sym, ◌∙◌, subst, one-add, add-one}
-use Rattle.std.proofs.Common.{length-set, arith}
+use Rattle.std.proofs.Common.{◌++◌, length-set, drop_of_length-le, arith}
 use Rattle.std.specs.Prelude.{slice_get, option_map, option_and_then}
 use Rattle.std.specs.Option.{option_or, is_some}
 use Rattle.std.specs.List.{AllPass, position_or_len, before_first, after_first}
@@ -24,12 +24,12 @@ use Rattle.id_meaning.specs.declared.inputs.Wanted.{Wanted}
 use Rattle.id_value.specs.declared.Constant.{Constant}
 use Rattle.id_value.specs.declared.Constant.TheVariants as value
 use Rattle.id_meaning.specs.declared.inputs.InputError.{InputError}
-use Rattle.id_meaning.specs.declared.inputs.InputError.TheVariants.{UnknownInput, RepeatedInput, BadInput}
+use Rattle.id_meaning.specs.declared.inputs.InputError.TheVariants.{MissingInput, UnknownInput, RepeatedInput, BadInput, Memory}
 use Rattle.id_meaning.specs.Sources.{AreFor, AreInputs, SuitsParam, constant_kind, head_of, main_params}
 use Rattle.id_meaning.proofs.ParamsLemmas.{params-among}
 use Rattle.id_meaning.specs.Inputs.{AreInputsOf, Cut, begun, cut, wanted, wanted_of, number_of, are_digits, number_spelled, whole_value, value_spelled, Said}
 use Rattle.id_meaning.specs.Inputs.{Nothing, Says, said_of, said_by, said, named_by, has, option_bad, word_cause, first_cause, value_in, value_for, IsCauseOf}
-use Rattle.id_meaning.specs.Reading.{cut_so, said_so, cause_so, values_so}
+use Rattle.id_meaning.specs.Reading.{AreGiven, AreSaid, IsFirstLack, cut_so, said_so, cause_so, values_so}
 
 -- ---- words that are cut
 
@@ -191,6 +191,67 @@ module _ (ps : List Wanted) (ws : List (List ℕ)) (j : ℕ) (vs : List (Option 
   progress-next (Some (n, None)) says within cause = absurd (false≢true (free j (get_or vs n None) None cause).1)
   progress-next (Some (n, Some v)) says within cause = next_at n v (sym says) within (free j (get_or vs n None) (Some v) cause).0
 
+-- after the last word none is refused, and these are the values
+pub said-all : (ps : List Wanted) (ws : List (List ℕ)) (j : ℕ) (vs : List (Option Constant)) → Progress ps ws j vs → length ws ≤ j → AreSaid ps ws vs
+said-all ps ws j vs p end =
+    let none : drop j ws ≡ [] = drop_of_length-le ws end in
+    record {
+      taken = p.cause ∙ ap (first_cause ps p.seen j) none;
+      enough = p.size;
+      values = λ n l. sym (p.given n l ∙ ap (λ rest. option_or (get_or vs n None) (value_for ps rest n)) none ∙ or-none (get_or vs n None));
+    }
+  where
+    or-none : (o : Option Constant) → option_or o None ≡ o
+    or-none None = refl
+    or-none (Some v) = refl
+
+-- ---- where none lacks
+
+wide-map : {A B : Type 0} (f : A → B) (xs : List A) → length (map f xs) ≡ length xs
+wide-map f [] = refl
+wide-map f (x ∷ xs) = ap (λ n. suc n) (wide-map f xs)
+
+said-at : (vs : List (Option Constant)) (n : ℕ) (o : Option Constant) → slice_get vs n ≡ Some o → (n < length vs) × (get_or vs n None ≡ o)
+said-at [] n o e = cc
+said-at (v ∷ vs) zero o e = (omega arith, let same : v ≡ o = cc in same)
+said-at (v ∷ vs) (suc n) o e = let h = said-at vs n o e in (let l = h.0 in omega arith, h.1)
+
+given-at : (ks : List Constant) (n : ℕ) → get_or (map Some ks) n None ≡ slice_get ks n
+given-at [] n = refl
+given-at (k ∷ ks) zero = refl
+given-at (k ∷ ks) (suc n) = given-at ks n
+
+-- the first that lacks is the cause
+pub lack-cause : (ps : List Wanted) (ws : List (List ℕ)) (vs : List (Option Constant)) → AreSaid ps ws vs → (e : InputError) → IsFirstLack vs e
+    → IsCauseOf ps ws e
+lack-cause ps ws vs s (MissingInput n) h =
+    let k = said-at vs n None h.0 in
+    let inside = k.0 in
+    let size = s.enough in (
+      s.taken,
+      record {
+        param = omega arith;
+        missing = sym (s.values n inside) ∙ k.1;
+        before = λ m l. (let F : Option Constant → Type 0 = λ o. IsSome o in subst F (s.values m (omega arith)) (h.1 m l));
+      },
+    )
+lack-cause ps ws vs s (UnknownInput j) h = absurd h
+lack-cause ps ws vs s (RepeatedInput j) h = absurd h
+lack-cause ps ws vs s (BadInput j) h = absurd h
+lack-cause ps ws vs s Memory h = tt
+
+-- and where none does, these are the values that are given
+pub said-given : (ps : List Wanted) (ws : List (List ℕ)) (vs us : List (Option Constant)) (ks : List Constant) → AreSaid ps ws vs → us ≡ vs → map Some ks ≡ us
+    → AreGiven ps ws ks
+said-given ps ws vs us ks s e h =
+    let same : vs ≡ map Some ks = sym (h ∙ e) in
+    let size : length vs ≡ length ks = ap length same ∙ wide-map Some ks in
+    record {
+      taken = s.taken;
+      enough = sym size ∙ s.enough;
+      values = λ n l. sym (given-at ks n) ∙ ap (λ xs. get_or xs n None) (sym same) ∙ s.values n (omega arith);
+    }
+
 -- the word of a number, as its text
 pub word_at : (ps : List Wanted) (ws : List (Bor (List ℕ))) (j : ℕ) (d : Bor (List ℕ)) → j < length ws
     → said ps (get_or (map (λ w. w.now) ws) j []) ≡ said ps (get_or ws j d).now
@@ -262,18 +323,13 @@ are-for P (b ∷ bs) [] are e h = absurd (omega arith)
 are-for P (b ∷ bs) (v ∷ vs) are e h =
     (suits P (at (rows P) b).node v (are b (inl refl)) (h 0 _ v refl refl), are-for P bs vs (λ c i. are c (inr i)) (omega arith) (λ n. h (suc n)))
 
-wide-map : {A B : Type 0} (f : A → B) (xs : List A) → length (map f xs) ≡ length xs
-wide-map f [] = refl
-wide-map f (x ∷ xs) = ap (λ n. suc n) (wide-map f xs)
-
 -- one for each parameter of `main`, of its kind
-module _ (P : Checked) (ps : List Wanted) (ws : List (List ℕ)) (vs : List Constant) (same : ps ≡ wanted P) (enough : length vs ≡ length ps)
-    (values : (n : ℕ) → n < length vs → slice_get vs n ≡ value_for ps ws n) where
-  pub are-inputs-of : first_cause ps [] 0 ws ≡ None → AreInputsOf P ws vs
-  are-inputs-of taken = record {
-    all_taken = subst (λ qs. first_cause qs [] 0 ws ≡ None) same taken;
-    enough = enough ∙ ap length same;
-    values = λ n l. values n l ∙ ap (λ qs. value_for qs ws n) same;
+module _ (P : Checked) (ps : List Wanted) (ws : List (List ℕ)) (vs : List Constant) (same : ps ≡ wanted P) (given : AreGiven ps ws vs) where
+  pub are-inputs-of : AreInputsOf P ws vs
+  are-inputs-of = record {
+    all_taken = subst (λ qs. first_cause qs [] 0 ws ≡ None) same given.taken;
+    enough = given.enough ∙ ap length same;
+    values = λ n l. given.values n l ∙ ap (λ qs. value_for qs ws n) same;
   }
 
   pub are-inputs : AreInputs P vs
@@ -281,7 +337,7 @@ module _ (P : Checked) (ps : List Wanted) (ws : List (List ℕ)) (vs : List Cons
       let R = rows P in
       let wide : length (wanted P) ≡ length (main_params P) = wide-map (λ b. wanted_of P (at R b).node) (main_params P) in
       let kinds : (n : ℕ) (p : Wanted) (v : Constant) → slice_get ps n ≡ Some p → slice_get vs n ≡ Some v → constant_kind v ≡ p.kind =
-      λ n p v is at. for-kind ps ws n p v is (sym (values n (slice_get_within vs n v at)) ∙ at) in
-      are-for P (main_params P) vs (λ b i. (params-among R (head_of (at R P.main).node) (length R) b i).1) (enough ∙ ap length same ∙ wide)
+      λ n p v is at. for-kind ps ws n p v is (sym (given.values n (slice_get_within vs n v at)) ∙ at) in
+      are-for P (main_params P) vs (λ b i. (params-among R (head_of (at R P.main).node) (length R) b i).1) (given.enough ∙ ap length same ∙ wide)
       (subst (λ (qs : List Wanted). (n : ℕ) (p : Wanted) (v : Constant) → slice_get qs n ≡ Some p → slice_get vs n ≡ Some v → constant_kind v ≡ p.kind) same
       kinds)

@@ -1,5 +1,5 @@
 -- What private functions say of words and of values so far, in the forms that they have.
-use Rattle.std.specs.Prelude.{◌≡◌, ◌<◌, ℕ, List, slice_get, slice_index_or, slice_set}
+use Rattle.std.specs.Prelude.{◌≡◌, ◌<◌, ℕ, List, [], length, slice_get, slice_index_or, slice_set}
 use Rattle.std.specs.Prelude.{Option, None, Some, IsSome, if◌then◌else◌}
 use Rattle.std.specs.Option.{is_some}
 use Rattle.std.specs.Borrow.{Bor}
@@ -7,7 +7,8 @@ use Rattle.id_value.specs.declared.Constant.{Constant}
 use Rattle.id_meaning.specs.declared.inputs.InputError.{InputError}
 use Rattle.id_meaning.specs.declared.inputs.InputError.TheVariants.{MissingInput, UnknownInput, RepeatedInput}
 use Rattle.id_meaning.specs.declared.inputs.InputError.TheVariants.{BadInput, Memory}
-use Rattle.id_meaning.specs.Inputs.{Cut, Said, Nothing, Says, option_bad}
+use Rattle.id_meaning.specs.declared.inputs.Wanted.{Wanted}
+use Rattle.id_meaning.specs.Inputs.{Cut, Said, Nothing, Says, first_cause, option_bad, value_for}
 
 -- the cut, where it is given as two texts or as nothing
 abbrev pub cut_so : Option (Bor (List ℕ) × Bor (List ℕ)) → Option Cut
@@ -36,3 +37,15 @@ IsFirstLack vs (UnknownInput j) = ⊥
 IsFirstLack vs (RepeatedInput j) = ⊥
 IsFirstLack vs (BadInput j) = ⊥
 IsFirstLack vs Memory = Unit {0}
+
+-- the words say these values of the parameters, and none is refused
+pub record AreSaid (ps : List Wanted) (ws : List (List ℕ)) (vs : List (Option Constant)) : Type 0 where
+  pub taken : first_cause ps [] 0 ws ≡ None
+  pub enough : length vs ≡ length ps
+  pub values : (n : ℕ) → n < length vs → slice_index_or vs n None ≡ value_for ps ws n
+
+-- the words give the parameters these values, and none is refused
+pub record AreGiven (ps : List Wanted) (ws : List (List ℕ)) (vs : List Constant) : Type 0 where
+  pub taken : first_cause ps [] 0 ws ≡ None
+  pub enough : length vs ≡ length ps
+  pub values : (n : ℕ) → n < length vs → slice_get vs n ≡ value_for ps ws n

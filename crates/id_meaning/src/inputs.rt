@@ -1,7 +1,7 @@
 //! The inputs of `main`, read from words (docs/LANGUAGE.md, "Inputs").
 
 ghost use Rattle.std.specs.Prelude.{◌≡◌, ℕ, get_or, ◌<◌, ◌-◌, ◌^◌, [], min, map, pos, neg_ℤ, length, slice_get};
-ghost use Rattle.std.specs.Prelude.{slice_index_or, None, Some, IfOk, IfErr, IfSome, OnOk};
+ghost use Rattle.std.specs.Prelude.{None, Some, IfOk, IfErr, IfSome, OnOk};
 ghost use Rattle.std.specs.Prelude.{option_map, option_and_then};
 ghost use Rattle.std.specs.List.{AllPass};
 ghost use Rattle.std.specs.Char.{is_ascii_digit};
@@ -10,9 +10,9 @@ ghost use Rattle.id_parts.specs.Rows.{at};
 ghost use Rattle.id_check.specs.Programs.{rows};
 ghost use Rattle.id_meaning.specs.Sources.{AreInputs};
 ghost use Rattle.id_meaning.specs.Inputs.{AreInputsOf, AreRefusedInputs, IsCauseOf, are_digits, cut, digits_number};
-ghost use Rattle.id_meaning.specs.Inputs.{first_cause, number_of, number_spelled, said, truth_spelled, value_for};
-ghost use Rattle.id_meaning.specs.Inputs.{value_spelled, wanted, wanted_of, whole_value};
-ghost use Rattle.id_meaning.specs.Reading.{IsFirstLack, cause_so, cut_so, said_so, values_so};
+ghost use Rattle.id_meaning.specs.Inputs.{number_of, number_spelled, said, truth_spelled, value_spelled, wanted};
+ghost use Rattle.id_meaning.specs.Inputs.{wanted_of, whole_value};
+ghost use Rattle.id_meaning.specs.Reading.{AreGiven, AreSaid, IsFirstLack, cause_so, cut_so, said_so, values_so};
 
 use crate::params::{main_params, node_of};
 use id_check::Checked;
@@ -128,10 +128,7 @@ fn name_of(alloc: Global, checked: &Checked, number: usize) -> Result<Identifier
 
 /// The values that words give the parameters, in the parameters' order; refused as by `read_inputs`.
 fn inputs_for(alloc: Global, params: &[Wanted], words: &[&str]) -> Result<Vec<Constant>, InputError>
-    ensures taken { IfOk result (λ v. first_cause params.now [] 0 (map (λ w. w.now) words.now) ≡ None) }
-    ensures enough { IfOk result (λ v. length v.items ≡ length params.now) }
-    ensures values { IfOk result (λ v. (n : ℕ) → n < length v.items
-        → slice_get v.items n ≡ value_for params.now (map (λ w. w.now) words.now) n) }
+    ensures given { IfOk result (λ v. AreGiven params.now (map (λ w. w.now) words.now) v.items) }
     ensures refused { IfErr result (IsCauseOf params.now (map (λ w. w.now) words.now)) }
 {
     let values = values_said(alloc, params, words)?;
@@ -144,10 +141,7 @@ fn values_said(
     params: &[Wanted],
     words: &[&str],
 ) -> Result<Vec<Option<Constant>>, InputError>
-    ensures taken { IfOk result (λ v. first_cause params.now [] 0 (map (λ w. w.now) words.now) ≡ None) }
-    ensures enough { IfOk result (λ v. length v.items ≡ length params.now) }
-    ensures values { IfOk result (λ v. (n : ℕ) → n < length v.items
-        → slice_index_or v.items n None ≡ value_for params.now (map (λ w. w.now) words.now) n) }
+    ensures said { IfOk result (λ v. AreSaid params.now (map (λ w. w.now) words.now) v.items) }
     ensures refused { IfErr result (IsCauseOf params.now (map (λ w. w.now) words.now)) }
 {
     let mut values = vec![in alloc; None; params.len()]?;
@@ -261,15 +255,29 @@ fn whole_spelled(bytes: &[u8]) -> Option<Constant>
     ensures { result ≡ option_and_then whole_value (number_spelled bytes.now) }
 {
     if !bytes.is_empty() && bytes[0] == b'-' {
-        match digits_number(&bytes[1..]) {
-            Some(n) => negative(n),
-            None => None,
-        }
+        negative_spelled(&bytes[1..])
     } else {
-        match digits_number(bytes) {
-            Some(n) => positive(n),
-            None => None,
-        }
+        positive_spelled(bytes)
+    }
+}
+
+/// The whole number that the digits spell.
+fn positive_spelled(digits: &[u8]) -> Option<Constant>
+    ensures { result ≡ option_and_then whole_value (option_map (λ n. pos n) (digits_number digits.now)) }
+{
+    match digits_number(digits) {
+        Some(n) => positive(n),
+        None => None,
+    }
+}
+
+/// The whole number that the digits spell behind `-`.
+fn negative_spelled(digits: &[u8]) -> Option<Constant>
+    ensures { result ≡ option_and_then whole_value (option_map (λ n. neg_ℤ (pos n)) (digits_number digits.now)) }
+{
+    match digits_number(digits) {
+        Some(n) => negative(n),
+        None => None,
     }
 }
 

@@ -1,7 +1,7 @@
 -- A word is refused, or gives its parameter a value.
 use Rattle.std.proofs.Common.{◌+◌, ◌<◌, length, map, IfSome, sym, ◌∙◌, subst, arith}
 use Rattle.std.proofs.lemmas.List.{length-map}
-use Rattle.id_meaning.proofs.InputsLemmas.{Progress, progress-refused, progress-next, word_at}
+use Rattle.id_meaning.proofs.InputsLemmas.{Progress, progress-refused, progress-next, said-all, word_at}
 use Rattle.std.proofs.lemmas.Grind.{common_steps}
 use Rattle.id_meaning.proofs.TurnsLemmas.{if_err}
 use Rattle.id_meaning.proofs.inputs.values_said.Goals as goal
@@ -23,14 +23,8 @@ loop-j-preserved c =
     (subst (λ k. IfSome c.said.result (λ x. x.0 < k)) (sym c.loop-j.invariant.size) c.said.ensures.inside)
     c.in_default.ensures.taken)
 
-pub returns-in_err-values-clause-taken : goal.returns-in_err-values-clause-taken
-returns-in_err-values-clause-taken c = if_err _ c.from_residual.result c.from_residual.ensures.0
-
-pub returns-in_err-values-clause-enough : goal.returns-in_err-values-clause-enough
-returns-in_err-values-clause-enough c = if_err _ c.from_residual.result c.from_residual.ensures.0
-
-pub returns-in_err-values-clause-values : goal.returns-in_err-values-clause-values
-returns-in_err-values-clause-values c = if_err _ c.from_residual.result c.from_residual.ensures.0
+pub returns-in_err-values-clause-said : goal.returns-in_err-values-clause-said
+returns-in_err-values-clause-said c = if_err _ c.from_residual.result c.from_residual.ensures.0
 
 pub returns-in_err-values-clause-refused : goal.returns-in_err-values-clause-refused
 returns-in_err-values-clause-refused c = grind (arith, common_steps)
@@ -38,23 +32,12 @@ returns-in_err-values-clause-refused c = grind (arith, common_steps)
 pub loop-j-init : goal.loop-j-init
 loop-j-init c = grind (arith, common_steps)
 
-pub returns-in-Err-clause-taken : goal.returns-in-Err-clause-taken
-returns-in-Err-clause-taken c = tt
+pub returns-in-Err-clause-said : goal.returns-in-Err-clause-said
+returns-in-Err-clause-said c = tt
 
-pub returns-in-Err-clause-enough : goal.returns-in-Err-clause-enough
-returns-in-Err-clause-enough c = tt
-
-pub returns-in-Err-clause-values : goal.returns-in-Err-clause-values
-returns-in-Err-clause-values c = tt
-
-pub returns-clause-taken : goal.returns-clause-taken
-returns-clause-taken c = grind (arith, common_steps)
-
-pub returns-clause-enough : goal.returns-clause-enough
-returns-clause-enough c = grind (arith, common_steps)
-
-pub returns-clause-values : goal.returns-clause-values
-returns-clause-values c = grind (arith, common_steps)
+pub returns-clause-said : goal.returns-clause-said
+returns-clause-said c =
+    said-all c.args.params.now (map (λ w. w.now) c.args.words.now) c.loop-j.j c.loop-j.values.items c.loop-j.invariant (rw length-map c.loop-j-test.false)
 
 pub returns-clause-refused : goal.returns-clause-refused
 returns-clause-refused c = tt
