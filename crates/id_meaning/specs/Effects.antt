@@ -435,11 +435,15 @@ queue [] n = []
 queue (v ∷ vs) zero = v.items
 queue (v ∷ vs) (suc n) = queue vs n
 
--- the facts that follow from this one, with others of the cells, by one rule, where this waits
-abbrev pub effects : Checked → Links → Queues → Cells → RowFact → List RowFact
-effects P l W c (On p n) =
+-- the facts that follow from this, that the row n is On at the path
+abbrev pub turned : Checked → Links → Cells → Trail → ℕ → List RowFact
+turned P l c p n =
     ons p (targets l.turns.rows.items n)
     ++ (given P c (On p n) p n ++ (call_at P l c (On p n) p n ++ start_at P l c (On p n) p n))
+
+-- the facts that follow from this one, with others of the cells, by one rule, where this waits
+abbrev pub effects : Checked → Links → Queues → Cells → RowFact → List RowFact
+effects P l W c (On p n) = turned P l c p n
 effects P l W c (Has p n v) =
     gains P l c p n v (targets l.reads.rows.items n)
     ++ (all_woken P c p n v (queue W.queues.items (queue_of p n)) ++ exit_at P c p n v)

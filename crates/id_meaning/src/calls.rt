@@ -1,11 +1,11 @@
 //! What follows by the rules of calls (docs/MEANING.md, "Rules").
 
-ghost use Rattle.std.specs.Prelude.{◌≡◌, ◌++◌, OnOk};
-ghost use Rattle.id_meaning.specs.Effects.{all_passed, all_passes, body_in, call_at, callee_of, entered, entered_by};
-ghost use Rattle.id_meaning.specs.Effects.{param_haves, param_row, pass_by, pass_of, passed_of};
+ghost use Rattle.std.specs.Prelude.{◌≡◌, ◌++◌, Some, OnOk};
+ghost use Rattle.id_meaning.specs.Effects.{all_passed, all_passes, body_in, call_at, call_by, callee_of};
+ghost use Rattle.id_meaning.specs.Effects.{entered, entered_by, param_haves, param_row, pass_by, pass_of, passed_of};
 
 use crate::cells::{Cells, RowFact, RowValue, Trail};
-use crate::effects::{add_has, add_values};
+use crate::effects::{add_seen, add_values};
 use crate::links::{Links, binder_of};
 use crate::params::node_of;
 use id_check::Checked;
@@ -85,25 +85,56 @@ pub fn add_call(
     ensures { OnOk result (found.new.items ≡ found.old.items
         ++ call_at checked.now links.now cells.now followed path row) }
 {
-    if let Some(call) = entered(checked, cells, path, row) {
-        found.push(RowFact::On {
-            path: call.path,
-            row: call.body,
-        })?;
-        let values = cells.values(alloc, followed, call.path, call.body)?;
-        add_values(found, path, row, values.as_slice())?;
-        add_all_passed(
-            alloc,
-            found,
-            checked,
-            cells,
-            followed,
-            path,
-            call,
-            links.args.of(call.enter),
-        )?;
+    match entered(checked, cells, path, row) {
+        Some(call) => {
+            add_called(
+                alloc, found, checked, links, cells, followed, path, row, call,
+            )
+        }
+        None => Ok(()),
     }
-    Ok(())
+}
+
+/// Adds the facts that come by this call at the row at the path, which is On, where this fact is followed.
+fn add_called(
+    alloc: Global,
+    found: &mut Vec<RowFact>,
+    checked: &Checked,
+    links: &Links,
+    cells: &Cells,
+    followed: RowFact,
+    path: Trail,
+    row: usize,
+    call: OnCall,
+) -> Result<(), AllocError>
+    ensures { OnOk result (found.new.items ≡ found.old.items
+        ++ call_by checked.now links.now cells.now followed path row (Some call)) }
+{
+    let body = call.body;
+    found.push(RowFact::On {
+        path: call.path,
+        row: body,
+    })?;
+    add_seen(
+        alloc,
+        found,
+        cells,
+        followed,
+        path,
+        row,
+        call.path,
+        Some(body),
+    )?;
+    add_all_passed(
+        alloc,
+        found,
+        checked,
+        cells,
+        followed,
+        path,
+        call,
+        links.args.of(call.enter),
+    )
 }
 
 /// Adds the facts that come by the arguments of the call at these rows.

@@ -2,23 +2,24 @@
 
 ghost use Rattle.std.specs.Prelude.{◌≡◌, [], ◌∷◌, ◌++◌, slice_get, IfOk, OnOk};
 ghost use Rattle.id_meaning.specs.declared.cells.RowFact.TheVariants.{Has};
-ghost use Rattle.id_meaning.specs.Effects.{all_woken, arm_by, arms, binaries, binary_by, body_in, callee_of, chosen};
-ghost use Rattle.id_meaning.specs.Effects.{constant_of, effects, exit_at, exit_by, first_facts};
-ghost use Rattle.id_meaning.specs.Effects.{from_found, from_on, gain, gains};
-ghost use Rattle.id_meaning.specs.Effects.{given, gives, haves, input_fact, input_facts, is_end, is_row, ons, reached};
-ghost use Rattle.id_meaning.specs.Effects.{all_rights, rights_of, row_value, seen, unaries, unary_by};
+ghost use Rattle.id_meaning.specs.Cells.{named};
+ghost use Rattle.id_meaning.specs.Effects.{all_woken, arm_by, arms, body_in, callee_of, chosen};
+ghost use Rattle.id_meaning.specs.Effects.{effects, exit_at, exit_by, first_facts, from_found, from_on, gain, gains};
+ghost use Rattle.id_meaning.specs.Effects.{given, haves, input_fact, input_facts, is_end, is_row, ons, reached};
+ghost use Rattle.id_meaning.specs.Effects.{row_value, seen, turned};
 ghost use Rattle.id_meaning.specs.Links.{arm_of, some_row};
 
 use crate::calls::{add_call, add_pass, body_called};
 use crate::cells::{Cells, Point, RowFact, RowValue, Trail, queue_of};
 use crate::links::{Links, beyond, far};
 use crate::loops::{add_loop, add_start, add_woken};
+use crate::operators::{add_binary_at, add_unary_at};
 use crate::params::{main_body, main_params, node_of};
 use crate::queues::{Queues, Wait};
-use crate::structures::{add_array, add_asked, add_fetch, add_put, add_store};
+use crate::structures::{add_array_at, add_asked, add_fetch_at, add_put, add_store};
 use id_check::Checked;
 use id_parts::Node;
-use id_value::{BinaryOp, Constant, Outcome, UnaryOp, binary_result, unary_result};
+use id_value::Constant;
 use std::alloc::{AllocError, Global};
 
 /// The facts that follow from none: main's body is On, and its parameters Have their inputs.
@@ -92,38 +93,12 @@ pub fn add_effects(
 {
     match fact {
         RowFact::On { path, row } => {
-            add_ons(found, path, links.turns.of(row))?;
-            add_given(alloc, found, checked, cells, fact, path, row)?;
-            add_call(alloc, found, checked, links, cells, fact, path, row)?;
-            add_start(alloc, found, checked, links, cells, fact, path, row)
+            add_from_turned(alloc, found, checked, links, cells, path, row)
         }
         RowFact::Has { path, row, value } => {
-            add_gains(
-                alloc,
-                found,
-                checked,
-                links,
-                cells,
-                path,
-                row,
-                value,
-                links.reads.of(row),
-            )?;
-            add_all_woken(
-                found,
-                checked,
-                cells,
-                path,
-                row,
-                value,
-                waits.of(queue_of(path, row)),
-            )?;
-            add_exit(found, checked, cells, path, row, value)
+            add_from_value(alloc, found, checked, links, waits, cells, path, row, value)
         }
-        RowFact::Shape { name, .. } => {
-            let points = cells.named(alloc, name)?;
-            add_reached(alloc, found, checked, links, cells, name, points.as_slice())
-        }
+        RowFact::Shape { name, .. } => add_from_shape(alloc, found, checked, links, cells, name),
         RowFact::Put {
             name,
             index,
@@ -137,6 +112,80 @@ pub fn add_effects(
             index,
         } => add_asked(alloc, found, cells, path, row, name, index),
     }
+}
+
+/// Adds the facts that follow from this, that the row is On at the path.
+fn add_from_turned(
+    alloc: Global,
+    found: &mut Vec<RowFact>,
+    checked: &Checked,
+    links: &Links,
+    cells: &Cells,
+    path: Trail,
+    row: usize,
+) -> Result<(), AllocError>
+    ensures { OnOk result (found.new.items ≡ found.old.items
+        ++ turned checked.now links.now cells.now path row) }
+{
+    let fact = RowFact::On { path, row };
+    add_ons(found, path, links.turns.of(row))?;
+    add_given(alloc, found, checked, cells, fact, path, row)?;
+    add_call(alloc, found, checked, links, cells, fact, path, row)?;
+    add_start(alloc, found, checked, links, cells, fact, path, row)
+}
+
+/// Adds the facts that follow from this, that the row Has the value at the path.
+fn add_from_value(
+    alloc: Global,
+    found: &mut Vec<RowFact>,
+    checked: &Checked,
+    links: &Links,
+    waits: &Queues,
+    cells: &Cells,
+    path: Trail,
+    row: usize,
+    value: RowValue,
+) -> Result<(), AllocError>
+    ensures { OnOk result (found.new.items ≡ found.old.items
+        ++ effects checked.now links.now waits.now cells.now (Has path row value)) }
+{
+    add_gains(
+        alloc,
+        found,
+        checked,
+        links,
+        cells,
+        path,
+        row,
+        value,
+        links.reads.of(row),
+    )?;
+    add_all_woken(
+        found,
+        checked,
+        cells,
+        path,
+        row,
+        value,
+        waits.of(queue_of(path, row)),
+    )?;
+    add_exit(found, checked, cells, path, row, value)
+}
+
+/// Adds the facts that come where the structure, which has new bounds, is a value.
+fn add_from_shape(
+    alloc: Global,
+    found: &mut Vec<RowFact>,
+    checked: &Checked,
+    links: &Links,
+    cells: &Cells,
+    name: usize,
+) -> Result<(), AllocError>
+    ensures { OnOk result (found.new.items ≡ found.old.items
+        ++ reached checked.now links.now cells.now name (named cells.now name)) }
+{
+    let points = cells.named(alloc, name)?;
+    add_reached(alloc, found, checked, links, cells, name, points.as_slice())
 }
 
 /// Adds that these rows are On at the path.
@@ -364,8 +413,7 @@ pub fn add_given(
 {
     match node_of(checked, row) {
         Node::Binding { value, .. } => {
-            let values = cells.values(alloc, followed, path, value)?;
-            add_values(found, path, row, values.as_slice())
+            add_seen(alloc, found, cells, followed, path, row, path, Some(value))
         }
         node => {
             add_found(
@@ -427,25 +475,21 @@ fn add_from_on(
         Node::Literal { value } => add_has(found, path, row, row_value(value)),
         Node::Name { .. } => {
             let outer = cells.out_of(path, far(checked, row, node));
-            let values = seen(alloc, cells, followed, outer, beyond(checked, row, node))?;
-            add_values(found, path, row, values.as_slice())
+            let there = beyond(checked, row, node);
+            add_seen(alloc, found, cells, followed, path, row, outer, there)
         }
         Node::Unary { op, operand } => {
-            let operands = cells.values(alloc, followed, path, operand)?;
-            add_unary(found, path, row, op, operands.as_slice())
+            add_unary_at(alloc, found, cells, followed, path, row, op, operand)
         }
         Node::Binary { op, left, right } => {
-            let lefts = cells.values(alloc, followed, path, left)?;
-            let rights = cells.values(alloc, followed, path, right)?;
-            add_binary(found, path, row, op, lefts.as_slice(), rights.as_slice())
+            add_binary_at(alloc, found, cells, followed, path, row, op, left, right)
         }
         Node::If {
             then,
             otherwise,
             ..
         } => {
-            let tests = seen(alloc, cells, followed, path, beyond(checked, row, node))?;
-            add_arms(
+            add_if(
                 alloc,
                 found,
                 cells,
@@ -454,30 +498,17 @@ fn add_from_on(
                 row,
                 then as usize,
                 otherwise as usize,
-                tests.as_slice(),
+                beyond(checked, row, node),
             )
         }
         Node::Block { body } => {
-            let values = cells.values(alloc, followed, path, body)?;
-            add_values(found, path, row, values.as_slice())
+            add_seen(alloc, found, cells, followed, path, row, path, Some(body))
         }
         Node::Array { low, high } => {
-            let lows = cells.values(alloc, followed, path, low)?;
-            let highs = cells.values(alloc, followed, path, high)?;
-            add_array(found, path, row, spot, lows.as_slice(), highs.as_slice())
+            add_array_at(alloc, found, cells, followed, path, row, spot, low, high)
         }
         Node::Fetch { target, index } => {
-            let targets = cells.values(alloc, followed, path, target)?;
-            let indices = cells.values(alloc, followed, path, index)?;
-            add_fetch(
-                alloc,
-                found,
-                cells,
-                path,
-                row,
-                targets.as_slice(),
-                indices.as_slice(),
-            )
+            add_fetch_at(alloc, found, cells, followed, path, row, target, index)
         }
         Node::Store { address, value } => {
             add_store(
@@ -495,8 +526,55 @@ fn add_from_on(
     }
 }
 
+/// Adds that the row Has at the path what the row `there` Has at the path `outer`, if there is one.
+pub fn add_seen(
+    alloc: Global,
+    found: &mut Vec<RowFact>,
+    cells: &Cells,
+    followed: RowFact,
+    path: Trail,
+    row: usize,
+    outer: Trail,
+    there: Option<usize>,
+) -> Result<(), AllocError>
+    ensures { OnOk result (found.new.items ≡ found.old.items
+        ++ haves path row (seen cells.now followed outer there)) }
+{
+    let values = seen(alloc, cells, followed, outer, there)?;
+    add_values(found, path, row, values.as_slice())
+}
+
+/// Adds what comes at a conditional with these arms, whose predicate is at the row `test`, if there is one.
+fn add_if(
+    alloc: Global,
+    found: &mut Vec<RowFact>,
+    cells: &Cells,
+    followed: RowFact,
+    path: Trail,
+    row: usize,
+    then: usize,
+    otherwise: usize,
+    test: Option<usize>,
+) -> Result<(), AllocError>
+    ensures { OnOk result (found.new.items ≡ found.old.items
+        ++ arms cells.now followed path row then otherwise (seen cells.now followed path test)) }
+{
+    let tests = seen(alloc, cells, followed, path, test)?;
+    add_arms(
+        alloc,
+        found,
+        cells,
+        followed,
+        path,
+        row,
+        then,
+        otherwise,
+        tests.as_slice(),
+    )
+}
+
 /// What the row Has at the path, if there is one.
-pub fn seen(
+fn seen(
     alloc: Global,
     cells: &Cells,
     followed: RowFact,
@@ -508,128 +586,6 @@ pub fn seen(
     match row {
         Some(row) => cells.values(alloc, followed, path, row),
         None => Ok(Vec::new(alloc)),
-    }
-}
-
-/// Adds what the operator gives of these operands.
-fn add_unary(
-    found: &mut Vec<RowFact>,
-    path: Trail,
-    row: usize,
-    op: UnaryOp,
-    operands: &[RowValue],
-) -> Result<(), AllocError>
-    ensures { OnOk result (found.new.items ≡ found.old.items
-        ++ unaries path row op operands.now) }
-{
-    for operand in operands {
-        add_unary_by(found, path, row, op, constant_of(*operand))?;
-    }
-    Ok(())
-}
-
-/// Adds what the operator gives of this operand, if it is a constant.
-fn add_unary_by(
-    found: &mut Vec<RowFact>,
-    path: Trail,
-    row: usize,
-    op: UnaryOp,
-    operand: Option<Constant>,
-) -> Result<(), AllocError>
-    ensures { OnOk result (found.new.items ≡ found.old.items
-        ++ unary_by path row op operand) }
-{
-    match operand {
-        Some(operand) => add_given_value(found, path, row, unary_result(op, operand)),
-        None => Ok(()),
-    }
-}
-
-/// Adds what the operator gives of these left operands with these right ones.
-fn add_binary(
-    found: &mut Vec<RowFact>,
-    path: Trail,
-    row: usize,
-    op: BinaryOp,
-    lefts: &[RowValue],
-    rights: &[RowValue],
-) -> Result<(), AllocError>
-    ensures { OnOk result (found.new.items ≡ found.old.items
-        ++ binaries path row op lefts.now rights.now) }
-{
-    for left in lefts {
-        add_rights_of(found, path, row, op, constant_of(*left), rights)?;
-    }
-    Ok(())
-}
-
-/// Adds what the operator gives of this left operand, if it is a constant, with these right ones.
-fn add_rights_of(
-    found: &mut Vec<RowFact>,
-    path: Trail,
-    row: usize,
-    op: BinaryOp,
-    left: Option<Constant>,
-    rights: &[RowValue],
-) -> Result<(), AllocError>
-    ensures { OnOk result (found.new.items ≡ found.old.items
-        ++ rights_of path row op left rights.now) }
-{
-    match left {
-        Some(left) => add_rights(found, path, row, op, left, rights),
-        None => Ok(()),
-    }
-}
-
-/// Adds what the operator gives of this left operand with these right ones.
-fn add_rights(
-    found: &mut Vec<RowFact>,
-    path: Trail,
-    row: usize,
-    op: BinaryOp,
-    left: Constant,
-    rights: &[RowValue],
-) -> Result<(), AllocError>
-    ensures { OnOk result (found.new.items ≡ found.old.items
-        ++ all_rights path row op left rights.now) }
-{
-    for right in rights {
-        add_binary_by(found, path, row, op, left, constant_of(*right))?;
-    }
-    Ok(())
-}
-
-/// Adds what the operator gives of this left operand with this right one, if that is a constant.
-fn add_binary_by(
-    found: &mut Vec<RowFact>,
-    path: Trail,
-    row: usize,
-    op: BinaryOp,
-    left: Constant,
-    right: Option<Constant>,
-) -> Result<(), AllocError>
-    ensures { OnOk result (found.new.items ≡ found.old.items
-        ++ binary_by path row op left right) }
-{
-    match right {
-        Some(right) => add_given_value(found, path, row, binary_result(op, left, right)),
-        None => Ok(()),
-    }
-}
-
-/// Adds the value that an operator gives, if it gives one.
-fn add_given_value(
-    found: &mut Vec<RowFact>,
-    path: Trail,
-    row: usize,
-    outcome: Outcome,
-) -> Result<(), AllocError>
-    ensures { OnOk result (found.new.items ≡ found.old.items
-        ++ gives path row outcome) }
-{
-    match outcome {
-        Outcome::Gives(constant) => add_has(found, path, row, row_value(constant)),
-        _ => Ok(()),
     }
 }
 
@@ -694,8 +650,7 @@ fn add_chosen(
         ++ chosen cells.now followed path row arm) }
 {
     found.push(RowFact::On { path, row: arm })?;
-    let values = cells.values(alloc, followed, path, arm)?;
-    add_values(found, path, row, values.as_slice())
+    add_seen(alloc, found, cells, followed, path, row, path, Some(arm))
 }
 
 /// The arm that this truth value turns On.
@@ -712,16 +667,5 @@ pub fn row_value(constant: Constant) -> RowValue
     match constant {
         Constant::Int(number) => RowValue::Int(number),
         Constant::Bool(truth) => RowValue::Bool(truth),
-    }
-}
-
-/// The constant that a value of a row is, if it is one.
-fn constant_of(value: RowValue) -> Option<Constant>
-    ensures { result ≡ constant_of value }
-{
-    match value {
-        RowValue::Int(number) => Some(Constant::Int(number)),
-        RowValue::Bool(truth) => Some(Constant::Bool(truth)),
-        RowValue::Name(_) => None,
     }
 }

@@ -14,6 +14,7 @@ mod inputs;
 mod links;
 mod listing;
 mod loops;
+mod operators;
 mod params;
 mod queues;
 mod round;

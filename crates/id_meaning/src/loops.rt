@@ -10,7 +10,7 @@ ghost use Rattle.id_meaning.specs.Effects.{woken_by};
 ghost use Rattle.id_meaning.specs.Links.{test_of_loop};
 
 use crate::cells::{Cells, RowFact, RowValue, Trail, next_of, same_trail};
-use crate::effects::{add_has, add_on, add_ons, add_values, seen};
+use crate::effects::{add_has, add_on, add_ons, add_seen};
 use crate::links::{Links, awaited, binder_of, distance};
 use crate::params::{block_of, node_of};
 use crate::queues::Wait;
@@ -116,8 +116,7 @@ fn add_first(
         Node::Next { outer, .. } if block_of(checked, next) == head => {
             let binder = binder_of(checked, outer as usize);
             let outside = cells.out_of(path, distance(checked, row, binder));
-            let values = seen(alloc, cells, followed, outside, binder)?;
-            add_values(found, first, next, values.as_slice())
+            add_seen(alloc, found, cells, followed, first, next, outside, binder)
         }
         _ => Ok(()),
     }

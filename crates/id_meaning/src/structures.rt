@@ -1,7 +1,7 @@
 //! What follows by the rules of arrays, fetches and stores (docs/MEANING.md, "Rules").
 
 ghost use Rattle.std.specs.Prelude.{◌≡◌, ◌++◌, OnOk};
-ghost use Rattle.id_meaning.specs.Cells.{asks, puts};
+ghost use Rattle.id_meaning.specs.Cells.{asks, puts, values};
 ghost use Rattle.id_meaning.specs.Effects.{answered, array_by, arrays, asked, asked_by, fetch_by, fetches, haves};
 ghost use Rattle.id_meaning.specs.Effects.{is_in_some, made, made_by, put_in, store_at};
 ghost use Rattle.id_meaning.specs.Effects.{store_by, stored, stored_by, stores};
@@ -12,8 +12,28 @@ use id_parts::Node;
 use id_value::{bounds_are_good, is_inside};
 use std::alloc::{AllocError, Global};
 
+/// Adds what comes of the bounds at these rows at an `array`, which is On by the fact of number `spot`.
+pub fn add_array_at(
+    alloc: Global,
+    found: &mut Vec<RowFact>,
+    cells: &Cells,
+    followed: RowFact,
+    path: Trail,
+    row: usize,
+    spot: usize,
+    low: usize,
+    high: usize,
+) -> Result<(), AllocError>
+    ensures { OnOk result (found.new.items ≡ found.old.items
+        ++ arrays path row spot (values cells.now followed path low) (values cells.now followed path high)) }
+{
+    let lows = cells.values(alloc, followed, path, low)?;
+    let highs = cells.values(alloc, followed, path, high)?;
+    add_array(found, path, row, spot, lows.as_slice(), highs.as_slice())
+}
+
 /// Adds the structures that come of these bounds: the `array` at the path and row is On by the fact of number `spot`.
-pub fn add_array(
+fn add_array(
     found: &mut Vec<RowFact>,
     path: Trail,
     row: usize,
@@ -91,8 +111,35 @@ fn add_made_by(
     }
 }
 
+/// Adds what comes of the target and the index at these rows at a fetch.
+pub fn add_fetch_at(
+    alloc: Global,
+    found: &mut Vec<RowFact>,
+    cells: &Cells,
+    followed: RowFact,
+    path: Trail,
+    row: usize,
+    target: usize,
+    index: usize,
+) -> Result<(), AllocError>
+    ensures { OnOk result (found.new.items ≡ found.old.items
+        ++ fetches cells.now path row (values cells.now followed path target) (values cells.now followed path index)) }
+{
+    let targets = cells.values(alloc, followed, path, target)?;
+    let indices = cells.values(alloc, followed, path, index)?;
+    add_fetch(
+        alloc,
+        found,
+        cells,
+        path,
+        row,
+        targets.as_slice(),
+        indices.as_slice(),
+    )
+}
+
 /// Adds that the fetch at the path and row asks for the cells of these structures with these indices.
-pub fn add_fetch(
+fn add_fetch(
     alloc: Global,
     found: &mut Vec<RowFact>,
     cells: &Cells,

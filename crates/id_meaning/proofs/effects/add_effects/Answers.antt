@@ -1,12 +1,19 @@
--- What follows where a cell is asked for.
-use Rattle.std.proofs.Common.{rules, w64, ◌≡◌, ◌++◌, OnOk, subst, sym, arith}
+-- What follows from a fact of each sort.
+use Rattle.std.proofs.Common.{rules, w64, ◌≡◌, ◌++◌, OnOk, subst, sym}
 use mir.Val.{SFits}
 use Rattle.std.proofs.lemmas.Int.{to_z-of_z}
 use Rattle.id_meaning.specs.declared.cells.RowFact.{RowFact}
 use Rattle.id_meaning.specs.Effects.{effects}
-use Rattle.std.proofs.lemmas.Grind.{common_steps}
-use Rattle.id_meaning.proofs.TurnsLemmas.{on_ok}
 use Rattle.id_meaning.proofs.effects.add_effects.Goals as goal
+
+pub returns-in-On : goal.returns-in-On
+returns-in-On c = rw c.in-On.is c.add_from_turned.ensures
+
+pub returns-in-Has : goal.returns-in-Has
+returns-in-Has c = rw c.in-Has.is c.add_from_value.ensures
+
+pub returns-in-Shape : goal.returns-in-Shape
+returns-in-Shape c = rw c.in-Shape.is c.add_from_shape.ensures
 
 pub returns-in-Put : goal.returns-in-Put
 returns-in-Put c =
@@ -25,30 +32,3 @@ returns-in-Ask c =
     λ f. OnOk c.add_asked.result
     (found ≡ c.args.found.now.items ++ effects c.args.checked.now c.args.links.now c.args.waits.now c.args.cells.now f) in
     subst F (sym c.in-Ask.is) (rw (to_z-of_z w64 c.in-Ask.index fits) at c.add_asked.ensures)
-
-pub returns-in_err-add_ons-in-On : goal.returns-in_err-add_ons-in-On
-returns-in_err-add_ons-in-On c = on_ok _ c.from_residual.result c.from_residual.ensures.0
-
-pub returns-in_err-add_given-in-On : goal.returns-in_err-add_given-in-On
-returns-in_err-add_given-in-On c = on_ok _ c.from_residual-in_err-add_given-in-On.result c.from_residual-in_err-add_given-in-On.ensures.0
-
-pub returns-in_err-add_call-in-On : goal.returns-in_err-add_call-in-On
-returns-in_err-add_call-in-On c = on_ok _ c.from_residual-in_err-add_call-in-On.result c.from_residual-in_err-add_call-in-On.ensures.0
-
-pub returns-in_err-add_gains-in-Has : goal.returns-in_err-add_gains-in-Has
-returns-in_err-add_gains-in-Has c = on_ok _ c.from_residual-in_err-add_gains-in-Has.result c.from_residual-in_err-add_gains-in-Has.ensures.0
-
-pub returns-in_err-add_all_woken-in-Has : goal.returns-in_err-add_all_woken-in-Has
-returns-in_err-add_all_woken-in-Has c = on_ok _ c.from_residual-in_err-add_all_woken-in-Has.result c.from_residual-in_err-add_all_woken-in-Has.ensures.0
-
-pub returns-in_err-points-in-Shape : goal.returns-in_err-points-in-Shape
-returns-in_err-points-in-Shape c = on_ok _ c.from_residual-in_err-points-in-Shape.result c.from_residual-in_err-points-in-Shape.ensures.0
-
-pub returns-in_ok-add_call-in-On : goal.returns-in_ok-add_call-in-On
-returns-in_ok-add_call-in-On c = grind (arith, common_steps)
-
-pub returns-in_ok-add_all_woken-in-Has : goal.returns-in_ok-add_all_woken-in-Has
-returns-in_ok-add_all_woken-in-Has c = grind (arith, common_steps)
-
-pub returns-in_ok-points-in-Shape : goal.returns-in_ok-points-in-Shape
-returns-in_ok-points-in-Shape c = grind (arith, common_steps)

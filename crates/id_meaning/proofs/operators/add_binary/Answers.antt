@@ -2,7 +2,7 @@
 use Rattle.std.proofs.Common.{refl}
 use Rattle.id_meaning.specs.Effects.{binaries, constant_of, rights_of}
 use Rattle.id_meaning.proofs.TurnsLemmas.{gathered-all, gathered-more, on_ok}
-use Rattle.id_meaning.proofs.effects.add_binary.Goals as goal
+use Rattle.id_meaning.proofs.operators.add_binary.Goals as goal
 
 pub loop-left-init : goal.loop-left-init
 loop-left-init c = refl

@@ -1,7 +1,7 @@
 -- The facts so far, and those of the rest.
 use Rattle.std.proofs.Common.{◌≡◌, ◌++◌, drop}
 use Rattle.id_meaning.specs.Effects.{all_rights}
-use Rattle.id_meaning.proofs.effects.add_rights.Given as goal
+use Rattle.id_meaning.proofs.operators.add_rights.Given as goal
 
 abbrev pub invariant-loop-right : goal.invariant-loop-right
 invariant-loop-right l =

@@ -2,7 +2,7 @@
 use Rattle.std.proofs.Common.{refl}
 use Rattle.id_meaning.specs.Effects.{constant_of, unaries, unary_by}
 use Rattle.id_meaning.proofs.TurnsLemmas.{gathered-all, gathered-more, on_ok}
-use Rattle.id_meaning.proofs.effects.add_unary.Goals as goal
+use Rattle.id_meaning.proofs.operators.add_unary.Goals as goal
 
 pub loop-operand-init : goal.loop-operand-init
 loop-operand-init c = refl

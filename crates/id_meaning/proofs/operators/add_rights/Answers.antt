@@ -2,7 +2,7 @@
 use Rattle.std.proofs.Common.{refl}
 use Rattle.id_meaning.specs.Effects.{all_rights, binary_by, constant_of}
 use Rattle.id_meaning.proofs.TurnsLemmas.{gathered-all, gathered-more, on_ok}
-use Rattle.id_meaning.proofs.effects.add_rights.Goals as goal
+use Rattle.id_meaning.proofs.operators.add_rights.Goals as goal
 
 pub loop-right-init : goal.loop-right-init
 loop-right-init c = refl

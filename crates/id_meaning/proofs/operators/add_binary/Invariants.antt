@@ -1,7 +1,7 @@
 -- The facts so far, and those of the rest.
 use Rattle.std.proofs.Common.{◌≡◌, ◌++◌, drop}
 use Rattle.id_meaning.specs.Effects.{binaries}
-use Rattle.id_meaning.proofs.effects.add_binary.Given as goal
+use Rattle.id_meaning.proofs.operators.add_binary.Given as goal
 
 abbrev pub invariant-loop-left : goal.invariant-loop-left
 invariant-loop-left l =

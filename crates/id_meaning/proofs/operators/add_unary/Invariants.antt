@@ -1,7 +1,7 @@
 -- The facts so far, and those of the rest.
 use Rattle.std.proofs.Common.{◌≡◌, ◌++◌, drop}
 use Rattle.id_meaning.specs.Effects.{unaries}
-use Rattle.id_meaning.proofs.effects.add_unary.Given as goal
+use Rattle.id_meaning.proofs.operators.add_unary.Given as goal
 
 abbrev pub invariant-loop-operand : goal.invariant-loop-operand
 invariant-loop-operand l =
