@@ -35,7 +35,7 @@ use Rattle.id_meaning.specs.Sources.{Source}
 use Rattle.id_meaning.specs.Rounds.{Holds}
 use Rattle.id_build.specs.Rows.{op_by}
 use Rattle.id_build.specs.Schemas.{Numbered}
-use Rattle.id_observe.specs.Paths.{made}
+use Rattle.id_paths.specs.Paths.{made}
 use Rattle.id_observe.specs.Observed.{name_by}
 use Rattle.id_runs.specs.Activations.{activation_of}
 use Rattle.id_runs.specs.Cells.{cell_at}

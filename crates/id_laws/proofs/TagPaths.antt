@@ -16,8 +16,8 @@ use Rattle.id_tag.specs.declared.Context.{Context}
 use Rattle.id_tag.specs.declared.Tag.{Tag}
 use Rattle.id_core.specs.Machines.{World}
 use Rattle.id_core.specs.Observed as shown
-use Rattle.id_observe.specs.Paths.{enter_in, enters_loop, step_of}
-use Rattle.id_observe.proofs.PathsLemmas.{Leads, under_main, under_enter, path_of-leads}
+use Rattle.id_paths.specs.Paths.{enter_in, enters_loop, step_of}
+use Rattle.id_paths.proofs.PathsLemmas.{Leads, under_main, under_enter, path_of-leads}
 use Rattle.id_meaning.specs.declared.Path.{Path}
 use Rattle.id_meaning.specs.declared.PathStep.{PathStep}
 use Rattle.id_meaning.specs.Sources.{Source}

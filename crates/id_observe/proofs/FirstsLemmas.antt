@@ -16,7 +16,8 @@ use Rattle.id_record.specs.Events.{AllWent, EventView}
 use Rattle.id_record.proofs.EachLemmas.{each-weaker}
 use Rattle.id_element.specs.Steps.{State}
 use Rattle.id_element.specs.Replays.{ElementView}
-use Rattle.id_observe.specs.Observed.{events_of, fault_of, faults_in, faults_of, path_in, structure_in}
+use Rattle.id_paths.specs.Paths.{events_of, path_in, structure_in}
+use Rattle.id_observe.specs.Observed.{fault_of, faults_in, faults_of}
 use Rattle.id_observe.specs.Firsts.{AreMergedOf, IsFirstFault}
 use Rattle.id_observe.proofs.ObservedLemmas.{none_first}
 

@@ -1,9 +1,4 @@
 pub mod ObservedLemmas
-pub mod PathsLemmas
-pub mod SkippedLemmas
-pub mod OrderedLemmas
-pub mod MergedLemmas
-pub mod RecordsLemmas
+pub mod NothingLemmas
 pub mod FirstsLemmas
 pub mod MarkedLemmas
-pub mod TellingsLemmas

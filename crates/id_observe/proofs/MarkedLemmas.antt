@@ -11,12 +11,15 @@ use Rattle.id_meaning.specs.declared.Site.{Site}
 use Rattle.id_tag.specs.declared.Payload.{Payload}
 use Rattle.id_tag.specs.declared.Payload.TheVariants.{Token, Read, Write}
 use Rattle.id_record.specs.Events.{AreUnmarked, EventView, is_marked, is_marked_in, tag_of}
-use Rattle.id_observe.specs.Paths.{makings_of, path_by}
-use Rattle.id_observe.specs.Observed.{events_of, is_label, label_marks, made, name_at, name_in, names_of, path_in}
-use Rattle.id_observe.specs.Observed.{shape_at, shape_of, shapes_of, site_at, source_value, structures_in}
+use Rattle.id_paths.specs.Paths.{makings_of, path_by}
+use Rattle.id_paths.specs.Paths.{events_of, made, path_in}
+use Rattle.id_observe.specs.Observed.{is_label, label_marks, name_at, name_in, names_of}
+use Rattle.id_observe.specs.Observed.{shape_at, shape_of, shapes_of, source_value, structures_in}
+use Rattle.id_paths.specs.Paths.{site_at}
 use Rattle.id_element.specs.Replays.{ElementView}
-use Rattle.id_observe.specs.declared.paths.Paths.{Paths}
-use Rattle.id_observe.proofs.ObservedLemmas.{element-from_part, filter_map-next, is_label-from_mark}
+use Rattle.id_paths.specs.declared.paths.Paths.{Paths}
+use Rattle.id_paths.proofs.WalksLemmas.{element-from_part, filter_map-next}
+use Rattle.id_observe.proofs.ObservedLemmas.{is_label-from_mark}
 
 -- what no step changes stays
 steady_by : {A : Type 0} (f : ℕ → A) (i n : ℕ) → ((k : ℕ) → k < i + n → i ≤ k → f (k + 1) ≡ f k) → f (i + n) ≡ f i

@@ -5,8 +5,9 @@ use Rattle.id_graph.specs.Graph.{Parts}
 use Rattle.id_meaning.specs.declared.SourceFault.{SourceFault}
 use Rattle.id_record.specs.Events.{EventView}
 use Rattle.id_element.specs.Steps.{State}
-use Rattle.id_observe.specs.Merged.{by_moment}
-use Rattle.id_observe.specs.Observed.{events_of, faults_of, path_in, structure_in}
+use Rattle.id_merge.specs.Merged.{by_moment}
+use Rattle.id_paths.specs.Paths.{events_of, path_in, structure_in}
+use Rattle.id_observe.specs.Observed.{faults_of}
 
 -- these are all events of the elements, by stamp, and at one stamp by element
 pub record AreMergedOf (elements : List State) (es : List EventView) : Type 0 where

@@ -1,5 +1,3 @@
 -- What public clauses cite.
-pub mod Paths
 pub mod Observed
-pub mod Merged
 pub mod Firsts

@@ -1,6 +1,6 @@
 -- What a run shows (docs/MACHINE.md, "Observed").
 use Rattle.std.specs.Prelude.{ℕ, Bool, true, false, not, ◌&&◌, ◌==◌, count_by, List, map, Option, Some, None, slice_get}
-use Rattle.std.specs.Prelude.{ℤ, ◌≡◌, All, IsFalse, option_and_then, option_map, unwrap_or, if◌then◌else◌}
+use Rattle.std.specs.Prelude.{ℤ, ◌≡◌, All, IsFalse, option_and_then, option_map, if◌then◌else◌}
 use Rattle.std.specs.FinMap.{empty}
 use Rattle.std.specs.declared.cmp.Ordering.{Ordering}
 use Rattle.std.specs.declared.cmp.Ordering.TheVariants.{Less, Equal, Greater}
@@ -17,13 +17,11 @@ use Rattle.id_tag.specs.declared.Value.TheVariants as value
 use Rattle.id_tag.specs.declared.Payload.{Payload}
 use Rattle.id_tag.specs.declared.Payload.TheVariants.{Token, Read, Write}
 use Rattle.id_tag.specs.declared.Structure.{Structure}
-use Rattle.std.specs.HashMap.{get}
-use Rattle.id_tag.specs.Tags.{same_structure, same_tag}
 use Rattle.id_observe.specs.declared.holdings.CellValue.{CellValue}
 use Rattle.id_observe.specs.declared.holdings.Named.{Named}
-use Rattle.id_observe.specs.declared.paths.Making.{Making}
-use Rattle.id_observe.specs.declared.paths.Paths.{Paths}
-use Rattle.id_observe.specs.Paths.{is_alloc, path_by}
+use Rattle.id_paths.specs.declared.paths.Making.{Making}
+use Rattle.id_paths.specs.declared.paths.Paths.{Paths}
+use Rattle.id_paths.specs.Paths.{is_alloc}
 use Rattle.id_meaning.specs.declared.SourceValue.{SourceValue}
 use Rattle.id_meaning.specs.declared.SourceValue.TheVariants as source
 use Rattle.id_meaning.specs.declared.Path.{Path}
@@ -45,37 +43,8 @@ use Rattle.id_bank.specs.Cells.{cells_of, deferred_of}
 use Rattle.id_record.specs.Events.{EventView, tag_of}
 use Rattle.id_element.specs.Steps.{State}
 use Rattle.id_element.specs.Replays.{ElementView}
-pub use Rattle.id_observe.specs.Paths.{place_of, path_of, made, maker_in}
-
--- a tag of main's context, at iteration 0
-abbrev pub main_tag : ℕ → Tag
-main_tag n = record { context = record { element = 0; serial = 0 }; iteration = 0; instr = n }
-
--- the events of all elements, one record after another
-abbrev pub events_of : List State → List EventView
-events_of elements = flat_map (λ e. e.events) elements
-
--- the value that a token brings to instruction 0 under main's tag
-abbrev pub brought : Payload → Option Value
-brought (Token t p v) = if same_tag t (main_tag 0) then Some v else None
-brought (Read c t) = None
-brought (Write c v t) = None
-
--- the path of a tag, by the records of these elements
-abbrev pub path_in : Parts → List State → Tag → Path
-path_in g elements = path_of g (events_of elements)
-
--- where the tag's instruction stands, where each tag has this path
-abbrev pub site_at : Parts → (Tag → Path) → Tag → Site
-site_at g path t = record { path = path t; place = place_of g t.instr }
-
--- the name of a structure: where it was made. One that nothing made has that of the answer; in a run there is none
-abbrev pub name_by : Parts → (Tag → Path) → Option Tag → Site
-name_by g path maker = site_at g path (unwrap_or maker (main_tag 0))
-
--- the name of a structure, by the records of these elements
-abbrev pub structure_in : Parts → List State → Structure → Site
-structure_in g elements s = name_by g (path_in g elements) (maker_in g (events_of elements) s)
+pub use Rattle.id_paths.specs.Paths.{place_of, path_of, made, maker_in, main_tag, events_of, brought, answers, path_in}
+pub use Rattle.id_paths.specs.Paths.{site_at, name_by, structure_in, structure_by}
 
 -- a value of a token as one of the source, where each structure has this name
 abbrev pub source_value : (Structure → Site) → Value → Option SourceValue
@@ -86,10 +55,6 @@ source_value name (value.Structure s) = Some (source.Name (name s))
 source_value name (value.Address c) = None
 source_value name (value.Context c) = None
 source_value name (value.Continuation t) = None
-
--- the values that these events brought to instruction 0 under main's tag, in order
-abbrev pub answers : List EventView → List Value
-answers es = filter_map (λ e. brought e.message.payload) es
 
 -- the answer that the records of these elements show: the first of those values. One element handles that tag, so its
 -- record has them all
@@ -232,10 +197,6 @@ asks_in g elements =
 -- the value that the event at a position brought to the answer, if it did
 abbrev pub brought_at : List EventView → ℕ → Option Value
 brought_at es k = option_and_then (λ e. brought e.message.payload) (slice_get es k)
-
--- the name of a structure, where these tables tell under which tag each was made
-abbrev pub structure_by : Paths → Structure → Site
-structure_by p s = name_by p.graph.now (path_by p) (get same_structure p.makers s)
 
 -- the first value that the records of these elements brought to instruction 0 under main's tag
 abbrev pub first_value : List State → Option Value

@@ -3,15 +3,16 @@
 ghost use Rattle.std.specs.Prelude.{◌≡◌, ◌↔◌, [], List, map, slice_get, All, IfOk, IsTrue, MatchOption};
 ghost use Rattle.id_record.specs.Events.{AllWent, EventView};
 ghost use Rattle.std.specs.List.Sorted.{IsStrictlyIncreasing};
-ghost use Rattle.id_observe.specs.Observed.{faults_in, faults_of, structure_by};
-ghost use Rattle.id_observe.specs.Paths.{path_by};
+ghost use Rattle.id_observe.specs.Observed.{faults_in, faults_of};
+ghost use Rattle.id_paths.specs.Paths.{structure_by};
+ghost use Rattle.id_paths.specs.Paths.{path_by};
 ghost use Rattle.id_observe.specs.Firsts.{AreMergedOf, IsFirstFault};
 
-use crate::merge::{Merged, merge_records};
 use crate::observe::source_fault;
-use crate::paths::Paths;
 use id_element::Element;
 use id_meaning::SourceFault;
+use id_merge::{Merged, merge_records};
+use id_paths::Paths;
 use id_valid::Valid;
 use std::alloc::{AllocError, Global};
 

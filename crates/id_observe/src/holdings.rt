@@ -4,17 +4,18 @@ ghost use Rattle.std.specs.Prelude.{◌≡◌, ◌++◌, ◌↔◌, [], map, opt
 ghost use Rattle.std.specs.List.{cons_option, filter_map, flat_map};
 ghost use Rattle.id_bank.specs.Cells.{cells_of, deferred_of};
 ghost use Rattle.id_observe.specs.Observed.{HaveNoCells, MakesNone, IsNamed, answer_in, ask_of, cell_value_of};
-ghost use Rattle.id_observe.specs.Observed.{cell_values_in, shape_at, source_value, structure_by, structures_in};
+ghost use Rattle.id_observe.specs.Observed.{cell_values_in, shape_at, source_value, structures_in};
+ghost use Rattle.id_paths.specs.Paths.{structure_by};
 ghost use Rattle.id_observe.specs.Observed.{waiting_in};
-ghost use Rattle.id_observe.specs.Paths.{path_by};
+ghost use Rattle.id_paths.specs.Paths.{path_by};
 
 use crate::observe::{all_structures, all_waiting, answer, source_value, value_in};
-use crate::paths::{Paths, is_alloc};
 use id_bank::{Cells, Filled};
 use id_element::Element;
 use id_graph::Graph;
 use id_list::Sequence;
 use id_meaning::{Ask, Path, Shape, Site, SourceValue};
+use id_paths::{Paths, is_alloc};
 use id_tag::Structure;
 use id_valid::Valid;
 use std::alloc::{AllocError, Global};

@@ -10,20 +10,24 @@ ghost use Rattle.id_bank.specs.Cells.{cells_of, deferred_of};
 ghost use Rattle.id_record.specs.Events.{EventView};
 ghost use Rattle.id_valid.specs.Roles.{op_at};
 ghost use Rattle.id_valid.specs.Validator.{is_value};
-ghost use Rattle.id_observe.specs.Observed.{answer_in, answers, ask_of, brought, cells_in, claims, events_of};
+ghost use Rattle.id_observe.specs.Observed.{answer_in, ask_of, cells_in, claims};
+ghost use Rattle.id_paths.specs.Paths.{answers, brought, events_of};
 ghost use Rattle.id_observe.specs.Observed.{brought_at, fault_of};
 ghost use Rattle.id_observe.specs.Observed.{faults_in, faults_of, first_value, is_label, is_next, is_value_merge};
-ghost use Rattle.id_observe.specs.Observed.{label_marks, main_tag, name_at, name_in, names_in, names_of, put_of};
-ghost use Rattle.id_observe.specs.Observed.{second_store, shape_at, site_at, site_cmp, source_value};
-ghost use Rattle.id_observe.specs.Observed.{structure_by, structure_in, structures_in, waiting_in};
-ghost use Rattle.id_observe.specs.Paths.{path_by, place_of};
+ghost use Rattle.id_observe.specs.Observed.{label_marks, name_at, name_in, names_in, names_of, put_of};
+ghost use Rattle.id_paths.specs.Paths.{main_tag};
+ghost use Rattle.id_observe.specs.Observed.{second_store, shape_at, site_cmp, source_value};
+ghost use Rattle.id_paths.specs.Paths.{site_at};
+ghost use Rattle.id_paths.specs.Paths.{structure_by, structure_in};
+ghost use Rattle.id_observe.specs.Observed.{structures_in, waiting_in};
+ghost use Rattle.id_paths.specs.Paths.{path_by, place_of};
 
-use crate::paths::{Making, Paths};
 use id_bank::{Cells, Filled, Reader};
 use id_element::Element;
 use id_graph::{Graph, Instr, Op, PortKind};
 use id_list::Sequence;
 use id_meaning::{Ask, NameValue, Put, Shape, Site, SourceFault, SourceValue};
+use id_paths::{Making, Paths, brought, place_of};
 use id_record::{Events, Fault, Step};
 use id_tag::{Cell, Context, Payload, Structure, Tag, Value};
 use id_valid::Valid;
@@ -444,36 +448,6 @@ fn brought_at(events: &Events<'_>, position: usize) -> Option<Value>
     }
 }
 
-/// The value that a token brings to instruction 0 under main's tag.
-pub(crate) fn brought(payload: &Payload) -> Option<Value>
-    ensures { result ≡ brought payload.now }
-{
-    match *payload {
-        Payload::Token { tag, value, .. } => {
-            if tag == main_tag(0) {
-                Some(value)
-            } else {
-                None
-            }
-        }
-        Payload::Read { .. } | Payload::Write { .. } => None,
-    }
-}
-
-/// The tag of an instruction in main's context, at iteration 0.
-pub fn main_tag(instr: u32) -> Tag
-    ensures { result ≡ main_tag instr }
-{
-    Tag {
-        context: Context {
-            element: 0,
-            serial: 0,
-        },
-        iteration: 0,
-        instr,
-    }
-}
-
 /// The value as one of the source.
 pub(crate) fn source_value(
     alloc: Global,
@@ -781,14 +755,4 @@ fn site_cmp(a: &Site, b: &Site) -> Ordering
 {
     let paths = a.path.steps.as_slice().cmp(&b.path.steps.as_slice());
     paths.then(a.place.cmp(&b.place))
-}
-
-/// The place of the instruction of this number.
-pub(crate) fn place_of(graph: &Graph, number: u32) -> usize
-    ensures { result ≡ place_of graph.now number }
-{
-    graph
-        .instrs()
-        .get(number as usize)
-        .map_or(0, |instr| instr.place)
 }

@@ -31,8 +31,8 @@ use Rattle.id_core.specs.Events.{EventView, tag_of}
 use Rattle.id_core.specs.Steps.{sent}
 use Rattle.id_core.specs.Machines.{World}
 use Rattle.id_core.specs.Observed.{events_of}
-use Rattle.id_observe.specs.Paths.{last_context, entered_by, entered, if_same, enter_of, enter_in}
-use Rattle.id_observe.proofs.PathsLemmas.{enter_in-is, enter_in-nothing}
+use Rattle.id_paths.specs.Paths.{last_context, entered_by, entered, if_same, enter_of, enter_in}
+use Rattle.id_paths.proofs.PathsLemmas.{enter_in-is, enter_in-nothing}
 use Rattle.id_value.specs.declared.Constant.{Constant}
 use Rattle.id_list.specs.List.{Among, AllDiffer}
 use Rattle.id_list.proofs.AmongLemmas.{Among-map}

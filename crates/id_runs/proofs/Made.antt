@@ -16,7 +16,7 @@ use Rattle.id_bank.specs.declared.ReadAnswer.TheVariants.{Now, Deferred}
 use Rattle.id_core.specs.Events.{EventView, tag_of}
 use Rattle.id_core.specs.Machines.{World}
 use Rattle.id_core.specs.Observed.{events_of}
-use Rattle.id_observe.specs.Paths.{made_by, made, if_made, maker_of, maker_in}
+use Rattle.id_paths.specs.Paths.{made_by, made, if_made, maker_of, maker_in}
 use Rattle.id_value.specs.declared.Constant.{Constant}
 use Rattle.id_list.specs.List.{Among}
 use Rattle.id_runs.specs.Events.{Waits, Blocked, Fires, Event, Took, Looked, Wrote, payload_of, FiresAs, fired_event, fired_in, Makes}

@@ -4,8 +4,9 @@ use Rattle.std.specs.Prelude.{slice_get}
 use Rattle.std.specs.List.Sorted.{IsPermutation}
 use Rattle.std.proofs.lemmas.Result.{IfOk-weaker}
 use Rattle.id_record.specs.Events.{EventView}
-use Rattle.id_observe.specs.Observed.{faults_of, structure_by}
-use Rattle.id_observe.specs.Paths.{path_by}
+use Rattle.id_observe.specs.Observed.{faults_of}
+use Rattle.id_paths.specs.Paths.{structure_by}
+use Rattle.id_paths.specs.Paths.{path_by}
 use Rattle.id_observe.specs.Firsts.{AreMergedOf}
 use Rattle.id_observe.proofs.FirstsLemmas.{events_of-states}
 use Rattle.id_observe.proofs.first.first_by.Goals as goal

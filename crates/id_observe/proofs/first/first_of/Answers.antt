@@ -1,8 +1,9 @@
 -- The event at the position is the first that shows a fault, or shows none.
 use Rattle.std.proofs.Common.{sym, ◌∙◌}
-use Rattle.id_observe.specs.Observed.{fault_of, structure_by}
-use Rattle.id_observe.specs.Paths.{path_by}
-use Rattle.id_observe.proofs.ObservedLemmas.{filter_map-found, filter_map-nothing}
+use Rattle.id_observe.specs.Observed.{fault_of}
+use Rattle.id_paths.specs.Paths.{structure_by}
+use Rattle.id_paths.specs.Paths.{path_by}
+use Rattle.id_paths.proofs.WalksLemmas.{filter_map-found, filter_map-nothing}
 use Rattle.id_observe.proofs.first.first_of.Goals as goal
 
 pub returns-then-is_some : goal.returns-then-is_some

@@ -4,8 +4,9 @@ use Rattle.std.specs.Prelude.{map, slice_get, MatchOption, [], Option}
 use Rattle.std.proofs.lemmas.Result.{IfOk-weaker}
 use Rattle.id_meaning.specs.declared.SourceFault.{SourceFault}
 use Rattle.id_record.specs.Events.{EventView}
-use Rattle.id_observe.specs.Observed.{faults_in, faults_of, path_in, structure_by, structure_in}
-use Rattle.id_observe.specs.Paths.{path_by}
+use Rattle.id_observe.specs.Observed.{faults_in, faults_of}
+use Rattle.id_paths.specs.Paths.{path_in, structure_by, structure_in}
+use Rattle.id_paths.specs.Paths.{path_by}
 use Rattle.id_observe.specs.Firsts.{AreMergedOf, IsFirstFault}
 use Rattle.id_observe.proofs.FirstsLemmas.{found_first}
 use Rattle.id_observe.proofs.first.first_shown.Goals as goal

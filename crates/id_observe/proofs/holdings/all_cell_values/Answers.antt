@@ -5,8 +5,9 @@ use Rattle.std.specs.List.{filter_map, flat_map}
 use Rattle.std.specs.Prelude.{slice_get}
 use Rattle.std.proofs.lemmas.Option.{slice_get_read}
 use Rattle.id_bank.specs.Cells.{cells_of}
-use Rattle.id_observe.specs.Observed.{cell_value_of, structure_by}
-use Rattle.id_observe.proofs.ObservedLemmas.{walk-next}
+use Rattle.id_observe.specs.Observed.{cell_value_of}
+use Rattle.id_paths.specs.Paths.{structure_by}
+use Rattle.id_paths.proofs.WalksLemmas.{walk-next}
 use Rattle.id_element.proofs.ShortLemmas.{if_err}
 use Rattle.id_observe.proofs.holdings.all_cell_values.Goals as goal
 

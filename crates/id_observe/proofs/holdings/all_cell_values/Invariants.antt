@@ -2,7 +2,8 @@
 use Rattle.std.proofs.Common.{◌≡◌, map, take}
 use Rattle.std.specs.List.{filter_map, flat_map}
 use Rattle.id_bank.specs.Cells.{cells_of}
-use Rattle.id_observe.specs.Observed.{cell_value_of, structure_by}
+use Rattle.id_observe.specs.Observed.{cell_value_of}
+use Rattle.id_paths.specs.Paths.{structure_by}
 use Rattle.id_observe.proofs.holdings.all_cell_values.Given as goal
 
 abbrev pub invariant-loop-element : goal.invariant-loop-element

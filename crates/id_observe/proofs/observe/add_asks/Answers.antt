@@ -1,9 +1,10 @@
 -- One more reply adds its fetch.
 use Rattle.std.proofs.lemmas.Grind.{common_steps}
 use Rattle.std.proofs.Common.{append_assoc, arith}
-use Rattle.id_observe.specs.Observed.{ask_of, structure_by}
-use Rattle.id_observe.specs.Paths.{path_by}
-use Rattle.id_observe.proofs.ObservedLemmas.{map-at}
+use Rattle.id_observe.specs.Observed.{ask_of}
+use Rattle.id_paths.specs.Paths.{structure_by}
+use Rattle.id_paths.specs.Paths.{path_by}
+use Rattle.id_paths.proofs.WalksLemmas.{map-at}
 use Rattle.id_observe.proofs.observe.add_asks.Goals as goal
 
 pub loop-reader-preserved : goal.loop-reader-preserved

@@ -1,7 +1,8 @@
 -- The fetches of the replies so far are there.
 use Rattle.std.proofs.Common.{◌≡◌, ◌++◌, map, take}
-use Rattle.id_observe.specs.Observed.{ask_of, structure_by}
-use Rattle.id_observe.specs.Paths.{path_by}
+use Rattle.id_observe.specs.Observed.{ask_of}
+use Rattle.id_paths.specs.Paths.{structure_by}
+use Rattle.id_paths.specs.Paths.{path_by}
 use Rattle.id_observe.proofs.observe.add_asks.Given as goal
 
 abbrev pub invariant-loop-reader : goal.invariant-loop-reader

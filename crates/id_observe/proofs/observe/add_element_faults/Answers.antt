@@ -1,7 +1,8 @@
 -- What went well shows no fault.
 use Rattle.std.proofs.Common.{◌++◌, append-nil, ap, sym, ◌∙◌}
-use Rattle.id_observe.specs.Observed.{faults_of, structure_by}
-use Rattle.id_observe.specs.Paths.{path_by}
+use Rattle.id_observe.specs.Observed.{faults_of}
+use Rattle.id_paths.specs.Paths.{structure_by}
+use Rattle.id_paths.specs.Paths.{path_by}
 use Rattle.id_observe.proofs.FirstsLemmas.{went_none}
 use Rattle.id_observe.proofs.observe.add_element_faults.Goals as goal
 

@@ -1,9 +1,10 @@
 -- One more event adds the fault that it shows, if it shows one.
 use Rattle.std.proofs.lemmas.Grind.{common_steps}
 use Rattle.std.proofs.Common.{append_assoc, arith}
-use Rattle.id_observe.specs.Observed.{fault_of, structure_by}
-use Rattle.id_observe.specs.Paths.{path_by}
-use Rattle.id_observe.proofs.ObservedLemmas.{filter_map-next}
+use Rattle.id_observe.specs.Observed.{fault_of}
+use Rattle.id_paths.specs.Paths.{structure_by}
+use Rattle.id_paths.specs.Paths.{path_by}
+use Rattle.id_paths.proofs.WalksLemmas.{filter_map-next}
 use Rattle.id_observe.proofs.observe.add_faults.Goals as goal
 
 pub loop-position-preserved : goal.loop-position-preserved

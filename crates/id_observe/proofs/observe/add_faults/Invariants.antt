@@ -1,7 +1,8 @@
 -- The faults of the events so far are there.
 use Rattle.std.proofs.Common.{◌≡◌, ◌++◌, take}
-use Rattle.id_observe.specs.Observed.{faults_of, structure_by}
-use Rattle.id_observe.specs.Paths.{path_by}
+use Rattle.id_observe.specs.Observed.{faults_of}
+use Rattle.id_paths.specs.Paths.{structure_by}
+use Rattle.id_paths.specs.Paths.{path_by}
 use Rattle.id_observe.proofs.observe.add_faults.Given as goal
 
 abbrev pub invariant-loop-position : goal.invariant-loop-position

@@ -2,10 +2,11 @@
 use Rattle.std.proofs.Common.{◌≡◌, ◌++◌, append_assoc, append-nil, sym, ap, subst, ◌∙◌, take, arith}
 use Rattle.std.proofs.lemmas.List.{take_all}
 use Rattle.id_record.specs.Events.{AreUnmarked}
-use Rattle.id_observe.specs.Observed.{label_marks, name_in, names_of, structure_by}
-use Rattle.id_observe.specs.Paths.{path_by}
+use Rattle.id_observe.specs.Observed.{label_marks, name_in, names_of}
+use Rattle.id_paths.specs.Paths.{structure_by}
+use Rattle.id_paths.specs.Paths.{path_by}
 use Rattle.id_observe.proofs.MarkedLemmas.{names-skip}
-use Rattle.id_observe.proofs.ObservedLemmas.{filter_map-next_part}
+use Rattle.id_paths.proofs.WalksLemmas.{filter_map-next_part}
 use Rattle.id_observe.proofs.observe.add_names.Goals as goal
 
 pub loop-alloc-init : goal.loop-alloc-init

@@ -1,7 +1,8 @@
 -- The names of the events so far are there.
 use Rattle.std.proofs.Common.{◌≡◌, ◌≤◌, ◌-◌, ◌++◌, length, take}
-use Rattle.id_observe.specs.Observed.{names_of, structure_by}
-use Rattle.id_observe.specs.Paths.{path_by}
+use Rattle.id_observe.specs.Observed.{names_of}
+use Rattle.id_paths.specs.Paths.{structure_by}
+use Rattle.id_paths.specs.Paths.{path_by}
 use Rattle.id_observe.proofs.observe.add_names.Given as goal
 
 abbrev pub invariant-loop-alloc : goal.invariant-loop-alloc

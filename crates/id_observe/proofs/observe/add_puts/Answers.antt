@@ -1,8 +1,9 @@
 -- One more cell adds what is put into it.
 use Rattle.std.proofs.Common.{refl, ◌∙◌}
-use Rattle.id_observe.specs.Observed.{put_of, structure_by}
-use Rattle.id_observe.specs.Paths.{path_by}
-use Rattle.id_observe.proofs.ObservedLemmas.{filter_map-before}
+use Rattle.id_observe.specs.Observed.{put_of}
+use Rattle.id_paths.specs.Paths.{structure_by}
+use Rattle.id_paths.specs.Paths.{path_by}
+use Rattle.id_paths.proofs.WalksLemmas.{filter_map-before}
 use Rattle.id_observe.proofs.observe.add_puts.Goals as goal
 
 pub loop-cell-preserved : goal.loop-cell-preserved

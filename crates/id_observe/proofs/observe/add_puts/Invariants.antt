@@ -1,8 +1,9 @@
 -- What the cells hold is there, or they are still to come.
 use Rattle.std.proofs.Common.{◌≡◌, ◌++◌, length}
 use Rattle.std.specs.List.{filter_map}
-use Rattle.id_observe.specs.Observed.{put_of, structure_by}
-use Rattle.id_observe.specs.Paths.{path_by}
+use Rattle.id_observe.specs.Observed.{put_of}
+use Rattle.id_paths.specs.Paths.{structure_by}
+use Rattle.id_paths.specs.Paths.{path_by}
 use Rattle.id_observe.proofs.observe.add_puts.Given as goal
 
 abbrev pub invariant-loop-cell : goal.invariant-loop-cell

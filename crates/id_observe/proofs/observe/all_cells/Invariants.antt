@@ -2,8 +2,9 @@
 use Rattle.std.proofs.Common.{◌≡◌, map, take}
 use Rattle.std.specs.List.{filter_map, flat_map}
 use Rattle.id_bank.specs.Cells.{cells_of}
-use Rattle.id_observe.specs.Observed.{put_of, structure_by}
-use Rattle.id_observe.specs.Paths.{path_by}
+use Rattle.id_observe.specs.Observed.{put_of}
+use Rattle.id_paths.specs.Paths.{structure_by}
+use Rattle.id_paths.specs.Paths.{path_by}
 use Rattle.id_observe.proofs.observe.all_cells.Given as goal
 
 abbrev pub invariant-loop-element : goal.invariant-loop-element

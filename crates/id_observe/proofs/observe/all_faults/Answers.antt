@@ -3,9 +3,10 @@ use Rattle.std.proofs.Common.{◌≡◌, ◌∙◌, Some, ap, map, refl}
 use Rattle.std.proofs.lemmas.List.{take_all}
 use Rattle.std.specs.Prelude.{slice_get}
 use Rattle.std.proofs.lemmas.Option.{slice_get_read}
-use Rattle.id_observe.specs.Observed.{events_of, fault_of, faults_of, structure_by}
-use Rattle.id_observe.specs.Paths.{path_by}
-use Rattle.id_observe.proofs.ObservedLemmas.{walk-next}
+use Rattle.id_paths.specs.Paths.{events_of, structure_by}
+use Rattle.id_observe.specs.Observed.{fault_of, faults_of}
+use Rattle.id_paths.specs.Paths.{path_by}
+use Rattle.id_paths.proofs.WalksLemmas.{walk-next}
 use Rattle.id_element.proofs.ShortLemmas.{if_err}
 use Rattle.id_observe.proofs.observe.all_faults.Goals as goal
 

@@ -1,7 +1,8 @@
 -- The faults of the records so far are there.
 use Rattle.std.proofs.Common.{◌≡◌, map, take}
-use Rattle.id_observe.specs.Observed.{events_of, faults_of, structure_by}
-use Rattle.id_observe.specs.Paths.{path_by}
+use Rattle.id_paths.specs.Paths.{events_of, structure_by}
+use Rattle.id_observe.specs.Observed.{faults_of}
+use Rattle.id_paths.specs.Paths.{path_by}
 use Rattle.id_observe.proofs.observe.all_faults.Given as goal
 
 abbrev pub invariant-loop-element : goal.invariant-loop-element

@@ -1,7 +1,8 @@
 -- The names of the records so far are there.
 use Rattle.std.proofs.Common.{◌≡◌, map, take}
-use Rattle.id_observe.specs.Observed.{events_of, label_marks, names_of, structure_by}
-use Rattle.id_observe.specs.Paths.{path_by}
+use Rattle.id_paths.specs.Paths.{events_of, structure_by}
+use Rattle.id_observe.specs.Observed.{label_marks, names_of}
+use Rattle.id_paths.specs.Paths.{path_by}
 use Rattle.id_observe.proofs.observe.all_names.Given as goal
 
 abbrev pub invariant-loop-element : goal.invariant-loop-element

@@ -2,8 +2,8 @@
 use Rattle.std.proofs.Common.{arith}
 use Rattle.std.proofs.lemmas.Grind.{common_steps}
 use Rattle.id_observe.specs.Observed.{shape_at}
-use Rattle.id_observe.specs.Paths.{path_by}
-use Rattle.id_observe.proofs.ObservedLemmas.{map-at}
+use Rattle.id_paths.specs.Paths.{path_by}
+use Rattle.id_paths.proofs.WalksLemmas.{map-at}
 use Rattle.id_observe.proofs.observe.all_structures.Goals as goal
 
 pub loop-making-preserved : goal.loop-making-preserved

@@ -1,7 +1,7 @@
 -- The structures so far are there.
 use Rattle.std.proofs.Common.{◌≡◌, map, take}
 use Rattle.id_observe.specs.Observed.{shape_at}
-use Rattle.id_observe.specs.Paths.{path_by}
+use Rattle.id_paths.specs.Paths.{path_by}
 use Rattle.id_observe.proofs.observe.all_structures.Given as goal
 
 abbrev pub invariant-loop-making : goal.invariant-loop-making

@@ -5,9 +5,10 @@ use Rattle.std.specs.List.{flat_map}
 use Rattle.std.specs.Prelude.{slice_get}
 use Rattle.std.proofs.lemmas.Option.{slice_get_read}
 use Rattle.id_bank.specs.Cells.{deferred_of}
-use Rattle.id_observe.specs.Observed.{ask_of, structure_by}
-use Rattle.id_observe.proofs.ObservedLemmas.{images-next}
-use Rattle.id_observe.specs.Paths.{path_by}
+use Rattle.id_observe.specs.Observed.{ask_of}
+use Rattle.id_paths.specs.Paths.{structure_by}
+use Rattle.id_paths.proofs.WalksLemmas.{images-next}
+use Rattle.id_paths.specs.Paths.{path_by}
 use Rattle.id_element.proofs.ShortLemmas.{if_err}
 use Rattle.id_observe.proofs.observe.all_waiting.Goals as goal
 

@@ -2,8 +2,9 @@
 use Rattle.std.proofs.Common.{◌≡◌, map, take}
 use Rattle.std.specs.List.{flat_map}
 use Rattle.id_bank.specs.Cells.{deferred_of}
-use Rattle.id_observe.specs.Observed.{ask_of, structure_by}
-use Rattle.id_observe.specs.Paths.{path_by}
+use Rattle.id_observe.specs.Observed.{ask_of}
+use Rattle.id_paths.specs.Paths.{structure_by}
+use Rattle.id_paths.specs.Paths.{path_by}
 use Rattle.id_observe.proofs.observe.all_waiting.Given as goal
 
 abbrev pub invariant-loop-element : goal.invariant-loop-element

@@ -2,9 +2,9 @@
 use Rattle.std.proofs.Common.{sym, ap, ◌∙◌, arith}
 use Rattle.std.specs.Prelude.{option_and_then, slice_get}
 use Rattle.id_record.specs.Events.{tag_of}
-use Rattle.id_observe.specs.Observed.{brought}
-use Rattle.id_observe.proofs.ObservedLemmas.{element-from_part}
-use Rattle.id_observe.proofs.SkippedLemmas.{brought-elsewhere}
+use Rattle.id_paths.specs.Paths.{brought}
+use Rattle.id_paths.proofs.WalksLemmas.{element-from_part}
+use Rattle.id_paths.proofs.SkippedLemmas.{brought-elsewhere}
 use Rattle.id_observe.proofs.observe.brought_at.Goals as goal
 
 pub returns-then-instr-eq0 : goal.returns-then-instr-eq0

@@ -5,10 +5,11 @@ use Rattle.std.specs.List.{filter_map}
 use Rattle.std.proofs.lemmas.List.{take_all}
 use Rattle.id_record.specs.Events.{EventView}
 use Rattle.id_record.specs.Tellings.{telling_from}
-use Rattle.id_observe.specs.Paths.{events_at}
-use Rattle.id_observe.specs.Observed.{answers, brought, brought_at}
-use Rattle.id_observe.proofs.ObservedLemmas.{filter_map-found, filter_map-nothing}
-use Rattle.id_observe.proofs.TellingsLemmas.{answers-told, position-at, telling-within, walk-positions}
+use Rattle.id_paths.specs.Paths.{events_at}
+use Rattle.id_paths.specs.Paths.{answers, brought}
+use Rattle.id_observe.specs.Observed.{brought_at}
+use Rattle.id_paths.proofs.WalksLemmas.{filter_map-found, filter_map-nothing}
+use Rattle.id_paths.proofs.TellingsLemmas.{answers-told, position-at, telling-within, walk-positions}
 use Rattle.id_observe.proofs.observe.first_answer.Goals as goal
 
 -- events that do not tell brought none

@@ -2,7 +2,7 @@
 use Rattle.std.proofs.Common.{◌≡◌, Some, sym, ap, refl, ◌∙◌}
 use Rattle.std.specs.Prelude.{slice_get}
 use Rattle.std.proofs.lemmas.Option.{slice_get_read}
-use Rattle.id_observe.specs.Observed.{answers}
+use Rattle.id_paths.specs.Paths.{answers}
 use Rattle.id_observe.proofs.ObservedLemmas.{value-found, value-missed}
 use Rattle.id_observe.proofs.observe.first_value.Goals as goal
 

@@ -1,0 +1,3 @@
+pub mod OrderedLemmas
+pub mod MergedLemmas
+pub mod RecordsLemmas

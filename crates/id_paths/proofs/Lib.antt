@@ -1,0 +1,4 @@
+pub mod WalksLemmas
+pub mod PathsLemmas
+pub mod SkippedLemmas
+pub mod TellingsLemmas

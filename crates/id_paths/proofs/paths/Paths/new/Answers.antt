@@ -1,0 +1,22 @@
+-- What the records tell names each structure.
+use Rattle.std.proofs.Common.{map, refl}
+use Rattle.id_paths.specs.declared.paths.Paths.{Paths}
+use Rattle.id_paths.specs.Paths.{events_of}
+use Rattle.id_paths.proofs.PathsLemmas.{path_by-same, structure_by-same}
+use Rattle.id_paths.proofs.paths.Paths.new.Goals as goal
+
+pub returns-clause-structures : goal.returns-clause-structures
+returns-clause-structures c =
+    let g = c.args.graph.now in
+    let es = events_of (map (λ e. e.state) c.args.elements.now) in
+    let told = c.in_ok-enters.ensures in
+    let p : Paths =
+    record {
+      graph = c.args.graph;
+      enters = c.in_ok-enters.enters;
+      makers = c.in_ok-enters.makers;
+      makings = c.in_ok-enters.makings;
+      most = c.count_events-most.result;
+      values = c.in_ok-enters.values;
+    } in
+    structure_by-same g es p refl (path_by-same g es p refl told.enters c.count_events-most.ensures) told.makers
