@@ -15,7 +15,7 @@ use Rattle.id_parts.specs.Loops.{IsLoop, IsLoopOf}
 use Rattle.id_parts.specs.Regions.{Lies, here, in_arm, in_loop, in_side}
 use Rattle.id_parts.specs.Turns.{AreParamsOf, IsTable, in_block}
 use Rattle.id_parts.proofs.RegionLemmas.{Lies-trans}
-use Rattle.id_check.specs.Scopes.{bound_name, closes, confines, held, looks, sees_own, takes}
+use Rattle.id_scope.specs.Scopes.{bound_name, closes, confines, held, looks, sees_own, takes}
 
 -- the home of a binder's value is where the binder stands, and for a loop's variable the beginning of the loop
 abbrev pub home_in : ℕ → Region → Node → Region

@@ -29,22 +29,24 @@ use Rattle.id_parts.specs.Regions.{Lies}
 use Rattle.id_parts.specs.Turns.{IsTable, params_at}
 use Rattle.id_parts.proofs.RegionLemmas.{HasPart-operand}
 use Rattle.id_parts.proofs.TableLemmas.{IsTable-rows_of}
-use Rattle.id_check.specs.declared.cause.CheckCause.TheVariants.{MainKind, TooManyParams, Unknown, WrongCount, WrongKind}
+use Rattle.id_scope.specs.declared.cause.CheckCause.TheVariants.{MainKind, TooManyParams, Unknown, WrongCount, WrongKind}
 use Rattle.id_check.specs.declared.checked.Checked.{Checked}
-use Rattle.id_check.specs.declared.cause.CheckCause.{CheckCause}
-use Rattle.id_check.specs.Causes.{array_param, callee, causes_below, causes_in, count_at, count_in, duplicates}
-use Rattle.id_check.specs.Causes.{head_in, is_count, is_array_param, same_kind, unknown, unless_found, wrong}
-use Rattle.id_check.specs.Causes.{wrong_argument, wrong_both, wrong_count, wrong_equals, wrong_like, wrong_params}
-use Rattle.id_check.specs.Kinds.{AreKinds, EndsIn, Link, binary_kind, constant_kind, Fixed, To, Nowhere, in_kind}
-use Rattle.id_check.specs.Kinds.{in_nothing, further, link_at, link_of, link_of_name, unary_kind}
+use Rattle.id_scope.specs.declared.cause.CheckCause.{CheckCause}
+use Rattle.id_scope.specs.Causes.{array_param, callee, causes_below, causes_in, count_at, count_in, duplicates}
+use Rattle.id_scope.specs.Causes.{head_in, is_count, is_array_param, same_kind, unknown, unless_found, wrong}
+use Rattle.id_scope.specs.Causes.{wrong_argument, wrong_both, wrong_count, wrong_equals, wrong_like, wrong_params}
+use Rattle.id_scope.specs.declared.kinds.Link.{Link}
+use Rattle.id_scope.specs.declared.kinds.Link.TheVariants.{Fixed, To, Nowhere}
+use Rattle.id_scope.specs.Kinds.{AreKinds, EndsIn, binary_kind, constant_kind, in_kind}
+use Rattle.id_scope.specs.Kinds.{in_nothing, further, link_at, link_of, link_of_name, unary_kind}
 use Rattle.id_check.specs.Programs.{Calls, Stands, binder, kind, region, rows, tree}
-use Rattle.id_check.specs.Scopes.{binder_by, binder_in, binder_of, binds, bound_name, first_of, held, is_name}
-use Rattle.id_check.specs.Scopes.{is_next_use, keeps, looks, sees, sees_own, takes, used_name, user_of, uses_procedure, uses_value}
-use Rattle.id_check.proofs.ChainsLemmas.{after}
+use Rattle.id_scope.specs.Scopes.{binder_by, binder_in, binder_of, binds, bound_name, first_of, held, is_name}
+use Rattle.id_scope.specs.Scopes.{is_next_use, keeps, looks, sees, sees_own, takes, used_name, user_of, uses_procedure, uses_value}
+use Rattle.id_scope.proofs.ChainsLemmas.{after}
 use Rattle.id_check.proofs.HomesLemmas.{bound_home, home, seen_outside}
-use Rattle.id_check.proofs.LinksLemmas.{link_below, part_of}
+use Rattle.id_scope.proofs.LinksLemmas.{link_below, part_of}
 use Rattle.id_check.proofs.NotedLemmas.{IsProgramTree-tree_in}
-use Rattle.id_check.proofs.ScopesLemmas.{binder_at-below, first_of-some}
+use Rattle.id_scope.proofs.ScopesLemmas.{binder_at-below, first_of-some}
 use Rattle.id_parts.proofs.BlocksLemmas.{Among-from_params_at, not_last, param_at}
 
 -- ---- the table

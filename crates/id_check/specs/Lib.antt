@@ -1,16 +1,10 @@
 -- What public clauses cite.
-pub mod Scopes
-pub mod Kinds
-pub mod Causes
 pub mod Programs
 pub mod Kept
 pub mod Noted
 -- For use inside.
-pub mod Chains
 pub mod Counts
 pub mod Depths
-pub mod Firsts
 pub mod Judged
-pub mod Names
 pub mod Params
 pub mod Wants

@@ -10,18 +10,14 @@
 #![tactic(auto)]
 
 mod access;
-mod cause;
 mod checked;
-mod kinds;
 mod numbers;
 mod params;
 mod program;
-mod rows;
-mod scope;
 mod tabled;
 mod wants;
 
-pub use cause::{CheckCause, CheckError};
 pub use checked::Checked;
+pub use id_scope::{CheckCause, CheckError};
 pub use program::{check, check_table, into_table};
 pub use tabled::Tabled;

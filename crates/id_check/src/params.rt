@@ -2,7 +2,7 @@
 
 ghost use Rattle.std.specs.Prelude.{◌≡◌, ◌<◌, ℕ, length, nat_eq, nat_lt};
 ghost use Rattle.id_parts.specs.Turns.{IsDefOf, IsTable, params_at};
-ghost use Rattle.id_check.specs.Causes as causes;
+ghost use Rattle.id_scope.specs.Causes as causes;
 ghost use Rattle.id_check.specs.Params as params;
 
 use id_parts::{Node, Row};

@@ -5,21 +5,20 @@ ghost use Rattle.std.specs.Prelude.{◌≡◌, ◌<◌, ◌+◌, ℕ, get_or, le
 ghost use Rattle.id_parts.specs.Rows.{at};
 ghost use Rattle.id_parts.specs.Tables.{HasPart, IsFormed};
 ghost use Rattle.id_parts.specs.Turns.{IsDefOf, IsTable, params_at};
-ghost use Rattle.id_check.specs.Causes as causes;
-ghost use Rattle.id_check.specs.Causes.{causes_below, causes_in, unknown, wrong, wrong_argument, wrong_both};
-ghost use Rattle.id_check.specs.Causes.{wrong_cell, wrong_count, wrong_like};
-ghost use Rattle.id_check.specs.Causes.{wrong_equals, wrong_operands, wrong_params};
+ghost use Rattle.id_scope.specs.Causes as causes;
+ghost use Rattle.id_scope.specs.Causes.{causes_below, causes_in, unknown, wrong, wrong_argument, wrong_both};
+ghost use Rattle.id_scope.specs.Causes.{wrong_cell, wrong_count, wrong_like};
+ghost use Rattle.id_scope.specs.Causes.{wrong_equals, wrong_operands, wrong_params};
 ghost use Rattle.id_value.specs.declared.BinaryOp.TheVariants as class;
 ghost use Rattle.id_check.specs.Counts.{AreCounts};
-ghost use Rattle.id_check.specs.Firsts.{Notes};
-ghost use Rattle.id_check.specs.Scopes.{user_of};
+ghost use Rattle.id_scope.specs.Firsts.{Notes};
+ghost use Rattle.id_scope.specs.Scopes.{user_of};
 ghost use Rattle.id_check.specs.Params.{array_cause, count_cause};
 ghost use Rattle.id_check.specs.Wants.{wrong_parts};
 
-use crate::cause::{CheckCause, note};
-use crate::kinds::{binder_at, unary_kind};
 use crate::params::{MAX_PARAMS, first_array, has_param, has_params};
 use id_parts::{Node, Row};
+use id_scope::{CheckCause, binder_at, note, unary_kind};
 use id_tree::{BinaryOp, Kind};
 use id_value::Comparison;
 

@@ -9,9 +9,9 @@ use Rattle.id_tree.specs.declared.tree.TreeError.TheVariants as parser
 use Rattle.id_tree.specs.Tree.{Tree}
 use Rattle.id_tree.specs.Distinct.{HasPlace}
 use Rattle.id_tree.specs.Accepted.{StopsAt, RefusedBy}
-use Rattle.id_check.specs.declared.cause.CheckCause.{CheckCause}
-use Rattle.id_check.specs.declared.cause.CheckCause.TheVariants as checker
-use Rattle.id_check.specs.Causes as check
+use Rattle.id_scope.specs.declared.cause.CheckCause.{CheckCause}
+use Rattle.id_scope.specs.declared.cause.CheckCause.TheVariants as checker
+use Rattle.id_scope.specs.Causes as check
 use Rattle.id_list.proofs.AmongLemmas.{Among-right}
 use Rattle.id_engine.specs.Refusals.{lexer_refusal, parser_refusal, checker_refusal, IsDetailInside, IsInside}
 use Rattle.id_engine.proofs.NamesLemmas.{among_all}

@@ -15,7 +15,7 @@ use Rattle.id_parts.specs.Loops.{IsLoopOf}
 use Rattle.id_parts.specs.Regions.{IsIfOf}
 use Rattle.id_parts.specs.Turns.{IsDefOf}
 use Rattle.id_check.specs.declared.checked.Checked.{Checked}
-use Rattle.id_check.specs.Causes.{defines_main}
+use Rattle.id_scope.specs.Causes.{defines_main}
 use Rattle.id_check.specs.Programs.{place, rows}
 use Rattle.id_graph.specs.Graph.{Parts}
 use Rattle.id_graph.specs.declared.instr.Instr.{Instr}

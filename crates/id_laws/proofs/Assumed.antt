@@ -13,7 +13,7 @@ use Rattle.id_parts.specs.Tables.{AreApart, HasOperand, is_binder, is_expression
 use Rattle.id_parts.specs.Calls.{IsCallOf}
 use Rattle.id_parts.specs.Turns.{IsTable, IsDefOf, params_at}
 use Rattle.id_check.specs.declared.checked.Checked.{Checked}
-use Rattle.id_check.specs.Kinds.{constant_kind, unary_kind, binary_kind}
+use Rattle.id_scope.specs.Kinds.{constant_kind, unary_kind, binary_kind}
 use Rattle.id_check.specs.Programs.{binder, kind, place, region, rows}
 use Rattle.id_desugar.specs.Ends.{end_of}
 use Rattle.id_desugar.specs.Regions.{imports_of}

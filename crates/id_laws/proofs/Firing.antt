@@ -44,7 +44,7 @@ use Rattle.id_laws.proofs.Loops.{switches_node, switches_region, switches_within
 use Rattle.id_laws.proofs.Opened.{InLoop, live_loop, loop_path, next_path}
 use Rattle.id_laws.proofs.Regions.{no_depth, region_of, same_depth}
 use Rattle.id_build.proofs.NamesSeen.{listed}
-use Rattle.id_check.specs.Scopes.{loops_between}
+use Rattle.id_scope.specs.Scopes.{loops_between}
 use Rattle.id_laws.proofs.Sources.{tests_other}
 use Rattle.id_laws.proofs.Arcs.{Does, starts, returns, enters, constant, unary, binary, turns_on, hands, joins, opens, passes, gets, names, answers}
 use Rattle.id_laws.proofs.Arcs.{sends_in, gives_back, varies, takes_in, moves_on, moves_name, advances, resets, gets_last, allocates, addresses, fetches}

@@ -24,7 +24,7 @@ use Rattle.id_parts.specs.Rows.{at}
 use Rattle.id_parts.specs.Tables.{HasOperand, is_thing, is_binder, is_expression}
 use Rattle.id_parts.proofs.RegionLemmas.{HasPart-operand}
 use Rattle.id_check.specs.declared.checked.Checked.{Checked}
-use Rattle.id_check.specs.Kinds.{constant_kind, unary_kind, binary_kind}
+use Rattle.id_scope.specs.Kinds.{constant_kind, unary_kind, binary_kind}
 use Rattle.id_check.specs.Programs.{Stands, kind, place, rows}
 use Rattle.id_meaning.specs.declared.Path.{Path}
 use Rattle.id_meaning.specs.declared.SourceValue.{SourceValue}

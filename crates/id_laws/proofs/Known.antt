@@ -8,8 +8,8 @@ use Rattle.id_parts.specs.Turns.{IsDefOf, params_at}
 use Rattle.id_parts.proofs.BlocksLemmas.{Among-from_params_at}
 use Rattle.id_parts.proofs.PlacesLemmas.{AreApart-rows_of}
 use Rattle.id_check.specs.declared.checked.Checked.{Checked}
-use Rattle.id_check.specs.Causes.{defines_main}
-use Rattle.id_check.specs.Kinds.{link_of}
+use Rattle.id_scope.specs.Causes.{defines_main}
+use Rattle.id_scope.specs.Kinds.{link_of}
 use Rattle.id_check.specs.Programs.{Calls, Stands, binder, kind, region, rows, tree}
 use Rattle.id_check.proofs.ProgramsLemmas.{table_of, bound_name_row, kind_along, kind_fixed, split_row, if_row}
 use Rattle.id_check.proofs.ProgramsLemmas.{def_row, enter_row, callee_row, call_row, next_row, argument_row}

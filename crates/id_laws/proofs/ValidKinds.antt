@@ -19,7 +19,7 @@ use Rattle.id_parts.specs.Rows.{at}
 use Rattle.id_parts.specs.Tables.{HasPart, HasOperand, begins_block, is_binder, is_block, is_expression}
 use Rattle.id_parts.proofs.RegionLemmas.{HasPart-operand}
 use Rattle.id_check.specs.declared.checked.Checked.{Checked}
-use Rattle.id_check.specs.Kinds.{constant_kind, unary_kind, binary_kind}
+use Rattle.id_scope.specs.Kinds.{constant_kind, unary_kind, binary_kind}
 use Rattle.id_check.specs.Programs.{kind, region, rows}
 use Rattle.id_check.proofs.ProgramsLemmas.{unary_row, bound_name_row, loop_row, next_row, split_row, switches_row}
 use Rattle.id_graph.specs.declared.dests.Port.{Port}

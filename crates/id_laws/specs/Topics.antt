@@ -11,7 +11,7 @@ use Rattle.id_parts.specs.declared.row.Node.TheVariants.{Start, LoopHead, Variab
 use Rattle.id_parts.specs.declared.row.Node.TheVariants.{Reset, Loop, Array, Fetch, Address, Store}
 use Rattle.id_parts.specs.Rows.{arm_at, top}
 use Rattle.id_check.specs.declared.checked.Checked.{Checked}
-use Rattle.id_check.specs.Scopes.{loops_between}
+use Rattle.id_scope.specs.Scopes.{loops_between}
 use Rattle.id_check.specs.Programs.{place, region, rows}
 use Rattle.id_graph.specs.declared.dests.Port.{Port}
 use Rattle.id_graph.specs.declared.dests.Port.TheVariants.{Zero, One}

@@ -5,7 +5,7 @@ use Rattle.id_parts.specs.declared.row.Node.{Node}
 use Rattle.id_parts.specs.declared.row.Node.TheVariants.{Def}
 use Rattle.id_parts.specs.Rows.{at}
 use Rattle.id_parts.specs.Tables.{HasOperand, is_thing}
-use Rattle.id_check.specs.Causes.{defines_main}
+use Rattle.id_scope.specs.Causes.{defines_main}
 use Rattle.id_check.specs.Programs.{Stands, rows}
 use Rattle.id_check.proofs.ProgramsLemmas.{part_row}
 use Rattle.id_meaning.specs.Sources.{Source, body_of, main_body}

@@ -17,7 +17,7 @@ use Rattle.id_parts.specs.declared.row.Node.TheVariants.{Array, Fetch, Address, 
 use Rattle.id_parts.specs.Rows.{arm_at, at}
 use Rattle.id_parts.specs.Turns.{IsStatement, params_at}
 use Rattle.id_check.specs.declared.checked.Checked.{Checked}
-use Rattle.id_check.specs.Scopes.{loops_between}
+use Rattle.id_scope.specs.Scopes.{loops_between}
 use Rattle.id_check.specs.Programs.{Stands, binder, place, region, rows}
 use Rattle.id_meaning.specs.declared.Path.{Path}
 use Rattle.id_meaning.specs.declared.SourceValue.{SourceValue}

@@ -4,7 +4,7 @@ use Rattle.std.specs.Option.{option_or}
 use Rattle.std.proofs.lemmas.List.{get_or_default}
 use Rattle.id_check.specs.Counts.{AreCounts}
 use Rattle.id_check.proofs.CountsLemmas.{counts_call, counts_other}
-use Rattle.id_check.proofs.LinksLemmas.{part_of}
+use Rattle.id_scope.proofs.LinksLemmas.{part_of}
 use Rattle.id_check.proofs.numbers.count_call.Goals as goal
 
 pub index-requires : goal.index-requires

@@ -2,7 +2,7 @@ use Rattle.std.proofs.Common.{sym, subst}
 use Rattle.id_parts.specs.Turns.{IsTable}
 use Rattle.id_parts.proofs.TableLemmas.{IsTable-rows_of}
 use Rattle.id_check.specs.Depths.{AreInBlocks}
-use Rattle.id_check.specs.Causes.{IsRefusedFor}
+use Rattle.id_scope.specs.Causes.{IsRefusedFor}
 use Rattle.id_check.specs.Noted.{tree_in}
 use Rattle.id_check.proofs.DepthsLemmas.{AreInBlocks-table}
 use Rattle.id_check.proofs.NotedLemmas.{IsProgramTree-tree_in}

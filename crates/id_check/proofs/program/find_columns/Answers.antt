@@ -1,7 +1,7 @@
 use Rattle.std.proofs.Common.{◌≡◌, ◌<◌, ℕ, Some, get_or, length, sym, subst}
 use Rattle.std.specs.Prelude.{None}
 use Rattle.std.proofs.lemmas.Result.{IfOk-from_err}
-use Rattle.id_check.specs.Kinds.{AreKinds}
+use Rattle.id_scope.specs.Kinds.{AreKinds}
 use Rattle.id_check.proofs.program.find_columns.Goals as goal
 
 pub with_numbers-requires-clause-kinded : goal.with_numbers-requires-clause-kinded

@@ -6,9 +6,9 @@ use Rattle.id_parts.specs.declared.row.Node.{Node}
 use Rattle.id_parts.specs.declared.row.Node.TheVariants.{Param, Name, Enter, Binding, Def, NextUse, Next}
 use Rattle.id_parts.specs.Rows.{at}
 use Rattle.id_check.specs.Judged.{IsJudged}
-use Rattle.id_check.specs.Causes.{IsRefusedFor}
-use Rattle.id_check.specs.Names.{AreNames}
-use Rattle.id_check.specs.Scopes.{bound_name, used_name}
+use Rattle.id_scope.specs.Causes.{IsRefusedFor}
+use Rattle.id_scope.specs.Names.{AreNames}
+use Rattle.id_scope.specs.Scopes.{bound_name, used_name}
 use Rattle.id_check.proofs.program.judge.Goals as goal
 
 bound_one : (n : Node) (x : ℕ) → bound_name n ≡ Some x → name_of n ≡ Some x

@@ -1,7 +1,7 @@
 use Rattle.std.proofs.Common.{ℕ, get_or, subst}
 use Rattle.std.specs.Prelude.{None}
-use Rattle.id_check.specs.Causes.{causes}
-use Rattle.id_check.specs.Firsts.{IsFirstOf}
+use Rattle.id_scope.specs.Causes.{causes}
+use Rattle.id_scope.specs.Firsts.{IsFirstOf}
 use Rattle.id_check.proofs.StandingLemmas.{IsRefusedFor-first}
 use Rattle.id_check.proofs.program.settle.Goals as goal
 

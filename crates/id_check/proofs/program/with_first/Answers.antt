@@ -1,8 +1,8 @@
 use Rattle.std.proofs.Common.{◌≡◌, ◌<◌, ℕ, Some, get_or, length, sym, subst}
 use Rattle.std.specs.Prelude.{None}
-use Rattle.id_check.specs.Causes.{causes_below}
+use Rattle.id_scope.specs.Causes.{causes_below}
 use Rattle.id_check.specs.Counts.{AreCounts}
-use Rattle.id_check.specs.Firsts.{Notes}
+use Rattle.id_scope.specs.Firsts.{Notes}
 use Rattle.id_check.proofs.program.with_first.Goals as goal
 
 pub note_rows-requires-clause-binders : goal.note_rows-requires-clause-binders

@@ -1,11 +1,11 @@
 use Rattle.std.proofs.Common.{get_or, length, sym, subst}
 use Rattle.std.specs.Prelude.{None}
 use Rattle.std.proofs.lemmas.Result.{IfOk-from_err}
-use Rattle.id_check.specs.Causes.{causes, duplicates}
+use Rattle.id_scope.specs.Causes.{causes, duplicates}
 use Rattle.id_check.specs.Depths.{AreDepths}
-use Rattle.id_check.specs.Firsts.{IsFirstOf}
-use Rattle.id_check.specs.Kinds.{AreKinds}
-use Rattle.id_check.specs.Scopes.{AreBinders}
+use Rattle.id_scope.specs.Firsts.{IsFirstOf}
+use Rattle.id_scope.specs.Kinds.{AreKinds}
+use Rattle.id_scope.specs.Scopes.{AreBinders}
 use Rattle.id_check.proofs.program.with_numbers.Goals as goal
 
 pub returns-clause-bound : goal.returns-clause-bound

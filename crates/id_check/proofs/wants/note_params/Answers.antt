@@ -2,11 +2,11 @@ use Rattle.std.proofs.Common.{◌≡◌, ℕ, Bool as Truth, true, false, [], �
 use Rattle.std.specs.Prelude.{nat_eq, nat_lt, if◌then◌else◌}
 use Rattle.std.proofs.lemmas.Bool.Decides.{nat_tests}
 use Rattle.id_parts.specs.Turns.{params_at}
-use Rattle.id_check.specs.declared.cause.CheckCause.TheVariants.{TooManyParams}
-use Rattle.id_check.specs.Causes.{array_param}
-use Rattle.id_check.specs.Firsts.{Notes}
+use Rattle.id_scope.specs.declared.cause.CheckCause.TheVariants.{TooManyParams}
+use Rattle.id_scope.specs.Causes.{array_param}
+use Rattle.id_scope.specs.Firsts.{Notes}
 use Rattle.id_check.specs.Params.{count_cause}
-use Rattle.id_check.proofs.FirstsLemmas.{Notes-append, Notes-none}
+use Rattle.id_scope.proofs.FirstsLemmas.{Notes-append, Notes-none}
 use Rattle.id_check.proofs.wants.note_params.Goals as goal
 use Rattle.id_check.proofs.wants.note_params.Goals.{then-name-eq0, else-name-eq0}
 

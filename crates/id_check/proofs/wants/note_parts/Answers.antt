@@ -9,11 +9,11 @@ use Rattle.id_parts.specs.declared.row.Node.TheVariants.{Unary, Binary, Split, I
 use Rattle.id_parts.specs.declared.row.Node.TheVariants.{Store}
 use Rattle.id_parts.specs.declared.row.Node.TheVariants as node
 use Rattle.id_parts.specs.Tables.{HasPart}
-use Rattle.id_check.specs.declared.cause.CheckCause.{CheckCause}
-use Rattle.id_check.specs.Causes.{wrong}
-use Rattle.id_check.specs.Firsts.{Notes}
+use Rattle.id_scope.specs.declared.cause.CheckCause.{CheckCause}
+use Rattle.id_scope.specs.Causes.{wrong}
+use Rattle.id_scope.specs.Firsts.{Notes}
 use Rattle.id_check.specs.Wants.{wrong_parts}
-use Rattle.id_check.proofs.FirstsLemmas.{Notes-none}
+use Rattle.id_scope.proofs.FirstsLemmas.{Notes-none}
 use Rattle.id_check.proofs.wants.note_parts.Goals as goal
 
 -- the causes in the parts of a row of this node are noted beside those from before

@@ -6,13 +6,13 @@ use Rattle.id_parts.specs.declared.row.Node.{Node}
 use Rattle.id_parts.specs.declared.row.Node.TheVariants.{Name, Enter, Arg, Call, NextUse, Def}
 use Rattle.id_parts.specs.Rows.{at}
 use Rattle.id_parts.specs.Turns.{params_at}
-use Rattle.id_check.specs.declared.cause.CheckCause.{CheckCause}
-use Rattle.id_check.specs.Causes.{callee, causes_in, count_at, wrong, wrong_argument, wrong_count, wrong_params}
-use Rattle.id_check.specs.Firsts.{Notes}
-use Rattle.id_check.specs.Scopes.{user_of}
+use Rattle.id_scope.specs.declared.cause.CheckCause.{CheckCause}
+use Rattle.id_scope.specs.Causes.{callee, causes_in, count_at, wrong, wrong_argument, wrong_count, wrong_params}
+use Rattle.id_scope.specs.Firsts.{Notes}
+use Rattle.id_scope.specs.Scopes.{user_of}
 use Rattle.id_check.specs.Wants.{wrong_parts}
-use Rattle.id_check.proofs.FirstsLemmas.{Notes-append}
-use Rattle.id_check.proofs.LinksLemmas.{head_below, part_of}
+use Rattle.id_scope.proofs.FirstsLemmas.{Notes-append}
+use Rattle.id_scope.proofs.LinksLemmas.{head_below, part_of}
 use Rattle.id_check.proofs.ParamsLemmas.{callee_def}
 use Rattle.id_check.proofs.wants.note_row.Goals as goal
 

@@ -2,10 +2,10 @@ use Rattle.std.proofs.Common.{ℕ, Option, get_or, sym, subst, add-one}
 use Rattle.std.specs.Prelude.{None}
 use Rattle.id_value.specs.declared.Kind.{Kind}
 use Rattle.id_parts.specs.Rows.{at}
-use Rattle.id_check.specs.Causes.{causes_below, causes_in}
-use Rattle.id_check.specs.Firsts.{Notes}
-use Rattle.id_check.specs.Scopes.{user_of}
-use Rattle.id_check.proofs.FirstsLemmas.{Notes-append}
+use Rattle.id_scope.specs.Causes.{causes_below, causes_in}
+use Rattle.id_scope.specs.Firsts.{Notes}
+use Rattle.id_scope.specs.Scopes.{user_of}
+use Rattle.id_scope.proofs.FirstsLemmas.{Notes-append}
 use Rattle.id_check.proofs.wants.note_rows.Goals as goal
 
 pub loop-i-preserved : goal.loop-i-preserved

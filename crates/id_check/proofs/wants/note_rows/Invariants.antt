@@ -1,7 +1,7 @@
 use Rattle.std.proofs.Common.{get_or}
 use Rattle.std.specs.Prelude.{None}
-use Rattle.id_check.specs.Causes.{causes_below}
-use Rattle.id_check.specs.Firsts.{Notes}
+use Rattle.id_scope.specs.Causes.{causes_below}
+use Rattle.id_scope.specs.Firsts.{Notes}
 use Rattle.id_check.proofs.wants.note_rows.Given as goal
 
 abbrev pub invariant-loop-i : goal.invariant-loop-i

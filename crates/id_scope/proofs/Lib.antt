@@ -1,0 +1,10 @@
+pub mod BindLemmas
+pub mod FirstsLemmas
+pub mod NoneLemmas
+pub mod OpenLemmas
+pub mod ScopesLemmas
+pub mod TakingLemmas
+pub mod WaitingLemmas
+pub mod FillsLemmas
+pub mod ChainsLemmas
+pub mod LinksLemmas

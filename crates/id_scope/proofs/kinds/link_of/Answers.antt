@@ -1,0 +1,14 @@
+use Rattle.std.proofs.Common.{◌≡◌, ◌<◌, ◌^◌, ℕ, refl, sym, subst, arith}
+use Rattle.id_parts.specs.declared.row.Node.{Node}
+use Rattle.id_parts.specs.Tables.{HasPart}
+use Rattle.id_scope.proofs.kinds.link_of.Goals as goal
+
+-- a part of the node has a number of 32 bits
+part : (n m : Node) (a : ℕ) → ((b : ℕ) → HasPart n b → b < 2 ^ 32) → n ≡ m → HasPart m a → a < 2 ^ 32
+part n m a h e p = h a (subst (λ z. HasPart z a) (sym e) p)
+
+pub overflow_cast-result : goal.overflow_cast-result
+overflow_cast-result c = let p = part c.args.node _ c.in-Block.body c.requires.parts c.in-Block.is refl in omega (arith, p)
+
+pub overflow_cast-result-in-Binding : goal.overflow_cast-result-in-Binding
+overflow_cast-result-in-Binding c = let p = part c.args.node _ c.in-Binding.value c.requires.parts c.in-Binding.is refl in omega (arith, p)

@@ -1,0 +1,232 @@
+//! The kind of each row, found by its chain.
+
+ghost use Rattle.std.specs.Prelude.{◌≡◌, ◌<◌, ◌≤◌, ◌+◌, ◌^◌, ◌⊎◌, ℕ, [], not, get_or, length, IfOk, OnOk, Some, None};
+ghost use Rattle.id_list.specs.List.{Among};
+ghost use Rattle.id_parts.specs.Tables.{HasPart, IsFormed};
+ghost use Rattle.id_scope.specs.Kinds as kinds;
+ghost use Rattle.id_scope.specs.Kinds.{AreKinds, To, Nowhere};
+ghost use Rattle.id_scope.specs.Chains as chains;
+ghost use Rattle.id_scope.specs.Chains.{IsGoing, IsFilling, IsState};
+
+use crate::rows::{user_of, wide};
+use id_parts::{Node, Row};
+use id_tree::{BinaryOp, Constant, Kind, UnaryOp};
+use std::alloc::{AllocError, Global};
+
+/// The most rows whose kinds are looked for. No text comes near it.
+const MOST: usize = 0xffff_ffff;
+
+/// Where the chain of a row goes on: it ends in a kind, it goes on to another row, or it ends without a kind.
+#[derive(Clone, Copy)]
+pub enum Link {
+    Fixed(Kind),
+    To(u32),
+    Nowhere,
+}
+
+/// The kind of each row, if it has one; these are the binders of the names.
+#[inline(never)]
+pub fn find_kinds(
+    alloc: Global,
+    rows: &[Row],
+    binders: &[Option<u32>],
+) -> Result<Vec<Option<Kind>>, AllocError>
+    requires formed { IsFormed rows.now }
+    requires binders { length binders.now ≡ length rows.now }
+    requires within { (i b : ℕ) → i < length rows.now → get_or binders.now i None ≡ Some b → b < length rows.now }
+    ensures long { IfOk result (λ v. length v.items ≡ length rows.now) }
+    ensures kinds { IfOk result (λ v.
+        AreKinds rows.now (λ i. get_or binders.now i None) (λ i. get_or v.items i None)) }
+{
+    let mut links = find_links(alloc, rows, binders)?;
+    let mut passed = Vec::new(alloc);
+    let mut kinds = Vec::with_capacity(alloc, rows.len())?;
+    for i in 0..rows.len() {
+        settle(&mut links, &mut passed, i)?;
+        kinds.push(kind_of(links[i]))?;
+    }
+    Ok(kinds)
+}
+
+/// Where the chain of each row goes on, or what it comes to, where that is known from the rows before.
+fn find_links(alloc: Global, rows: &[Row], binders: &[Option<u32>]) -> Result<Vec<Link>, AllocError>
+    requires formed { IsFormed rows.now }
+    requires binders { length binders.now ≡ length rows.now }
+    requires within { (i b : ℕ) → i < length rows.now → get_or binders.now i None ≡ Some b → b < length rows.now }
+    ensures { IfOk result (λ v.
+        IsGoing (kinds.link_at rows.now (λ k. get_or binders.now k None)) (length rows.now) 0 v.items) }
+{
+    if rows.len() > MOST {
+        return Err(AllocError);
+    }
+    let mut links = Vec::with_capacity(alloc, rows.len())?;
+    for i in 0..rows.len() {
+        let link = link_at(rows, binders, i);
+        links.push(follow(links.as_slice(), link))?;
+    }
+    Ok(links)
+}
+
+/// What the link comes to, if that is known from these rows, or the link itself. Takes no memory.
+fn follow(links: &[Link], link: Link) -> Link
+    ensures { (l : ℕ → Link) (i : ℕ) → l i ≡ link
+        → ((j : ℕ) → j < length links.now → IsState l 0 j (get_or links.now j Nowhere)) → IsState l 0 i result }
+{
+    if let Link::To(next) = link {
+        let next = next as usize;
+        if next < links.len() && is_end(links[next]) {
+            return links[next];
+        }
+    }
+    link
+}
+
+/// Whether the chain ends at the link.
+fn is_end(link: Link) -> bool
+    ensures { result ≡ not (chains.is_going_on link) }
+{
+    match link {
+        Link::Fixed(_) | Link::Nowhere => true,
+        Link::To(_) => false,
+    }
+}
+
+/// Where the chain of the row goes on.
+fn link_at(rows: &[Row], binders: &[Option<u32>], i: usize) -> Link
+    requires few { length rows.now ≤ MOST }
+    requires formed { IsFormed rows.now }
+    requires binders { length binders.now ≡ length rows.now }
+    requires within { (i b : ℕ) → i < length rows.now → get_or binders.now i None ≡ Some b → b < length rows.now }
+    requires row { i < length rows.now }
+    ensures { result ≡ kinds.link_at rows.now (λ k. get_or binders.now k None) i }
+{
+    let node = rows[i].node;
+    link_of(binder_at(binders, user_of(i, node)), node)
+}
+
+/// The binder of the row.
+pub fn binder_at(binders: &[Option<u32>], i: usize) -> Option<usize>
+    requires { i < length binders.now }
+    ensures { result ≡ get_or binders.now i None }
+{
+    wide(binders[i])
+}
+
+/// Finds the kind that the chain of the row comes to, and gives it to all rows on the way. A chain that comes back to
+/// itself meets the mark that was left there, and gives `int`.
+fn settle(links: &mut Vec<Link>, passed: &mut Vec<usize>, start: usize) -> Result<(), AllocError>
+    requires start { start < length links.old.items }
+    requires passed { passed.old.items ≡ [] }
+    requires targets { (i j : ℕ) → i < length links.old.items
+        → get_or links.old.items i Nowhere ≡ To j → j < length links.old.items }
+    ensures passed { OnOk result (passed.new.items ≡ []) }
+    ensures long { OnOk result (length links.new.items ≡ length links.old.items) }
+    ensures targets { OnOk result ((i j : ℕ) → i < length links.new.items
+        → get_or links.new.items i Nowhere ≡ To j → j < length links.new.items) }
+    ensures going { OnOk result ((l : ℕ → Link) → IsGoing l (length links.old.items) start links.old.items
+        → IsGoing l (length links.old.items) (start + 1) links.new.items) }
+{
+    let mut at = start;
+    while let Link::To(next) = links[at] {
+        passed.push(at)?;
+        links[at] = Link::Fixed(Kind::Int);
+        at = next as usize;
+    }
+    let end = links[at];
+    fill(links, passed, end);
+    Ok(())
+}
+
+/// Gives the link to the rows that were passed.
+fn fill(links: &mut Vec<Link>, passed: &mut Vec<usize>, end: Link)
+    requires { (p : ℕ) → Among p passed.old.items → p < length links.old.items }
+    ensures passed { passed.new.items ≡ [] }
+    ensures long { length links.new.items ≡ length links.old.items }
+    ensures same { (i : ℕ) → (get_or links.new.items i Nowhere ≡ end)
+        ⊎ (get_or links.new.items i Nowhere ≡ get_or links.old.items i Nowhere) }
+    ensures filling { (l : ℕ → Link) (n m : ℕ) → IsFilling l n m passed.old.items end links.old.items
+        → IsFilling l n m [] end links.new.items }
+{
+    while let Some(p) = passed.pop() {
+        links[p] = end;
+    }
+}
+
+/// The kind that the link gives, if its chain ends there.
+fn kind_of(link: Link) -> Option<Kind>
+    ensures { result ≡ chains.kind_of link }
+{
+    match link {
+        Link::Fixed(kind) => Some(kind),
+        Link::To(_) | Link::Nowhere => None,
+    }
+}
+
+/// Where the chain of a row goes on, which has this binder if it is about a name.
+fn link_of(binder: Option<usize>, node: Node) -> Link
+    requires binder { (b : ℕ) → binder ≡ Some b → b < 2 ^ 32 }
+    requires parts { (a : ℕ) → HasPart node a → a < 2 ^ 32 }
+    ensures { result ≡ kinds.link_of binder node }
+{
+    match node {
+        Node::Param { kind, .. } => Link::Fixed(kind),
+        Node::Literal { value } => Link::Fixed(constant_kind(value)),
+        Node::Name { .. } | Node::NextUse { .. } | Node::Call { .. } => link_of_name(binder),
+        Node::Unary { op, .. } => Link::Fixed(unary_kind(op)),
+        Node::Binary { op, .. } => Link::Fixed(binary_kind(op)),
+        Node::If { then, .. } => Link::To(then),
+        Node::Block { body } => Link::To(body as u32),
+        Node::Binding { value, .. } => Link::To(value as u32),
+        Node::Next { outer, .. } => Link::To(outer),
+        Node::Loop { last, .. } => Link::To(last),
+        Node::Array { .. } => Link::Fixed(Kind::Array),
+        Node::Fetch { .. } => Link::Fixed(Kind::Int),
+        Node::Def { result, .. } => Link::Fixed(result),
+        Node::Head | Node::Split { .. } | Node::Program => Link::Nowhere,
+        Node::Enter { .. } | Node::Arg { .. } => Link::Nowhere,
+        Node::Address { .. } | Node::Store { .. } => Link::Nowhere,
+        Node::Start | Node::LoopHead { .. } | Node::Variable | Node::Entries => Link::Nowhere,
+        Node::Switches { .. } | Node::Turn | Node::Body | Node::Reset { .. } => Link::Nowhere,
+    }
+}
+
+/// Where the chain of a name goes on: to its binder, if it has one.
+fn link_of_name(binder: Option<usize>) -> Link
+    requires { (b : ℕ) → binder ≡ Some b → b < 2 ^ 32 }
+    ensures { result ≡ kinds.link_of_name binder }
+{
+    match binder {
+        Some(binder) => Link::To(binder as u32),
+        None => Link::Nowhere,
+    }
+}
+
+/// The kind of a literal.
+fn constant_kind(value: Constant) -> Kind
+    ensures { result ≡ kinds.constant_kind value }
+{
+    match value {
+        Constant::Int(_) => Kind::Int,
+        Constant::Bool(_) => Kind::Bool,
+    }
+}
+
+/// The kind of an operator before its operand, and of its operand.
+pub fn unary_kind(op: UnaryOp) -> Kind
+    ensures { result ≡ kinds.unary_kind op }
+{
+    match op {
+        UnaryOp::Neg => Kind::Int,
+        UnaryOp::Not => Kind::Bool,
+    }
+}
+
+/// The kind of an operator between its operands.
+fn binary_kind(op: BinaryOp) -> Kind
+    ensures { result ≡ kinds.binary_kind op }
+{
+    match op {
+        BinaryOp::Arithmetic(_) => Kind::Int,
+        BinaryOp::Comparison(_) | BinaryOp::Logic(_) => Kind::Bool,
+    }
+}
