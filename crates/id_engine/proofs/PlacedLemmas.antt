@@ -54,7 +54,8 @@ use Rattle.id_print.specs.declared.report.Report.{Report}
 use Rattle.id_print.specs.declared.report.Held.{Held}
 use Rattle.id_print.specs.declared.report.Held.TheVariants.{Array, Cell}
 use Rattle.id_print.specs.Names.{AreSomeHeld}
-use Rattle.id_print.specs.Within.{PointWithin, SiteWithin, ValueWithin, AnswerWithin, AsksWithin, FaultWithin, EndingWithin, HeldWithin, HeldsWithin}
+use Rattle.id_sink.specs.Within.{PointWithin, SiteWithin, ValueWithin}
+use Rattle.id_print.specs.Within.{AnswerWithin, AsksWithin, FaultWithin, EndingWithin, HeldWithin, HeldsWithin}
 use Rattle.id_print.specs.Within.{NameWithin, NamesWithin, ReportWithin, FactWithin, FactsWithin}
 use Rattle.id_engine.specs.Programs.{IsPlacedWithin}
 use Rattle.id_engine.specs.Reports.{SaysTruly, IsTrueOf}

@@ -10,10 +10,10 @@ use Rattle.id_core.specs.Events.{EventView}
 use Rattle.id_core.specs.Machines.{World, MachineView, start}
 use Rattle.id_laws.specs.Laws.{NeverStuck, QuietIsComplete, Soundness}
 use Rattle.id_print.specs.declared.report.Report.{Report}
-use Rattle.id_print.specs.declared.sink.PrintError.{PrintError}
-use Rattle.id_print.specs.Told.{Told, Prints}
+use Rattle.id_sink.specs.declared.sink.PrintError.{PrintError}
+use Rattle.id_sink.specs.Told.{Told, Prints}
 use Rattle.id_print.specs.Reports.{report_text}
-use Rattle.id_print.specs.Traces.{trace_text}
+use Rattle.id_trace.specs.Traces.{trace_text}
 use Rattle.id_engine.specs.declared.error.EngineError.{EngineError}
 use Rattle.id_engine.specs.declared.error.EngineError.TheVariants.{Memory, Write}
 use Rattle.id_engine.specs.Reports.{AreAllowed, HasRun, IsReportFrom, IsTrueOf, IsUnallowed, PrintsEvents}

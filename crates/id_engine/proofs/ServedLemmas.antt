@@ -1,6 +1,6 @@
 -- Requests, and how a refused one is served (specs/Asked.antt, specs/Served.antt).
 use Rattle.std.proofs.Common.{◌≡◌, ◌≢◌, ℕ, List, [], Bor, Global, Option, Result, Vec, refl, sym, ap, subst, ◌∙◌}
-use Rattle.id_print.specs.Told.{Told}
+use Rattle.id_sink.specs.Told.{Told}
 use Rattle.id_request.specs.declared.Request.{Request}
 use Rattle.id_request.specs.declared.Request.TheVariants as asks
 use Rattle.id_engine.specs.declared.error.EngineError.{EngineError}

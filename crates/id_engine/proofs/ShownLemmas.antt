@@ -3,11 +3,11 @@ use Rattle.std.proofs.Common.{◌≡◌, ◌≢◌, ◌≤◌, ℕ, zero, suc, B
 use Rattle.std.proofs.Common.{Some, Result, Ok, Err, IfOk, IfErr, OnOk, slice_get, codes, refl, sym, ap, ◌∙◌, subst}
 use Rattle.id_observe.proofs.FirstsLemmas.{first_is_shown}
 use Rattle.id_check.specs.declared.checked.Checked.{Checked}
-use Rattle.id_print.specs.declared.sink.PrintError.{PrintError}
+use Rattle.id_sink.specs.declared.sink.PrintError.{PrintError}
 use Rattle.id_print.specs.declared.report.Ending.{Ending}
 use Rattle.id_print.specs.declared.report.Ending.TheVariants.{Quiet, Stopped, Fault}
 use Rattle.id_print.specs.declared.report.Report.{Report}
-use Rattle.id_print.specs.Told.{Told, Prints}
+use Rattle.id_sink.specs.Told.{Told, Prints}
 use Rattle.id_print.specs.Reports.{asked, ending_text, report_text}
 use Rattle.id_engine.specs.Commands.{Check, List_graph, Draw_graph, Facts, Run, Shows, accepted, listed, drawn, facts}
 use Rattle.id_engine.specs.Commands.{quiet, fault, stopped, traced, HasShown, ShowsAll, ShowsFront, IsListingOf}
@@ -40,7 +40,7 @@ use Rattle.id_engine.proofs.AnsweredLemmas.{late_unallowed, refused_unallowed}
 use Rattle.id_core.specs.Events.{EventView}
 use Rattle.id_build.specs.Schemas.{Schemas}
 use Rattle.id_build.specs.Rows.{size}
-use Rattle.id_print.specs.Traces.{trace_text}
+use Rattle.id_trace.specs.Traces.{trace_text}
 use Rattle.id_engine.specs.Runs.Ends.{quiet as ends_quiet, fault as ends_fault, stopped as ends_stopped}
 
 -- the text of a report that is so is what a run shows

@@ -1,6 +1,6 @@
 -- What is printed of what a request asks for, before an error is told (specs/Served.antt).
 use Rattle.std.specs.Prelude.{◌≡◌, ◌≢◌, ℕ, List, Option, Result, Err, IfErr, IfOk}
-use Rattle.id_print.specs.Told.{Told}
+use Rattle.id_sink.specs.Told.{Told}
 use Rattle.id_request.specs.declared.Request.{Request}
 use Rattle.id_request.specs.declared.Request.TheVariants as asks
 use Rattle.id_engine.specs.declared.error.EngineError.{EngineError}

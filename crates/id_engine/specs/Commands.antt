@@ -19,13 +19,13 @@ use Rattle.id_build.specs.Schemas.{Schemas}
 use Rattle.id_core.specs.Events.{EventView}
 use Rattle.id_core.specs.Firsts.{AreMergedOf}
 use Rattle.id_core.specs.Machines.{run, start}
-use Rattle.id_print.specs.declared.sink.PrintError.{PrintError}
-use Rattle.id_print.specs.Told.{Told, Prints}
+use Rattle.id_sink.specs.declared.sink.PrintError.{PrintError}
+use Rattle.id_sink.specs.Told.{Told, Prints}
 use Rattle.id_print.specs.declared.report.Held.{Held}
 use Rattle.id_print.specs.Names.{AreHeld, AreSomeHeld}
 use Rattle.id_print.specs.Texts.{quiet_text, stopped_text, fault_text, facts_text}
 use Rattle.id_print.specs.Reports.{asked}
-use Rattle.id_print.specs.Traces.{trace_text}
+use Rattle.id_trace.specs.Traces.{trace_text}
 use Rattle.id_engine.specs.Programs.{IsProgramOf}
 
 -- a command: say that the text is accepted, print its graph, print the picture of its graph, print the facts of a

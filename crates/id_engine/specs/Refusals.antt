@@ -16,9 +16,9 @@ use Rattle.id_meaning.specs.Inputs.{AreRefusedInputs}
 use Rattle.id_meaning.specs.declared.Fact.{Fact}
 use Rattle.id_meaning.specs.Computed.{AreFacts, HasMoreFacts}
 use Rattle.id_build.specs.Rows.{size}
-use Rattle.id_print.specs.declared.sink.PrintError.{PrintError}
-use Rattle.id_print.specs.Told.{Told, Prints}
-use Rattle.id_print.specs.Texts.{place_text}
+use Rattle.id_sink.specs.declared.sink.PrintError.{PrintError}
+use Rattle.id_sink.specs.Told.{Told, Prints}
+use Rattle.id_sink.specs.Texts.{place_text}
 use Rattle.id_engine.specs.declared.compiled.CompileError.{CompileError}
 use Rattle.id_engine.specs.declared.compiled.CompileError.TheVariants as compiler
 use Rattle.id_engine.specs.declared.error.EngineError.{EngineError}

@@ -24,12 +24,12 @@ use Rattle.id_core.specs.Observed.{answer, faults, names, waiting}
 use Rattle.id_print.specs.declared.report.Ending.{Ending}
 use Rattle.id_print.specs.declared.report.Ending.TheVariants.{Quiet, Stopped, Fault}
 use Rattle.id_print.specs.declared.report.Report.{Report}
-use Rattle.id_print.specs.declared.sink.PrintError.{PrintError}
-use Rattle.id_print.specs.Told.{Told, Prints}
+use Rattle.id_sink.specs.declared.sink.PrintError.{PrintError}
+use Rattle.id_sink.specs.Told.{Told, Prints}
 use Rattle.id_print.specs.Endings.{EndsSo}
 use Rattle.id_print.specs.Within.{ReportWithin}
 use Rattle.id_print.specs.Reports.{report_text}
-use Rattle.id_print.specs.Traces.{trace_text}
+use Rattle.id_trace.specs.Traces.{trace_text}
 use Rattle.id_print.specs.Names.{IsOrderOf, IsSortedOf, AreApart, AreApartBy, HeldBefore, WaitBefore}
 use Rattle.id_print.specs.Names.{OfOneThing, OfOneFetch, AreHeld, AreSomeHeld, held_lines}
 use Rattle.id_meaning.specs.Computed.{HasMoreFacts}

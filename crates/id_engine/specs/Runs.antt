@@ -20,12 +20,12 @@ use Rattle.id_core.specs.Firsts.{AreMergedOf}
 use Rattle.id_core.specs.Flights.{AreOthers}
 use Rattle.id_core.specs.Machines.{World, IsQuiet, delivered, run, start}
 use Rattle.id_core.specs.Observed.{answer, faults, names, waiting}
-use Rattle.id_print.specs.Told.{Told, Prints}
+use Rattle.id_sink.specs.Told.{Told, Prints}
 use Rattle.id_print.specs.declared.report.Held.{Held}
 use Rattle.id_print.specs.Names.{IsOrderOf, IsSortedOf, HeldBefore, WaitBefore, held_lines}
 use Rattle.id_print.specs.Texts.{quiet_text, stopped_text, fault_text}
 use Rattle.id_print.specs.Reports.{asked}
-use Rattle.id_print.specs.Traces.{trace_text}
+use Rattle.id_trace.specs.Traces.{trace_text}
 use Rattle.id_engine.specs.Programs.{IsProgramOf}
 
 -- the machine of so many elements after deliveries at these positions from its start

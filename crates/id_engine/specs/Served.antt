@@ -1,7 +1,7 @@
 -- What the program does with a request (docs/PROMISES.md, "The program").
 use Rattle.std.specs.Prelude.{◌≡◌, ◌≢◌, ℕ, List, [], map, Option, Result, Ok, Err, string_bytes}
-use Rattle.id_print.specs.declared.sink.PrintError.{PrintError}
-use Rattle.id_print.specs.Told.{Told, Prints}
+use Rattle.id_sink.specs.declared.sink.PrintError.{PrintError}
+use Rattle.id_sink.specs.Told.{Told, Prints}
 use Rattle.id_request.specs.declared.Request.{Request}
 use Rattle.id_request.specs.declared.Request.TheVariants as asks
 use Rattle.id_request.specs.declared.Unasked.{Unasked}

@@ -2,8 +2,8 @@
 
 ghost use Rattle.std.specs.Prelude.{◌≡◌, ◌++◌, codes, decimal, map, slice_get};
 ghost use Rattle.std.specs.Option.{option_copied};
-ghost use Rattle.id_print.specs.Texts.{place_text};
-ghost use Rattle.id_print.specs.Told.{Prints};
+ghost use Rattle.id_sink.specs.Texts.{place_text};
+ghost use Rattle.id_sink.specs.Told.{Prints};
 ghost use Rattle.id_engine.specs.Refusals.{at_text, cause_text, checker_refusal, compiler_refusal, detail_text};
 ghost use Rattle.id_engine.specs.Refusals.{IsDetailInside, IsInside, IsPrintedLine, IsWord, kind_text, kinds_text};
 ghost use Rattle.id_engine.specs.Refusals.{lexer_refusal, number_text, parser_refusal, plain, refusal_text, row_of};

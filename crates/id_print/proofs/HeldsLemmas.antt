@@ -17,15 +17,15 @@ use Rattle.id_print.specs.declared.report.Held.{Held}
 use Rattle.id_print.specs.declared.report.Held.TheVariants.{Array, Cell}
 use Rattle.id_print.specs.Helds.{AreCellsUp, AreShapesUp, around, is_before, is_cell_first, joined}
 use Rattle.id_print.specs.Names.{HeldBefore, IsOrderOf, OfOneThing, held_cmp, site_cmp}
-use Rattle.id_print.specs.declared.sink.PrintError.{PrintError}
-use Rattle.id_print.specs.Told.{Told, Prints}
+use Rattle.id_sink.specs.declared.sink.PrintError.{PrintError}
+use Rattle.id_sink.specs.Told.{Told, Prints}
 use Rattle.id_print.specs.Texts.{held_text, helds_text}
 use Rattle.id_print.specs.Within.{HeldWithin, HeldsWithin}
 use Rattle.std.proofs.lemmas.List.{append-nil}
 use Rattle.std.proofs.lemmas.List.Concat.{flat_map-append}
 use Rattle.id_print.proofs.NamesLemmas.{first_lt, helds_told, in_order-from_sort, site_total}
-use Rattle.id_print.proofs.SinkLemmas.{Prints-stop, Prints-then}
-use Rattle.id_print.proofs.TextsLemmas.{same_text}
+use Rattle.id_sink.proofs.SinkLemmas.{Prints-stop, Prints-then}
+use Rattle.id_sink.proofs.TextsLemmas.{same_text}
 
 -- ---- the first line
 

@@ -1,13 +1,11 @@
 -- Things whose places lie within a text.
-use Rattle.std.specs.Prelude.{ℕ, ◌≤◌, List, All, Option, None, Some}
-use Rattle.id_meaning.specs.declared.PathStep.{PathStep}
+use Rattle.std.specs.Prelude.{ℕ, List, All, Option, None, Some}
 use Rattle.id_meaning.specs.declared.Path.{Path}
 use Rattle.id_meaning.specs.declared.Fact.{Fact}
 use Rattle.id_meaning.specs.declared.Fact.TheVariants.{On, Has}
 use Rattle.id_meaning.specs.declared.Fact.TheVariants as fact
 use Rattle.id_meaning.specs.declared.Site.{Site}
 use Rattle.id_meaning.specs.declared.SourceValue.{SourceValue}
-use Rattle.id_meaning.specs.declared.SourceValue.TheVariants.{Int, Bool, Name}
 use Rattle.id_meaning.specs.declared.Put.{Put}
 use Rattle.id_meaning.specs.declared.Ask.{Ask}
 use Rattle.id_meaning.specs.declared.NameValue.{NameValue}
@@ -18,40 +16,12 @@ use Rattle.id_print.specs.declared.report.Held.TheVariants as held
 use Rattle.id_print.specs.declared.report.Ending.{Ending}
 use Rattle.id_print.specs.declared.report.Ending.TheVariants.{Quiet, Stopped, Fault}
 use Rattle.id_print.specs.declared.report.Report.{Report}
-
--- the places of all these steps are at most so many bytes in
-abbrev pub StepsWithin : ℕ → List PathStep → Type 0
-StepsWithin size steps = All (λ s. s.place ≤ size) steps
-
--- a place and those of the steps of its path are at most so many bytes in
-pub record PointWithin (size : ℕ) (p : Path) (e : ℕ) : Type 0 where
-  pub path : StepsWithin size p.steps
-  pub place : e ≤ size
-
--- the places of a path and a place are at most so many bytes in
-abbrev pub SiteWithin : ℕ → Site → Type 0
-SiteWithin size s = PointWithin size s.path s.place
-
--- the places of a value are at most so many bytes in
-abbrev pub ValueWithin : ℕ → SourceValue → Type 0
-ValueWithin size (Int n) = Unit {0}
-ValueWithin size (Bool b) = Unit {0}
-ValueWithin size (Name s) = SiteWithin size s
-
--- the places of a cell's structure and of its value are at most so many bytes in
-pub record FilledWithin (size : ℕ) (s : Site) (v : SourceValue) : Type 0 where
-  pub name : SiteWithin size s
-  pub value : ValueWithin size v
+use Rattle.id_sink.specs.Within.{PointWithin, SiteWithin, ValueWithin, FilledWithin, AskWithin}
 
 -- the places of what is put into a cell are at most so many bytes in
 pub record PutWithin (size : ℕ) (p : Put) : Type 0 where
   pub filled : FilledWithin size p.name p.value
   pub store : SiteWithin size p.store
-
--- the places of a fetch and of the structure that it asks are at most so many bytes in
-pub record AskWithin (size : ℕ) (a : Ask) : Type 0 where
-  pub fetch : SiteWithin size a.fetch
-  pub name : SiteWithin size a.name
 
 -- the places of a second store are at most so many bytes in
 pub record SecondWithin (size : ℕ) (s a b : Site) : Type 0 where

@@ -1,19 +1,22 @@
 //! Facts of a source, a line for each.
 
 ghost use Rattle.std.specs.Prelude.{◌≡◌, ◌≤◌, ◌↔◌, ◌++◌, length, codes, IsTrue};
-ghost use Rattle.id_print.specs.Told.{Prints};
-ghost use Rattle.id_print.specs.Texts.{point_text, point_value_text, site_text, put_text, fact_text, facts_text};
-ghost use Rattle.id_print.specs.Texts.{shape_text, ask_text};
-ghost use Rattle.id_print.specs.Within.{PointWithin, HasWithin, SiteWithin, PutWithin, AskWithin, FactWithin};
+ghost use Rattle.id_sink.specs.Told.{Prints};
+ghost use Rattle.id_sink.specs.Texts.{point_text, point_value_text, site_text};
+ghost use Rattle.id_print.specs.Texts.{put_text, fact_text, facts_text};
+ghost use Rattle.id_sink.specs.Texts.{shape_text, ask_text};
+ghost use Rattle.id_sink.specs.Within.{PointWithin, SiteWithin, AskWithin};
+ghost use Rattle.id_print.specs.Within.{HasWithin, PutWithin, FactWithin};
 ghost use Rattle.id_print.specs.Within.{FactsWithin};
 
-use crate::cursor::Cursor;
-use crate::sink::{PrintError, Sink, put};
-use crate::texts::{put_ask, put_filled, put_point, put_point_value, put_shape, put_site_behind};
 use crate::within::{
     is_ask_within, is_point_within, is_put_within, is_site_within, is_value_within,
 };
 use id_meaning::{Ask, Fact, Path, Put, Shape, Site, SourceValue};
+use id_sink::{
+    Cursor, PrintError, Sink, put, put_ask, put_filled, put_point, put_point_value, put_shape,
+    put_site_behind,
+};
 use id_text::MAX_BYTES;
 
 /// Writes a line for each fact of the text, in order. Takes no memory.

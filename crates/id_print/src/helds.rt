@@ -5,7 +5,8 @@ ghost use Rattle.id_meaning.specs.Orders.{Rises};
 ghost use Rattle.id_print.specs.declared.report.Held.TheVariants as held;
 ghost use Rattle.id_print.specs.Helds.{AreCellsUp, AreShapesUp, is_cell_first, joined};
 ghost use Rattle.id_print.specs.Names.{AreApartBy, HeldBefore, IsOrderOf, OfOneThing, held_cmp};
-ghost use Rattle.id_print.specs.Within.{FilledWithin, HeldsWithin, SiteWithin};
+ghost use Rattle.id_sink.specs.Within.{FilledWithin, SiteWithin};
+ghost use Rattle.id_print.specs.Within.{HeldsWithin};
 
 use crate::names::compare_sites;
 use crate::within::{is_filled_within, is_site_within};

@@ -6,20 +6,14 @@
 //! Not here: runs (`id_core`), refusals (`id_engine`).
 #![tactic(auto)]
 
-mod cursor;
 mod facts;
 mod helds;
-mod line;
 mod names;
 mod report;
-mod sink;
-mod texts;
-mod trace;
 mod within;
 
 pub use facts::{facts_within, write_facts};
 pub use helds::Helds;
+pub use id_sink::{PrintError, Sink, SinkFault, put, put_number, put_place};
+pub use id_trace::write_trace;
 pub use report::{Ending, Held, Report, is_within, run_report, write_fault, write_report};
-pub use sink::{PrintError, Sink, SinkFault, put};
-pub use texts::{put_number, put_place};
-pub use trace::write_trace;

@@ -7,27 +7,28 @@ ghost use Rattle.id_print.specs.declared.report.Held.TheVariants as held;
 ghost use Rattle.id_print.specs.Endings.{EndsSo};
 ghost use Rattle.id_print.specs.Names.{IsOrderOf, IsSortedOf, AreApart, AreApartBy, HeldBefore, WaitBefore};
 ghost use Rattle.id_print.specs.Names.{OfOneThing, OfOneFetch, held_lines};
-ghost use Rattle.id_print.specs.Told.{Prints};
+ghost use Rattle.id_sink.specs.Told.{Prints};
 ghost use Rattle.id_print.specs.Texts.{kind_text, fault_head_text, fault_text, answer_text, answer_value_text};
 ghost use Rattle.id_print.specs.Texts.{name_text, names_text, helds_text, waiting_text, waitings_text};
-ghost use Rattle.id_print.specs.Texts.{shown_text, quiet_text, stopped_text, site_text, stores_text, second_text};
-ghost use Rattle.id_print.specs.Texts.{shape_text, filled_text};
+ghost use Rattle.id_print.specs.Texts.{shown_text, quiet_text, stopped_text, stores_text, second_text};
+ghost use Rattle.id_sink.specs.Texts.{site_text};
+ghost use Rattle.id_sink.specs.Texts.{shape_text, filled_text};
 ghost use Rattle.id_print.specs.Helds.{joined};
 ghost use Rattle.id_print.specs.Reports.{asked, report_text};
-ghost use Rattle.id_print.specs.Within.{SiteWithin, FilledWithin, AskWithin, SecondWithin, FaultWithin, NameWithin};
+ghost use Rattle.id_sink.specs.Within.{SiteWithin, FilledWithin, AskWithin};
+ghost use Rattle.id_print.specs.Within.{SecondWithin, FaultWithin, NameWithin};
 ghost use Rattle.id_print.specs.Within.{NamesWithin, HeldsWithin, AsksWithin, AnswerWithin, ReportWithin};
 
-use crate::cursor::Cursor;
 use crate::helds::{Helds, behind_first, has_lines, is_cell_first};
 use crate::names::{sorted_asks, sorted_names};
-use crate::sink::{PrintError, Sink, put};
-use crate::texts::{
-    put_ask, put_cell, put_content, put_point_value, put_shape, put_site, put_value,
-};
 use crate::within::{are_asks_within, are_names_within, is_answer_within, is_ending_within};
 use id_core::{CellValue, Machine};
 use id_list::Sequence;
 use id_meaning::{Ask, NameValue, Shape, Site, SourceFault, SourceValue};
+use id_sink::{
+    Cursor, PrintError, Sink, put, put_ask, put_cell, put_content, put_point_value, put_shape,
+    put_site, put_value,
+};
 use id_text::MAX_BYTES;
 use id_value::FaultKind;
 use std::alloc::{AllocError, Global};

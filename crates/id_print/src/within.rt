@@ -1,9 +1,11 @@
 //! Whether the places of things lie in a text of so many bytes.
 
 ghost use Rattle.std.specs.Prelude.{◌≤◌, ◌↔◌, IsTrue};
-ghost use Rattle.id_print.specs.Within.{StepsWithin, PointWithin, SiteWithin, ValueWithin, PutWithin, AskWithin};
+ghost use Rattle.id_sink.specs.Within.{StepsWithin, PointWithin, SiteWithin, ValueWithin, AskWithin};
+ghost use Rattle.id_print.specs.Within.{PutWithin};
 ghost use Rattle.id_print.specs.Within.{AsksWithin, AnswerWithin, NameWithin, NamesWithin};
-ghost use Rattle.id_print.specs.Within.{FaultWithin, FilledWithin, SecondWithin, EndingWithin};
+ghost use Rattle.id_print.specs.Within.{FaultWithin, SecondWithin, EndingWithin};
+ghost use Rattle.id_sink.specs.Within.{FilledWithin};
 
 use crate::report::Ending;
 use id_meaning::{Ask, NameValue, Path, PathStep, Put, Site, SourceFault, SourceValue};

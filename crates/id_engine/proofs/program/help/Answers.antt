@@ -1,5 +1,5 @@
 use Rattle.std.proofs.Common.{◌≡◌, ℕ, List, Err, refl, sym, subst}
-use Rattle.id_print.specs.Told.{Prints}
+use Rattle.id_sink.specs.Told.{Prints}
 use Rattle.id_engine.specs.Served.{HasHelped, whole}
 use Rattle.id_engine.specs.Served.HasHelped.{cut}
 use Rattle.id_engine.proofs.program.help.Goals as goal

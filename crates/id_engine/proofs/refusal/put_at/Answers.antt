@@ -1,5 +1,5 @@
-use Rattle.id_print.specs.Texts.{place_text}
-use Rattle.id_print.proofs.SinkLemmas.{Prints-stop, Prints-then}
+use Rattle.id_sink.specs.Texts.{place_text}
+use Rattle.id_sink.proofs.SinkLemmas.{Prints-stop, Prints-then}
 use Rattle.id_engine.proofs.refusal.put_at.Goals as goal
 
 pub returns-in_err-put : goal.returns-in_err-put

@@ -1,5 +1,5 @@
 use Rattle.id_engine.specs.Refusals.{kinds_text}
-use Rattle.id_print.proofs.SinkLemmas.{Prints-stop, Prints-then}
+use Rattle.id_sink.proofs.SinkLemmas.{Prints-stop, Prints-then}
 use Rattle.id_engine.proofs.refusal.put_at_kinds.Goals as goal
 
 pub returns-in_err-put_at : goal.returns-in_err-put_at

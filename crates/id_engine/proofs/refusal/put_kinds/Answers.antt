@@ -1,6 +1,6 @@
 use Rattle.std.proofs.Common.{codes, ◌++◌}
 use Rattle.id_engine.specs.Refusals.{kind_text}
-use Rattle.id_print.proofs.SinkLemmas.{Prints-stop, Prints-then}
+use Rattle.id_sink.proofs.SinkLemmas.{Prints-stop, Prints-then}
 use Rattle.id_engine.proofs.refusal.put_kinds.Goals as goal
 
 pub returns-in_err-put : goal.returns-in_err-put

@@ -1,4 +1,4 @@
-use Rattle.id_print.proofs.SinkLemmas.{Prints-stop, Prints-then}
+use Rattle.id_sink.proofs.SinkLemmas.{Prints-stop, Prints-then}
 use Rattle.id_engine.proofs.refusal.put_spaced.Goals as goal
 
 pub returns-in_err-put : goal.returns-in_err-put

@@ -1,5 +1,5 @@
 use Rattle.id_print.specs.Reports.{report_text}
-use Rattle.id_print.proofs.SinkLemmas.{Prints-stop, Prints-then}
+use Rattle.id_sink.proofs.SinkLemmas.{Prints-stop, Prints-then}
 use Rattle.id_engine.proofs.run.write_run.Goals as goal
 
 pub returns-in_err-write_trace : goal.returns-in_err-write_trace

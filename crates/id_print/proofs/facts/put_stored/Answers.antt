@@ -1,8 +1,9 @@
 use Rattle.std.proofs.Common.{codes, rules, w64, ◌++◌}
 use mir.Val.{SFits}
 use Rattle.std.proofs.lemmas.Int.{to_z-of_z}
-use Rattle.id_print.specs.Texts.{put_text, site_text}
-use Rattle.id_print.proofs.SinkLemmas.{Prints-stop, Prints-then}
+use Rattle.id_print.specs.Texts.{put_text}
+use Rattle.id_sink.specs.Texts.{site_text}
+use Rattle.id_sink.proofs.SinkLemmas.{Prints-stop, Prints-then}
 use Rattle.id_print.proofs.facts.put_stored.Goals as goal
 
 pub returns-in_err-put-clause-prints : goal.returns-in_err-put-clause-prints

@@ -1,7 +1,7 @@
 use Rattle.std.proofs.Common.{refl, ◌∙◌}
 use Rattle.std.proofs.lemmas.Option.{slice_get_read}
 use Rattle.id_print.specs.Texts.{fact_text}
-use Rattle.id_print.proofs.TextsLemmas.{Prints-more, Prints-more_stop}
+use Rattle.id_sink.proofs.TextsLemmas.{Prints-more, Prints-more_stop}
 use Rattle.id_print.proofs.facts.write_facts.Goals as goal
 
 pub returns-in_err-put_fact : goal.returns-in_err-put_fact

@@ -1,5 +1,5 @@
-use Rattle.id_print.specs.Texts.{shape_text}
-use Rattle.id_print.proofs.SinkLemmas.{Prints-stop, Prints-then}
+use Rattle.id_sink.specs.Texts.{shape_text}
+use Rattle.id_sink.proofs.SinkLemmas.{Prints-stop, Prints-then}
 use Rattle.id_print.proofs.report.put_array.Goals as goal
 
 pub returns-in_err-put-clause-prints : goal.returns-in_err-put-clause-prints

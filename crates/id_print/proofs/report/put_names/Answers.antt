@@ -1,7 +1,7 @@
 use Rattle.std.proofs.Common.{refl, ◌∙◌}
 use Rattle.std.proofs.lemmas.Option.{slice_get_read}
 use Rattle.id_print.specs.Texts.{name_text}
-use Rattle.id_print.proofs.TextsLemmas.{Prints-more_at, Prints-more_stop_at}
+use Rattle.id_sink.proofs.TextsLemmas.{Prints-more_at, Prints-more_stop_at}
 use Rattle.id_print.proofs.report.put_names.Goals as goal
 
 pub returns-in_err-put_name-clause-prints : goal.returns-in_err-put_name-clause-prints

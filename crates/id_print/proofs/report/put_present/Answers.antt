@@ -1,9 +1,9 @@
 use Rattle.std.proofs.Common.{codes, rules, w64, ◌++◌, ap, sym}
 use mir.Val.{SFits}
 use Rattle.std.proofs.lemmas.Int.{to_z-of_z}
-use Rattle.id_print.specs.Texts.{filled_text, content_text}
-use Rattle.id_print.proofs.SinkLemmas.{Prints-stop, Prints-then}
-use Rattle.id_print.proofs.TextsLemmas.{same_text, filled_text-content, Prints-content_at}
+use Rattle.id_sink.specs.Texts.{filled_text, content_text}
+use Rattle.id_sink.proofs.SinkLemmas.{Prints-stop, Prints-then}
+use Rattle.id_sink.proofs.TextsLemmas.{same_text, filled_text-content, Prints-content_at}
 use Rattle.id_print.proofs.report.put_present.Goals as goal
 
 pub returns-in_err-put-clause-prints : goal.returns-in_err-put-clause-prints

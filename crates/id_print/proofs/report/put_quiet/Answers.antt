@@ -1,5 +1,5 @@
 use Rattle.id_print.specs.Texts.{waitings_text}
-use Rattle.id_print.proofs.SinkLemmas.{Prints-stop, Prints-then}
+use Rattle.id_sink.proofs.SinkLemmas.{Prints-stop, Prints-then}
 use Rattle.id_print.proofs.report.put_quiet.Goals as goal
 
 pub returns-in_err-put_shown-clause-prints : goal.returns-in_err-put_shown-clause-prints

@@ -1,6 +1,6 @@
 use Rattle.std.proofs.Common.{◌++◌}
 use Rattle.id_print.specs.Texts.{names_text, helds_text}
-use Rattle.id_print.proofs.SinkLemmas.{Prints-stop, Prints-then}
+use Rattle.id_sink.proofs.SinkLemmas.{Prints-stop, Prints-then}
 use Rattle.id_print.proofs.report.put_shown.Goals as goal
 
 pub returns-in_err-put_answer-clause-prints : goal.returns-in_err-put_answer-clause-prints

@@ -1,7 +1,7 @@
 use Rattle.std.proofs.Common.{refl, ◌∙◌}
 use Rattle.std.proofs.lemmas.Option.{slice_get_read}
 use Rattle.id_print.specs.Texts.{waiting_text}
-use Rattle.id_print.proofs.TextsLemmas.{Prints-more, Prints-more_stop}
+use Rattle.id_sink.proofs.TextsLemmas.{Prints-more, Prints-more_stop}
 use Rattle.id_print.proofs.report.put_waitings.Goals as goal
 
 pub returns-in_err-put_waiting-clause-prints : goal.returns-in_err-put_waiting-clause-prints

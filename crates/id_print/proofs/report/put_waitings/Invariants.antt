@@ -1,5 +1,5 @@
 use Rattle.std.proofs.Common.{◌≡◌, take, Ok}
-use Rattle.id_print.specs.Told.{Prints}
+use Rattle.id_sink.specs.Told.{Prints}
 use Rattle.id_print.specs.Texts.{waitings_text}
 use Rattle.id_print.proofs.report.put_waitings.Given as goal
 

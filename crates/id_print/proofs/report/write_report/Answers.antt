@@ -3,7 +3,7 @@ use Rattle.id_meaning.specs.declared.NameValue.{NameValue}
 use Rattle.id_print.specs.Reports.{asked}
 use Rattle.id_print.specs.Within.{NamesWithin}
 use Rattle.id_print.specs.Texts.{quiet_text, stopped_text}
-use Rattle.id_print.specs.Told.{Prints}
+use Rattle.id_sink.specs.Told.{Prints}
 use Rattle.id_print.proofs.report.write_report.Goals as goal
 
 -- the names that are asked for are some of all

@@ -1,7 +1,8 @@
 -- The lines are those of the structures and of the cells.
 use Rattle.std.proofs.Common.{All, subst, sym, ◌∙◌}
 use Rattle.std.proofs.lemmas.Bool.{false≢true}
-use Rattle.id_print.specs.Within.{FilledWithin, HeldWithin, HeldsWithin, SiteWithin}
+use Rattle.id_sink.specs.Within.{FilledWithin, SiteWithin}
+use Rattle.id_print.specs.Within.{HeldWithin, HeldsWithin}
 use Rattle.id_print.proofs.HeldsLemmas.{All-joined, each-joined}
 use Rattle.id_print.proofs.helds.Helds.are_within.Goals as goal
 

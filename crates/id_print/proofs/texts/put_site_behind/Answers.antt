@@ -1,4 +1,0 @@
-use Rattle.id_print.proofs.texts.put_site_behind.Goals as goal
-
-pub returns-clause-prints : goal.returns-clause-prints
-returns-clause-prints g c = rw c.turn.ensures at c.put_site-done.ensures.prints
