@@ -1,7 +1,6 @@
 mod AlikeLemmas
 mod AnsweredLemmas
 mod HeldLemmas
-mod InsideLemmas
 mod NamesLemmas
 mod PlacedLemmas
 mod RunLemmas

@@ -1,9 +1,7 @@
 -- The names of a report of a sound run (specs/Reports.antt).
-use Rattle.std.proofs.Common.{◌≡◌, inl, inr, ℕ, suc, List, [], ◌∷◌, Some, All, map, sym, ap, subst, ◌∙◌}
-use Rattle.std.specs.Prelude.{slice_get, IsPermutation}
-use Rattle.std.proofs.lemmas.List.Elements.{All-get_or}
+use Rattle.std.proofs.Common.{◌≡◌, inl, inr, ℕ, List, [], ◌∷◌, map, sym, ap, subst, ◌∙◌}
+use Rattle.std.specs.Prelude.{IsPermutation}
 use Rattle.std.proofs.lemmas.List.Sorted.{All-permutation, IsPermutation-sym}
-use Rattle.std.proofs.lemmas.Option.{slice_get_within, get_or_from_slice_get}
 use Rattle.id_graph.specs.Graph.{Parts}
 use Rattle.id_meaning.specs.declared.NameValue.{NameValue}
 use Rattle.id_list.specs.List.{Among, AllDiffer}
@@ -16,17 +14,7 @@ use Rattle.id_core.specs.Observed as shown
 use Rattle.id_laws.specs.Laws.{IsSound, IsComplete}
 use Rattle.id_laws.proofs.ValidCounts.{all_among}
 use Rattle.id_print.specs.Names.{IsSortedOf, AreApart}
-
--- what is among a list stands somewhere in it
-pub at_among : {X : Type 0} (x : X) (xs : List X) → Among x xs → (k : ℕ) × (slice_get xs k ≡ Some x)
-at_among x [] h = absurd h
-at_among x (y ∷ xs) (inl e) = (0, ap (λ z. Some z) (sym e))
-at_among x (y ∷ xs) (inr h) = let r = at_among x xs h in (suc r.0, r.1)
-
-pub among_all : {X : Type 0} (P : X → Type 0) (xs : List X) (x : X) → All P xs → Among x xs → P x
-among_all P xs x all h =
-    let k = at_among x xs h in
-    subst P (get_or_from_slice_get xs k.0 x x k.1) (All-get_or P xs k.0 x (slice_get_within xs k.0 x k.1) all)
+use Rattle.id_compile.proofs.InsideLemmas.{among_all}
 
 -- what is among a list is among those in another order
 pub among_permuted : {X : Type 0} (xs ys : List X) (x : X) → IsPermutation xs ys → Among x xs → Among x ys

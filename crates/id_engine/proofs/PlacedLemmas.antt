@@ -57,7 +57,7 @@ use Rattle.id_print.specs.Names.{AreSomeHeld}
 use Rattle.id_sink.specs.Within.{PointWithin, SiteWithin, ValueWithin}
 use Rattle.id_print.specs.Within.{AnswerWithin, AsksWithin, FaultWithin, EndingWithin, HeldWithin, HeldsWithin}
 use Rattle.id_print.specs.Within.{NameWithin, NamesWithin, ReportWithin, FactWithin, FactsWithin}
-use Rattle.id_engine.specs.Programs.{IsPlacedWithin}
+use Rattle.id_compile.specs.Programs.{IsPlacedWithin}
 use Rattle.id_engine.specs.Reports.{SaysTruly, IsTrueOf}
 
 -- a piece of a list of one or two, which have one place, has it

@@ -14,8 +14,8 @@ use Rattle.id_sink.specs.declared.sink.PrintError.{PrintError}
 use Rattle.id_sink.specs.Told.{Told, Prints}
 use Rattle.id_print.specs.Reports.{report_text}
 use Rattle.id_trace.specs.Traces.{trace_text}
-use Rattle.id_engine.specs.declared.error.EngineError.{EngineError}
-use Rattle.id_engine.specs.declared.error.EngineError.TheVariants.{Memory, Write}
+use Rattle.id_compile.specs.declared.error.EngineError.{EngineError}
+use Rattle.id_compile.specs.declared.error.EngineError.TheVariants.{Memory, Write}
 use Rattle.id_engine.specs.Reports.{AreAllowed, HasRun, IsReportFrom, IsTrueOf, IsUnallowed, PrintsEvents}
 use Rattle.id_engine.specs.Reports.{PrintsMachine, PrintsRun, RunsSo, ran, unallowed, status_of}
 use Rattle.id_engine.specs.Reports.PrintsEvents.{all_out, front_out}

@@ -3,19 +3,19 @@ use Rattle.std.proofs.Common.{◌≡◌, ◌≢◌, ℕ, List, [], Bor, Global, 
 use Rattle.id_sink.specs.Told.{Told}
 use Rattle.id_request.specs.declared.Request.{Request}
 use Rattle.id_request.specs.declared.Request.TheVariants as asks
-use Rattle.id_engine.specs.declared.error.EngineError.{EngineError}
-use Rattle.id_engine.specs.declared.error.EngineError.TheVariants.{Compile, MissingInput, UnknownInput, RepeatedInput}
-use Rattle.id_engine.specs.declared.error.EngineError.TheVariants.{BadInput, BadElements, BadSteps, BadRounds}
-use Rattle.id_engine.specs.declared.error.EngineError.TheVariants.{TooManyFacts, Memory, Write}
-use Rattle.id_engine.specs.declared.refusal.Cause.{Cause}
-use Rattle.id_engine.specs.declared.refusal.Detail.{Detail}
-use Rattle.id_engine.specs.declared.refusal.Detail.TheVariants.{Nothing, Place, Kinds, Word}
-use Rattle.id_engine.specs.declared.refusal.Refusal.{Refusal}
-use Rattle.id_engine.specs.declared.source.SourceFault.{SourceFault}
+use Rattle.id_compile.specs.declared.error.EngineError.{EngineError}
+use Rattle.id_compile.specs.declared.error.EngineError.TheVariants.{Compile, MissingInput, UnknownInput, RepeatedInput}
+use Rattle.id_compile.specs.declared.error.EngineError.TheVariants.{BadInput, BadElements, BadSteps, BadRounds}
+use Rattle.id_compile.specs.declared.error.EngineError.TheVariants.{TooManyFacts, Memory, Write}
+use Rattle.id_compile.specs.declared.refusal.Cause.{Cause}
+use Rattle.id_compile.specs.declared.refusal.Detail.{Detail}
+use Rattle.id_compile.specs.declared.refusal.Detail.TheVariants.{Nothing, Place, Kinds, Word}
+use Rattle.id_compile.specs.declared.refusal.Refusal.{Refusal}
+use Rattle.id_compile.specs.declared.source.SourceFault.{SourceFault}
 use Rattle.id_engine.specs.Asked.{IsComputed, IsToRun}
-use Rattle.id_engine.specs.Reading.{IsUnread}
+use Rattle.id_compile.specs.Reading.{IsUnread}
 use Rattle.id_engine.specs.Commands.{ShowsFront}
-use Rattle.id_engine.specs.Refusals.{compiler_refusal, IsDetailInside, IsInsideOf, IsPrintedLine, IsToldRefusal, IsWord, Tells, plain, row_of, source_cause}
+use Rattle.id_compile.specs.Refusals.{compiler_refusal, IsDetailInside, IsInsideOf, IsPrintedLine, IsToldRefusal, IsWord, Tells, plain, row_of, source_cause}
 use Rattle.id_engine.specs.Served.{command_of, words_of, IsRefusedRequest, Serves, refused, Drives, unread}
 use Rattle.id_engine.specs.Served.Serves.{cut}
 

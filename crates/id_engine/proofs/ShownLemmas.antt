@@ -12,12 +12,12 @@ use Rattle.id_print.specs.Reports.{asked, ending_text, report_text}
 use Rattle.id_engine.specs.Commands.{Check, List_graph, Draw_graph, Facts, Run, Shows, accepted, listed, drawn, facts}
 use Rattle.id_engine.specs.Commands.{quiet, fault, stopped, traced, HasShown, ShowsAll, ShowsFront, IsListingOf}
 use Rattle.id_engine.specs.Commands.{IsPictureOf, AreFactsOf}
-use Rattle.id_engine.specs.Programs.{HasInputs, HasProgram, IsProgramOf}
-use Rattle.id_engine.specs.declared.error.EngineError.{EngineError}
-use Rattle.id_engine.specs.declared.error.EngineError.TheVariants.{Write}
-use Rattle.id_engine.specs.Refusals.{IsInsideOf, IsRefusedRun, IsTakenRun}
-use Rattle.id_engine.specs.Refusals.IsRefusedRun.{by_source, by_write}
-use Rattle.id_engine.specs.Refusals.IsRefusedSource.{by_memory}
+use Rattle.id_compile.specs.Programs.{HasInputs, HasProgram, IsProgramOf}
+use Rattle.id_compile.specs.declared.error.EngineError.{EngineError}
+use Rattle.id_compile.specs.declared.error.EngineError.TheVariants.{Write}
+use Rattle.id_compile.specs.Refusals.{IsInsideOf, IsRefusedRun, IsTakenRun}
+use Rattle.id_compile.specs.Refusals.IsRefusedRun.{by_source, by_write}
+use Rattle.id_compile.specs.Refusals.IsRefusedSource.{by_memory}
 use Rattle.id_graph.specs.Dot.{dot_text}
 use Rattle.id_graph.specs.Listing.{listing}
 use Rattle.id_meaning.specs.declared.Fact.{Fact}

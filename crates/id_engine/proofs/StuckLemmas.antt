@@ -29,7 +29,7 @@ use Rattle.id_list.proofs.PlacesLemmas.{set-here}
 use Rattle.id_runs.proofs.RecordsOfRuns.{Recorded, among_events, filter_map_has}
 use Rattle.id_laws.proofs.ValidCounts.{all_among}
 use Rattle.id_engine.specs.Reports.{HasEvent, IsDelivery, IsFreshMachine}
-use Rattle.id_engine.proofs.NamesLemmas.{at_among}
+use Rattle.id_list.proofs.AmongLemmas.{at-from_Among}
 use Rattle.id_engine.proofs.RunLemmas.{run-append}
 use Rattle.id_engine.specs.Runs.{IsFree, Turn}
 use Rattle.id_engine.specs.Turns.{Reaches}
@@ -133,7 +133,7 @@ IsQuiet-from never S g count ks inputs schemas w is none empty =
     }
   where
     recorded_in : (w : World) (e : State) (v : EventView) → Among e w.elements → Among v e.events → Recorded w v
-    recorded_in w e v a b = let k = at_among e w.elements a in record { element = k.0; state = e; at = k.1; among = b }
+    recorded_in w e v a b = let k = at-from_Among e w.elements a in record { element = k.0; state = e; at = k.1; among = b }
 
 -- a run that stops has left a message
 pub left_over : NeverStuck → (S : Source) (g : Parts) (count : ℕ) (ks : List ℕ) (m : MachineView) (e : Ending) → AreInputs S.checked S.inputs →

@@ -3,10 +3,10 @@ use Rattle.std.specs.Prelude.{◌≡◌, ◌≢◌, ℕ, List, Option, Result, E
 use Rattle.id_sink.specs.Told.{Told}
 use Rattle.id_request.specs.declared.Request.{Request}
 use Rattle.id_request.specs.declared.Request.TheVariants as asks
-use Rattle.id_engine.specs.declared.error.EngineError.{EngineError}
-use Rattle.id_engine.specs.declared.error.EngineError.TheVariants.{Write}
+use Rattle.id_compile.specs.declared.error.EngineError.{EngineError}
+use Rattle.id_compile.specs.declared.error.EngineError.TheVariants.{Write}
 use Rattle.id_engine.specs.Commands.{ShowsAll, ShowsFront}
-use Rattle.id_engine.specs.Refusals.{IsInsideOf}
+use Rattle.id_compile.specs.Refusals.{IsInsideOf}
 use Rattle.id_engine.specs.Served.{command_of, IsRefusedRequest, IsRun, IsTaken}
 
 -- what a request asks for of a text is printed with this result: whole, or up to a failed write, or it is refused

@@ -33,11 +33,9 @@ use Rattle.id_trace.specs.Traces.{trace_text}
 use Rattle.id_print.specs.Names.{IsOrderOf, IsSortedOf, AreApart, AreApartBy, HeldBefore, WaitBefore}
 use Rattle.id_print.specs.Names.{OfOneThing, OfOneFetch, AreHeld, AreSomeHeld, held_lines}
 use Rattle.id_meaning.specs.Computed.{HasMoreFacts}
-use Rattle.id_engine.specs.declared.compiled.CompileError.{CompileError}
-use Rattle.id_engine.specs.declared.compiled.CompileError.TheVariants as compiler
-use Rattle.id_engine.specs.declared.error.EngineError.{EngineError}
-use Rattle.id_engine.specs.declared.error.EngineError.TheVariants.{BadElements, BadSteps, BadRounds, TooManyFacts}
-use Rattle.id_engine.specs.declared.error.EngineError.TheVariants.{Memory, Write}
+use Rattle.id_compile.specs.declared.error.EngineError.{EngineError}
+use Rattle.id_compile.specs.declared.error.EngineError.TheVariants.{BadElements, BadSteps, BadRounds, TooManyFacts}
+use Rattle.id_compile.specs.declared.error.EngineError.TheVariants.{Memory, Write}
 use Rattle.id_engine.specs.Runs.{AreInTurn, EndsAt, IsBehindOthers, IsHeldBack, IsNext, IsTraceOf, after, first_turn}
 use Rattle.id_engine.specs.Runs.{held_of}
 use Rattle.id_engine.specs.declared.run.Hand.{Hand}
@@ -236,8 +234,3 @@ abbrev pub AreRefusedRounds : Source → ℕ → EngineError → Type 0
 AreRefusedRounds S round BadRounds = 10000 < round
 AreRefusedRounds S round TooManyFacts = (round ≤ 10000) × HasMoreFacts S round 1000000
 AreRefusedRounds S round e = e ≡ Memory
-
--- why a program has no graph
-abbrev pub IsRefusedGraph : Checked → CompileError → Type 0
-IsRefusedGraph P compiler.TooLarge = 1000000 < size P
-IsRefusedGraph P e = e ≡ compiler.Memory

@@ -26,7 +26,7 @@ use Rattle.id_print.specs.Names.{IsOrderOf, IsSortedOf, HeldBefore, WaitBefore, 
 use Rattle.id_print.specs.Texts.{quiet_text, stopped_text, fault_text}
 use Rattle.id_print.specs.Reports.{asked}
 use Rattle.id_trace.specs.Traces.{trace_text}
-use Rattle.id_engine.specs.Programs.{IsProgramOf}
+use Rattle.id_compile.specs.Programs.{IsProgramOf}
 
 -- the machine of so many elements after deliveries at these positions from its start
 abbrev pub after : Parts → List Constant → ℕ → List ℕ → World

@@ -6,17 +6,17 @@ use Rattle.id_request.specs.declared.Request.{Request}
 use Rattle.id_request.specs.declared.Request.TheVariants as asks
 use Rattle.id_request.specs.declared.Unasked.{Unasked}
 use Rattle.id_request.specs.declared.Unasked.TheVariants.{Help, Refused, Memory}
-use Rattle.id_engine.specs.declared.error.EngineError.{EngineError}
-use Rattle.id_engine.specs.declared.error.EngineError.TheVariants.{Write}
-use Rattle.id_engine.specs.declared.refusal.Cause.TheVariants as cause
-use Rattle.id_engine.specs.declared.source.SourceFault.{SourceFault}
-use Rattle.id_engine.specs.Reading.{IsToldText, IsUnread}
-use Rattle.id_engine.specs.Programs.{HasProgram}
+use Rattle.id_compile.specs.declared.error.EngineError.{EngineError}
+use Rattle.id_compile.specs.declared.error.EngineError.TheVariants.{Write}
+use Rattle.id_compile.specs.declared.refusal.Cause.TheVariants as cause
+use Rattle.id_compile.specs.declared.source.SourceFault.{SourceFault}
+use Rattle.id_compile.specs.Reading.{IsToldText, IsUnread}
+use Rattle.id_compile.specs.Programs.{HasProgram}
 use Rattle.id_engine.specs.Commands.{Command, Check, List_graph, Draw_graph, Facts, Run, ShowsAll}
 use Rattle.id_engine.specs.Commands.{ShowsFront}
 use Rattle.id_engine.specs.Runs.{Ran}
-use Rattle.id_engine.specs.Refusals.{IsRefusedText, IsRefusedRun, IsTakenRun, AreRefusedFacts, AreTakenFacts}
-use Rattle.id_engine.specs.Refusals.{IsToldRefusal, IsPrintedLine, plain, row_of, source_cause}
+use Rattle.id_compile.specs.Refusals.{IsRefusedText, IsRefusedRun, IsTakenRun, AreRefusedFacts, AreTakenFacts}
+use Rattle.id_compile.specs.Refusals.{IsToldRefusal, IsPrintedLine, plain, row_of, source_cause}
 
 -- the file of a request
 abbrev pub file_of : Request → List ℕ

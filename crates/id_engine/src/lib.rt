@@ -8,21 +8,17 @@
 #![tactic(auto)]
 
 mod commands;
-mod compiled;
-mod error;
 mod prepared;
 mod program;
-mod refusal;
 mod run;
-mod source;
 mod stream;
 
 pub use commands::{check_text, draw_text, facts_text, graph_text};
-pub use compiled::{CompileError, Compiled, compile};
-pub use error::EngineError;
+pub use id_compile::{
+    Cause, CompileError, Compiled, Detail, Disk, EngineError, Refusal, Source, SourceFault,
+    compile, put_refusal, read_text,
+};
 pub use id_request::{Request, Unasked};
 pub use program::{drive, serve};
-pub use refusal::{Cause, Detail, Refusal, put_refusal};
 pub use run::{MAX_STEPS, engine, printed_alike};
-pub use source::{Disk, Source, SourceFault, read_text};
 pub use stream::{Stream, settle, write_some};

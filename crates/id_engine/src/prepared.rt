@@ -4,12 +4,11 @@ ghost use Rattle.std.specs.Prelude.{◌≡◌, ◌≢◌, ◌≤◌, length, map
 ghost use Rattle.id_meaning.specs.Sources.{AreInputs};
 ghost use Rattle.id_meaning.specs.Inputs.{AreInputsOf};
 ghost use Rattle.id_build.specs.Rows.{size};
-ghost use Rattle.id_engine.specs.Programs.{IsPlacedWithin, IsProgramOf};
-ghost use Rattle.id_engine.specs.Refusals.{AreRefusedFor, IsInsideOf, IsRefusedSource};
+ghost use Rattle.id_compile.specs.Programs.{IsPlacedWithin, IsProgramOf};
+ghost use Rattle.id_compile.specs.Refusals.{AreRefusedFor, IsInsideOf, IsRefusedSource};
 
-use crate::compiled::{Compiled, compile};
-use crate::error::EngineError;
 use id_check::Checked;
+use id_compile::{Compiled, EngineError, compile};
 use id_meaning::{InputError, Inputs, param_name, read_inputs};
 use std::alloc::Global;
 

@@ -2,14 +2,12 @@
 
 ghost use Rattle.std.specs.Prelude.{◌≡◌, [], map, IfErr, IfOk};
 ghost use Rattle.id_engine.specs.Asked.{IsComputed, IsToRun, PrintsAsked};
-ghost use Rattle.id_engine.specs.Refusals.{IsInsideOf, IsPrintedLine, IsToldRefusal, plain, row_of};
+ghost use Rattle.id_compile.specs.Refusals.{IsInsideOf, IsPrintedLine, IsToldRefusal, plain, row_of};
 ghost use Rattle.id_engine.specs.Served.{Answers, Drives, HasHelped, Serves, file_of, words_of};
 
 use crate::commands::{check_text, draw_text, facts_text, graph_text};
-use crate::error::EngineError;
-use crate::refusal::{Cause, of_engine_error, of_source_fault, plain, refuse};
 use crate::run::engine;
-use crate::source::Source;
+use id_compile::{Cause, EngineError, Source, of_engine_error, of_source_fault, plain, refuse};
 use id_print::{Sink, put};
 use id_request::{Request, Unasked};
 use std::alloc::Global;

@@ -12,8 +12,8 @@ ghost use Rattle.id_trace.specs.Traces.{trace_text};
 ghost use Rattle.id_print.specs.Within.{ReportWithin};
 ghost use Rattle.id_engine.specs.Alike.{PrintedAlike};
 ghost use Rattle.id_engine.specs.Commands.{Run, ShowsAll, ShowsFront};
-ghost use Rattle.id_engine.specs.Programs.{IsPlacedWithin};
-ghost use Rattle.id_engine.specs.Refusals.{IsInsideOf, IsRefusedRun, IsTakenRun};
+ghost use Rattle.id_compile.specs.Programs.{IsPlacedWithin};
+ghost use Rattle.id_compile.specs.Refusals.{IsInsideOf, IsRefusedRun, IsTakenRun};
 ghost use Rattle.id_engine.specs.Reports.{AreAllowed, HasCount, HasEvent, HasRun, IsDelivered, IsFreshMachine};
 ghost use Rattle.id_engine.specs.Reports.{IsHand, IsHeldAt, IsLastHand, IsNextHand, IsReportFrom, PrintsRun, RunsSo};
 ghost use Rattle.id_engine.specs.Reports.{AreReportsWithin, PrintsEvents, PrintsMachine, status_of};
@@ -23,8 +23,8 @@ ghost use Rattle.id_core.specs.declared.machine.Came.TheVariants as comes;
 ghost use Rattle.id_engine.specs.Runs.{AreHeldBefore, IsBehindOthers, IsFree, IsTraceOf, Ran};
 ghost use Rattle.id_engine.specs.Turns.{EndsRun, HasBegun, HasHandled};
 
-use crate::error::EngineError;
 use crate::prepared::{Prepared, prepare};
+use id_compile::EngineError;
 use id_core::{
     Came, Element, MAX_ELEMENTS, Machine, MachineError, Merged, TakeError, merge_records,
 };

@@ -2,10 +2,10 @@
 
 ghost use Rattle.std.specs.Prelude.{◌≡◌, ◌≤◌, ◌⊎◌, [], length, IfOk};
 ghost use Rattle.std.specs.Io.KnownBytes.{Keeps, WriteAppends};
-ghost use Rattle.id_engine.specs.declared.refusal.Cause.TheVariants as cause;
-ghost use Rattle.id_engine.specs.Refusals.{IsPrintedLine, plain, row_of};
+ghost use Rattle.id_compile.specs.declared.refusal.Cause.TheVariants as cause;
+ghost use Rattle.id_compile.specs.Refusals.{IsPrintedLine, plain, row_of};
 
-use crate::refusal::{Cause, plain, refuse};
+use id_compile::{Cause, plain, refuse};
 use id_print::{Sink, SinkFault};
 use std::io::{ErrorKind, Write};
 

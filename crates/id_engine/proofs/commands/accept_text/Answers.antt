@@ -1,4 +1,4 @@
-use Rattle.id_engine.specs.Refusals.IsRefusedText.{by_text}
+use Rattle.id_compile.specs.Refusals.IsRefusedText.{by_text}
 use Rattle.id_engine.proofs.commands.accept_text.Goals as goal
 
 pub returns-in-Err-clause-refused : goal.returns-in-Err-clause-refused

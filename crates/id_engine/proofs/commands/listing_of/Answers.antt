@@ -1,8 +1,8 @@
 use Rattle.std.proofs.Common.{sym, subst}
-use Rattle.id_engine.specs.Programs.{HasProgram}
-use Rattle.id_engine.specs.Refusals.{IsRefusedText}
-use Rattle.id_engine.specs.Refusals.IsRefusedText.{by_text, by_memory}
-use Rattle.id_engine.proofs.AnsweredLemmas.{if_err, late_memory, on_ok}
+use Rattle.id_compile.specs.Programs.{HasProgram}
+use Rattle.id_compile.specs.Refusals.{IsRefusedText}
+use Rattle.id_compile.specs.Refusals.IsRefusedText.{by_text, by_memory}
+use Rattle.id_compile.proofs.AnsweredLemmas.{if_err, late_memory, on_ok}
 use Rattle.id_engine.proofs.commands.listing_of.Goals as goal
 
 pub returns-in-Err : goal.returns-in-Err

@@ -1,10 +1,10 @@
 use Rattle.std.proofs.Common.{◌≡◌, sym, subst, string_bytes}
 use Rattle.id_graph.specs.Dot.{dot_text}
 use Rattle.id_engine.specs.Commands.{IsPictureOf}
-use Rattle.id_engine.specs.Programs.{HasProgram}
-use Rattle.id_engine.specs.Refusals.{IsRefusedText}
-use Rattle.id_engine.specs.Refusals.IsRefusedText.{by_text, by_memory}
-use Rattle.id_engine.proofs.AnsweredLemmas.{if_err, if_ok, late_memory, on_ok}
+use Rattle.id_compile.specs.Programs.{HasProgram}
+use Rattle.id_compile.specs.Refusals.{IsRefusedText}
+use Rattle.id_compile.specs.Refusals.IsRefusedText.{by_text, by_memory}
+use Rattle.id_compile.proofs.AnsweredLemmas.{if_err, if_ok, late_memory, on_ok}
 use Rattle.id_engine.proofs.commands.picture_of.Goals as goal
 
 pub returns-in-Err : goal.returns-in-Err

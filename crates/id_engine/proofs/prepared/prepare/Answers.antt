@@ -1,10 +1,10 @@
 use Rattle.std.proofs.Common.{◌≡◌, ◌≢◌, ◌≤◌, length, map, sym, subst}
 use Rattle.id_build.specs.Rows.{size}
-use Rattle.id_engine.specs.declared.error.EngineError.TheVariants.{Write}
-use Rattle.id_engine.specs.Programs.{CompiledView, IsPlacedWithin, IsProgramOf}
-use Rattle.id_engine.specs.Refusals.{AreRefusedFor, IsInsideOf, IsRefusedSource}
-use Rattle.id_engine.specs.Refusals.IsRefusedSource.{by_text, by_words}
-use Rattle.id_engine.proofs.AnsweredLemmas.{if_err, if_ok, late_words, on_ok}
+use Rattle.id_compile.specs.declared.error.EngineError.TheVariants.{Write}
+use Rattle.id_compile.specs.Programs.{CompiledView, IsPlacedWithin, IsProgramOf}
+use Rattle.id_compile.specs.Refusals.{AreRefusedFor, IsInsideOf, IsRefusedSource}
+use Rattle.id_compile.specs.Refusals.IsRefusedSource.{by_text, by_words}
+use Rattle.id_compile.proofs.AnsweredLemmas.{if_err, if_ok, late_words, on_ok}
 use Rattle.id_engine.proofs.prepared.prepare.Goals as goal
 
 pub returns-in-Ok : goal.returns-in-Ok

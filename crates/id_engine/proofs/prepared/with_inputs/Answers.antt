@@ -2,7 +2,7 @@ use Rattle.std.proofs.Common.{map, subst}
 use Rattle.id_check.specs.declared.checked.Checked.{Checked}
 use Rattle.id_meaning.specs.Sources.{AreInputs}
 use Rattle.id_meaning.specs.Inputs.{AreInputsOf}
-use Rattle.id_engine.specs.Refusals.{AreRefusedFor}
+use Rattle.id_compile.specs.Refusals.{AreRefusedFor}
 use Rattle.id_engine.proofs.prepared.with_inputs.Goals as goal
 
 pub returns-in-Ok-clause-inputs : goal.returns-in-Ok-clause-inputs

@@ -1,4 +1,4 @@
-use Rattle.id_engine.proofs.AnsweredLemmas.{ok_all}
+use Rattle.id_compile.proofs.AnsweredLemmas.{ok_all}
 use Rattle.id_engine.proofs.ServedLemmas.{computed_by}
 use Rattle.id_engine.proofs.program.print_asked.Goals as goal
 

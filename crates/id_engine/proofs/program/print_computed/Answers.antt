@@ -1,4 +1,4 @@
-use Rattle.id_engine.proofs.AnsweredLemmas.{ok_all}
+use Rattle.id_compile.proofs.AnsweredLemmas.{ok_all}
 use Rattle.id_engine.proofs.ServedLemmas.{to_run_by}
 use Rattle.id_engine.proofs.program.print_computed.Goals as goal
 

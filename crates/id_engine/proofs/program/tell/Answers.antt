@@ -1,5 +1,5 @@
 use Rattle.std.proofs.Common.{List, ℕ, subst}
-use Rattle.id_engine.specs.Refusals.{Tells}
+use Rattle.id_compile.specs.Refusals.{Tells}
 use Rattle.id_engine.proofs.ServedLemmas.{told_inside}
 use Rattle.id_engine.proofs.program.tell.Goals as goal
 

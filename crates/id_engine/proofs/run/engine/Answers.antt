@@ -1,6 +1,6 @@
 use Rattle.std.proofs.Common.{◌≡◌, map, refl}
-use Rattle.id_engine.specs.declared.error.EngineError.TheVariants.{Write}
-use Rattle.id_engine.specs.Refusals.IsRefusedRun.{by_source}
+use Rattle.id_compile.specs.declared.error.EngineError.TheVariants.{Write}
+use Rattle.id_compile.specs.Refusals.IsRefusedRun.{by_source}
 use Rattle.id_engine.proofs.ShownLemmas.{RunsSo-cut, RunsSo-inside, RunsSo-ran, RunsSo-refused, RunsSo-shown, RunsSo-silent, RunsSo-taken}
 use Rattle.id_engine.proofs.run.engine.Goals as goal
 

@@ -1,7 +1,7 @@
 use Rattle.std.proofs.Common.{◌≡◌, ap, sym, subst, ◌∙◌}
 use Rattle.id_graph.specs.Graph.{Parts}
 use Rattle.id_core.specs.Machines.{MachineView, TakesInputs, start}
-use Rattle.id_engine.proofs.AnsweredLemmas.{if_ok}
+use Rattle.id_compile.proofs.AnsweredLemmas.{if_ok}
 use Rattle.id_engine.proofs.run.machine_for.Goals as goal
 
 pub machine_of-requires-clause-inputs : goal.machine_of-requires-clause-inputs

@@ -1,7 +1,7 @@
 use Rattle.std.proofs.Common.{refl, sym, subst}
 use Rattle.id_core.specs.Machines.{MachineView}
 use Rattle.id_engine.specs.Reports.{HasRun}
-use Rattle.id_engine.proofs.AnsweredLemmas.{on_ok}
+use Rattle.id_compile.proofs.AnsweredLemmas.{on_ok}
 use Rattle.id_engine.proofs.run.machine_report.Goals as goal
 
 pub returns-in-Ok : goal.returns-in-Ok

@@ -1,6 +1,6 @@
 use Rattle.std.proofs.Common.{◌≡◌, ◌<◌, ◌≤◌, ◌⊎◌, arith, rules}
 use Rattle.std.proofs.lemmas.Grind.{common_steps}
-use Rattle.id_engine.specs.declared.error.EngineError.TheVariants.{BadElements, BadSteps}
+use Rattle.id_compile.specs.declared.error.EngineError.TheVariants.{BadElements, BadSteps}
 use Rattle.id_engine.proofs.PrintedLemmas.{RunsSo-unallowed}
 use Rattle.id_engine.proofs.run.run_allowed.Goals as goal
 

@@ -1,5 +1,5 @@
 use Rattle.std.proofs.Common.{◌∙◌}
-use Rattle.id_engine.proofs.AnsweredLemmas.{on_ok_from}
+use Rattle.id_compile.proofs.AnsweredLemmas.{on_ok_from}
 use Rattle.id_engine.proofs.run.run_machine.Goals as goal
 
 pub run_late-requires : goal.run_late-requires

@@ -1,0 +1,2 @@
+pub mod InsideLemmas
+pub mod AnsweredLemmas

@@ -1,5 +1,0 @@
--- The law says of each graph that the schemas give a program that it is valid.
-use Rattle.id_engine.proofs.compiled.valid_of.Goals as goal
-
-pub known-requires : goal.known-requires
-known-requires c = c.valid.ensures c.args.checked.now c.args.graph c.requires
