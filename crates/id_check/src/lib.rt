@@ -4,9 +4,8 @@
 //! has, which kind each row, and how many loops are round it; that no cause to refuse the program holds; that no two
 //! things have one place.
 //! Errors: `CheckError`, the refusals 7 to 13 or want of memory, with the program handed back.
-//! Read first: `Checked`, `specs/Scopes.antt`, `specs/Kinds.antt`, `specs/Causes.antt`, docs/LANGUAGE.md
-//! ("Names", "Kinds").
-//! Not here: the table of parts (`id_parts`), the graph (`id_build`).
+//! Read first: `Checked`, `specs/Programs.antt`, then `check`; docs/LANGUAGE.md ("Names", "Kinds").
+//! Not here: binders, and of what kinds come (`id_scope`), the table of parts (`id_parts`), the graph (`id_build`).
 #![tactic(auto)]
 
 mod access;

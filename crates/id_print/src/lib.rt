@@ -1,9 +1,9 @@
-//! What the program prints: reports of runs, the lines of names, structures, facts and faults, and traces.
+//! What the program prints: reports of runs, the lines of names, structures, facts and faults.
 //!
 //! Keeps: a failed write ends a text at once, so what went out is a front of it.
 //! Errors: `PrintError`, only where a write failed.
-//! Read first: `Sink`, `specs/Told.antt`, then `specs/Texts.antt`.
-//! Not here: runs (`id_core`), refusals (`id_engine`).
+//! Read first: `specs/Texts.antt`, then `write_report`.
+//! Not here: sinks and the texts of values (`id_sink`), traces (`id_trace`), runs (`id_core`), refusals (`id_compile`).
 #![tactic(auto)]
 
 mod facts;

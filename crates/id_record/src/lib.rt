@@ -5,7 +5,7 @@
 //! or of the answer are kept beside.
 //! Errors: want of memory alone, and then nothing has changed.
 //! Read first: `specs/Events.antt`, then `Record`.
-//! Not here: handling a message (`id_element`), the records of several elements as one (`id_observe`).
+//! Not here: handling a message (`id_element`), the records of several elements as one (`id_merge`).
 #![tactic(auto)]
 
 mod history;
