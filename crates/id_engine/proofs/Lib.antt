@@ -1,14 +1,1 @@
-mod AlikeLemmas
-mod AnsweredLemmas
-mod HeldLemmas
-mod NamesLemmas
-mod PlacedLemmas
-mod RunLemmas
-mod StampsLemmas
-mod DeliveryLemmas
 mod ServedLemmas
-mod ShownLemmas
-mod StuckLemmas
-mod TraceLemmas
-mod TurnLemmas
-mod PrintedLemmas

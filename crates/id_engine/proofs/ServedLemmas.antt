@@ -14,7 +14,7 @@ use Rattle.id_compile.specs.declared.refusal.Refusal.{Refusal}
 use Rattle.id_compile.specs.declared.source.SourceFault.{SourceFault}
 use Rattle.id_engine.specs.Asked.{IsComputed, IsToRun}
 use Rattle.id_compile.specs.Reading.{IsUnread}
-use Rattle.id_engine.specs.Commands.{ShowsFront}
+use Rattle.id_runner.specs.Commands.{ShowsFront}
 use Rattle.id_compile.specs.Refusals.{compiler_refusal, IsDetailInside, IsInsideOf, IsPrintedLine, IsToldRefusal, IsWord, Tells, plain, row_of, source_cause}
 use Rattle.id_engine.specs.Served.{command_of, words_of, IsRefusedRequest, Serves, refused, Drives, unread}
 use Rattle.id_engine.specs.Served.Serves.{cut}

@@ -5,7 +5,7 @@ use Rattle.id_request.specs.declared.Request.{Request}
 use Rattle.id_request.specs.declared.Request.TheVariants as asks
 use Rattle.id_compile.specs.declared.error.EngineError.{EngineError}
 use Rattle.id_compile.specs.declared.error.EngineError.TheVariants.{Write}
-use Rattle.id_engine.specs.Commands.{ShowsAll, ShowsFront}
+use Rattle.id_runner.specs.Commands.{ShowsAll, ShowsFront}
 use Rattle.id_compile.specs.Refusals.{IsInsideOf}
 use Rattle.id_engine.specs.Served.{command_of, IsRefusedRequest, IsRun, IsTaken}
 

@@ -12,9 +12,9 @@ use Rattle.id_compile.specs.declared.refusal.Cause.TheVariants as cause
 use Rattle.id_compile.specs.declared.source.SourceFault.{SourceFault}
 use Rattle.id_compile.specs.Reading.{IsToldText, IsUnread}
 use Rattle.id_compile.specs.Programs.{HasProgram}
-use Rattle.id_engine.specs.Commands.{Command, Check, List_graph, Draw_graph, Facts, Run, ShowsAll}
-use Rattle.id_engine.specs.Commands.{ShowsFront}
-use Rattle.id_engine.specs.Runs.{Ran}
+use Rattle.id_runner.specs.Commands.{Command, Check, List_graph, Draw_graph, Facts, Run, ShowsAll}
+use Rattle.id_runner.specs.Commands.{ShowsFront}
+use Rattle.id_runner.specs.Runs.{Ran}
 use Rattle.id_compile.specs.Refusals.{IsRefusedText, IsRefusedRun, IsTakenRun, AreRefusedFacts, AreTakenFacts}
 use Rattle.id_compile.specs.Refusals.{IsToldRefusal, IsPrintedLine, plain, row_of, source_cause}
 

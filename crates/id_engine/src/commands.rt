@@ -6,17 +6,17 @@ ghost use Rattle.id_meaning.specs.Computed.{AreFacts};
 ghost use Rattle.id_meaning.specs.Sources.{AreInputs, source};
 ghost use Rattle.id_print.specs.Within.{FactsWithin};
 ghost use Rattle.id_graph.specs.Dot.{dot_text};
-ghost use Rattle.id_engine.specs.Commands.{AreFactsOf, Check, Draw_graph, Facts, IsListingOf, IsPictureOf, List_graph};
-ghost use Rattle.id_engine.specs.Commands.{ShowsAll, ShowsFront};
+ghost use Rattle.id_runner.specs.Commands.{AreFactsOf, Check, Draw_graph, Facts, IsListingOf, IsPictureOf, List_graph};
+ghost use Rattle.id_runner.specs.Commands.{ShowsAll, ShowsFront};
 ghost use Rattle.id_compile.specs.Programs.{HasProgram, IsPlacedWithin, IsProgramOf};
 ghost use Rattle.id_compile.specs.Refusals.{AreRefusedFacts, AreTakenFacts, IsInsideOf, IsRefusedText};
-ghost use Rattle.id_engine.specs.Reports.{AreRefusedRounds};
+ghost use Rattle.id_runner.specs.Reports.{AreRefusedRounds};
 
-use crate::prepared::{Prepared, prepare};
 use id_compile::{Compiled, EngineError, accept, compile};
 use id_graph::{draw, list};
 use id_meaning::{Fact, RoundsError, rounds};
 use id_print::{Sink, put, write_facts};
+use id_runner::{Prepared, prepare};
 use std::alloc::Global;
 
 /// Writes `ok` where the text is accepted, and answers the status, 0.

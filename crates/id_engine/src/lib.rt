@@ -8,9 +8,7 @@
 #![tactic(auto)]
 
 mod commands;
-mod prepared;
 mod program;
-mod run;
 mod stream;
 
 pub use commands::{check_text, draw_text, facts_text, graph_text};
@@ -19,6 +17,6 @@ pub use id_compile::{
     compile, put_refusal, read_text,
 };
 pub use id_request::{Request, Unasked};
+pub use id_runner::{MAX_STEPS, engine, printed_alike};
 pub use program::{drive, serve};
-pub use run::{MAX_STEPS, engine, printed_alike};
 pub use stream::{Stream, settle, write_some};

@@ -6,10 +6,10 @@ ghost use Rattle.id_compile.specs.Refusals.{IsInsideOf, IsPrintedLine, IsToldRef
 ghost use Rattle.id_engine.specs.Served.{Answers, Drives, HasHelped, Serves, file_of, words_of};
 
 use crate::commands::{check_text, draw_text, facts_text, graph_text};
-use crate::run::engine;
 use id_compile::{Cause, EngineError, Source, of_engine_error, of_source_fault, plain, refuse};
 use id_print::{Sink, put};
 use id_request::{Request, Unasked};
+use id_runner::engine;
 use std::alloc::Global;
 
 /// The status of a command line that is refused.

@@ -2,14 +2,14 @@ use Rattle.std.proofs.Common.{◌≤◌, length, map}
 use Rattle.id_meaning.specs.Computed.{AreFacts}
 use Rattle.id_meaning.specs.Sources.{Source, source}
 use Rattle.id_print.specs.Within.{FactsWithin}
-use Rattle.id_engine.specs.Commands.{AreFactsOf}
+use Rattle.id_runner.specs.Commands.{AreFactsOf}
 use Rattle.id_compile.specs.Programs.{HasInputs}
 use Rattle.id_compile.specs.Refusals.{AreRefusedFacts, AreTakenFacts}
 use Rattle.id_compile.specs.Refusals.AreRefusedFacts.{by_source}
-use Rattle.id_engine.specs.Reports.{AreRefusedRounds}
+use Rattle.id_runner.specs.Reports.{AreRefusedRounds}
 use Rattle.id_compile.proofs.AnsweredLemmas.{if_err, if_ok, on_ok, on_ok_both}
-use Rattle.id_engine.proofs.AnsweredLemmas.{late_rounds, refused_rounds}
-use Rattle.id_engine.proofs.PlacedLemmas.{facts_within}
+use Rattle.id_runner.proofs.AnsweredLemmas.{late_rounds, refused_rounds}
+use Rattle.id_runner.proofs.PlacedLemmas.{facts_within}
 use Rattle.id_engine.proofs.commands.facts_of.Goals as goal
 
 pub returns-in-Err : goal.returns-in-Err

@@ -3,9 +3,9 @@ use Rattle.std.proofs.lemmas.Result.{IfOk-from_err}
 use Rattle.id_compile.specs.declared.error.EngineError.TheVariants.{Write}
 use Rattle.id_compile.proofs.AnsweredLemmas.{err_all, err_from, err_not, err_taken}
 use Rattle.id_meaning.specs.declared.Fact.{Fact}
-use Rattle.id_engine.specs.Commands.{AreFactsOf}
+use Rattle.id_runner.specs.Commands.{AreFactsOf}
 use Rattle.id_compile.specs.Refusals.AreRefusedFacts.{by_write}
-use Rattle.id_engine.proofs.ShownLemmas.{HasShown-facts}
+use Rattle.id_runner.proofs.ShownLemmas.{HasShown-facts}
 use Rattle.id_engine.proofs.commands.facts_text.Goals as goal
 
 -- an error before the first byte shows nothing

@@ -1,0 +1,13 @@
+pub mod AlikeLemmas
+pub mod AnsweredLemmas
+pub mod HeldLemmas
+pub mod NamesLemmas
+pub mod PlacedLemmas
+pub mod RunLemmas
+pub mod StampsLemmas
+pub mod DeliveryLemmas
+pub mod ShownLemmas
+pub mod StuckLemmas
+pub mod TraceLemmas
+pub mod TurnLemmas
+pub mod PrintedLemmas

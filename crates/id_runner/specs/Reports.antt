@@ -1,0 +1,236 @@
+-- The report of a run of a text's program, and deliveries to a machine.
+use Rattle.std.specs.Prelude.{◌≡◌, ◌≢◌, ◌≤◌, ◌<◌, ◌+◌, ◌⊎◌, ℕ, Bool, IsTrue, IsFalse, List, [], ◌++◌, All, length}
+use Rattle.std.specs.Prelude.{Option, Some, IfSome, Result, Ok, Err, slice_get}
+use Rattle.id_check.specs.declared.checked.Checked.{Checked}
+use Rattle.id_value.specs.declared.Constant.{Constant}
+use Rattle.id_meaning.specs.declared.SourceFault.{SourceFault}
+use Rattle.id_meaning.specs.Sources.{Source, AreInputs, source}
+use Rattle.id_list.specs.List.{Among}
+use Rattle.id_meaning.specs.declared.Ask.{Ask}
+use Rattle.id_meaning.specs.declared.Fact.TheVariants as fact
+use Rattle.id_meaning.specs.Rounds.{Answers, Holds, IsAnswer, Faulty, FaultFree}
+use Rattle.id_meaning.specs.Names.{AreNames, AreSomeNames, AreWaiting}
+use Rattle.id_meaning.specs.Orders.{NamesRise, Rises}
+use Rattle.id_build.specs.Schemas.{Schemas}
+use Rattle.id_build.specs.Rows.{size}
+use Rattle.id_graph.specs.Graph.{Parts}
+use Rattle.id_tag.specs.declared.Message.{Message}
+use Rattle.id_flight.specs.Queues.{context_at}
+use Rattle.id_record.specs.declared.step.Step.{Step}
+use Rattle.id_record.specs.declared.step.Step.TheVariants.{Went, Stuck}
+use Rattle.id_core.specs.Events.{EventView}
+use Rattle.id_core.specs.Machines.{World, MachineView, delivered, event_at, run, start}
+use Rattle.id_core.specs.Observed.{answer, faults, names, waiting}
+use Rattle.id_print.specs.declared.report.Ending.{Ending}
+use Rattle.id_print.specs.declared.report.Ending.TheVariants.{Quiet, Stopped, Fault}
+use Rattle.id_print.specs.declared.report.Report.{Report}
+use Rattle.id_sink.specs.declared.sink.PrintError.{PrintError}
+use Rattle.id_sink.specs.Told.{Told, Prints}
+use Rattle.id_print.specs.Endings.{EndsSo}
+use Rattle.id_print.specs.Within.{ReportWithin}
+use Rattle.id_print.specs.Reports.{report_text}
+use Rattle.id_trace.specs.Traces.{trace_text}
+use Rattle.id_print.specs.Names.{IsOrderOf, IsSortedOf, AreApart, AreApartBy, HeldBefore, WaitBefore}
+use Rattle.id_print.specs.Names.{OfOneThing, OfOneFetch, AreHeld, AreSomeHeld, held_lines}
+use Rattle.id_meaning.specs.Computed.{HasMoreFacts}
+use Rattle.id_compile.specs.declared.error.EngineError.{EngineError}
+use Rattle.id_compile.specs.declared.error.EngineError.TheVariants.{BadElements, BadSteps, BadRounds, TooManyFacts}
+use Rattle.id_compile.specs.declared.error.EngineError.TheVariants.{Memory, Write}
+use Rattle.id_runner.specs.Runs.{AreInTurn, EndsAt, IsBehindOthers, IsHeldBack, IsNext, IsTraceOf, after, first_turn}
+use Rattle.id_runner.specs.Runs.{held_of}
+use Rattle.id_runner.specs.declared.run.Hand.{Hand}
+
+-- the status of an ending
+abbrev pub status_of : Ending → ℕ
+status_of Quiet = 0
+status_of Stopped = 3
+status_of (Fault f) = 1
+
+-- what the report of a quiet run says of the source: it says all of its names where they are asked for
+pub record SaysAll (S : Source) (b : Bool) (r : Report) : Type 0 where
+  pub answer : IsAnswer S r.answer
+  pub names : IsTrue b → AreNames S r.names
+  pub structures : AreHeld S r.structures
+  pub waiting : AreWaiting S r.waiting
+  pub none : FaultFree S
+
+-- what the report of a run says of the source, whatever its ending
+pub record SaysSome (S : Source) (r : Report) : Type 0 where
+  pub answer : IfSome r.answer (Answers S)
+  pub names : AreSomeNames S r.names
+  pub structures : AreSomeHeld S r.structures
+  pub asks : (a : Ask) → Among a r.waiting → Holds S (fact.Ask a)
+
+-- what a report with this ending says of the source is so
+abbrev pub SaysTruly : Source → Bool → Report → Ending → Type 0
+SaysTruly S b r Quiet = SaysAll S b r
+SaysTruly S b r Stopped = SaysSome S r
+SaysTruly S b r (Fault f) = Faulty S f
+
+-- what a report says of the source is so
+pub record IsTrueOf (S : Source) (b : Bool) (r : Report) : Type 0 where
+  pub says : SaysTruly S b r r.ending
+  pub some : SaysSome S r
+
+-- the report is what the machine shows, with names where they are asked for
+pub record IsReportFrom (m : MachineView) (b : Bool) (r : Report) : Type 0 where
+  pub answer_is : r.answer ≡ answer m.graph m.world
+  pub sorted : IsTrue b → IsSortedOf r.names (names m.graph m.world)
+  pub rise : IsTrue b → AreApart (names m.graph m.world) → NamesRise r.names
+  pub none : IsFalse b → r.names ≡ []
+  pub held : IsOrderOf HeldBefore r.structures (held_lines m)
+  pub held_rise : AreApartBy OfOneThing (held_lines m) → Rises HeldBefore r.structures
+  pub waits : IsOrderOf WaitBefore r.waiting (waiting m.graph m.world)
+  pub waits_rise : AreApartBy OfOneFetch (waiting m.graph m.world) → Rises WaitBefore r.waiting
+  pub ends : EndsSo m r.ending
+
+-- deliveries at these positions, from this state, have come to an end: at a fault, or where all messages left are held
+-- back
+pub data HasEnded (g : Parts) (count steps : ℕ) (w : World) (ks : List ℕ) : Type 0 where
+  at_fault : (f : SourceFault) → EndsAt g count w ks f → HasEnded g count steps w ks
+  at_rest : faults g (run g count ks w) ≡ [] → All (IsHeldBack count steps (run g count ks w)) (run g count ks w).flight
+      → HasEnded g count steps w ks
+
+-- the report, with names where they are asked for, is that of a run that has ended, on so many elements, each of which
+-- has handled at most so many messages
+pub record IsReportOfRun (g : Parts) (vs : List Constant) (count steps : ℕ) (b : Bool) (r : Report) : Type 0 where
+  pub positions : List ℕ
+  pub turns : AreInTurn g count steps first_turn positions (start g vs count)
+  pub few : All (λ s. length s.events ≤ steps) (after g vs count positions).elements
+  pub ended : HasEnded g count steps (start g vs count) positions
+  pub answer_is : r.answer ≡ answer g (after g vs count positions)
+  pub sorted : IsTrue b → IsSortedOf r.names (names g (after g vs count positions))
+  pub held : IsOrderOf HeldBefore r.structures (held_of g count (after g vs count positions))
+  pub waits : IsOrderOf WaitBefore r.waiting (waiting g (after g vs count positions))
+  pub ends : EndsSo (record { graph = g; count = count; world = after g vs count positions }) r.ending
+  pub left : r.ending ≡ Stopped → (after g vs count positions).flight ≡ [] → ⊥
+
+-- a machine's trace, where it is asked for, and the report are printed with this result
+pub record HasPrinted (text : List ℕ) (t b : Bool) (w : World) (r : Report) (old new : Option Told)
+    (result : Result (Unit {0}) PrintError) : Type 0 where
+  pub events : List EventView
+  pub traced : IsTraceOf t w events
+  pub printed : Prints old new (trace_text events ++ report_text text b r) result
+
+-- they are printed whole, and this is the status; or a write failed; or memory was refused before the first byte
+pub data PrintsRun (text : List ℕ) (t b : Bool) (w : World) (r : Report) (old new : Option Told) : Result ℕ EngineError
+    → Type 0 where
+  whole : HasPrinted text t b w r old new (Ok tt) → PrintsRun text t b w r old new (Ok (status_of r.ending))
+  cut : (e : PrintError) → HasPrinted text t b w r old new (Err e) → PrintsRun text t b w r old new (Err Write)
+  unprinted : new ≡ old → PrintsRun text t b w r old new (Err Memory)
+
+-- these events and the report are printed whole, and this is the status; or a write failed
+pub data PrintsEvents (text : List ℕ) (b : Bool) (es : List EventView) (r : Report) (old new : Option Told) :
+    Result ℕ EngineError → Type 0 where
+  all_out : Prints old new (trace_text es ++ report_text text b r) (Ok tt)
+      → PrintsEvents text b es r old new (Ok (status_of r.ending))
+  front_out : (e : PrintError) → Prints old new (trace_text es ++ report_text text b r) (Err e)
+      → PrintsEvents text b es r old new (Err Write)
+
+-- so many elements and so many steps for each of them are allowed
+pub record AreAllowed (count steps : ℕ) : Type 0 where
+  pub some_elements : 0 < count
+  pub few_elements : count ≤ 64
+  pub some : 0 < steps
+  pub few : steps ≤ 100000000
+
+-- why a run on so many elements with so many steps for each is refused
+abbrev pub IsUnallowed : ℕ → ℕ → EngineError → Type 0
+IsUnallowed count steps BadElements = (count ≡ 0) ⊎ (64 < count)
+IsUnallowed count steps BadSteps = (0 < count) × (count ≤ 64) × ((steps ≡ 0) ⊎ (100000000 < steps))
+IsUnallowed count steps e = e ≡ Memory
+
+-- a run of a program with its inputs is printed, or it is refused before the first byte
+pub data RunsSo (P : Checked) (vs : List Constant) (text : List ℕ) (count : ℕ) (t : Bool) (steps : ℕ) (b : Bool)
+    (old new : Option Told) : Result ℕ EngineError → Type 0 where
+  ran : {result : Result ℕ EngineError} (g : Parts) (r : Report) → AreAllowed count steps → Schemas P g
+      → IsTrueOf (source P vs) b r → (o : IsReportOfRun g vs count steps b r)
+      → PrintsRun text t b (after g vs count o.positions) r old new result →
+      RunsSo P vs text count t steps b old new result
+  unallowed : (e : EngineError) → IsUnallowed count steps e → new ≡ old →
+      RunsSo P vs text count t steps b old new (Err e)
+
+-- the elements of a machine are so many
+abbrev pub HasCount : MachineView → Type 0
+HasCount m = (0 < m.count) × (m.count ≤ 64) × (length m.world.elements ≡ m.count)
+
+-- the machine is one at the start of a graph that the schemas give a program, with inputs of the program
+pub record IsFreshMachine (m : MachineView) : Type 0 where
+  pub origin : Source
+  pub inputs : AreInputs origin.checked origin.inputs
+  pub schemas : Schemas origin.checked m.graph
+  pub some : 0 < m.count
+  pub few : m.count ≤ 64
+  pub world : m.world ≡ start m.graph origin.inputs m.count
+
+-- deliveries to a machine, each in its turn, have come to an end: each element has handled at most so many messages
+pub record HasRun (old new : MachineView) (steps : ℕ) : Type 0 where
+  pub positions : List ℕ
+  pub same_graph : new.graph ≡ old.graph
+  pub same_count : new.count ≡ old.count
+  pub world : new.world ≡ run old.graph old.count positions old.world
+  pub turns : AreInTurn old.graph old.count steps first_turn positions old.world
+  pub few : All (λ s. length s.events ≤ steps) new.world.elements
+  pub ended : HasEnded old.graph old.count steps old.world positions
+
+-- the places of each report of such a run are at most so many bytes in
+abbrev pub AreReportsWithin : MachineView → ℕ → Bool → ℕ → Type 0
+AreReportsWithin m steps b size =
+    (n : MachineView) (r : Report) → HasRun m n steps → IsReportFrom n b r → ReportWithin size r
+
+-- such a run of the machine is printed, or memory was refused before the first byte
+pub data PrintsMachine (m : MachineView) (text : List ℕ) (t : Bool) (steps : ℕ) (b : Bool) (old new : Option Told) :
+    Result ℕ EngineError → Type 0 where
+  reported : {result : Result ℕ EngineError} (n : MachineView) (r : Report) → HasRun m n steps → IsReportFrom n b r
+      → PrintsRun text t b n.world r old new result → PrintsMachine m text t steps b old new result
+  out_of_memory : new ≡ old → PrintsMachine m text t steps b old new (Err Memory)
+
+-- the message at this position is held back
+abbrev pub IsHeldAt : ℕ → ℕ → World → ℕ → Type 0
+IsHeldAt count steps w k = (m : Message) → slice_get w.flight k ≡ Some m → IsHeldBack count steps w m
+
+-- what is at hand is so of these messages: the position is not behind their end, and where none in front of it may be
+-- of the context, none is
+pub record IsHand (ms : List Message) (h : Hand) : Type 0 where
+  pub within : h.position ≤ length ms
+  pub behind : IsFalse h.may_be_in_front → IsBehindOthers ms h.position (Some h.context)
+
+-- behind what was at hand, this is at hand next
+pub record IsNextHand (ms : List Message) (old new : Hand) : Type 0 where
+  pub is : IsNext ms old.position (Some old.context) new.position
+  pub there : new.position < length ms
+  pub context : context_at ms new.position ≡ Some new.context
+  pub behind : IsFalse new.may_be_in_front → IsBehindOthers ms new.position (Some new.context)
+
+-- the last of these messages is at hand
+pub record IsLastHand (ms : List Message) (h : Hand) : Type 0 where
+  pub last : h.position + 1 ≡ length ms
+  pub context : context_at ms h.position ≡ Some h.context
+  pub front : IsTrue h.may_be_in_front
+
+-- delivering the message at this position makes an event, which is not stuck
+pub record HasEvent (m : MachineView) (k : ℕ) : Type 0 where
+  pub event : EventView
+  pub made : event_at m.graph m.count m.world k ≡ Some event
+  pub moves : event.step ≢ Stuck
+
+-- the message at this position was delivered, and the event came to this
+pub record IsDelivery (position : ℕ) (old new : MachineView) (step : Step) : Type 0 where
+  pub event : EventView
+  pub made : event_at old.graph old.count old.world position ≡ Some event
+  pub step_is : event.step ≡ step
+  pub new_is : new ≡ record old { world = delivered old.graph old.count old.world position }
+
+-- the message at this position was delivered, and whether the run goes on after its event, which was not stuck
+pub record IsDelivered (position : ℕ) (old new : MachineView) (goes : Bool) : Type 0 where
+  pub step : Step
+  pub delivery : IsDelivery position old new step
+  pub moves : step ≢ Stuck
+  pub went : IsTrue goes → step ≡ Went
+  pub failed : IsFalse goes → step ≢ Went
+
+-- why the facts of a round of a source are refused
+abbrev pub AreRefusedRounds : Source → ℕ → EngineError → Type 0
+AreRefusedRounds S round BadRounds = 10000 < round
+AreRefusedRounds S round TooManyFacts = (round ≤ 10000) × HasMoreFacts S round 1000000
+AreRefusedRounds S round e = e ≡ Memory
