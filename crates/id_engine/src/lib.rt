@@ -1,10 +1,10 @@
-//! The program's engine: a request on a text to printed bytes and a status.
+//! A request on a text to printed bytes and a status.
 //!
 //! Keeps: standard output has what was asked for or nothing, standard error one refusal.
 //! Errors: `EngineError`.
-//! Read first: `specs/Commands.antt`, `specs/Runs.antt`, then `engine` and `drive`; docs/PROMISES.md.
+//! Read first: `specs/Served.antt`, then `serve` and `drive`; docs/PROMISES.md.
 //! Not here: which words ask for what (`id_args`), the streams of the process (`idc`), what comes of a text and how a
-//! refusal is told (`id_compile`), and every step from the text to the run, which have a crate each.
+//! refusal is told (`id_compile`), its run (`id_runner`), and every step between, which have a crate each.
 #![tactic(auto)]
 
 mod commands;
