@@ -27,7 +27,8 @@ use Rattle.id_parts.specs.declared.row.Node.{Node}
 use Rattle.id_parts.specs.declared.row.Node.TheVariants as node
 use Rattle.id_parts.specs.Names.{number_of}
 use Rattle.id_parts.specs.Rows.{Parts, add, add_arguments, add_nexts, arm, begin_loop, count_of, in_top, last, naming, size, with_row}
-use Rattle.id_parts.specs.Making.{IsAdded, add_argument, add_body, add_next, end_loop, exprs_tree, other_side, pair_node, pair_tree, stmts_tree}
+use Rattle.id_parts.specs.Nodes.{other_side, pair_node}
+use Rattle.id_parts.specs.Making.{IsAdded, add_argument, add_body, add_next, end_loop, exprs_tree, pair_tree, stmts_tree}
 
 row_tree-items : (n : _) (r : Row_of-Stmt n) → row_tree r ≡ stmts_tree (items-the_row-Stmt n r)
 row_tree-items _ end_of-Stmt = refl

@@ -9,4 +9,5 @@ pub mod Stores
 pub mod Trees
 pub mod Turns
 -- For the proof of `table_of` alone.
+pub mod Nodes
 pub mod Making

@@ -1,5 +1,5 @@
 -- What the maker of the table has made so far.
-use Rattle.std.specs.Prelude.{◌≡◌, ℕ, false, List, [], ◌∷◌}
+use Rattle.std.specs.Prelude.{◌≡◌, ℕ, List, [], ◌∷◌}
 use Rattle.id_tree.specs.declared.tree.Stmt.{Stmt}
 use Rattle.id_tree.specs.declared.tree.Expr.{Expr}
 use Rattle.id_tree.specs.Tree.{Tree, array, binary, fetch, none, more, stmt_tree, tree_of}
@@ -9,10 +9,8 @@ use Rattle.id_parts.specs.declared.node.Pairing.TheVariants.{Binary, Array, Fetc
 use Rattle.id_parts.specs.declared.spelled.Spelled.{Spelled}
 use Rattle.id_parts.specs.Names.{first_names, number_of}
 use Rattle.id_parts.specs.declared.row.Stand.{Stand}
-use Rattle.id_parts.specs.declared.row.Node.{Node}
-use Rattle.id_parts.specs.declared.row.Node.TheVariants as node
 use Rattle.id_parts.specs.declared.row.Node.TheVariants.{Arg, Body, Loop, Next, NextUse, Reset, Turn}
-use Rattle.id_parts.specs.Rows.{Parts, add, add_nexts, arm_at, last, naming, size, with_row}
+use Rattle.id_parts.specs.Rows.{Parts, add, add_nexts, last, naming, size, with_row}
 
 -- the texts of the names
 abbrev pub texts : List Spelled → List (List ℕ)
@@ -33,21 +31,11 @@ pub record IsAdded (i : ℕ) (U V : Parts) : Type 0 where
   pub parts : U ≡ V
   pub number : i ≡ last V
 
--- on the other side of the switches on whose true side it is
-abbrev pub other_side : Stand → Stand
-other_side s = record { block = s.block; region = arm_at s.region.head false }
-
 -- the tree of this form of two expressions
 abbrev pub pair_tree : Pairing → Tree → Tree → ℕ → Tree
 pair_tree (Binary o) a b p = binary o a b p
 pair_tree Array a b p = array a b p
 pair_tree Fetch a b p = fetch a b p
-
--- the node of this form with these parts
-abbrev pub pair_node : Pairing → ℕ → ℕ → Node
-pair_node (Binary o) a b = node.Binary o a b
-pair_node Array a b = node.Array a b
-pair_node Fetch a b = node.Fetch a b
 
 -- the trees of expressions, in order
 abbrev pub exprs_tree : List Expr → Tree

@@ -27,9 +27,12 @@
 #![tactic(auto)]
 
 mod maker;
+mod names;
 mod node;
+mod room;
 mod row;
 mod spelled;
+mod walk;
 
-pub use maker::table_of;
 pub use row::{Node, Region, Row, Table};
+pub use walk::table_of;

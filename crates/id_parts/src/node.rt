@@ -4,7 +4,7 @@ ghost use Rattle.std.specs.Prelude.{◌≡◌, true, IfOk};
 ghost use Rattle.id_parts.specs.Rows.{arm, in_top};
 ghost use Rattle.id_parts.specs.declared.row.Node.TheVariants as variant;
 ghost use Rattle.id_parts.specs.declared.row.Node.TheVariants.{If, Arg, Next};
-ghost use Rattle.id_parts.specs.Making.{other_side, pair_node};
+ghost use Rattle.id_parts.specs.Nodes.{other_side, pair_node};
 
 use crate::row::{Node, Region, Stand};
 use id_value::{BinaryOp, Kind};

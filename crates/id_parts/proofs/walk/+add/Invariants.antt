@@ -1,11 +1,11 @@
 use Rattle.std.proofs.Common.{◌≡◌, ◌≤◌, ◌+◌, ◌*◌, drop}
 use Rattle.id_parts.specs.Rows.{add, add_arguments, add_nexts}
 use Rattle.id_parts.specs.Making.{exprs_tree, parts, stmts_tree}
-use Rattle.id_parts.proofs.maker.Maker.+add.Given as goal
+use Rattle.id_parts.proofs.walk.+add.Given as goal
 
 abbrev pub invariant-add_statements-loop-statement : goal.invariant-add_statements-loop-statement
 invariant-add_statements-loop-statement l =
-    add l.stand (parts l.self) (stmts_tree (drop l.statement-index l.statements)) ≡ add l.stand (parts l.initial.self) (stmts_tree l.statements)
+    add l.stand (parts l.maker) (stmts_tree (drop l.statement-index l.statements)) ≡ add l.stand (parts l.initial.maker) (stmts_tree l.statements)
 
 abbrev pub decreases-add_expr : goal.decreases-add_expr
 decreases-add_expr l = 4 * goal.size-add_expr l
@@ -34,8 +34,8 @@ decreases-add_argument l = 4 * goal.size-add_argument l + 1
 abbrev pub invariant-add_arguments-loop-argument : goal.invariant-add_arguments-loop-argument
 invariant-add_arguments-loop-argument l = record {
   counted : l.index ≡ l.argument-index;
-  rest : add_arguments l.stand l.place l.enter l.index (parts l.self) (exprs_tree (drop l.argument-index l.args))
-      ≡ add_arguments l.stand l.place l.enter 0 (parts l.initial.self) (exprs_tree l.args);
+  rest : add_arguments l.stand l.place l.enter l.index (parts l.maker) (exprs_tree (drop l.argument-index l.args))
+      ≡ add_arguments l.stand l.place l.enter 0 (parts l.initial.maker) (exprs_tree l.args);
 }
 
 abbrev pub decreases-add_block : goal.decreases-add_block
@@ -62,6 +62,6 @@ decreases-add_next l = 4 * goal.size-add_next l + 1
 abbrev pub invariant-add_body-loop-statement : goal.invariant-add_body-loop-statement
 invariant-add_body-loop-statement l = record {
   counted : l.index ≤ l.statement-index;
-  rest : add_nexts l.stand l.index (parts l.self) (stmts_tree (drop l.statement-index l.statements))
-      ≡ add_nexts l.stand 0 (parts l.initial.self) (stmts_tree l.statements);
+  rest : add_nexts l.stand l.index (parts l.maker) (stmts_tree (drop l.statement-index l.statements))
+      ≡ add_nexts l.stand 0 (parts l.initial.maker) (stmts_tree l.statements);
 }
