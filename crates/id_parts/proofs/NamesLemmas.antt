@@ -5,7 +5,7 @@ use Rattle.std.specs.Str.{bytes_eq}
 use Rattle.std.specs.List.{list_any, position_or_len}
 use Rattle.indexmap.specs.IndexSet.{insert_key}
 use Rattle.id_parts.specs.Names.{number_of, with_name}
-use Rattle.id_parts.specs.Making.{texts}
+use Rattle.id_parts.specs.Texts.{texts}
 use Rattle.id_parts.specs.declared.spelled.Spelled.{Spelled}
 
 -- the number of a name is the place of its key

@@ -10,4 +10,5 @@ pub mod Trees
 pub mod Turns
 -- For the proof of `table_of` alone.
 pub mod Nodes
+pub mod Texts
 pub mod Making

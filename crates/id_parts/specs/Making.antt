@@ -6,16 +6,11 @@ use Rattle.id_tree.specs.Tree.{Tree, array, binary, fetch, none, more, stmt_tree
 use Rattle.id_parts.specs.declared.maker.Maker.{Maker}
 use Rattle.id_parts.specs.declared.node.Pairing.{Pairing}
 use Rattle.id_parts.specs.declared.node.Pairing.TheVariants.{Binary, Array, Fetch}
-use Rattle.id_parts.specs.declared.spelled.Spelled.{Spelled}
+use Rattle.id_parts.specs.Texts.{texts}
 use Rattle.id_parts.specs.Names.{first_names, number_of}
 use Rattle.id_parts.specs.declared.row.Stand.{Stand}
 use Rattle.id_parts.specs.declared.row.Node.TheVariants.{Arg, Body, Loop, Next, NextUse, Reset, Turn}
 use Rattle.id_parts.specs.Rows.{Parts, add, add_nexts, last, naming, size, with_row}
-
--- the texts of the names
-abbrev pub texts : List Spelled → List (List ℕ)
-texts [] = []
-texts (k ∷ ks) = k.name.now ∷ texts ks
 
 -- the rows and the names that the maker has
 abbrev pub parts : Maker → Parts

@@ -7,7 +7,8 @@ ghost use Rattle.id_parts.specs.Rows.{arm, in_top, value_of, with_row, add, nami
 ghost use Rattle.id_parts.specs.Rows.{add_variables, begin_loop, size};
 ghost use Rattle.id_parts.specs.declared.row.Node.TheVariants as variant;
 ghost use Rattle.id_parts.specs.declared.row.Node.TheVariants.{Variable, If, Arg, Next, NextUse, Enter, Turn};
-ghost use Rattle.id_parts.specs.Making.{end_loop, parts, texts, stmts_tree, IsAdded, IsStart};
+ghost use Rattle.id_parts.specs.Texts.{texts};
+ghost use Rattle.id_parts.specs.Making.{end_loop, parts, stmts_tree, IsAdded, IsStart};
 
 use crate::names::main_alone;
 use crate::node::{arg_node, def_node, if_node, in_arm, next_node, short, stand_in};

@@ -2,7 +2,7 @@
 
 ghost use Rattle.std.specs.Prelude.{◌≡◌, codes, IfOk};
 ghost use Rattle.id_parts.specs.Names.{first_names};
-ghost use Rattle.id_parts.specs.Making.{texts};
+ghost use Rattle.id_parts.specs.Texts.{texts};
 
 use crate::spelled::Spelled;
 use id_text::Identifier;

@@ -1,5 +1,5 @@
 use Rattle.std.proofs.Common.{◌≡◌, ◌++◌, drop}
-use Rattle.id_parts.specs.Making.{texts}
+use Rattle.id_parts.specs.Texts.{texts}
 use Rattle.id_parts.proofs.names.copy_names.Given as goal
 
 abbrev pub invariant-loop-key : goal.invariant-loop-key

@@ -1,5 +1,5 @@
 use Rattle.std.proofs.Common.{ap, ◌∙◌}
-use Rattle.id_parts.specs.Making.{texts}
+use Rattle.id_parts.specs.Texts.{texts}
 use Rattle.id_parts.proofs.NamesLemmas.{number_of-texts, with_name-texts}
 use Rattle.id_parts.proofs.maker.Maker.number.Goals as goal
 
