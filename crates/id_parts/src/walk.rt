@@ -32,11 +32,24 @@ fn table_from(alloc: Global, program: &Program, main: &Identifier) -> Result<Tab
     ensures rows { IfOk result (λ t. t.rows.items ≡ rows_of (program_tree program.now)) }
     ensures names { IfOk result (λ t. t.names.items ≡ (parts_of (program_tree program.now)).names) }
 {
-    let mut maker = Maker::new(alloc, about_rows(program), about_names(program), main)?;
-    add_program(&mut maker, program)?;
+    let maker = walked(alloc, program, main)?;
     let Maker { rows, numbers } = maker;
     let names = names_of(alloc, numbers)?;
     Ok(Table { rows, names })
+}
+
+/// The maker behind the walk over the program, with this as the name `main`.
+fn walked<'a>(
+    alloc: Global,
+    program: &'a Program,
+    main: &'a Identifier,
+) -> Result<Maker<'a>, AllocError>
+    requires { main.now ≡ codes "main" }
+    ensures { IfOk result (λ m. parts m ≡ parts_of (program_tree program.now)) }
+{
+    let mut maker = Maker::new(alloc, about_rows(program), about_names(program), main)?;
+    add_program(&mut maker, program)?;
+    Ok(maker)
 }
 
 /// Adds the rows of the definitions, and the last row.

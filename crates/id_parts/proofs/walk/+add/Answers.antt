@@ -1,5 +1,6 @@
 use Rattle.std.proofs.Common.{◌+◌, sym, ap, ◌∙◌, drop, length, arith}
 use Rattle.std.proofs.lemmas.List.{drop_all}
+use Rattle.id_tree.specs.declared.tree.Expr.TheFolds.{the_lemmas}
 use Rattle.id_tree.specs.Tree.{tree_of, stmt_tree}
 use Rattle.id_parts.specs.Rows.{add, add_arguments, add_nexts, begin_loop}
 use Rattle.id_parts.specs.Making.{add_body, exprs_tree, parts, stmts_tree}
@@ -220,3 +221,103 @@ add_loop-returns t c =
     (c.in_ok-add_body.ensures ∙ ap (λ ss. add_body b W (stmts_tree ss) p) s) c.other_side-behind.ensures (omega arith)
     c.in_ok-last.ensures)
     c.end_loop.ensures
+
+-- each call goes to a part, or to a later function of its rank
+pub add_expr-add_unary-requires : goal.add_expr-add_unary-requires
+add_expr-add_unary-requires t c = grind (the_lemmas, arith)
+
+pub add_expr-add_pair-requires : goal.add_expr-add_pair-requires
+add_expr-add_pair-requires t c = grind (the_lemmas, arith)
+
+pub add_expr-add_pair-requires-in-Array : goal.add_expr-add_pair-requires-in-Array
+add_expr-add_pair-requires-in-Array t c = grind (the_lemmas, arith)
+
+pub add_expr-add_pair-requires-in-Fetch : goal.add_expr-add_pair-requires-in-Fetch
+add_expr-add_pair-requires-in-Fetch t c = grind (the_lemmas, arith)
+
+pub add_expr-add_conditional-requires : goal.add_expr-add_conditional-requires
+add_expr-add_conditional-requires t c = grind (the_lemmas, arith)
+
+pub add_expr-add_call-requires : goal.add_expr-add_call-requires
+add_expr-add_call-requires t c = grind (the_lemmas, arith)
+
+pub add_expr-add_block-requires : goal.add_expr-add_block-requires
+add_expr-add_block-requires t c = grind (the_lemmas, arith)
+
+pub add_expr-add_loop-requires : goal.add_expr-add_loop-requires
+add_expr-add_loop-requires t c = grind (the_lemmas, arith)
+
+pub add_pair-add_expr-requires : goal.add_pair-add_expr-requires
+add_pair-add_expr-requires t c = grind (the_lemmas, arith)
+
+pub add_pair-add_expr-requires-2 : goal.add_pair-add_expr-requires-2
+add_pair-add_expr-requires-2 t c = grind (the_lemmas, arith)
+
+pub add_conditional-add_expr-requires : goal.add_conditional-add_expr-requires
+add_conditional-add_expr-requires t c = grind (the_lemmas, arith)
+
+pub add_conditional-add_expr-requires-2 : goal.add_conditional-add_expr-requires-2
+add_conditional-add_expr-requires-2 t c = grind (the_lemmas, arith)
+
+pub add_conditional-add_expr-requires-3 : goal.add_conditional-add_expr-requires-3
+add_conditional-add_expr-requires-3 t c = grind (the_lemmas, arith)
+
+pub add_call-add_arguments-requires : goal.add_call-add_arguments-requires
+add_call-add_arguments-requires t c = grind (the_lemmas, arith)
+
+pub add_arguments-add_argument-requires : goal.add_arguments-add_argument-requires
+add_arguments-add_argument-requires t c = grind (the_lemmas, arith)
+
+pub add_block-add_statements-requires : goal.add_block-add_statements-requires
+add_block-add_statements-requires t c = grind (the_lemmas, arith)
+
+pub add_block-add_expr-requires : goal.add_block-add_expr-requires
+add_block-add_expr-requires t c = grind (the_lemmas, arith)
+
+pub add_statements-add_statement-requires : goal.add_statements-add_statement-requires
+add_statements-add_statement-requires t c = grind (the_lemmas, arith)
+
+pub add_statement-add_store-requires : goal.add_statement-add_store-requires
+add_statement-add_store-requires t c = grind (the_lemmas, arith)
+
+pub add_statement-add_binding-requires : goal.add_statement-add_binding-requires
+add_statement-add_binding-requires t c = grind (the_lemmas, arith)
+
+pub add_statement-add_binding-requires-in-Next : goal.add_statement-add_binding-requires-in-Next
+add_statement-add_binding-requires-in-Next t c = grind (the_lemmas, arith)
+
+pub add_loop-add_expr-requires : goal.add_loop-add_expr-requires
+add_loop-add_expr-requires t c = grind (the_lemmas, arith)
+
+pub add_loop-add_expr-requires-2 : goal.add_loop-add_expr-requires-2
+add_loop-add_expr-requires-2 t c = grind (the_lemmas, arith)
+
+pub add_loop-add_body-requires : goal.add_loop-add_body-requires
+add_loop-add_body-requires t c = grind (the_lemmas, arith)
+
+pub add_body-add_next-requires : goal.add_body-add_next-requires
+add_body-add_next-requires t c = grind (the_lemmas, arith)
+
+pub add_body-add_statement-requires : goal.add_body-add_statement-requires
+add_body-add_statement-requires t c = grind (the_lemmas, arith)
+
+pub add_store-add_expr-requires : goal.add_store-add_expr-requires
+add_store-add_expr-requires t c = grind (the_lemmas, arith)
+
+pub add_store-add_expr-requires-2 : goal.add_store-add_expr-requires-2
+add_store-add_expr-requires-2 t c = grind (the_lemmas, arith)
+
+pub add_store-add_expr-requires-3 : goal.add_store-add_expr-requires-3
+add_store-add_expr-requires-3 t c = grind (the_lemmas, arith)
+
+pub add_unary-add_expr-requires : goal.add_unary-add_expr-requires
+add_unary-add_expr-requires t c = (omega arith, tt)
+
+pub add_argument-add_expr-requires : goal.add_argument-add_expr-requires
+add_argument-add_expr-requires t c = (omega arith, tt)
+
+pub add_next-add_expr-requires : goal.add_next-add_expr-requires
+add_next-add_expr-requires t c = (omega arith, tt)
+
+pub add_binding-add_expr-requires : goal.add_binding-add_expr-requires
+add_binding-add_expr-requires t c = (omega arith, tt)

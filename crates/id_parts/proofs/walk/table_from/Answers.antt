@@ -10,8 +10,8 @@ use Rattle.id_parts.proofs.walk.table_from.Goals as goal
 pub invariant_of-result : goal.invariant_of-result
 invariant_of-result c =
     let t = program_tree c.args.program.now in
-    let made = c.in_ok-add_program.ensures c.in_ok-maker.ensures in
-    let rows : c.add_program.new.maker.rows.items ≡ rows_of t = ap (λ (T : Parts). T.rows) made in
+    let made = c.in_ok-maker.ensures in
+    let rows : c.in_ok-maker.maker.rows.items ≡ rows_of t = ap (λ (T : Parts). T.rows) made in
     let table = IsTable-rows_of t (IsProgramTree-program_tree c.args.program.now) in
     let names : c.in_ok-names.names.items ≡ (parts_of t).names = c.in_ok-names.ensures ∙ ap (λ (T : Parts). T.names) made in
     record {
