@@ -310,3 +310,8 @@ pub conditional_tree : (e : Expr) (place : ℕ) (b : Box Triple Global) (v : Tri
     → conditional (tree_of v.first) (tree_of v.second) (tree_of v.third) place ≡ tree_of e
 conditional_tree e place b v h0 h1 =
     ap (λ x. conditional (tree_of x.first) (tree_of x.second) (tree_of x.third) place) h0 ∙ ap tree_of (sym h1)
+
+pub store_tree : (s : Stmt) (place : ℕ) (b : Box Triple Global) (v : Triple) → v ≡ b.value → s ≡ stmt.Store place b
+    → store (tree_of v.first) (tree_of v.second) (tree_of v.third) place ≡ stmt_tree s
+store_tree s place b v h0 h1 =
+    ap (λ x. store (tree_of x.first) (tree_of x.second) (tree_of x.third) place) h0 ∙ ap stmt_tree (sym h1)

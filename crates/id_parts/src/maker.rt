@@ -147,6 +147,7 @@ impl<'a> Maker<'a> {
         self.put(stand, def.place, stand.block as usize, node)
     }
 
+    /// Adds the row of each parameter, in order.
     pub fn add_params(&mut self, stand: Stand, params: &'a [Param]) -> Result<(), AllocError>
         ensures { OnOk result (parts self.new ≡ add stand (parts self.old) (params_tree params.now)) }
     {
@@ -156,6 +157,7 @@ impl<'a> Maker<'a> {
         Ok(())
     }
 
+    /// Adds the row of a parameter.
     pub fn add_param(&mut self, stand: Stand, param: &'a Param) -> Result<(), AllocError>
         ensures { OnOk result (parts self.new ≡ add stand (parts self.old) (params_tree (param.now ∷ []))) }
     {
@@ -172,6 +174,7 @@ impl<'a> Maker<'a> {
         )
     }
 
+    /// Adds the row of a literal, and gives its number.
     pub fn add_literal(
         &mut self,
         stand: Stand,
@@ -184,6 +187,7 @@ impl<'a> Maker<'a> {
         self.push(stand, place, first, Node::Literal { value })
     }
 
+    /// Adds the row of a name, and gives its number.
     pub fn add_name(
         &mut self,
         stand: Stand,
@@ -295,6 +299,7 @@ impl<'a> Maker<'a> {
         Ok(())
     }
 
+    /// Adds the row of a variable of a loop.
     pub fn add_variable(&mut self, stand: Stand, place: u32) -> Result<(), AllocError>
         ensures { OnOk result (parts self.new
             ≡ with_row (parts self.old) stand place (size (parts self.old)) Variable) }

@@ -6,7 +6,7 @@ use Rattle.id_parts.specs.Rows.{add, add_arguments, add_nexts, begin_loop}
 use Rattle.id_parts.specs.Making.{add_body, exprs_tree, parts, stmts_tree}
 use Rattle.id_parts.proofs.MakingLemmas.{added_as, done_as, unary_row, pair_row, conditional_row, call_row, argument_row, block_row, binding_row, store_row}
 use Rattle.id_parts.proofs.MakingLemmas.{next_row, body_row, loop_row, statement_step, other_step, next_step}
-use Rattle.id_parts.proofs.MakingLemmas.{call_tree, block_tree, loop_tree, unary_tree, binary_tree, array_tree, fetch_tree, conditional_tree}
+use Rattle.id_parts.proofs.MakingLemmas.{call_tree, block_tree, loop_tree, unary_tree, binary_tree, array_tree, fetch_tree, conditional_tree, store_tree}
 use Rattle.id_parts.proofs.walk.+add.Goals.{add_body-in-Next+in_ok-add_next-in-Next, add_body-in_default+in_ok-add_statement-in_default}
 use Rattle.id_parts.proofs.walk.+add.Goals as goal
 
@@ -221,6 +221,35 @@ add_loop-returns t c =
     (c.in_ok-add_body.ensures ∙ ap (λ ss. add_body b W (stmts_tree ss) p) s) c.other_side-behind.ensures (omega arith)
     c.in_ok-last.ensures)
     c.end_loop.ensures
+
+-- what the function of the form adds
+pub add_expr-returns-in-Literal : goal.add_expr-returns-in-Literal
+add_expr-returns-in-Literal t c =
+    added_as c.add_literal.result (parts c.add_literal.new.self) _ _
+    (ap (λ e. add c.args.stand (parts c.args.maker.now) (tree_of e)) (sym c.in-Literal.is)) c.add_literal.ensures
+
+pub add_expr-returns-in-Name : goal.add_expr-returns-in-Name
+add_expr-returns-in-Name t c =
+    added_as c.add_name.result (parts c.add_name.new.self) _ _
+    (ap (λ e. add c.args.stand (parts c.args.maker.now) (tree_of e)) (sym c.in-Name.is)) c.add_name.ensures
+
+pub add_statement-returns-in-Binding : goal.add_statement-returns-in-Binding
+add_statement-returns-in-Binding t c =
+    done_as c.add_binding.result (parts c.add_binding.new.maker) _ _
+    (ap (λ d. add c.args.stand (parts c.args.maker.now) (stmt_tree d)) (sym c.in-Binding.is)) c.add_binding.ensures
+
+pub add_statement-returns-in-Next : goal.add_statement-returns-in-Next
+add_statement-returns-in-Next t c =
+    done_as c.add_binding-in-Next.result (parts c.add_binding-in-Next.new.maker) _ _
+    (ap (λ d. add c.args.stand (parts c.args.maker.now) (stmt_tree d)) (sym c.in-Next.is)) c.add_binding-in-Next.ensures
+
+pub add_statement-returns-in-Store : goal.add_statement-returns-in-Store
+add_statement-returns-in-Store t c =
+    let a = c.in-Store in
+    let d = c.deref in
+    done_as c.add_store.result (parts c.add_store.new.maker) _ _
+    (ap (add c.args.stand (parts c.args.maker.now)) (store_tree c.args.statement.now a.place a.inside d.result.now d.ensures a.is))
+    c.add_store.ensures
 
 -- each call goes to a part, or to a later function of its rank
 pub add_expr-add_unary-requires : goal.add_expr-add_unary-requires
