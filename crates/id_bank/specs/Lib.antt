@@ -1,5 +1,4 @@
-pub mod Cells
 -- for models that hold cells
 pub mod Codes
+
 -- for use inside
-pub mod Slots

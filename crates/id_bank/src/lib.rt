@@ -14,127 +14,23 @@ ghost use Rattle.std.specs.FinMap as map;
 ghost use Rattle.std.specs.List.{flat_map};
 ghost use Rattle.indexmap.specs.IndexMap.{keys, IsUnique};
 ghost use Rattle.id_tag.specs.Tags.{cell_cmp};
-ghost use Rattle.id_bank.specs.declared.ReadAnswer.TheVariants.{Deferred as PutOff};
-ghost use Rattle.id_bank.specs.Cells.{filled_at, read_answer, write_answer};
-ghost use Rattle.id_bank.specs.Slots.{HasNone, HasNoReaders, IsPage, same_page, state_in, held_in, entry_at, cell_in};
-ghost use Rattle.id_bank.specs.Slots.{cells_below, cells_in, page_cells};
+ghost use Rattle.id_slot.specs.declared.ReadAnswer.TheVariants.{Deferred as PutOff};
+ghost use Rattle.id_slot.specs.Cells.{filled_at, read_answer, write_answer};
+ghost use Rattle.id_slot.specs.Slots.{HasNone, HasNoReaders, IsPage, same_page, state_in, held_in, entry_at, cell_in};
+ghost use Rattle.id_slot.specs.Slots.{cells_below, cells_in, page_cells};
 
 mod page;
-mod slot;
 
 use crate::page::{
     Recent, cell_in, count_filled_in, expected_in, filled_in, has_no_readers, has_none, offset_of,
     page_of, place, read_at, readers_in, write_at,
 };
-use crate::slot::{Slot, waiting};
+pub use id_slot::{Filled, ReadAnswer, Reader, Replies, WriteAnswer};
+use id_slot::{Slot, waiting};
 use id_tag::{Cell, NearHasher, Structure, Tag, Value};
 use indexmap::IndexMap;
-use smallvec::SmallVec;
 use std::alloc::{AllocError, Global};
 use std::marker::Model;
-
-/// Replies that wait for one value, in order of arrival. Two take no memory of their own.
-#[derive(Drop)]
-pub struct Replies {
-    list: SmallVec<Tag, 2>,
-}
-
-impl Model for Replies {
-    ghost use Rattle.std.specs.Prelude.{List};
-    ghost use Rattle.id_tag.specs.declared.Tag.{Tag};
-
-    ghost Value = { List Tag };
-
-    ghost view = { λ r. r.list.items };
-}
-
-impl Replies {
-    ghost use Rattle.std.specs.Prelude.{◌++◌, [], ◌∷◌, OnOk, OnErr};
-
-    // No reply. Takes no memory.
-    fn none(alloc: Global) -> Replies
-        ensures { result ≡ [] }
-    {
-        Replies {
-            list: SmallVec::new(alloc),
-        }
-    }
-
-    // One reply. Takes no memory.
-    fn one(alloc: Global, reply: Tag) -> Replies
-        ensures { result ≡ reply ∷ [] }
-    {
-        let mut list = SmallVec::new(alloc);
-        list.push_reserved(reply);
-        Replies { list }
-    }
-
-    // Two replies. Takes no memory.
-    fn two(alloc: Global, first: Tag, second: Tag) -> Replies
-        ensures { result ≡ first ∷ second ∷ [] }
-    {
-        let mut list = SmallVec::new(alloc);
-        list.push_reserved(first);
-        list.push_reserved(second);
-        Replies { list }
-    }
-
-    // Adds a reply at the end. After an error nothing has changed.
-    fn push(&mut self, reply: Tag) -> Result<(), AllocError>
-        ensures ok { OnOk result (self.new ≡ self.old ++ reply ∷ []) }
-        ensures err { OnErr result (self.new ≡ self.old) }
-    {
-        self.list.push(reply)?;
-        Ok(())
-    }
-
-    /// How many replies there are. Takes no memory.
-    pub fn len(&self) -> usize
-        ensures { result ≡ length self.now }
-    {
-        self.list.len()
-    }
-
-    /// The replies, in order. Takes no memory.
-    pub fn as_slice(&self) -> &[Tag]
-        ensures { result.now ≡ self.now }
-    {
-        self.list.as_slice()
-    }
-}
-
-/// What a read comes to.
-#[derive(Clone, Copy)]
-pub enum ReadAnswer {
-    /// The cell holds this value.
-    Now(Value),
-    /// The reply waits for the cell's value.
-    Deferred,
-}
-
-/// What a write comes to.
-#[derive(Drop)]
-pub enum WriteAnswer {
-    /// The cell holds the value from now on, and these replies, which waited for it, get it.
-    Readers(Replies),
-    /// The cell holds a value already, which came from this store, and nothing has changed.
-    Second(Tag),
-}
-
-/// A cell that holds a value, which came from the store `origin`.
-#[derive(Clone, Copy)]
-pub struct Filled {
-    pub cell: Cell,
-    pub value: Value,
-    pub origin: Tag,
-}
-
-/// A reply that waits for the value of a cell.
-#[derive(Clone, Copy)]
-pub struct Reader {
-    pub cell: Cell,
-    pub reply: Tag,
-}
 
 /// The cells that were read or written.
 #[derive(Drop)]
@@ -146,11 +42,11 @@ pub struct Bank {
 
 impl Model for Bank {
     ghost use Rattle.std.specs.FinMap as map;
-    ghost use Rattle.id_bank.specs.Cells.{Cells};
+    ghost use Rattle.id_slot.specs.Cells.{Cells};
     ghost use Rattle.id_bank.specs.Codes.{coded_cells};
     ghost use Rattle.std.specs.Prelude.{All};
     ghost use Rattle.indexmap.specs.IndexMap.{keys};
-    ghost use Rattle.id_bank.specs.Slots.{IsPage, cells_in};
+    ghost use Rattle.id_slot.specs.Slots.{IsPage, cells_in};
 
     ghost Value = { Cells };
 
@@ -163,8 +59,8 @@ impl Model for Bank {
 
 impl Bank {
     ghost use Rattle.std.specs.Prelude.{◌↔◌, IsTrue};
-    ghost use Rattle.id_bank.specs.Cells.{read_after, write_after, cells_of, deferred_of};
-    ghost use Rattle.id_bank.specs.Cells.{count_expected, count_readers};
+    ghost use Rattle.id_slot.specs.Cells.{read_after, write_after, cells_of, deferred_of};
+    ghost use Rattle.id_slot.specs.Cells.{count_expected, count_readers};
 
     /// The bank of which no cell was read or written. Takes no memory.
     pub fn new(alloc: Global) -> Bank
@@ -289,9 +185,9 @@ pub struct Cells<'a> {
 impl<'a> Model for Cells<'a> {
     ghost use Rattle.std.specs.Prelude.{◌≡◌, ◌≤◌, List, All, drop, length, map};
     ghost use Rattle.std.specs.List.{flat_map};
-    ghost use Rattle.id_bank.specs.Cells.{filled_at};
-    ghost use Rattle.id_bank.specs.declared.Filled.{Filled};
-    ghost use Rattle.id_bank.specs.Slots.{IsPage, cells_left};
+    ghost use Rattle.id_slot.specs.Cells.{filled_at};
+    ghost use Rattle.id_slot.specs.declared.Filled.{Filled};
+    ghost use Rattle.id_slot.specs.Slots.{IsPage, cells_left};
 
     ghost Value = { List Filled };
 

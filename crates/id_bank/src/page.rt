@@ -6,14 +6,13 @@ ghost use Rattle.std.specs.Prelude.{All, None, Some, slice_get};
 ghost use Rattle.std.specs.List.{flat_map};
 ghost use Rattle.indexmap.specs.IndexMap.{keys, get, IsUnique};
 ghost use Rattle.id_tag.specs.declared.Structure.{Structure};
-ghost use Rattle.id_bank.specs.declared.ReadAnswer.TheVariants.{Deferred as PutOff};
-ghost use Rattle.id_bank.specs.Cells.{read_answer, state_read, write_answer, state_written, count_expected};
-ghost use Rattle.id_bank.specs.Cells.{count_readers, filled_at};
-ghost use Rattle.id_bank.specs.Slots.{page_of, offset_of, cell_in, same_page, state_in, state_at};
-ghost use Rattle.id_bank.specs.Slots.{IsPage, HasNone, HasNoReaders, cells_below, filled_by};
+ghost use Rattle.id_slot.specs.declared.ReadAnswer.TheVariants.{Deferred as PutOff};
+ghost use Rattle.id_slot.specs.Cells.{read_answer, state_read, write_answer, state_written, count_expected};
+ghost use Rattle.id_slot.specs.Cells.{count_readers, filled_at};
+ghost use Rattle.id_slot.specs.Slots.{page_of, offset_of, cell_in, same_page, state_in, state_at};
+ghost use Rattle.id_slot.specs.Slots.{IsPage, HasNone, HasNoReaders, cells_below, filled_by};
 
-use crate::slot::{Slot, filled};
-use crate::{Filled, ReadAnswer, WriteAnswer};
+use id_slot::{Filled, ReadAnswer, Slot, WriteAnswer, filled_by};
 use id_tag::{Cell, NearHasher, Structure, Tag, Value};
 use indexmap::IndexMap;
 use std::alloc::{AllocError, Global};
@@ -298,7 +297,7 @@ pub(crate) fn filled_in(page: (i64, Structure), slots: &[Slot], offset: usize) -
     ensures { result ≡ filled_by (cell_in page offset) (state_in slots.now offset) }
 {
     if offset < slots.len() {
-        filled(cell_in(page, offset), &slots[offset])
+        filled_by(cell_in(page, offset), &slots[offset])
     } else {
         None
     }

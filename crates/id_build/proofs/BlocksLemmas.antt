@@ -5,24 +5,24 @@ use Rattle.std.proofs.lemmas.Bool.Decides.{nat_tests}
 use Rattle.std.specs.Prelude.{◌&&◌, nat_eq}
 use Rattle.std.proofs.lemmas.Bool.{cases_lt, eqb-true, false≢true}
 use Rattle.std.proofs.lemmas.List.{map-append}
-use Rattle.id_parts.specs.declared.row.Node.{Node}
-use Rattle.id_parts.specs.declared.row.Node.TheVariants.{Head}
-use Rattle.id_parts.specs.Rows.{at}
-use Rattle.id_parts.specs.Tables.{is_head, is_param}
-use Rattle.id_parts.specs.Turns.{IsDefOf, heads_below, params_at, params_below}
+use Rattle.id_table.specs.declared.row.Node.{Node}
+use Rattle.id_table.specs.declared.row.Node.TheVariants.{Head}
+use Rattle.id_table.specs.Rows.{at}
+use Rattle.id_table.specs.Tables.{is_head, is_param}
+use Rattle.id_table.specs.Turns.{IsDefOf, heads_below, params_at, params_below}
 use Rattle.id_check.specs.declared.checked.Checked.{Checked}
 use Rattle.id_check.specs.Programs.{rows}
-use Rattle.id_graph.specs.declared.instr.Block.{Block}
-use Rattle.id_build.specs.Made.{number_by}
+use Rattle.id_instr.specs.declared.instr.Block.{Block}
+use Rattle.id_pieces.specs.Made.{number_by}
 use Rattle.id_desugar.specs.Ends.{end_of}
 use Rattle.id_desugar.specs.Regions.{is_loop_head}
-use Rattle.id_build.specs.Rows.{Entry, entries, entries_by, node, param_entry}
-use Rattle.id_build.specs.Schemas.{block_of, loop_heads_below}
+use Rattle.id_pieces.specs.Rows.{Entry, entries, entries_by, node, param_entry}
+use Rattle.id_pieces.specs.Schemas.{block_of, loop_heads_below}
 use Rattle.id_list.specs.List.{Among}
 use Rattle.id_list.proofs.AmongLemmas.{Among-either}
 use Rattle.id_check.proofs.ProgramsLemmas.{table_of}
-use Rattle.id_parts.proofs.BlocksLemmas.{not_last}
-use Rattle.id_build.proofs.EndsLemmas.{end_is}
+use Rattle.id_table.proofs.BlocksLemmas.{not_last}
+use Rattle.id_pieces.proofs.EndsLemmas.{end_is}
 use Rattle.id_build.proofs.FillLemmas.{Among-get_or}
 
 -- whether the row is a parameter of the procedure with this head

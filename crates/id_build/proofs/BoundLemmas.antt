@@ -3,17 +3,17 @@ use Rattle.std.proofs.Common.{◌≡◌, ℕ, zero, suc, ◌+◌, ◌-◌, ◌*�
 use Rattle.std.specs.Prelude.{if◌then◌else◌, unwrap_or}
 use Rattle.std.specs.Option.{option_or}
 use Rattle.std.proofs.lemmas.List.{length_push, length-append}
-use Rattle.id_parts.specs.declared.row.Node.TheVariants.{Entries, LoopHead, Split, Start, Switches, Turn}
-use Rattle.id_parts.specs.Rows.{at}
-use Rattle.id_parts.specs.Tables.{is_in_loop}
+use Rattle.id_table.specs.declared.row.Node.TheVariants.{Entries, LoopHead, Split, Start, Switches, Turn}
+use Rattle.id_table.specs.Rows.{at}
+use Rattle.id_table.specs.Tables.{is_in_loop}
 use Rattle.id_check.specs.declared.checked.Checked.{Checked}
 use Rattle.id_check.specs.Programs.{place, rows}
 use Rattle.id_scope.specs.Scopes.{first_of}
 use Rattle.id_check.proofs.ProgramsLemmas.{table_of}
 use Rattle.id_desugar.specs.Ends.{end_at, end_of, ends_what}
 use Rattle.id_desugar.specs.Regions.{handed, has, imports_by, imports_of, is_loop_head, is_outside, nexts_of, taken, used, with_use}
-use Rattle.id_build.specs.Rows.{block, made, made_of, node}
-use Rattle.id_build.proofs.LoopsLemmas.{entries_are, head_inside, loop_rows, start_head}
+use Rattle.id_pieces.specs.Rows.{block, made, made_of, node}
+use Rattle.id_pieces.proofs.LoopsLemmas.{entries_are, head_inside, loop_rows, start_head}
 use Rattle.id_build.proofs.SizeLemmas.{length-entries, length-split, length-start, length-switches, length-turn}
 
 -- what begins at a row ends at one of the rows

@@ -7,26 +7,26 @@ use Rattle.std.proofs.lemmas.Bool.{cases_lt, eqb-true, false≢true}
 use Rattle.std.proofs.lemmas.List.{map-append}
 use Rattle.std.proofs.lemmas.Option.{slice_get-get_or}
 use Rattle.id_list.specs.List.{Among}
-use Rattle.id_parts.specs.declared.row.Row.{Row}
-use Rattle.id_parts.specs.declared.row.Node.{Node}
-use Rattle.id_parts.specs.declared.row.Node.TheVariants.{Head, Param, Literal, Name, Unary, Binary, Split, If, Enter, Arg, Call}
-use Rattle.id_parts.specs.declared.row.Node.TheVariants.{Block, Binding, Def, Program, Start, LoopHead, Variable, Entries, Switches}
-use Rattle.id_parts.specs.declared.row.Node.TheVariants.{Turn, NextUse, Next, Body, Reset, Loop, Array, Fetch, Address, Store}
-use Rattle.id_parts.specs.Rows.{no_row}
-use Rattle.id_parts.specs.Tables.{is_param}
+use Rattle.id_table.specs.declared.row.Row.{Row}
+use Rattle.id_table.specs.declared.row.Node.{Node}
+use Rattle.id_table.specs.declared.row.Node.TheVariants.{Head, Param, Literal, Name, Unary, Binary, Split, If, Enter, Arg, Call}
+use Rattle.id_table.specs.declared.row.Node.TheVariants.{Block, Binding, Def, Program, Start, LoopHead, Variable, Entries, Switches}
+use Rattle.id_table.specs.declared.row.Node.TheVariants.{Turn, NextUse, Next, Body, Reset, Loop, Array, Fetch, Address, Store}
+use Rattle.id_table.specs.Rows.{no_row}
+use Rattle.id_table.specs.Tables.{is_param}
 use Rattle.id_check.specs.declared.checked.Checked.{Checked}
 use Rattle.id_check.specs.Programs.{place, rows}
 use Rattle.id_desugar.specs.Regions.{imports_of, nexts_of}
-use Rattle.id_graph.specs.declared.instr.Op.{Op}
-use Rattle.id_graph.specs.declared.instr.PortKind.{PortKind}
-use Rattle.id_graph.specs.declared.instr.Op.TheVariants.{Merge, Switch, Next as NextOp}
-use Rattle.id_build.specs.declared.arc.Form.{Form}
-use Rattle.id_build.specs.declared.arc.Form.TheVariants.{Plain, EnterAt, SendTo, FetchAt}
-use Rattle.id_build.specs.declared.arc.Piece.{Piece}
-use Rattle.id_build.specs.Made.{AreFirsts, EntriesFit, Fits, first_in, number_by, pieces_in}
-use Rattle.id_build.specs.Rows.{block, called, entries_row, for_each, import_entries, made, made_of, node, param_at, send_to, variable_entries}
-use Rattle.id_build.proofs.LoopsLemmas.{entries_node, entries_stand, entries_within, start_head}
-use Rattle.id_build.proofs.OrderLemmas.{IsOrder}
+use Rattle.id_instr.specs.declared.instr.Op.{Op}
+use Rattle.id_instr.specs.declared.instr.PortKind.{PortKind}
+use Rattle.id_instr.specs.declared.instr.Op.TheVariants.{Merge, Switch, Next as NextOp}
+use Rattle.id_pieces.specs.declared.arc.Form.{Form}
+use Rattle.id_pieces.specs.declared.arc.Form.TheVariants.{Plain, EnterAt, SendTo, FetchAt}
+use Rattle.id_pieces.specs.declared.arc.Piece.{Piece}
+use Rattle.id_pieces.specs.Made.{AreFirsts, EntriesFit, Fits, first_in, number_by, pieces_in}
+use Rattle.id_pieces.specs.Rows.{block, called, entries_row, for_each, import_entries, made, made_of, node, param_at, send_to, variable_entries}
+use Rattle.id_pieces.proofs.LoopsLemmas.{entries_node, entries_stand, entries_within, start_head}
+use Rattle.id_arcs.proofs.OrderLemmas.{IsOrder}
 use Rattle.id_build.proofs.SizeLemmas.{length-entries}
 
 -- where the form is a `send`, its entry is a part of a row, or just behind, and so is the reply of a `fetch`

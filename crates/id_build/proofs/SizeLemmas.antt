@@ -1,15 +1,15 @@
 -- How many instructions rows make.
 use Rattle.std.proofs.Common.{◌≡◌, ℕ, zero, suc, ◌+◌, ◌-◌, ◌≤◌, ◌<◌, List, [], ◌∷◌, length, refl, ap, arith, subst}
 use Rattle.std.proofs.lemmas.List.{length-map}
-use Rattle.id_parts.specs.declared.row.Node.TheVariants.{Entries, Split, Start, Switches, Turn}
+use Rattle.id_table.specs.declared.row.Node.TheVariants.{Entries, Split, Start, Switches, Turn}
 use Rattle.id_check.specs.declared.checked.Checked.{Checked}
 use Rattle.id_check.specs.Programs.{rows}
 use Rattle.id_desugar.specs.Regions.{imports_of, nexts_of}
-use Rattle.id_graph.specs.declared.instr.Op.{Op}
-use Rattle.id_graph.specs.declared.instr.Op.TheVariants.{Merge, Switch, Next as NextOp}
-use Rattle.id_graph.specs.declared.instr.PortKind.{PortKind}
-use Rattle.id_build.specs.Rows.{block, for_each, loop_entries, made, made_of, send_to, size, size_below}
-use Rattle.id_build.proofs.RowLemmas.{length-loop_entries}
+use Rattle.id_instr.specs.declared.instr.Op.{Op}
+use Rattle.id_instr.specs.declared.instr.Op.TheVariants.{Merge, Switch, Next as NextOp}
+use Rattle.id_instr.specs.declared.instr.PortKind.{PortKind}
+use Rattle.id_pieces.specs.Rows.{block, for_each, loop_entries, made, made_of, send_to, size, size_below}
+use Rattle.id_arcs.proofs.RowLemmas.{length-loop_entries}
 
 -- each of these binders has one instruction
 pub length-for_each : (P : Checked) (op : PortKind → Op) (e : ℕ) (bs : List ℕ) → length (for_each P op e bs) ≡ length bs

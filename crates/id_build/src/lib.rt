@@ -6,21 +6,9 @@
 //! Not here: the order of blocks and imports (`id_desugar`), which graphs are sound (`id_valid`).
 #![tactic(auto)]
 
-mod arc;
-mod calls;
-mod columns;
-mod error;
-mod feeds;
-mod joined;
-mod loops;
-mod operators;
-mod origins;
-mod pieces;
 mod program;
 mod size;
-mod slots;
 
-pub use arc::{Arc, Feed, Form, Origin, Piece};
-pub use error::BuildError;
+pub use id_pieces::{Arc, BuildError, Feed, Form, Origin, Piece};
 pub use program::build;
 pub use size::{is_small, is_small_and_plain, is_surely_small};

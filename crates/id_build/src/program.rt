@@ -6,31 +6,26 @@ ghost use Rattle.id_list.specs.List.{AllDiffer, Among};
 ghost use Rattle.id_check.specs.Programs as programs;
 ghost use Rattle.id_desugar.specs.Regions as regions;
 ghost use Rattle.id_desugar.specs.Regions.{imports_of, nexts_of};
-ghost use Rattle.id_graph.specs.Graph.{parts};
-ghost use Rattle.id_parts.specs.Tables as tables;
-ghost use Rattle.id_parts.specs.Turns.{heads_below};
-ghost use Rattle.id_build.specs.Rows as rows;
-ghost use Rattle.id_build.specs.Rows.{feeds, import_entries, made, size, variable_entries};
-ghost use Rattle.id_build.specs.Schemas.{Schemas, all_heads, block_of, loop_heads_below};
-ghost use Rattle.id_build.specs.Made.{AreFirsts, EntriesFit, Fits, IsBetween, arc_of, connected, graph_by};
-ghost use Rattle.id_build.specs.Made.{instrs_from, number_by, pieces_in};
-ghost use Rattle.id_build.specs.Slots.{AreColumns, AreSlots};
+ghost use Rattle.id_instr.specs.Graph.{parts};
+ghost use Rattle.id_table.specs.Tables as tables;
+ghost use Rattle.id_table.specs.Turns.{heads_below};
+ghost use Rattle.id_pieces.specs.Rows as rows;
+ghost use Rattle.id_pieces.specs.Rows.{feeds, import_entries, made, size, variable_entries};
+ghost use Rattle.id_pieces.specs.Schemas.{Schemas, all_heads, block_of, loop_heads_below};
+ghost use Rattle.id_pieces.specs.Made.{AreFirsts, EntriesFit, Fits, IsBetween, arc_of, connected, graph_by};
+ghost use Rattle.id_pieces.specs.Made.{instrs_from, number_by, pieces_in};
+ghost use Rattle.id_pieces.specs.Slots.{AreColumns, AreSlots};
 
-use crate::arc::Piece;
-use crate::calls::is_param;
-use crate::columns::Columns;
-use crate::error::BuildError;
-use crate::feeds::{Arcs, number_by, push_feeds};
-use crate::joined::{connect_all, push_bare};
-use crate::loops::entries_row;
-use crate::pieces::push_pieces;
 use crate::size::made_count;
-use crate::slots::{Slots, find_slots};
+use id_arcs::{Arcs, connect_all, number_by, push_bare, push_feeds};
 use id_check::Checked;
 use id_desugar::{Kernel, row_at};
 use id_graph::{Block, Graph, Instr};
 use id_list::Sequence;
-use id_parts::{Node, Row};
+use id_parts::Node;
+use id_pieces::{
+    BuildError, Columns, Piece, Slots, entries_row, find_slots, is_param, push_pieces,
+};
 use std::alloc::Global;
 
 /// A graph that the schemas give the program.

@@ -4,14 +4,13 @@ ghost use Rattle.std.specs.Prelude.{ℕ, ◌≡◌, ◌+◌, ◌-◌, ◌<◌, �
 ghost use Rattle.id_check.specs.declared.checked.Checked.{Checked};
 ghost use Rattle.id_check.specs.Programs as programs;
 ghost use Rattle.id_desugar.specs.Ends.{AreEnds, end_of};
-ghost use Rattle.id_build.specs.Rows.{HasNoSplit, is_plain, made, made_of, size};
-ghost use Rattle.id_build.specs.Slots.{AreColumns};
+ghost use Rattle.id_pieces.specs.Rows.{HasNoSplit, is_plain, made, made_of, size};
+ghost use Rattle.id_pieces.specs.Slots.{AreColumns};
 
-use crate::columns::Columns;
-use crate::loops::nexts_at;
 use id_check::Checked;
 use id_desugar::{Column, Kernel, end_of, find_ends, row_at};
 use id_parts::Node;
+use id_pieces::{Columns, nexts_at};
 use std::alloc::{AllocError, Global};
 
 /// Whether the schemas give the program at most 1,000,000 instructions: `build` refuses it otherwise. Takes no memory.

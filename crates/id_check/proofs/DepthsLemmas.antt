@@ -3,14 +3,14 @@ use Rattle.std.proofs.Common.{◌≡◌, ◌⊎◌, inl, inr, ◌+◌, ◌-◌, 
 use Rattle.std.proofs.Common.{get_or, refl, ap, sym, ◌∙◌, subst, arith}
 use Rattle.std.proofs.lemmas.Bool.{cases_lt}
 use Rattle.std.proofs.lemmas.List.{get_or_append_left, get_or_push, length_push}
-use Rattle.id_tree.specs.Tree.{Tree}
-use Rattle.id_parts.specs.declared.row.Row.{Row}
-use Rattle.id_parts.specs.declared.row.Node.{Node}
-use Rattle.id_parts.specs.declared.row.Node.TheVariants.{LoopHead}
-use Rattle.id_parts.specs.Names.{first_names}
-use Rattle.id_parts.specs.Rows.{Parts, add, at, in_top, no_row, rows_of}
-use Rattle.id_parts.specs.Loops.{depth, loops_from}
-use Rattle.id_parts.specs.Turns.{IsTable}
+use Rattle.id_grammar.specs.Tree.{Tree}
+use Rattle.id_table.specs.declared.row.Row.{Row}
+use Rattle.id_table.specs.declared.row.Node.{Node}
+use Rattle.id_table.specs.declared.row.Node.TheVariants.{LoopHead}
+use Rattle.id_table.specs.Names.{first_names}
+use Rattle.id_table.specs.Rows.{Parts, add, at, in_top, no_row, rows_of}
+use Rattle.id_table.specs.Loops.{depth, loops_from}
+use Rattle.id_table.specs.Turns.{IsTable}
 use Rattle.id_check.specs.Depths.{AreDepths, AreInBlocks}
 
 -- where a block's head is below two bounds, as many loops are counted up to either

@@ -5,16 +5,16 @@ use Rattle.std.specs.Prelude.{◌&&◌, ◌||◌}
 use Rattle.std.proofs.lemmas.Bool.{cases_lt, false≢true}
 use Rattle.std.proofs.lemmas.Bool.Decides.{nat_tests}
 use Rattle.id_value.specs.declared.Kind.{Kind}
-use Rattle.id_parts.specs.declared.row.Region.{Region}
-use Rattle.id_parts.specs.declared.row.Row.{Row}
-use Rattle.id_parts.specs.declared.row.Node.{Node}
-use Rattle.id_parts.specs.declared.row.Node.TheVariants.{Head, Param, Name, Block, Binding, Def, Start, LoopHead, NextUse, Next, Body, Loop}
-use Rattle.id_parts.specs.Rows.{arm_at, at, top}
-use Rattle.id_parts.specs.Tables.{around, has_statements, is_head, is_param, is_split, is_statement, is_switches, is_top}
-use Rattle.id_parts.specs.Loops.{IsLoop, IsLoopOf}
-use Rattle.id_parts.specs.Regions.{Lies, here, in_arm, in_loop, in_side}
-use Rattle.id_parts.specs.Turns.{AreParamsOf, IsTable, in_block}
-use Rattle.id_parts.proofs.RegionLemmas.{Lies-trans}
+use Rattle.id_table.specs.declared.row.Region.{Region}
+use Rattle.id_table.specs.declared.row.Row.{Row}
+use Rattle.id_table.specs.declared.row.Node.{Node}
+use Rattle.id_table.specs.declared.row.Node.TheVariants.{Head, Param, Name, Block, Binding, Def, Start, LoopHead, NextUse, Next, Body, Loop}
+use Rattle.id_table.specs.Rows.{arm_at, at, top}
+use Rattle.id_table.specs.Tables.{around, has_statements, is_head, is_param, is_split, is_statement, is_switches, is_top}
+use Rattle.id_table.specs.Loops.{IsLoop, IsLoopOf}
+use Rattle.id_table.specs.Regions.{Lies, here, in_arm, in_loop, in_side}
+use Rattle.id_table.specs.Turns.{AreParamsOf, IsTable, in_block}
+use Rattle.id_table.proofs.RegionLemmas.{Lies-trans}
 use Rattle.id_scope.specs.Scopes.{bound_name, closes, confines, held, looks, sees_own, takes}
 
 -- the home of a binder's value is where the binder stands, and for a loop's variable the beginning of the loop

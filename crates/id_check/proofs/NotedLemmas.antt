@@ -1,14 +1,14 @@
 -- The tree of the program that a note knows.
 use Rattle.std.proofs.Common.{◌≡◌, List, Option, Some, None, sym, subst}
-use Rattle.id_tree.specs.Tree.{Tree, program_tree}
-use Rattle.id_tree.specs.declared.tree.Program.{Program}
-use Rattle.id_parts.specs.declared.row.Row.{Row}
-use Rattle.id_parts.specs.Rows.{rows_of}
-use Rattle.id_parts.specs.Trees.{IsProgramTree}
-use Rattle.id_parts.specs.Trees.IsTree.{no_defs}
-use Rattle.id_parts.specs.Turns.{IsTable}
-use Rattle.id_parts.proofs.TableLemmas.{IsTable-rows_of}
-use Rattle.id_parts.proofs.TreeLemmas.{IsProgramTree-program_tree}
+use Rattle.id_grammar.specs.Tree.{Tree, program_tree}
+use Rattle.id_grammar.specs.declared.tree.Program.{Program}
+use Rattle.id_table.specs.declared.row.Row.{Row}
+use Rattle.id_table.specs.Rows.{rows_of}
+use Rattle.id_table.specs.Trees.{IsProgramTree}
+use Rattle.id_table.specs.Trees.IsTree.{no_defs}
+use Rattle.id_table.specs.Turns.{IsTable}
+use Rattle.id_table.proofs.TableLemmas.{IsTable-rows_of}
+use Rattle.id_table.proofs.TreeLemmas.{IsProgramTree-program_tree}
 use Rattle.id_check.specs.Depths.{AreInBlocks}
 use Rattle.id_check.specs.Noted.{tree_in}
 use Rattle.id_check.proofs.DepthsLemmas.{AreInBlocks-table}

@@ -4,13 +4,13 @@ use Rattle.std.proofs.Common.{◌∷◌, ◌++◌, Option, Some, None, length, r
 use Rattle.std.specs.Prelude.{◌&&◌, nat_eq, nat_lt, if◌then◌else◌}
 use Rattle.std.proofs.lemmas.Bool.{false≢true, ltb-true, lt-ltb, eqb-true, cases_lt}
 use Rattle.std.proofs.lemmas.Bool.Decides.{Decides-eqb}
-use Rattle.id_parts.specs.declared.row.Row.{Row}
-use Rattle.id_parts.specs.declared.row.Node.{Node}
-use Rattle.id_parts.specs.declared.row.Node.TheVariants.{Def}
-use Rattle.id_parts.specs.Rows.{at}
-use Rattle.id_parts.specs.Tables.{is_param}
-use Rattle.id_parts.specs.Turns.{IsDefOf, IsTable, params_at}
-use Rattle.id_parts.proofs.BlocksLemmas.{Among-from_params_at, Among-params_at, param_at, param_index, params_at-run, run}
+use Rattle.id_table.specs.declared.row.Row.{Row}
+use Rattle.id_table.specs.declared.row.Node.{Node}
+use Rattle.id_table.specs.declared.row.Node.TheVariants.{Def}
+use Rattle.id_table.specs.Rows.{at}
+use Rattle.id_table.specs.Tables.{is_param}
+use Rattle.id_table.specs.Turns.{IsDefOf, IsTable, params_at}
+use Rattle.id_table.proofs.BlocksLemmas.{Among-from_params_at, Among-params_at, param_at, param_index, params_at-run, run}
 use Rattle.id_scope.specs.declared.cause.CheckCause.{CheckCause}
 use Rattle.id_scope.specs.declared.cause.CheckCause.TheVariants.{MainKind}
 use Rattle.id_scope.specs.Causes.{array_param, callee, head_in, is_array_param}

@@ -16,19 +16,19 @@ use Rattle.id_value.specs.declared.Arithmetic.{Arithmetic}
 use Rattle.id_value.specs.declared.Logic.{Logic}
 use Rattle.id_value.specs.declared.Comparison.{Comparison}
 use Rattle.id_value.specs.declared.Comparison.TheVariants.{Lt, Le, Gt, Ge, Eq, Ne}
-use Rattle.id_parts.specs.declared.row.Row.{Row}
-use Rattle.id_parts.specs.declared.row.Node.{Node}
-use Rattle.id_parts.specs.declared.row.Node.TheVariants.{Head, Param, Literal, Name, Unary, Binary, Split, If, Enter, Arg, Call, Block, Binding, Def, Program}
-use Rattle.id_parts.specs.declared.row.Node.TheVariants.{Start, LoopHead, Variable, Entries, Switches, Turn, NextUse, Next, Body, Reset, Loop}
-use Rattle.id_parts.specs.declared.row.Node.TheVariants.{Fetch, Address, Store}
-use Rattle.id_parts.specs.declared.row.Node.TheVariants as node
-use Rattle.id_parts.specs.Loops.{IsLoopOf}
-use Rattle.id_parts.specs.Rows.{at, no_row}
-use Rattle.id_parts.specs.Tables.{HasOperand, around, is_binder, is_def, is_expression, is_in_loop, is_param}
-use Rattle.id_parts.specs.Regions.{Lies}
-use Rattle.id_parts.specs.Turns.{IsTable, params_at}
-use Rattle.id_parts.proofs.RegionLemmas.{HasPart-operand}
-use Rattle.id_parts.proofs.TableLemmas.{IsTable-rows_of}
+use Rattle.id_table.specs.declared.row.Row.{Row}
+use Rattle.id_table.specs.declared.row.Node.{Node}
+use Rattle.id_table.specs.declared.row.Node.TheVariants.{Head, Param, Literal, Name, Unary, Binary, Split, If, Enter, Arg, Call, Block, Binding, Def, Program}
+use Rattle.id_table.specs.declared.row.Node.TheVariants.{Start, LoopHead, Variable, Entries, Switches, Turn, NextUse, Next, Body, Reset, Loop}
+use Rattle.id_table.specs.declared.row.Node.TheVariants.{Fetch, Address, Store}
+use Rattle.id_table.specs.declared.row.Node.TheVariants as node
+use Rattle.id_table.specs.Loops.{IsLoopOf}
+use Rattle.id_table.specs.Rows.{at, no_row}
+use Rattle.id_table.specs.Tables.{HasOperand, around, is_binder, is_def, is_expression, is_in_loop, is_param}
+use Rattle.id_table.specs.Regions.{Lies}
+use Rattle.id_table.specs.Turns.{IsTable, params_at}
+use Rattle.id_table.proofs.RegionLemmas.{HasPart-operand}
+use Rattle.id_table.proofs.TableLemmas.{IsTable-rows_of}
 use Rattle.id_scope.specs.declared.cause.CheckCause.TheVariants.{MainKind, TooManyParams, Unknown, WrongCount, WrongKind}
 use Rattle.id_check.specs.declared.checked.Checked.{Checked}
 use Rattle.id_scope.specs.declared.cause.CheckCause.{CheckCause}
@@ -47,7 +47,7 @@ use Rattle.id_check.proofs.HomesLemmas.{bound_home, home, seen_outside}
 use Rattle.id_scope.proofs.LinksLemmas.{link_below, part_of}
 use Rattle.id_check.proofs.NotedLemmas.{IsProgramTree-tree_in}
 use Rattle.id_scope.proofs.ScopesLemmas.{binder_at-below, first_of-some}
-use Rattle.id_parts.proofs.BlocksLemmas.{Among-from_params_at, not_last, param_at}
+use Rattle.id_table.proofs.BlocksLemmas.{Among-from_params_at, not_last, param_at}
 
 -- ---- the table
 

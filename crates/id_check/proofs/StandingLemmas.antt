@@ -9,19 +9,19 @@ use Rattle.id_value.specs.declared.Kind.TheVariants.{Int, Bool, Array}
 use Rattle.id_value.specs.declared.BinaryOp.{BinaryOp}
 use Rattle.id_value.specs.declared.BinaryOp.TheVariants as class
 use Rattle.id_value.specs.declared.Comparison.TheVariants.{Lt, Le, Gt, Ge, Eq, Ne}
-use Rattle.id_parts.specs.declared.row.Row.{Row}
-use Rattle.id_parts.specs.declared.row.Node.{Node}
-use Rattle.id_parts.specs.declared.row.Node.TheVariants.{Param, Literal, Name, Unary, Binary, Split, If, Enter}
-use Rattle.id_parts.specs.declared.row.Node.TheVariants.{Arg, Call, Block, Binding, Def, Switches, NextUse, Next, Loop}
-use Rattle.id_parts.specs.declared.row.Node.TheVariants.{Fetch, Address, Store}
-use Rattle.id_parts.specs.declared.row.Node.TheVariants as node
-use Rattle.id_tree.specs.Tree.{Tree}
+use Rattle.id_table.specs.declared.row.Row.{Row}
+use Rattle.id_table.specs.declared.row.Node.{Node}
+use Rattle.id_table.specs.declared.row.Node.TheVariants.{Param, Literal, Name, Unary, Binary, Split, If, Enter}
+use Rattle.id_table.specs.declared.row.Node.TheVariants.{Arg, Call, Block, Binding, Def, Switches, NextUse, Next, Loop}
+use Rattle.id_table.specs.declared.row.Node.TheVariants.{Fetch, Address, Store}
+use Rattle.id_table.specs.declared.row.Node.TheVariants as node
+use Rattle.id_grammar.specs.Tree.{Tree}
 use Rattle.id_tree.specs.Distinct.{HasPlace}
-use Rattle.id_parts.specs.Rows.{at, rows_of}
-use Rattle.id_parts.specs.Tables.{HasOperand, is_expression, is_param, is_thing}
-use Rattle.id_parts.specs.Turns.{IsTable, params_at, params_below}
-use Rattle.id_parts.proofs.PlacesLemmas.{HasPlace-rows_of}
-use Rattle.id_parts.proofs.RegionLemmas.{HasPart-operand}
+use Rattle.id_table.specs.Rows.{at, rows_of}
+use Rattle.id_table.specs.Tables.{HasOperand, is_expression, is_param, is_thing}
+use Rattle.id_table.specs.Turns.{IsTable, params_at, params_below}
+use Rattle.id_table.proofs.PlacesLemmas.{HasPlace-rows_of}
+use Rattle.id_table.proofs.RegionLemmas.{HasPart-operand}
 use Rattle.id_scope.specs.declared.cause.CheckCause.{CheckCause}
 use Rattle.id_scope.specs.declared.cause.CheckCause.TheVariants.{NoMain, MainKind, Duplicate, Unknown, WrongCount, WrongKind, TooManyParams, Memory}
 use Rattle.id_scope.specs.Scopes.{binder_in, binds, bound_name, is_name, keeps, held, user_of}

@@ -1,10 +1,10 @@
 -- How many loops are round the rows, for use inside.
 use Rattle.std.specs.Prelude.{◌≡◌, ◌<◌, ◌≤◌, ℕ, suc, List, length, get_or}
-use Rattle.id_parts.specs.declared.row.Row.{Row}
-use Rattle.id_parts.specs.declared.row.Node.{Node}
-use Rattle.id_parts.specs.declared.row.Node.TheVariants.{LoopHead}
-use Rattle.id_parts.specs.Loops.{depth}
-use Rattle.id_parts.specs.Rows.{at}
+use Rattle.id_table.specs.declared.row.Row.{Row}
+use Rattle.id_table.specs.declared.row.Node.{Node}
+use Rattle.id_table.specs.declared.row.Node.TheVariants.{LoopHead}
+use Rattle.id_table.specs.Loops.{depth}
+use Rattle.id_table.specs.Rows.{at}
 
 -- a block's head stands before its other rows, and a loop's `Start` before its head
 pub record AreInBlocks (R : List Row) : Type 0 where

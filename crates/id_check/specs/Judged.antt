@@ -1,6 +1,6 @@
 -- What a check finds in the rows of a program that it accepts, for use inside.
 use Rattle.std.specs.Prelude.{◌≡◌, ℕ, List, [], get_or, length, None}
-use Rattle.id_parts.specs.declared.row.Row.{Row}
+use Rattle.id_table.specs.declared.row.Row.{Row}
 use Rattle.id_scope.specs.Causes.{IsMain, causes}
 use Rattle.id_check.specs.Depths.{AreDepths}
 use Rattle.id_scope.specs.Kinds.{AreKinds}

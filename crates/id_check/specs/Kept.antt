@@ -1,8 +1,8 @@
 -- That no two things of a tree have one place can be kept by a type: there is at most one proof of it.
 use Rattle.std.specs.Prelude.{ℕ}
 use Rattle.std.specs.Coded.{×_prop, Π_prop, →_prop, Unit-prop}
-use Rattle.id_tree.specs.Tree.{Tree, literal, unary, binary, name, conditional, call, block, binding, param, define}
-use Rattle.id_tree.specs.Tree.{none, more, loop, next, array, fetch, store}
+use Rattle.id_grammar.specs.Tree.{Tree, literal, unary, binary, name, conditional, call, block, binding, param, define}
+use Rattle.id_grammar.specs.Tree.{none, more, loop, next, array, fetch, store}
 use Rattle.id_tree.specs.Distinct.{Apart, Distinct, HasPlace}
 
 -- there is at most one proof that nothing stands in a type

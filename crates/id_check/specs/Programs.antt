@@ -1,12 +1,12 @@
 -- A checked program, row by row (docs/MEANING.md, "Parts").
 use Rattle.std.specs.Prelude.{◌≡◌, ◌<◌, ℕ, List, length, get_or, Option, None, Some}
 use Rattle.id_value.specs.declared.Kind.{Kind}
-use Rattle.id_tree.specs.Tree.{Tree}
-use Rattle.id_parts.specs.declared.row.Region.{Region}
-use Rattle.id_parts.specs.declared.row.Row.{Row}
-use Rattle.id_parts.specs.declared.row.Node.{Node}
-use Rattle.id_parts.specs.declared.row.Node.TheVariants.{Enter, Def}
-use Rattle.id_parts.specs.Rows.{at}
+use Rattle.id_grammar.specs.Tree.{Tree}
+use Rattle.id_table.specs.declared.row.Region.{Region}
+use Rattle.id_table.specs.declared.row.Row.{Row}
+use Rattle.id_table.specs.declared.row.Node.{Node}
+use Rattle.id_table.specs.declared.row.Node.TheVariants.{Enter, Def}
+use Rattle.id_table.specs.Rows.{at}
 use Rattle.id_check.specs.declared.checked.Checked.{Checked}
 use Rattle.id_check.specs.Noted.{tree_in}
 

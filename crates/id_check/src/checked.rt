@@ -5,7 +5,7 @@ ghost use Rattle.std.proofs.Props.{props};
 ghost use Rattle.id_tree.specs.Distinct.{Distinct};
 ghost use Rattle.id_check.specs.Kept.{Distinct-prop};
 ghost use Rattle.id_check.specs.Noted.{tree_in};
-ghost use Rattle.id_parts.specs.Rows.{parts_of, rows_of};
+ghost use Rattle.id_table.specs.Rows.{parts_of, rows_of};
 ghost use Rattle.id_scope.specs.Causes.{IsMain, causes};
 ghost use Rattle.id_scope.specs.Kinds.{AreKinds};
 ghost use Rattle.id_scope.specs.Scopes.{AreBinders, HasDepths, column};

@@ -3,8 +3,8 @@
 
 ghost use Rattle.std.specs.Prelude.{◌≡◌, ◌<◌, ◌+◌, length, IfOk, OnOk, Some};
 ghost use Rattle.std.specs.Option.{option_or};
-ghost use Rattle.id_parts.specs.Loops.{depth};
-ghost use Rattle.id_parts.specs.Tables.{IsFormed};
+ghost use Rattle.id_table.specs.Loops.{depth};
+ghost use Rattle.id_table.specs.Tables.{IsFormed};
 ghost use Rattle.id_check.specs.Counts.{AreCounts};
 ghost use Rattle.id_check.specs.Depths.{AreDepths, AreInBlocks};
 

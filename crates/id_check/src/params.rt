@@ -1,7 +1,7 @@
 //! The parameters of a definition, which stand right behind its head.
 
 ghost use Rattle.std.specs.Prelude.{◌≡◌, ◌<◌, ℕ, length, nat_eq, nat_lt};
-ghost use Rattle.id_parts.specs.Turns.{IsDefOf, IsTable, params_at};
+ghost use Rattle.id_table.specs.Turns.{IsDefOf, IsTable, params_at};
 ghost use Rattle.id_scope.specs.Causes as causes;
 ghost use Rattle.id_check.specs.Params as params;
 

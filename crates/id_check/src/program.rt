@@ -1,11 +1,11 @@
 //! The check of a program: its table, the binders and kinds of its rows, and the first cause to refuse it.
 
 ghost use Rattle.std.specs.Prelude.{◌≡◌, ◌<◌, ℕ, get_or, length, IfOk, IfErr, IfNone, IfSome, None, Some};
-ghost use Rattle.id_tree.specs.Tree.{program_tree};
+ghost use Rattle.id_grammar.specs.Tree.{program_tree};
 ghost use Rattle.id_tree.specs.Distinct.{Distinct};
-ghost use Rattle.id_parts.specs.Rows.{parts_of, rows_of};
-ghost use Rattle.id_parts.specs.Tables.{IsFormed};
-ghost use Rattle.id_parts.specs.Turns.{IsTable};
+ghost use Rattle.id_table.specs.Rows.{parts_of, rows_of};
+ghost use Rattle.id_table.specs.Tables.{IsFormed};
+ghost use Rattle.id_table.specs.Turns.{IsTable};
 ghost use Rattle.id_scope.specs.Causes.{HasNoMain, IsInside, IsMain, IsRefusedFor, causes, causes_below, duplicates};
 ghost use Rattle.id_scope.specs.Causes as cause;
 ghost use Rattle.id_check.specs.Counts.{AreCounts};

@@ -3,7 +3,7 @@
 ghost use Rattle.std.specs.Prelude.{◌≡◌};
 ghost use Rattle.std.proofs.Props.{props};
 ghost use Rattle.id_tree.specs.Distinct.{Distinct};
-ghost use Rattle.id_parts.specs.Rows.{parts_of, rows_of};
+ghost use Rattle.id_table.specs.Rows.{parts_of, rows_of};
 ghost use Rattle.id_check.specs.Kept.{Distinct-prop};
 ghost use Rattle.id_check.specs.Noted.{tree_in};
 

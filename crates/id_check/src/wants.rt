@@ -2,9 +2,9 @@
 //! parameters.
 
 ghost use Rattle.std.specs.Prelude.{◌≡◌, ◌<◌, ◌+◌, ℕ, get_or, length, None, Some};
-ghost use Rattle.id_parts.specs.Rows.{at};
-ghost use Rattle.id_parts.specs.Tables.{HasPart, IsFormed};
-ghost use Rattle.id_parts.specs.Turns.{IsDefOf, IsTable, params_at};
+ghost use Rattle.id_table.specs.Rows.{at};
+ghost use Rattle.id_table.specs.Tables.{HasPart, IsFormed};
+ghost use Rattle.id_table.specs.Turns.{IsDefOf, IsTable, params_at};
 ghost use Rattle.id_scope.specs.Causes as causes;
 ghost use Rattle.id_scope.specs.Causes.{causes_below, causes_in, unknown, wrong, wrong_argument, wrong_both};
 ghost use Rattle.id_scope.specs.Causes.{wrong_cell, wrong_count, wrong_like};

@@ -4,9 +4,9 @@ use Rattle.id_text.specs.declared.token.Token.{Token}
 use Rattle.id_text.specs.declared.token.TextError.{TextError}
 use Rattle.id_text.specs.declared.token.TextError.TheVariants as lexer
 use Rattle.id_text.specs.Tokens.{IsWithin, IsPlaceWithin}
-use Rattle.id_tree.specs.declared.tree.TreeError.{TreeError}
-use Rattle.id_tree.specs.declared.tree.TreeError.TheVariants as parser
-use Rattle.id_tree.specs.Tree.{Tree}
+use Rattle.id_grammar.specs.declared.tree.TreeError.{TreeError}
+use Rattle.id_grammar.specs.declared.tree.TreeError.TheVariants as parser
+use Rattle.id_grammar.specs.Tree.{Tree}
 use Rattle.id_tree.specs.Distinct.{HasPlace}
 use Rattle.id_tree.specs.Accepted.{StopsAt, RefusedBy}
 use Rattle.id_scope.specs.declared.cause.CheckCause.{CheckCause}

@@ -3,7 +3,7 @@ use Rattle.std.specs.Prelude.{refl}
 use Rattle.std.specs.Coded.{Coded, code_by, coded×}
 use Rattle.id_check.specs.declared.checked.Checked.{Checked}
 use Rattle.id_check.specs.contracts.checked.Checked as checked
-use Rattle.id_graph.specs.Graph.{Parts}
+use Rattle.id_instr.specs.Graph.{Parts}
 use Rattle.id_valid.specs.contracts.valid.Valid as valid
 use Rattle.id_compile.specs.Programs.{CompiledView}
 

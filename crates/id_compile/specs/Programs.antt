@@ -4,20 +4,20 @@ use Rattle.id_text.specs.declared.token.Token.{Token}
 use Rattle.id_text.specs.declared.token.TextError.{TextError}
 use Rattle.id_text.specs.Lexes.{Lexes, IsRefusal}
 use Rattle.id_text.specs.Lexes.Ending.{Whole}
-use Rattle.id_tree.specs.declared.tree.TreeError.{TreeError}
-use Rattle.id_tree.specs.Tree.{Tree}
+use Rattle.id_grammar.specs.declared.tree.TreeError.{TreeError}
+use Rattle.id_grammar.specs.Tree.{Tree}
 use Rattle.id_tree.specs.Distinct.{HasPlace}
 use Rattle.id_tree.specs.Accepted.{Accepts, RefusedBy}
-use Rattle.id_parts.specs.Rows.{rows_of}
+use Rattle.id_table.specs.Rows.{rows_of}
 use Rattle.id_scope.specs.Causes.{IsMain, IsRefusedFor}
 use Rattle.id_check.specs.Programs.{rows, tree}
 use Rattle.id_check.specs.declared.checked.Checked.{Checked}
 use Rattle.id_scope.specs.declared.cause.CheckCause.{CheckCause}
 use Rattle.id_value.specs.declared.Constant.{Constant}
-use Rattle.id_meaning.specs.declared.inputs.Wanted.{Wanted}
-use Rattle.id_meaning.specs.Inputs.{AreInputsOf, wanted}
-use Rattle.id_graph.specs.Graph.{Parts}
-use Rattle.id_build.specs.Rows.{size}
+use Rattle.id_inputs.specs.declared.inputs.Wanted.{Wanted}
+use Rattle.id_inputs.specs.Inputs.{AreInputsOf, wanted}
+use Rattle.id_instr.specs.Graph.{Parts}
+use Rattle.id_pieces.specs.Rows.{size}
 use Rattle.id_compile.specs.declared.compiled.CompileError.{CompileError}
 use Rattle.id_compile.specs.declared.compiled.CompileError.TheVariants as compiler
 

@@ -5,17 +5,17 @@ use Rattle.id_text.specs.declared.token.TextError.{TextError}
 use Rattle.id_text.specs.declared.token.TextError.TheVariants as lexer
 use Rattle.id_value.specs.declared.Kind.{Kind}
 use Rattle.id_value.specs.declared.Kind.TheVariants.{Int, Bool, Array}
-use Rattle.id_tree.specs.declared.tree.TreeError.{TreeError}
-use Rattle.id_tree.specs.declared.tree.TreeError.TheVariants as parser
+use Rattle.id_grammar.specs.declared.tree.TreeError.{TreeError}
+use Rattle.id_grammar.specs.declared.tree.TreeError.TheVariants as parser
 use Rattle.id_check.specs.declared.checked.Checked.{Checked}
 use Rattle.id_scope.specs.declared.cause.CheckCause.{CheckCause}
 use Rattle.id_scope.specs.declared.cause.CheckCause.TheVariants as checker
-use Rattle.id_meaning.specs.declared.inputs.InputError.TheVariants as input
-use Rattle.id_meaning.specs.Sources.{source}
-use Rattle.id_meaning.specs.Inputs.{AreRefusedInputs}
-use Rattle.id_meaning.specs.declared.Fact.{Fact}
-use Rattle.id_meaning.specs.Computed.{AreFacts, HasMoreFacts}
-use Rattle.id_build.specs.Rows.{size}
+use Rattle.id_inputs.specs.declared.inputs.InputError.TheVariants as input
+use Rattle.id_source.specs.Sources.{source}
+use Rattle.id_inputs.specs.Inputs.{AreRefusedInputs}
+use Rattle.id_source.specs.declared.Fact.{Fact}
+use Rattle.id_source.specs.Computed.{AreFacts, HasMoreFacts}
+use Rattle.id_pieces.specs.Rows.{size}
 use Rattle.id_sink.specs.declared.sink.PrintError.{PrintError}
 use Rattle.id_sink.specs.Told.{Told, Prints}
 use Rattle.id_sink.specs.Texts.{place_text}

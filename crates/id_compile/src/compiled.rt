@@ -1,11 +1,11 @@
 //! From a text to its graph: tokens, tree, checks, schemas.
 
 ghost use Rattle.std.specs.Prelude.{◌≡◌, ◌<◌, ◌≤◌, length, IfErr, IfOk, OnOk};
-ghost use Rattle.id_build.specs.Rows.{size};
-ghost use Rattle.id_build.specs.Schemas.{Schemas};
+ghost use Rattle.id_pieces.specs.Rows.{size};
+ghost use Rattle.id_pieces.specs.Schemas.{Schemas};
 ghost use Rattle.id_tree.specs.Distinct.{Distinct};
 ghost use Rattle.id_check.specs.Noted.{tree_in};
-ghost use Rattle.id_tree.specs.Tree.{program_tree};
+ghost use Rattle.id_grammar.specs.Tree.{program_tree};
 ghost use Rattle.id_compile.specs.Programs.{ArePlacedWithin, HasProgram, IsProgramOf, IsPlacedWithin, IsRefusedBy};
 ghost use Rattle.id_compile.specs.Programs.{IsTreeOf};
 ghost use Rattle.id_compile.specs.Programs.{IsRefusedGraph};
@@ -29,7 +29,7 @@ pub struct Compiled {
 }
 
 impl Model for Compiled {
-    ghost use Rattle.id_build.specs.Schemas.{Schemas};
+    ghost use Rattle.id_pieces.specs.Schemas.{Schemas};
     ghost use Rattle.id_compile.specs.Codes.{coded_compiled};
     ghost use Rattle.id_compile.specs.Programs.{CompiledView};
 
@@ -44,7 +44,7 @@ impl Model for Compiled {
 
 impl Compiled {
     ghost use Rattle.std.specs.Prelude.{◌≡◌};
-    ghost use Rattle.id_build.specs.Schemas.{Schemas};
+    ghost use Rattle.id_pieces.specs.Schemas.{Schemas};
 
     /// The program. Takes no memory.
     pub fn checked(&self) -> &Checked

@@ -1,3 +1,2 @@
 pub mod InputsLemmas
-pub mod FlightLemmas
 pub mod MachinesLemmas

@@ -9,11 +9,11 @@ use Rattle.std.proofs.lemmas.Bool.{cases_lt, cases_eq}
 use Rattle.std.proofs.Math.ListN.{get_or-append}
 use Rattle.std.proofs.Math.Seq.{get_or-append_seam}
 use Rattle.std.proofs.lemmas.List.Elements.{All-cons, All-append, All-take, All-drop}
-use Rattle.id_graph.specs.declared.dests.Port.TheVariants as port
-use Rattle.id_graph.specs.declared.instr.Block.{Block}
-use Rattle.id_graph.specs.declared.instr.Op.TheVariants.{Merge, Back}
-use Rattle.id_graph.specs.declared.instr.PortKind.TheVariants as kind
-use Rattle.id_graph.specs.Graph.{Parts}
+use Rattle.id_instr.specs.declared.dests.Port.TheVariants as port
+use Rattle.id_instr.specs.declared.instr.Block.{Block}
+use Rattle.id_instr.specs.declared.instr.Op.TheVariants.{Merge, Back}
+use Rattle.id_instr.specs.declared.instr.PortKind.TheVariants as kind
+use Rattle.id_instr.specs.Graph.{Parts}
 use Rattle.id_value.specs.declared.Constant.{Constant}
 use Rattle.id_tag.specs.Routes.{route_of}
 use Rattle.std.proofs.lemmas.Option.{get_or_from_slice_get, slice_get_within, slice_get-map}
@@ -22,22 +22,22 @@ use Rattle.id_tag.specs.declared.Value.TheVariants as value
 use Rattle.id_tag.specs.declared.Message.{Message}
 use Rattle.id_valid.specs.Roles.{has_main_place, IsMain}
 use Rattle.id_valid.specs.Validator.{IsMainBlock}
-use Rattle.id_element.specs.Fits.{Fits, TokenFits}
-use Rattle.id_element.specs.Fits.{IsFor}
-use Rattle.id_element.specs.Steps.{fresh, outputs_of, event_of, state_after, step_of, is_ended}
-use Rattle.id_element.specs.declared.step.TakeError.{TakeError}
-use Rattle.id_element.specs.declared.step.TakeError.TheVariants.{StampEnd}
-use Rattle.id_element.specs.declared.step.Short.{Short}
-use Rattle.id_element.specs.declared.step.Short.TheVariants.{Went, Failed, Apart}
-use Rattle.id_element.specs.Shorts.{IsHandled}
-use Rattle.id_element.specs.Replays.{ElementView}
-use Rattle.id_record.specs.Events.{EventView}
-use Rattle.id_record.specs.declared.step.Step.{Step}
+use Rattle.id_firing.specs.Fits.{Fits, TokenFits}
+use Rattle.id_firing.specs.Fits.{IsFor}
+use Rattle.id_firing.specs.Steps.{fresh, outputs_of, event_of, state_after, step_of, is_ended}
+use Rattle.id_firing.specs.declared.step.TakeError.{TakeError}
+use Rattle.id_firing.specs.declared.step.TakeError.TheVariants.{StampEnd}
+use Rattle.id_firing.specs.declared.step.Short.{Short}
+use Rattle.id_firing.specs.declared.step.Short.TheVariants.{Went, Failed, Apart}
+use Rattle.id_firing.specs.Shorts.{IsHandled}
+use Rattle.id_desk.specs.Replays.{ElementView}
+use Rattle.id_line.specs.Events.{EventView}
+use Rattle.id_line.specs.declared.step.Step.{Step}
 use Rattle.id_core.specs.Machines.{came_of, world_of, taken_from, given_to, routed_to, delivered, event_of_given}
 use Rattle.id_core.specs.Machines.{event_of_routed, event_at, start_message, input_messages, block_messages, AreTaken}
 use Rattle.id_core.specs.Machines.{IsElement, AreElements, IsMachine, MachineView}
-use Rattle.id_observe.specs.Observed.{main_tag}
-use Rattle.id_element.proofs.SentLemmas.{kind_at_op}
+use Rattle.id_observed.specs.Observed.{main_tag}
+use Rattle.id_desk.proofs.SentLemmas.{kind_at_op}
 use Rattle.id_core.proofs.InputsLemmas.{inputs_fit}
 
 -- what holds of each image holds of what it is the image of

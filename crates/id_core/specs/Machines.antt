@@ -2,11 +2,11 @@
 use Rattle.std.specs.Prelude.{◌≡◌, ℕ, suc, ◌+◌, ◌<◌, ◌≤◌, Option, None, Some, List, [], ◌∷◌, ◌++◌, All, filter, map}
 use Rattle.std.specs.Prelude.{length, slice_index_or, slice_get, slice_set, replicate, if◌then◌else◌}
 use Rattle.std.specs.List.{remove}
-use Rattle.id_graph.specs.declared.instr.Block.{Block}
-use Rattle.id_graph.specs.declared.dests.Port.TheVariants.{Zero}
-use Rattle.id_graph.specs.declared.instr.Op.TheVariants.{Merge}
-use Rattle.id_graph.specs.Graph.{Parts}
-pub use Rattle.id_observe.specs.Observed.{main_tag}
+use Rattle.id_instr.specs.declared.instr.Block.{Block}
+use Rattle.id_instr.specs.declared.dests.Port.TheVariants.{Zero}
+use Rattle.id_instr.specs.declared.instr.Op.TheVariants.{Merge}
+use Rattle.id_instr.specs.Graph.{Parts}
+pub use Rattle.id_observed.specs.Observed.{main_tag}
 use Rattle.id_value.specs.declared.Constant.{Constant}
 use Rattle.id_ops.specs.Operators.{constant_value}
 use Rattle.id_tag.specs.declared.Value.TheVariants as value
@@ -17,14 +17,14 @@ use Rattle.id_tag.specs.declared.Message.{Message}
 use Rattle.id_tag.specs.Kinds.{kind_of}
 use Rattle.id_tag.specs.Routes.{route_of}
 use Rattle.id_valid.specs.Roles.{has_main_place, op_at, IsMain}
-use Rattle.id_record.specs.Events.{EventView, AllWent}
-use Rattle.id_record.specs.declared.step.Step.{Step}
-use Rattle.id_record.specs.declared.step.Step.TheVariants as step
+use Rattle.id_line.specs.Events.{EventView, AllWent}
+use Rattle.id_line.specs.declared.step.Step.{Step}
+use Rattle.id_line.specs.declared.step.Step.TheVariants as step
 use Rattle.id_core.specs.declared.machine.Came.{Came}
 use Rattle.id_core.specs.declared.machine.Came.TheVariants as came
-use Rattle.id_element.specs.Fits.{Fits}
-use Rattle.id_element.specs.Replays.{ElementView}
-use Rattle.id_element.specs.Steps.{State, fresh, is_ended, outputs_of, event_of, state_after}
+use Rattle.id_firing.specs.Fits.{Fits}
+use Rattle.id_desk.specs.Replays.{ElementView}
+use Rattle.id_firing.specs.Steps.{State, fresh, is_ended, outputs_of, event_of, state_after}
 
 -- the states of the elements, in order of their numbers, and the messages in flight
 pub record World : Type 0 where

@@ -1,7 +1,7 @@
 //! Which inputs are for a graph: what `Machine::new` asks of them.
 
 ghost use Rattle.std.specs.Prelude.{◌≡◌, ◌↔◌, IsTrue, length};
-ghost use Rattle.id_graph.specs.declared.instr.Op.TheVariants.{Merge};
+ghost use Rattle.id_instr.specs.declared.instr.Op.TheVariants.{Merge};
 ghost use Rattle.id_core.specs.Machines.{AreTaken, TakesInputs};
 
 use id_element::op_at;

@@ -7,13 +7,11 @@
 #![tactic(auto)]
 
 mod entering;
-mod flight;
-mod in_flight;
 mod machine;
 
 pub use entering::takes_inputs;
-pub use flight::Flight;
 pub use id_element::{Element, TakeError, fits};
+pub use id_gap::Flight;
 pub use id_observe::{CellValue, Holdings, Merged, Observed, merge_records, observe_records};
 pub use id_record::{Event, Events, Fault, Outputs, Step};
 pub use machine::{Came, MAX_ELEMENTS, Machine, MachineError};

@@ -3,18 +3,17 @@
 ghost use Rattle.std.specs.Prelude.{◌≡◌, ◌<◌, ◌≤◌, ◌+◌, ◌++◌, ◌↔◌, [], ℕ, All, length, map, replicate, IfOk, OnOk};
 ghost use Rattle.std.specs.Prelude.{IsTrue, vec_len};
 ghost use Rattle.std.specs.List.{remove};
-ghost use Rattle.id_graph.specs.declared.dests.Port.TheVariants.{Zero};
+ghost use Rattle.id_instr.specs.declared.dests.Port.TheVariants.{Zero};
 ghost use Rattle.id_tag.specs.declared.Payload.TheVariants.{Token};
-ghost use Rattle.id_record.specs.Events.{AllWent};
-ghost use Rattle.id_element.specs.Fits.{Fits};
-ghost use Rattle.id_element.specs.Steps.{fresh};
+ghost use Rattle.id_line.specs.Events.{AllWent};
+ghost use Rattle.id_firing.specs.Fits.{Fits};
+ghost use Rattle.id_firing.specs.Steps.{fresh};
 ghost use Rattle.id_core.specs.Machines.{AreElements, TakesInputs, input_messages, start_message, start_messages};
-ghost use Rattle.id_observe.specs.Observed.{main_tag};
+ghost use Rattle.id_observed.specs.Observed.{main_tag};
 
-use crate::flight::Flight;
-use crate::in_flight::InFlight;
 use id_element::{Element, Short, TakeError};
 use id_flight::{Demand, Queue};
+use id_gap::{Flight, InFlight};
 use id_graph::Port;
 use id_meaning::{Inputs, SourceFault, SourceValue};
 use id_observe::{
@@ -102,14 +101,14 @@ impl<'a> Machine<'a> {
     ghost use Rattle.std.specs.List.Sorted.{IsStrictlyIncreasing};
     ghost use Rattle.id_core.specs.Firsts.{IsFirstFault};
     ghost use Rattle.id_core.specs.declared.machine.MachineError.TheVariants.{BadElements};
-    ghost use Rattle.id_element.specs.declared.step.TakeError.TheVariants.{StampEnd};
-    ghost use Rattle.id_element.specs.Fits.{Fits};
-    ghost use Rattle.id_element.specs.Shorts.{IsHandled, step_in};
-    ghost use Rattle.id_element.specs.declared.step.Short.TheVariants.{Apart};
+    ghost use Rattle.id_firing.specs.declared.step.TakeError.TheVariants.{StampEnd};
+    ghost use Rattle.id_firing.specs.Fits.{Fits};
+    ghost use Rattle.id_firing.specs.Shorts.{IsHandled, step_in};
+    ghost use Rattle.id_firing.specs.declared.step.Short.TheVariants.{Apart};
     ghost use Rattle.id_tag.specs.Plains.{message_of, tag_in};
     ghost use Rattle.std.specs.Prelude.{true, false};
     ghost use Rattle.id_flight.specs.Demands.{demanded};
-    ghost use Rattle.id_record.specs.declared.step.Step.TheVariants.{Went};
+    ghost use Rattle.id_line.specs.declared.step.Step.TheVariants.{Went};
     ghost use Rattle.id_core.specs.Observed.{answer, cell_values, cells, faults, names, structures, waiting};
     ghost use Rattle.id_core.specs.Machines.{AreElements, IsQuiet, TakesInputs, came_of, delivered, event_at, start};
     ghost use Rattle.id_core.specs.Machines.{world_of};

@@ -10,11 +10,11 @@ use Rattle.id_check.specs.Programs.{rows}
 use Rattle.id_scope.specs.Scopes.{first_of}
 use Rattle.id_check.proofs.ProgramsLemmas.{table_of}
 use Rattle.id_scope.proofs.ScopesLemmas.{first_of-some}
-use Rattle.id_parts.specs.declared.row.Row.{Row}
-use Rattle.id_parts.specs.declared.row.Node.{Node}
-use Rattle.id_parts.specs.declared.row.Node.TheVariants.{Head, If, Call, Variable, Next, Loop, Def}
-use Rattle.id_parts.specs.Rows.{at, no_row}
-use Rattle.id_parts.specs.Tables.{HasPart, is_variable}
+use Rattle.id_table.specs.declared.row.Row.{Row}
+use Rattle.id_table.specs.declared.row.Node.{Node}
+use Rattle.id_table.specs.declared.row.Node.TheVariants.{Head, If, Call, Variable, Next, Loop, Def}
+use Rattle.id_table.specs.Rows.{at, no_row}
+use Rattle.id_table.specs.Tables.{HasPart, is_variable}
 use Rattle.id_desugar.specs.Gathering.{EndsNothing, is_opening}
 use Rattle.id_desugar.specs.Regions.{nexts_from}
 use Rattle.id_desugar.specs.Ends.{AreFirst, IsNoted, begun_at, end_at, end_of, end_row, is_row, next_of}

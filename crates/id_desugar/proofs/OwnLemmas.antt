@@ -3,16 +3,16 @@ use Rattle.std.proofs.Common.{◌≡◌, ◌≢◌, inl, inr, ℕ, ◌+◌, ◌-
 use Rattle.std.specs.Prelude.{◌&&◌, ◌||◌, nat_eq}
 use Rattle.std.proofs.lemmas.Bool.{cases_lt, eqb-true, false≢true}
 use Rattle.std.proofs.lemmas.List.{get_or_past}
-use Rattle.id_parts.specs.declared.row.Region.{Region}
-use Rattle.id_parts.specs.declared.row.Row.{Row}
-use Rattle.id_parts.specs.declared.row.Node.{Node}
-use Rattle.id_parts.specs.declared.row.Node.TheVariants.{Head, Split, If, Enter, Call, Def, LoopHead, Switches, Loop}
-use Rattle.id_parts.specs.Rows.{arm_at, at, no_row, top}
-use Rattle.id_parts.specs.Tables.{begins_block, is_split, is_switches, is_top}
-use Rattle.id_parts.specs.Loops.{InSide, IsLoop, IsLoopOf}
-use Rattle.id_parts.specs.Regions.{Lies, here, in_arm, in_loop, in_side, IsIfOf}
-use Rattle.id_parts.specs.Turns.{IsTable}
-use Rattle.id_parts.proofs.RegionLemmas.{InArm-either, InArm-within}
+use Rattle.id_table.specs.declared.row.Region.{Region}
+use Rattle.id_table.specs.declared.row.Row.{Row}
+use Rattle.id_table.specs.declared.row.Node.{Node}
+use Rattle.id_table.specs.declared.row.Node.TheVariants.{Head, Split, If, Enter, Call, Def, LoopHead, Switches, Loop}
+use Rattle.id_table.specs.Rows.{arm_at, at, no_row, top}
+use Rattle.id_table.specs.Tables.{begins_block, is_split, is_switches, is_top}
+use Rattle.id_table.specs.Loops.{InSide, IsLoop, IsLoopOf}
+use Rattle.id_table.specs.Regions.{Lies, here, in_arm, in_loop, in_side, IsIfOf}
+use Rattle.id_table.specs.Turns.{IsTable}
+use Rattle.id_table.proofs.RegionLemmas.{InArm-either, InArm-within}
 use Rattle.id_check.specs.declared.checked.Checked.{Checked}
 use Rattle.id_check.specs.Programs.{binder, rows}
 use Rattle.id_check.proofs.ProgramsLemmas.{table_of}

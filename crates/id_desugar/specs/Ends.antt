@@ -3,9 +3,9 @@
 use Rattle.std.specs.Prelude.{◌≡◌, ◌<◌, ◌+◌, ℕ, Bool, false, if◌then◌else◌, nat_eq, unwrap_or}
 use Rattle.std.specs.Prelude.{List, length, get_or, Option, None, Some}
 use Rattle.std.specs.Option.{option_or}
-use Rattle.id_parts.specs.declared.row.Node.{Node}
-use Rattle.id_parts.specs.declared.row.Node.TheVariants.{If, Call, Next, Loop, Def}
-use Rattle.id_parts.specs.Rows.{at}
+use Rattle.id_table.specs.declared.row.Node.{Node}
+use Rattle.id_table.specs.declared.row.Node.TheVariants.{If, Call, Next, Loop, Def}
+use Rattle.id_table.specs.Rows.{at}
 use Rattle.id_check.specs.declared.checked.Checked.{Checked}
 use Rattle.id_check.specs.Programs.{rows}
 use Rattle.id_scope.specs.Scopes.{first_of}

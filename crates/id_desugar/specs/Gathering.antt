@@ -1,9 +1,9 @@
 -- How the order is made and the imports are gathered, from the innermost construct outwards.
 use Rattle.std.specs.Prelude.{◌≡◌, ◌≤◌, ◌<◌, ◌+◌, ◌==◌, ℕ, Bool, true, false, if◌then◌else◌, ◌||◌, nat_lt}
 use Rattle.std.specs.Prelude.{List, [], ◌∷◌, length, get_or, Option, None, Some}
-use Rattle.id_parts.specs.declared.row.Node.{Node}
-use Rattle.id_parts.specs.Rows.{at}
-use Rattle.id_parts.specs.Tables.{is_split, is_switches}
+use Rattle.id_table.specs.declared.row.Node.{Node}
+use Rattle.id_table.specs.Rows.{at}
+use Rattle.id_table.specs.Tables.{is_split, is_switches}
 use Rattle.id_check.specs.declared.checked.Checked.{Checked}
 use Rattle.id_check.specs.Programs.{rows, binder}
 use Rattle.id_desugar.specs.Ends.{end_of, end_row}

@@ -1,10 +1,10 @@
 -- The order in which rows are made into instructions, and the names that regions import (docs/GRAPH.md, "Imports").
 use Rattle.std.specs.Prelude.{ℕ, zero, suc, ◌+◌, ◌-◌, ◌==◌, Bool, true, false, if◌then◌else◌, ◌||◌, ◌&&◌, not, nat_eq}
 use Rattle.std.specs.Prelude.{nat_lt, nat_le, List, [], ◌∷◌, ◌++◌, length, Option, None, Some}
-use Rattle.id_parts.specs.declared.row.Node.{Node}
-use Rattle.id_parts.specs.declared.row.Node.TheVariants.{Name, Split, LoopHead, Switches, NextUse}
-use Rattle.id_parts.specs.Rows.{at}
-use Rattle.id_parts.specs.Tables.{is_switches, is_variable}
+use Rattle.id_table.specs.declared.row.Node.{Node}
+use Rattle.id_table.specs.declared.row.Node.TheVariants.{Name, Split, LoopHead, Switches, NextUse}
+use Rattle.id_table.specs.Rows.{at}
+use Rattle.id_table.specs.Tables.{is_switches, is_variable}
 use Rattle.id_check.specs.declared.checked.Checked.{Checked}
 use Rattle.id_check.specs.Programs.{rows, binder}
 use Rattle.id_desugar.specs.Ends.{end_of, next_of}

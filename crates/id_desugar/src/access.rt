@@ -2,8 +2,8 @@
 
 ghost use Rattle.std.specs.Prelude.{◌≡◌, ◌<◌, length};
 ghost use Rattle.id_check.specs.Programs as programs;
-ghost use Rattle.id_parts.specs.Rows as table;
-ghost use Rattle.id_parts.specs.Tables.{is_variable};
+ghost use Rattle.id_table.specs.Rows as table;
+ghost use Rattle.id_table.specs.Tables.{is_variable};
 ghost use Rattle.id_desugar.specs.Ends.{AreEnds, AreNexts, end_of, next_of};
 ghost use Rattle.id_desugar.specs.Gathering.{is_own, is_opening, may_import, used_in};
 ghost use Rattle.id_desugar.specs.Regions.{is_loop_head, is_right_in};

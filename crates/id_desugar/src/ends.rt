@@ -1,7 +1,7 @@
 //! Where what begins at a row ends, and which `next` each variable of a loop has (docs/GRAPH.md, "Imports").
 
 ghost use Rattle.std.specs.Prelude.{◌≡◌, ◌<◌, ◌+◌, ℕ, length, get_or, IfOk, None};
-ghost use Rattle.id_parts.specs.Rows.{at};
+ghost use Rattle.id_table.specs.Rows.{at};
 ghost use Rattle.id_check.specs.Programs.{rows};
 ghost use Rattle.id_desugar.specs.Ends.{AreEnds, AreNexts, IsNoted, begun_at};
 ghost use Rattle.id_desugar.specs.Ends as ends;

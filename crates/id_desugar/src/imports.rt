@@ -10,8 +10,8 @@ ghost use Rattle.id_desugar.specs.Regions.{all_imports, imports, imports_by, imp
 ghost use Rattle.id_desugar.specs.Gathering.{AllCount, AreBelow, AreFilled, AreGathered, AreMarked, AreTurned};
 ghost use Rattle.id_desugar.specs.Gathering.{EndsNothing, is_opening, used_in, with_uses};
 ghost use Rattle.id_list.specs.List.{Among};
-ghost use Rattle.id_parts.specs.Rows.{at};
-ghost use Rattle.id_parts.specs.Tables as table;
+ghost use Rattle.id_table.specs.Rows.{at};
+ghost use Rattle.id_table.specs.Tables as table;
 
 use crate::access::{end_of, is_opening, is_variable, may_import, next_of, row_at, used_at};
 use crate::column::{Column, MOST};

@@ -1,13 +1,13 @@
 -- Lemmas on which events of an element tell: an `enter` that enters nothing sends nothing, and an `alloc` of another event makes nothing.
 use Rattle.std.proofs.Common.{◌≡◌, ◌≢◌, ◌⊎◌, inl, inr, ℕ, Bool, true, false, Option, Some, None, [], refl, sym, ap, ◌∙◌}
 use Rattle.std.specs.Prelude.{ℤ, if◌then◌else◌, slice_get, option_map}
-use Rattle.id_graph.specs.declared.dests.Port.{Port}
-use Rattle.id_graph.specs.declared.dests.Port.TheVariants as port
-use Rattle.id_graph.specs.declared.instr.Instr.{Instr}
-use Rattle.id_graph.specs.declared.instr.Op.{Op}
-use Rattle.id_graph.specs.declared.instr.Op.TheVariants.{Alloc, Enter}
-use Rattle.id_graph.specs.Graph.{Parts}
-use Rattle.id_graph.specs.Ports.{two_ports}
+use Rattle.id_instr.specs.declared.dests.Port.{Port}
+use Rattle.id_instr.specs.declared.dests.Port.TheVariants as port
+use Rattle.id_instr.specs.declared.instr.Instr.{Instr}
+use Rattle.id_instr.specs.declared.instr.Op.{Op}
+use Rattle.id_instr.specs.declared.instr.Op.TheVariants.{Alloc, Enter}
+use Rattle.id_instr.specs.Graph.{Parts}
+use Rattle.id_instr.specs.Ports.{two_ports}
 use Rattle.id_valid.specs.Roles.{op_at}
 use Rattle.id_tag.specs.declared.Context.{Context}
 use Rattle.id_tag.specs.declared.Structure.{Structure}
@@ -21,13 +21,13 @@ use Rattle.id_ops.specs.declared.Fresh.{Fresh}
 use Rattle.id_ops.specs.declared.Operands.{Operands}
 use Rattle.id_ops.specs.declared.Operands.TheVariants.{One, Two}
 use Rattle.id_ops.specs.Operators.{fired, fired_alloc, fired_enter}
-use Rattle.id_match.specs.Waiting.{Store, answer_of, offer_answer, pair_of, waits}
-use Rattle.id_match.specs.Ports.{other_port}
-use Rattle.id_bank.specs.Cells.{Cells}
+use Rattle.id_front.specs.Waiting.{Store, answer_of, offer_answer, pair_of, waits}
+use Rattle.id_front.specs.Ports.{other_port}
+use Rattle.id_slot.specs.Cells.{Cells}
 use Rattle.id_record.specs.Tellings.{is_number, makes}
-use Rattle.id_element.specs.declared.step.Arrival.{Arrival}
-use Rattle.id_element.specs.declared.step.Arrival.TheVariants.{Fires, Waits, Blocked}
-use Rattle.id_element.specs.Steps.{arrival, arrival_of, arriving, at_instr, firing, outcome, waiting_after}
+use Rattle.id_firing.specs.declared.step.Arrival.{Arrival}
+use Rattle.id_firing.specs.declared.step.Arrival.TheVariants.{Fires, Waits, Blocked}
+use Rattle.id_firing.specs.Steps.{arrival, arrival_of, arriving, at_instr, firing, outcome, waiting_after}
 
 -- ---- `enter`
 

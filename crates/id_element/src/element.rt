@@ -1,15 +1,14 @@
 //! An element: what waits at it, its cells, its last stamp and its record (docs/MACHINE.md, "Element step").
 
 ghost use Rattle.std.specs.Prelude.{◌≡◌, ◌↔◌, IsTrue};
-ghost use Rattle.id_record.specs.declared.step.Step.TheVariants.{Went};
-ghost use Rattle.id_element.specs.Shorts.{IsHandled, step_in};
-ghost use Rattle.id_element.specs.declared.step.Short.{Short};
+ghost use Rattle.id_line.specs.declared.step.Step.TheVariants.{Went};
+ghost use Rattle.id_firing.specs.Shorts.{IsHandled, step_in};
+ghost use Rattle.id_firing.specs.declared.step.Short.{Short};
 ghost use Rattle.id_tag.specs.declared.Tag.{Tag};
 
-use crate::desk::Desk;
-use crate::outcome::bound;
-use crate::step::{Short, TakeError};
 use id_bank::{Cells, Reader};
+use id_desk::Desk;
+use id_firing::{Short, TakeError, bound};
 use id_flight::{Demand, Queue};
 use id_record::{Events, Step, full_step};
 use id_tag::{Message, PlainToken};
@@ -30,9 +29,9 @@ pub struct Element<'a> {
 
 impl<'a> Model for Element<'a> {
     ghost use Rattle.id_element.specs.Codes.{coded_element};
-    ghost use Rattle.id_element.specs.Replays.{ElementView, IsKept};
-    ghost use Rattle.id_element.specs.Desks.{state_of};
-    ghost use Rattle.id_element.specs.Firings.{IsBound};
+    ghost use Rattle.id_desk.specs.Replays.{ElementView, IsKept};
+    ghost use Rattle.id_desk.specs.Desks.{state_of};
+    ghost use Rattle.id_firing.specs.Firings.{IsBound};
 
     ghost Value = { ElementView };
 
@@ -57,15 +56,15 @@ impl<'a> Element<'a> {
     ghost use Rattle.std.specs.Prelude.{◌≡◌, ◌<◌, ◌≤◌, ◌-◌, ◌^◌, ◌==◌, ◌||◌, ◌++◌, ◌↔◌, All, IfOk, OnOk, OnErr, IsTrue};
     ghost use Rattle.std.specs.Prelude.{true, false};
     ghost use Rattle.std.specs.FinMap.{empty};
-    ghost use Rattle.id_element.specs.declared.step.TakeError.TheVariants.{StampEnd};
-    ghost use Rattle.id_record.specs.Events.{AllWent};
-    ghost use Rattle.id_element.specs.Fits.{Fits, IsFor};
+    ghost use Rattle.id_firing.specs.declared.step.TakeError.TheVariants.{StampEnd};
+    ghost use Rattle.id_line.specs.Events.{AllWent};
+    ghost use Rattle.id_firing.specs.Fits.{Fits, IsFor};
     ghost use Rattle.id_flight.specs.Demands.{demanded};
-    ghost use Rattle.id_element.specs.Replays.{Replays};
-    ghost use Rattle.id_bank.specs.Cells.{cells_of, deferred_of};
-    ghost use Rattle.id_element.specs.Steps.{fresh, is_ended, step_of, outputs_of, state_after};
-    ghost use Rattle.id_element.specs.Shorts.{IsHandled, step_in};
-    ghost use Rattle.id_element.specs.declared.step.Short.{Short};
+    ghost use Rattle.id_desk.specs.Replays.{Replays};
+    ghost use Rattle.id_slot.specs.Cells.{cells_of, deferred_of};
+    ghost use Rattle.id_firing.specs.Steps.{fresh, is_ended, step_of, outputs_of, state_after};
+    ghost use Rattle.id_firing.specs.Shorts.{IsHandled, step_in};
+    ghost use Rattle.id_firing.specs.declared.step.Short.{Short};
     ghost use Rattle.id_tag.specs.Plains.{message_of, tag_in};
 
     /// The element of this number, of so many, that has handled nothing. Takes no memory, and looks at each instruction

@@ -7,13 +7,7 @@
 //! (`id_core`).
 #![tactic(auto)]
 
-mod cells;
-mod desk;
 mod element;
-mod fitting;
-mod outcome;
-mod step;
 
 pub use element::Element;
-pub use fitting::{fits, op_at};
-pub use step::{Short, TakeError};
+pub use id_firing::{Short, TakeError, fits, op_at};

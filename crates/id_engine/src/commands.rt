@@ -1,10 +1,10 @@
 //! The commands that run nothing: whether a text is accepted, its graph, its facts.
 
 ghost use Rattle.std.specs.Prelude.{◌≡◌, ◌≢◌, ◌≤◌, length, map, IfOk, IfErr, OnOk, Some, string_bytes};
-ghost use Rattle.id_build.specs.Schemas.{Schemas};
-ghost use Rattle.id_meaning.specs.Computed.{AreFacts};
-ghost use Rattle.id_meaning.specs.Sources.{AreInputs, source};
-ghost use Rattle.id_print.specs.Within.{FactsWithin};
+ghost use Rattle.id_pieces.specs.Schemas.{Schemas};
+ghost use Rattle.id_source.specs.Computed.{AreFacts};
+ghost use Rattle.id_source.specs.Sources.{AreInputs, source};
+ghost use Rattle.id_names.specs.Within.{FactsWithin};
 ghost use Rattle.id_graph.specs.Dot.{dot_text};
 ghost use Rattle.id_runner.specs.Commands.{AreFactsOf, Check, Draw_graph, Facts, IsListingOf, IsPictureOf, List_graph};
 ghost use Rattle.id_runner.specs.Commands.{ShowsAll, ShowsFront};

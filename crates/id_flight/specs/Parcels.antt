@@ -1,7 +1,7 @@
 -- How a queue keeps a message in a parcel.
 use Rattle.std.specs.Prelude.{◌≡◌, ℕ, ◌<◌, ℤ, pos, List, Option, None, Some, length}
 use Rattle.std.specs.Prelude.{slice_index_or}
-use Rattle.id_graph.specs.declared.dests.Port.{Port}
+use Rattle.id_instr.specs.declared.dests.Port.{Port}
 use Rattle.id_tag.specs.declared.Tag.{Tag}
 use Rattle.id_tag.specs.declared.Cell.{Cell}
 use Rattle.id_tag.specs.declared.Structure.{Structure}

@@ -6,7 +6,7 @@ ghost use Rattle.id_tag.specs.declared.Tag.{Tag};
 ghost use Rattle.id_tag.specs.declared.Value.TheVariants as value;
 ghost use Rattle.id_tag.specs.declared.Payload.TheVariants.{Token, Read, Write};
 ghost use Rattle.id_tag.specs.declared.Sender.TheVariants.{Element};
-ghost use Rattle.id_graph.specs.declared.dests.Port.{Port};
+ghost use Rattle.id_instr.specs.declared.dests.Port.{Port};
 ghost use Rattle.id_flight.specs.declared.parcel.What.TheVariants.{Aside};
 ghost use Rattle.id_flight.specs.Parcels.{IsPacked, IsWithin, cell_in, index_in, own, said, structure_in, unpacked};
 ghost use Rattle.id_flight.specs.Queues.{context_of};

@@ -1,3 +1,2 @@
-pub mod GraphLemmas
 pub mod ListingLemmas
 pub mod DotLemmas

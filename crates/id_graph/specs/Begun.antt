@@ -1,6 +1,6 @@
 -- What a pass over the blocks of a graph notes: where they begin.
 use Rattle.std.specs.Prelude.{◌≡◌, ℕ, ◌<◌, ◌||◌, Bool, List, length, slice_index_or}
-use Rattle.id_graph.specs.declared.instr.Block.{Block}
+use Rattle.id_instr.specs.declared.instr.Block.{Block}
 use Rattle.id_graph.specs.Dot.{is_begun}
 
 -- the list tells of each number below n whether a block begins there

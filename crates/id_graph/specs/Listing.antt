@@ -3,20 +3,20 @@ use Rattle.std.specs.Prelude.{ℕ, ◌+◌, ◌*◌, true, false, if◌then◌el
 use Rattle.std.specs.List.{flat_map}
 use Rattle.std.specs.Fmt.{decimal, signed_decimal}
 use Rattle.id_text.specs.Places.{line_of, column_of}
-use Rattle.id_graph.specs.declared.instr.Instr.{Instr}
-use Rattle.id_graph.specs.declared.instr.Op.{Op}
-use Rattle.id_graph.specs.declared.instr.Op.TheVariants.{Const, Unary, Binary, Merge, Switch, Back, Enter, Send, Next}
-use Rattle.id_graph.specs.declared.instr.Op.TheVariants.{Reset, Alloc, Address, Fetch, Store}
-use Rattle.id_graph.specs.declared.instr.Dyadic.{Dyadic}
-use Rattle.id_graph.specs.declared.instr.Dyadic.TheVariants as class
-use Rattle.id_graph.specs.declared.instr.PortKind.{PortKind}
-use Rattle.id_graph.specs.declared.instr.PortKind.TheVariants.{Signal, Int, Bool as BoolKind, Structure}
-use Rattle.id_graph.specs.declared.instr.PortKind.TheVariants.{Address as AddressKind, Context, Continuation}
-use Rattle.id_graph.specs.declared.dests.Dest.{Dest}
-use Rattle.id_graph.specs.declared.dests.Port.{Port}
-use Rattle.id_graph.specs.declared.dests.Port.TheVariants.{Zero, One}
-use Rattle.id_graph.specs.Graph.{Parts, arcs_on}
-use Rattle.id_graph.specs.Ports.{two_sides}
+use Rattle.id_instr.specs.declared.instr.Instr.{Instr}
+use Rattle.id_instr.specs.declared.instr.Op.{Op}
+use Rattle.id_instr.specs.declared.instr.Op.TheVariants.{Const, Unary, Binary, Merge, Switch, Back, Enter, Send, Next}
+use Rattle.id_instr.specs.declared.instr.Op.TheVariants.{Reset, Alloc, Address, Fetch, Store}
+use Rattle.id_instr.specs.declared.instr.Dyadic.{Dyadic}
+use Rattle.id_instr.specs.declared.instr.Dyadic.TheVariants as class
+use Rattle.id_instr.specs.declared.instr.PortKind.{PortKind}
+use Rattle.id_instr.specs.declared.instr.PortKind.TheVariants.{Signal, Int, Bool as BoolKind, Structure}
+use Rattle.id_instr.specs.declared.instr.PortKind.TheVariants.{Address as AddressKind, Context, Continuation}
+use Rattle.id_instr.specs.declared.dests.Dest.{Dest}
+use Rattle.id_instr.specs.declared.dests.Port.{Port}
+use Rattle.id_instr.specs.declared.dests.Port.TheVariants.{Zero, One}
+use Rattle.id_instr.specs.Graph.{Parts, arcs_on}
+use Rattle.id_instr.specs.Ports.{two_sides}
 use Rattle.id_value.specs.declared.Constant.{Constant}
 use Rattle.id_value.specs.declared.Constant.TheVariants.{Int as IntConstant, Bool as BoolConstant}
 use Rattle.id_value.specs.declared.UnaryOp.{UnaryOp}

@@ -8,10 +8,8 @@ ghost use Rattle.id_graph.specs.Dot.{arrow_text, arrows_text, box_text, boxes_te
 ghost use Rattle.id_graph.specs.Dot.{links_text, named_text, names_text, opening, ports_text, reply_text};
 ghost use Rattle.id_graph.specs.Dot.{sent_text, sides_text, start_text};
 
-use crate::dests::{Dest, Port};
-use crate::graph::Graph;
-use crate::instr::{Block, Instr, Op};
 use crate::listing::{port_number, put_in_order, write_op};
+use id_instr::{Block, Dest, Graph, Instr, Op, Port};
 use std::alloc::{AllocError, Global};
 
 /// The picture of a graph: a box for each instruction, a cluster for each block, an arrow for each destination.

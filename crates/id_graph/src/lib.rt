@@ -7,15 +7,13 @@
 //! (`id_valid`).
 #![tactic(auto)]
 
-mod dests;
 mod dot;
-mod graph;
-mod instr;
 mod listing;
 
-pub use dests::{Dest, Dests, Others, Port};
 pub use dot::draw;
-pub use graph::{Graph, GraphCause, GraphError, kind_at};
+pub use id_instr::{
+    Block, Dest, Dests, Dyadic, Graph, GraphCause, GraphError, Instr, Op, Others, Port, PortKind,
+    kind_at,
+};
 pub use id_value::{Arithmetic, Comparison, Constant, Truth, UnaryOp};
-pub use instr::{Block, Dyadic, Instr, Op, PortKind};
 pub use listing::list;

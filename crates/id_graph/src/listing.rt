@@ -3,15 +3,13 @@
 ghost use Rattle.std.specs.Prelude.{◌≡◌, ◌<◌, ◌≤◌, ◌^◌, ◌++◌, length, All, IfOk, OnOk, codes, string_bytes, true};
 ghost use Rattle.std.specs.List.{flat_map};
 ghost use Rattle.std.specs.Fmt.{decimal, signed_decimal};
-ghost use Rattle.id_graph.specs.Graph.{arcs_on};
+ghost use Rattle.id_instr.specs.Graph.{arcs_on};
 ghost use Rattle.id_graph.specs.Listing.{arithmetic_name, comparison_name, constant_text, dest_text, dests_text};
 ghost use Rattle.id_graph.specs.Listing.{dyadic_name, false_text, head_text, in_order, kind_name, line_text};
 ghost use Rattle.id_graph.specs.Listing.{lines_text, listing, op_name, op_text, place_text, port_number};
 ghost use Rattle.id_graph.specs.Listing.{truth_name, unary_name};
 
-use crate::dests::{Dest, Port};
-use crate::graph::Graph;
-use crate::instr::{Dyadic, Instr, Op, PortKind};
+use id_instr::{Dest, Dyadic, Graph, Instr, Op, Port, PortKind};
 use id_text::{Lines, MAX_BYTES};
 use id_value::{Arithmetic, Comparison, Constant, Truth, UnaryOp};
 use itoa::Buffer;

@@ -8,14 +8,14 @@ use Rattle.id_value.specs.declared.Logic.TheVariants.{And, Or}
 use Rattle.id_value.specs.declared.BinaryOp.{BinaryOp}
 use Rattle.id_value.specs.declared.BinaryOp.TheVariants as class
 use Rattle.id_value.specs.Results.{result_of_unary, result_of_binary}
-use Rattle.id_graph.specs.declared.instr.PortKind.{PortKind}
-use Rattle.id_graph.specs.declared.instr.Op.TheVariants.{Unary, Binary}
+use Rattle.id_instr.specs.declared.instr.PortKind.{PortKind}
+use Rattle.id_instr.specs.declared.instr.Op.TheVariants.{Unary, Binary}
 use Rattle.id_tag.specs.declared.Tag.{Tag}
 use Rattle.id_ops.specs.declared.Operands.TheVariants.{One, Two}
 use Rattle.id_ops.specs.declared.Fresh.{Fresh}
 use Rattle.id_ops.specs.Operators.{fired, fired_by, constant_value}
-use Rattle.id_meaning.specs.Sources.{value_kind, value_of}
-use Rattle.id_build.specs.Rows.{binary_op, port_of}
+use Rattle.id_source.specs.Sources.{value_kind, value_of}
+use Rattle.id_pieces.specs.Rows.{binary_op, port_of}
 
 -- each operator of the language is made as one of the machine that comes to the same, on any values
 pub agree_unary : (o : UnaryOp) (c : Constant) (t : Tag) (f : Fresh) → fired (Unary o) t (One (constant_value c)) f ≡ fired_by (result_of_unary o c)

@@ -3,18 +3,18 @@ use Rattle.std.proofs.Common.{◌≡◌, ◌⊎◌, inl, inr, length, arith, ℕ
 use Rattle.std.specs.Prelude.{option_map}
 use Rattle.id_list.specs.List.{Among}
 use Rattle.id_list.proofs.AmongLemmas.{Among-from_at}
-use Rattle.id_parts.specs.declared.row.Node.TheVariants.{Head, Param, Enter, Call, Program}
-use Rattle.id_parts.specs.Rows.{at, top}
-use Rattle.id_parts.specs.Tables.{HasPart, is_expression}
-use Rattle.id_parts.specs.Turns.{IsDefOf, params_at}
+use Rattle.id_table.specs.declared.row.Node.TheVariants.{Head, Param, Enter, Call, Program}
+use Rattle.id_table.specs.Rows.{at, top}
+use Rattle.id_table.specs.Tables.{HasPart, is_expression}
+use Rattle.id_table.specs.Turns.{IsDefOf, params_at}
 use Rattle.id_check.specs.declared.checked.Checked.{Checked}
 use Rattle.id_check.specs.Programs.{Stands, place, region, rows}
-use Rattle.id_graph.specs.declared.dests.Dest.{Dest}
-use Rattle.id_graph.specs.declared.dests.Port.{Port}
-use Rattle.id_graph.specs.declared.dests.Port.TheVariants.{Zero, One}
-use Rattle.id_graph.specs.declared.instr.Instr.{Instr}
-use Rattle.id_graph.specs.declared.instr.Op.TheVariants as op
-use Rattle.id_graph.specs.Graph.{Parts}
+use Rattle.id_instr.specs.declared.dests.Dest.{Dest}
+use Rattle.id_instr.specs.declared.dests.Port.{Port}
+use Rattle.id_instr.specs.declared.dests.Port.TheVariants.{Zero, One}
+use Rattle.id_instr.specs.declared.instr.Instr.{Instr}
+use Rattle.id_instr.specs.declared.instr.Op.TheVariants as op
+use Rattle.id_instr.specs.Graph.{Parts}
 use Rattle.id_tag.specs.declared.Context.{Context}
 use Rattle.id_tag.specs.declared.Tag.{Tag}
 use Rattle.id_tag.specs.declared.Value.{Value}
@@ -31,16 +31,16 @@ use Rattle.id_record.specs.Sends.{beside, moved_to}
 use Rattle.id_record.specs.Records.{dests_at, sent_by}
 use Rattle.id_core.specs.Steps.{token_to}
 use Rattle.id_core.specs.Machines.{World}
-use Rattle.id_meaning.specs.declared.Path.{Path}
-use Rattle.id_meaning.specs.declared.Fact.TheVariants.{Has}
-use Rattle.id_meaning.specs.Sources.{Source}
-use Rattle.id_meaning.specs.Facts.{below, without, argument_has, call_has, fetch_has, put as put_fact, site}
-use Rattle.id_meaning.specs.Rounds.{Holds}
+use Rattle.id_source.specs.declared.Path.{Path}
+use Rattle.id_source.specs.declared.Fact.TheVariants.{Has}
+use Rattle.id_source.specs.Sources.{Source}
+use Rattle.id_source.specs.Facts.{below, without, argument_has, call_has, fetch_has, put as put_fact, site}
+use Rattle.id_source.specs.Rounds.{Holds}
 use Rattle.id_desugar.specs.Ends.{end_of}
-use Rattle.id_build.specs.declared.arc.Form.{Form}
-use Rattle.id_build.specs.declared.arc.Origin.{Origin}
-use Rattle.id_build.specs.Rows.{answer_row, called, node, op_by, param_of}
-use Rattle.id_build.specs.Schemas.{Numbered}
+use Rattle.id_pieces.specs.declared.arc.Form.{Form}
+use Rattle.id_pieces.specs.declared.arc.Origin.{Origin}
+use Rattle.id_pieces.specs.Rows.{answer_row, called, node, op_by, param_of}
+use Rattle.id_pieces.specs.Schemas.{Numbered}
 use Rattle.id_runs.specs.Activations.{Activation, main_activation, at_iteration, activation_of, tag_in}
 use Rattle.id_runs.specs.Events.{Event, FiresAs, GivesOn}
 use Rattle.id_runs.specs.Runs.{Reach, handled, starting}
@@ -64,7 +64,7 @@ use Rattle.id_laws.proofs.Arcs.{Does, answers, enters, gets, gets_reply, opens, 
 use Rattle.id_laws.proofs.Blocks.{a_param}
 use Rattle.id_laws.proofs.Calls.{arg_at, call_at, callee_stands}
 use Rattle.id_laws.proofs.Sent.{sends_there}
-use Rattle.id_build.proofs.EndsLemmas.{end_is}
+use Rattle.id_pieces.proofs.EndsLemmas.{end_is}
 use Rattle.id_laws.proofs.Tokens.{one_part, told_at}
 use Rattle.id_laws.proofs.Seats.{OneSeat, one_path, entered_path, live_path}
 use Rattle.id_laws.proofs.Sources.{feeds_source, is_mover}

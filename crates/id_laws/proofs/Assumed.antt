@@ -6,22 +6,22 @@ use Rattle.id_value.specs.declared.Kind.TheVariants as kinds
 use Rattle.id_value.specs.declared.Constant.{Constant}
 use Rattle.id_value.specs.declared.UnaryOp.{UnaryOp}
 use Rattle.id_value.specs.declared.BinaryOp.{BinaryOp}
-use Rattle.id_parts.specs.declared.row.Node.TheVariants.{Param, Literal, Name, Unary, Binary, If, Enter, Arg, Call, Start, LoopHead, Turn, Next}
-use Rattle.id_parts.specs.declared.row.Node.TheVariants.{Block, Binding, Array, Fetch, Store}
-use Rattle.id_parts.specs.Rows.{at, top}
-use Rattle.id_parts.specs.Tables.{AreApart, HasOperand, is_binder, is_expression}
-use Rattle.id_parts.specs.Calls.{IsCallOf}
-use Rattle.id_parts.specs.Turns.{IsTable, IsDefOf, params_at}
+use Rattle.id_table.specs.declared.row.Node.TheVariants.{Param, Literal, Name, Unary, Binary, If, Enter, Arg, Call, Start, LoopHead, Turn, Next}
+use Rattle.id_table.specs.declared.row.Node.TheVariants.{Block, Binding, Array, Fetch, Store}
+use Rattle.id_table.specs.Rows.{at, top}
+use Rattle.id_table.specs.Tables.{AreApart, HasOperand, is_binder, is_expression}
+use Rattle.id_table.specs.Calls.{IsCallOf}
+use Rattle.id_table.specs.Turns.{IsTable, IsDefOf, params_at}
 use Rattle.id_check.specs.declared.checked.Checked.{Checked}
 use Rattle.id_scope.specs.Kinds.{constant_kind, unary_kind, binary_kind}
 use Rattle.id_check.specs.Programs.{binder, kind, place, region, rows}
 use Rattle.id_desugar.specs.Ends.{end_of}
 use Rattle.id_desugar.specs.Regions.{imports_of}
-use Rattle.id_parts.specs.Loops.{depth}
-use Rattle.id_build.specs.Rows.{block, called, entering, first_binder, node, param_of}
+use Rattle.id_table.specs.Loops.{depth}
+use Rattle.id_pieces.specs.Rows.{block, called, entering, first_binder, node, param_of}
 use Rattle.id_laws.specs.Activations.{main_head, Tests}
 use Rattle.id_laws.specs.Topics.{Addresses}
-use Rattle.id_build.proofs.NamesSeen.{Sees}
+use Rattle.id_arcs.proofs.NamesSeen.{Sees}
 
 -- the rows are those of a checked program
 pub record IsKnown (P : Checked) : Type 0 where

@@ -1,11 +1,11 @@
 -- Where the contexts of calls and loops begin, and where these end.
 use Rattle.std.proofs.Common.{◌≡◌, ℕ, ◌+◌, ◌-◌, ◌<◌, true, length, refl, sym, ◌∙◌, ap, subst, arith}
-use Rattle.id_parts.specs.declared.row.Node.{Node}
-use Rattle.id_parts.specs.declared.row.Node.TheVariants.{Call, Loop, Start}
-use Rattle.id_parts.specs.Tables.{begins_block, is_expression, is_thing}
+use Rattle.id_table.specs.declared.row.Node.{Node}
+use Rattle.id_table.specs.declared.row.Node.TheVariants.{Call, Loop, Start}
+use Rattle.id_table.specs.Tables.{begins_block, is_expression, is_thing}
 use Rattle.id_check.specs.declared.checked.Checked.{Checked}
 use Rattle.id_check.specs.Programs.{place, region, rows}
-use Rattle.id_build.specs.Rows.{node}
+use Rattle.id_pieces.specs.Rows.{node}
 use Rattle.id_laws.specs.Activations.{Begins, of_call, of_loop}
 use Rattle.id_laws.proofs.Assumed.{IsKnown}
 use Rattle.id_laws.proofs.Loops.{loop_of_start, start_place, start_region}
@@ -81,6 +81,6 @@ one_begun_at {P} known {q = q} {q' = q'} within within' b b' same =
 -- the one row begins one block
 pub one_head : {P : Checked} {n h q h' q' : ℕ} → Begins P n h q → Begins P n h' q' → (h ≡ h') × (q ≡ q')
 one_head (of_call is) (of_call is') = (refl, refl)
-one_head {P} {n} (of_call {x = x} is) (of_loop is') = let bad : Rattle.id_parts.specs.declared.row.Node.TheVariants.Enter x ≡ Start = sym is ∙ is' in cc
-one_head {P} {n} (of_loop is) (of_call {x = x} is') = let bad : Start ≡ Rattle.id_parts.specs.declared.row.Node.TheVariants.Enter x = sym is ∙ is' in cc
+one_head {P} {n} (of_call {x = x} is) (of_loop is') = let bad : Rattle.id_table.specs.declared.row.Node.TheVariants.Enter x ≡ Start = sym is ∙ is' in cc
+one_head {P} {n} (of_loop is) (of_call {x = x} is') = let bad : Start ≡ Rattle.id_table.specs.declared.row.Node.TheVariants.Enter x = sym is ∙ is' in cc
 one_head (of_loop is) (of_loop is') = (refl, refl)

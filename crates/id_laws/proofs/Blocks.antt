@@ -7,17 +7,17 @@ use Rattle.id_value.specs.declared.Kind.{Kind}
 use Rattle.id_list.specs.List.{Among, AllDiffer}
 use Rattle.id_list.proofs.AmongLemmas.{Among-left, Among-right, Among-either}
 use Rattle.id_list.proofs.DifferLemmas.{AllDiffer-append}
-use Rattle.id_parts.specs.declared.row.Row.{Row}
-use Rattle.id_parts.specs.declared.row.Node.{Node}
-use Rattle.id_parts.specs.declared.row.Node.TheVariants.{Head, Param, LoopHead}
-use Rattle.id_parts.specs.Rows.{at}
-use Rattle.id_parts.specs.Tables.{begins_block, is_head, is_param}
-use Rattle.id_parts.specs.Turns.{heads_below, heads_of, params_below}
+use Rattle.id_table.specs.declared.row.Row.{Row}
+use Rattle.id_table.specs.declared.row.Node.{Node}
+use Rattle.id_table.specs.declared.row.Node.TheVariants.{Head, Param, LoopHead}
+use Rattle.id_table.specs.Rows.{at}
+use Rattle.id_table.specs.Tables.{begins_block, is_head, is_param}
+use Rattle.id_table.specs.Turns.{heads_below, heads_of, params_below}
 use Rattle.id_check.specs.declared.checked.Checked.{Checked}
 use Rattle.id_check.specs.Programs.{rows}
 use Rattle.id_desugar.specs.Regions.{is_loop_head, those}
-use Rattle.id_build.specs.Rows.{node}
-use Rattle.id_build.specs.Schemas.{all_heads, loop_heads_below}
+use Rattle.id_pieces.specs.Rows.{node}
+use Rattle.id_pieces.specs.Schemas.{all_heads, loop_heads_below}
 
 true_false : true ≡ false → ⊥
 true_false h = cc

@@ -1,16 +1,16 @@
 -- What stands where in a call.
 use Rattle.std.proofs.Common.{◌≡◌, ℕ, inl, inr, ◌<◌, true, Some, length, refl, sym, ◌∙◌, ap, subst, arith}
-use Rattle.id_parts.specs.declared.row.Node.TheVariants.{Enter, Arg, Call, Def, Head}
-use Rattle.id_parts.specs.Tables.{HasNear, HasOperand, is_expression, is_thing, HasPart}
-use Rattle.id_parts.specs.Calls.{IsCallOf}
-use Rattle.id_parts.specs.Turns.{IsDefOf}
+use Rattle.id_table.specs.declared.row.Node.TheVariants.{Enter, Arg, Call, Def, Head}
+use Rattle.id_table.specs.Tables.{HasNear, HasOperand, is_expression, is_thing, HasPart}
+use Rattle.id_table.specs.Calls.{IsCallOf}
+use Rattle.id_table.specs.Turns.{IsDefOf}
 use Rattle.id_check.specs.declared.checked.Checked.{Checked}
 use Rattle.id_check.specs.Programs.{Stands, binder, place, region, rows}
 use Rattle.id_desugar.specs.Ends.{end_of}
-use Rattle.id_build.specs.Rows.{called, node}
+use Rattle.id_pieces.specs.Rows.{called, node}
 use Rattle.id_laws.proofs.Assumed.{IsKnown}
 use Rattle.id_value.specs.declared.Kind.{Kind}
-use Rattle.id_meaning.specs.Sources.{head_of}
+use Rattle.id_source.specs.Sources.{head_of}
 
 -- the call that begins with the `Enter` at the row e, whose place and region it has, and the definition that it calls
 pub record CallAt (P : Checked) (e : ℕ) : Type 0 where
@@ -95,7 +95,7 @@ arg_place {P} known {m} {e} {k} {v} within is =
     let a = (known.table).arg_of m e k (record { value = v; within = within; node = is }) in
     (a.stands).place ∙ sym ((known.table).enter_of a.row e a.call).place
 
-call_thing : {m : Rattle.id_parts.specs.declared.row.Node.Node} {e c : ℕ} → m ≡ Call e c → is_thing m ≡ true
+call_thing : {m : Rattle.id_table.specs.declared.row.Node.Node} {e c : ℕ} → m ≡ Call e c → is_thing m ≡ true
 call_thing is = ap is_thing is
 
 -- two `Enter`s at one place are one
@@ -105,7 +105,7 @@ one_enter_at {P} known {n} {n'} within within' is is' same =
     let c = call_at known within is in
     let d = call_at known within' is' in
     let rows_are = (known.apart).apart (end_of P n) (end_of P n') c.within d.within (call_thing c.node) (call_thing d.node) (sym c.place ∙ same ∙ d.place) in
-    let both : Call n c.count ≡ Call n' d.count = sym c.node ∙ ap (Rattle.id_build.specs.Rows.node P) rows_are ∙ d.node in
+    let both : Call n c.count ≡ Call n' d.count = sym c.node ∙ ap (Rattle.id_pieces.specs.Rows.node P) rows_are ∙ d.node in
     cc
 
 some_is : {A : Type 0} {x y : A} → Some x ≡ Some y → x ≡ y

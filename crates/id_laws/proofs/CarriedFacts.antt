@@ -1,17 +1,17 @@
 -- In a quiet run each fact of the source is carried.
 use Rattle.std.proofs.Common.{◌≡◌, inl, inr, ℕ, zero, suc, ◌<◌, true, false, cond, ℤ, Some, List, [], ◌∷◌, length, refl, sym, ◌∙◌, ap, subst, unwrap_or}
 use Rattle.id_list.proofs.AmongLemmas.{Among-from_at}
-use Rattle.id_parts.specs.declared.row.Node.TheVariants.{Param, Literal, Name, Unary, Binary, Binding, Program, Array, Fetch, Address, Store}
-use Rattle.id_parts.specs.Rows.{top}
-use Rattle.id_parts.specs.Tables.{HasNear, HasOperand, is_binder, is_expression, is_thing}
+use Rattle.id_table.specs.declared.row.Node.TheVariants.{Param, Literal, Name, Unary, Binary, Binding, Program, Array, Fetch, Address, Store}
+use Rattle.id_table.specs.Rows.{top}
+use Rattle.id_table.specs.Tables.{HasNear, HasOperand, is_binder, is_expression, is_thing}
 use Rattle.id_check.specs.declared.checked.Checked.{Checked}
 use Rattle.id_check.specs.Programs.{Stands, place, region, rows}
-use Rattle.id_graph.specs.declared.dests.Port.TheVariants.{Zero, One}
-use Rattle.id_graph.specs.declared.instr.Op.TheVariants as op
-use Rattle.id_graph.specs.Graph.{Parts}
+use Rattle.id_instr.specs.declared.dests.Port.TheVariants.{Zero, One}
+use Rattle.id_instr.specs.declared.instr.Op.TheVariants as op
+use Rattle.id_instr.specs.Graph.{Parts}
 use Rattle.id_value.specs.Bounds.{are_good, is_inside}
 use Rattle.id_value.specs.declared.FaultKind.TheVariants.{BadBounds, OutOfBounds}
-use Rattle.id_bank.specs.declared.WriteAnswer.TheVariants.{Second}
+use Rattle.id_slot.specs.declared.WriteAnswer.TheVariants.{Second}
 use Rattle.id_tag.specs.declared.Cell.{Cell}
 use Rattle.id_tag.specs.declared.Structure.{Structure}
 use Rattle.id_tag.specs.declared.Tag.{Tag}
@@ -24,23 +24,23 @@ use Rattle.id_ops.specs.Operators.{constant_value}
 use Rattle.id_value.specs.declared.Constant.{Constant}
 use Rattle.id_value.specs.declared.Constant.TheVariants as constants
 use Rattle.id_core.specs.Machines.{World}
-use Rattle.id_meaning.specs.declared.Path.{Path}
-use Rattle.id_meaning.specs.declared.Site.{Site}
-use Rattle.id_meaning.specs.declared.SourceValue.{SourceValue}
-use Rattle.id_meaning.specs.declared.SourceValue.TheVariants as source
-use Rattle.id_meaning.specs.declared.Fact.{Fact}
-use Rattle.id_meaning.specs.declared.Fact.TheVariants.{Has}
-use Rattle.id_meaning.specs.Sources.{Source, AreInputs, IsInput, body_of, main_body, main_params, value_kind, value_of}
-use Rattle.id_meaning.specs.Facts.{outermost, Rule, main_on, param_has, literal_has, operand_on, left_on, right_on, unary_has}
-use Rattle.id_meaning.specs.Facts.{binary_has, name_has, test_on, arm_on, conditional_has, statement_on, body_on, block_has, binding_has, argument_on}
-use Rattle.id_meaning.specs.Facts.{callee_on, argument_has, call_has, without}
-use Rattle.id_meaning.specs.Facts.{loop_test_on, first_has, turn_on, loop_statement_on, next_on, next_has, last_on, loop_has}
-use Rattle.id_meaning.specs.Facts.{StoreStands, site, shape, store_on, loop_store_on, bounds_low_on, bounds_high_on, shape_made, array_has}
-use Rattle.id_meaning.specs.Facts.{fetch_target_on, fetch_index_on, asks, fetch_has, store_target_on, store_index_on, store_value_on, puts}
-use Rattle.id_meaning.specs.Rounds.{Every, Rounds, Holds}
-use Rattle.id_build.specs.declared.arc.Origin.{Origin}
-use Rattle.id_build.specs.Rows.{label, node, origin, output, trigger_of, binary_op, port_at, port_of}
-use Rattle.id_build.specs.Schemas.{Feeds, Numbered}
+use Rattle.id_source.specs.declared.Path.{Path}
+use Rattle.id_source.specs.declared.Site.{Site}
+use Rattle.id_source.specs.declared.SourceValue.{SourceValue}
+use Rattle.id_source.specs.declared.SourceValue.TheVariants as source
+use Rattle.id_source.specs.declared.Fact.{Fact}
+use Rattle.id_source.specs.declared.Fact.TheVariants.{Has}
+use Rattle.id_source.specs.Sources.{Source, AreInputs, IsInput, body_of, main_body, main_params, value_kind, value_of}
+use Rattle.id_source.specs.Facts.{outermost, Rule, main_on, param_has, literal_has, operand_on, left_on, right_on, unary_has}
+use Rattle.id_source.specs.Facts.{binary_has, name_has, test_on, arm_on, conditional_has, statement_on, body_on, block_has, binding_has, argument_on}
+use Rattle.id_source.specs.Facts.{callee_on, argument_has, call_has, without}
+use Rattle.id_source.specs.Facts.{loop_test_on, first_has, turn_on, loop_statement_on, next_on, next_has, last_on, loop_has}
+use Rattle.id_source.specs.Facts.{StoreStands, site, shape, store_on, loop_store_on, bounds_low_on, bounds_high_on, shape_made, array_has}
+use Rattle.id_source.specs.Facts.{fetch_target_on, fetch_index_on, asks, fetch_has, store_target_on, store_index_on, store_value_on, puts}
+use Rattle.id_source.specs.Rounds.{Every, Rounds, Holds}
+use Rattle.id_pieces.specs.declared.arc.Origin.{Origin}
+use Rattle.id_pieces.specs.Rows.{label, node, origin, output, trigger_of, binary_op, port_at, port_of}
+use Rattle.id_pieces.specs.Schemas.{Feeds, Numbered}
 use Rattle.id_runs.specs.Activations.{Activation, main_activation, tag_in, at_iteration}
 use Rattle.id_runs.specs.Events.{Event, FiresAs}
 use Rattle.id_runs.specs.Runs.{Reach}
@@ -54,15 +54,15 @@ use Rattle.id_laws.proofs.Assumed.{IsKnown}
 use Rattle.id_laws.proofs.LoopFacts.{loop_is}
 use Rattle.id_laws.proofs.Regions.{region_of, same_depth}
 use Rattle.id_laws.proofs.Blocks.{a_param}
-use Rattle.id_build.proofs.EndsLemmas as ends
+use Rattle.id_pieces.proofs.EndsLemmas as ends
 use Rattle.id_laws.proofs.HasKinds.{port_taking, binder_thing, operand_of, Has_kind}
 use Rattle.id_laws.proofs.Firings.{alone_fired, both_fired, came, spoken, start_handled, alone_formed, sent_handled}
-use Rattle.id_build.proofs.NamesSeen.{Sees}
+use Rattle.id_arcs.proofs.NamesSeen.{Sees}
 use Rattle.id_laws.proofs.Triggers.{Home, home, live_turned, one_activation}
 use Rattle.id_laws.proofs.Speakers.{own_origin, name_origin, block_origin, expression_speaks, binder_speaks, fed_as, fetch_origin}
 use Rattle.id_laws.proofs.Seats.{main_path}
 use Rattle.id_laws.proofs.TurnedOn.{holds_by}
-use Rattle.id_build.specs.declared.arc.Form.TheVariants.{FetchAt}
+use Rattle.id_pieces.specs.declared.arc.Form.TheVariants.{FetchAt}
 use Rattle.id_laws.proofs.CarriedValues.{gives_out, expression_plain, label_plain, merged, stands_constant, value_fits}
 use Rattle.id_laws.proofs.FiringMeans.{constant_stands}
 use Rattle.id_laws.specs.Topics.{Addresses, of_fetch, of_store, Named, StandsFor, number_stands, truth_stands, name_stands}
@@ -72,7 +72,7 @@ use Rattle.id_runs.specs.Cells.{ReadBy, WrittenBy}
 use Rattle.id_runs.proofs.Answered.{answer_handled}
 use Rattle.id_runs.proofs.Givings.{same_firing}
 use Rattle.id_runs.proofs.OneMessage.{fired_once}
-use Rattle.id_graph.specs.declared.instr.PortKind.TheVariants as ports
+use Rattle.id_instr.specs.declared.instr.PortKind.TheVariants as ports
 use Rattle.id_laws.proofs.Calls.{arg_at, call_at, enter_at}
 use Rattle.id_value.specs.declared.Kind.TheVariants as sort
 use Rattle.id_laws.proofs.CarriedThings.{thing_here, here_is, live_at, same_here, operand_here, said_at, operand_spoken, constant_spoken, has_spoken, own_has}

@@ -3,34 +3,34 @@ use Rattle.std.proofs.Common.{◌≡◌, inl, inr, ℕ, suc, ◌+◌, ◌-◌, �
 use Rattle.std.proofs.Common.{◌∙◌, ap, subst, unwrap_or, slice_get}
 use Rattle.id_list.specs.List.{Among}
 use Rattle.id_list.proofs.AmongLemmas.{Among-from_at}
-use Rattle.id_parts.specs.declared.row.Node.TheVariants.{Param, Split, If, Head, Enter, Arg, Call, Def, Start, LoopHead, Variable, Next, Reset, Loop, Program}
-use Rattle.id_parts.specs.declared.row.Region.{Region}
-use Rattle.id_parts.specs.Rows.{arm_at, top}
-use Rattle.id_parts.specs.Tables.{HasNear, HasOperand, begins_block, is_binder, is_expression, is_thing}
+use Rattle.id_table.specs.declared.row.Node.TheVariants.{Param, Split, If, Head, Enter, Arg, Call, Def, Start, LoopHead, Variable, Next, Reset, Loop, Program}
+use Rattle.id_table.specs.declared.row.Region.{Region}
+use Rattle.id_table.specs.Rows.{arm_at, top}
+use Rattle.id_table.specs.Tables.{HasNear, HasOperand, begins_block, is_binder, is_expression, is_thing}
 use Rattle.id_check.specs.declared.checked.Checked.{Checked}
 use Rattle.id_check.specs.Programs.{Stands, place, region, rows, binder}
-use Rattle.id_graph.specs.declared.dests.Port.TheVariants.{Zero, One}
-use Rattle.id_graph.specs.declared.instr.Op.TheVariants as op
-use Rattle.id_graph.specs.Graph.{Parts}
+use Rattle.id_instr.specs.declared.dests.Port.TheVariants.{Zero, One}
+use Rattle.id_instr.specs.declared.instr.Op.TheVariants as op
+use Rattle.id_instr.specs.Graph.{Parts}
 use Rattle.id_tag.specs.declared.Value.TheVariants as value
 use Rattle.id_tag.specs.declared.Payload.TheVariants.{Token}
 use Rattle.id_ops.specs.declared.Operands.TheVariants.{One as Alone}
 use Rattle.id_ops.specs.declared.Fired.TheVariants.{Entered}
 use Rattle.id_value.specs.declared.Constant.TheVariants as constants
 use Rattle.id_core.specs.Machines.{World}
-use Rattle.id_meaning.specs.declared.Path.{Path}
-use Rattle.id_meaning.specs.declared.SourceValue.{SourceValue}
-use Rattle.id_meaning.specs.declared.SourceValue.TheVariants as source
-use Rattle.id_meaning.specs.declared.Fact.TheVariants.{Has}
-use Rattle.id_meaning.specs.Sources.{Source, AreInputs, value_kind}
-use Rattle.id_meaning.specs.Facts.{Chooses, then_arm, else_arm, below, without, LoopStands, NextStands, between}
-use Rattle.id_meaning.specs.Rounds.{Holds}
-use Rattle.id_build.specs.declared.arc.Origin.{Origin}
-use Rattle.id_build.specs.Rows as built
-use Rattle.id_build.specs.Rows.{block, entering, first_binder, loop_entries, name_in, next_of, label, node, feed, origin, output, trigger_of, port_at, port_of}
-use Rattle.id_build.specs.Rows.{called, param_of}
+use Rattle.id_source.specs.declared.Path.{Path}
+use Rattle.id_source.specs.declared.SourceValue.{SourceValue}
+use Rattle.id_source.specs.declared.SourceValue.TheVariants as source
+use Rattle.id_source.specs.declared.Fact.TheVariants.{Has}
+use Rattle.id_source.specs.Sources.{Source, AreInputs, value_kind}
+use Rattle.id_source.specs.Facts.{Chooses, then_arm, else_arm, below, without, LoopStands, NextStands, between}
+use Rattle.id_source.specs.Rounds.{Holds}
+use Rattle.id_pieces.specs.declared.arc.Origin.{Origin}
+use Rattle.id_pieces.specs.Rows as built
+use Rattle.id_pieces.specs.Rows.{block, entering, first_binder, loop_entries, name_in, next_of, label, node, feed, origin, output, trigger_of, port_at, port_of}
+use Rattle.id_pieces.specs.Rows.{called, param_of}
 use Rattle.id_desugar.specs.Regions.{nexts_of}
-use Rattle.id_build.specs.Schemas.{Feeds, Numbered}
+use Rattle.id_pieces.specs.Schemas.{Feeds, Numbered}
 use Rattle.id_runs.specs.Activations.{Activation, tag_in, at_iteration}
 use Rattle.id_runs.specs.Events.{Event, FiresAs}
 use Rattle.id_runs.specs.Runs.{Reach, handled}
@@ -49,17 +49,17 @@ use Rattle.id_runs.proofs.Serials.{contexts_apart}
 use Rattle.id_laws.proofs.Regions.{region_of, same_depth}
 use Rattle.id_laws.proofs.Blocks.{a_param}
 use Rattle.id_laws.proofs.Conditionals.{arm_live, arm_of, Conditional, conditional, test_at}
-use Rattle.id_build.proofs.EndsLemmas as ends
+use Rattle.id_pieces.proofs.EndsLemmas as ends
 use Rattle.id_laws.proofs.HasKinds.{port_taking, binder_thing, expression_thing, operand_of}
 use Rattle.id_laws.proofs.Firings.{alone_fired, both_fired, came, spoken, alone_formed, both_formed, sent_handled}
-use Rattle.id_build.proofs.NamesSeen.{Sees, listed}
+use Rattle.id_arcs.proofs.NamesSeen.{Sees, listed}
 use Rattle.id_laws.proofs.Triggers.{Home, home, live_turned, one_activation, second_came}
 use Rattle.id_laws.proofs.Speakers.{own_origin, binder_speaks, fed_as}
 use Rattle.id_laws.proofs.Seats.{below_is, length_snoc, entered_path}
-use Rattle.id_build.specs.declared.arc.Form.TheVariants.{Plain, EnterAt, SendTo}
+use Rattle.id_pieces.specs.declared.arc.Form.TheVariants.{Plain, EnterAt, SendTo}
 use Rattle.id_laws.proofs.CarriedValues.{sent_in, expression_plain, merged, stands_constant, value_fits}
 use Rattle.id_laws.proofs.Calls.{arg_at, call_at, enter_at, as_def, called_head, called_is}
-use Rattle.id_parts.specs.Turns.{IsDefOf, params_at}
+use Rattle.id_table.specs.Turns.{IsDefOf, params_at}
 use Rattle.id_tag.specs.declared.Context.{Context}
 use Rattle.id_desugar.specs.Ends.{end_of}
 use Rattle.id_value.specs.declared.Kind.{Kind}

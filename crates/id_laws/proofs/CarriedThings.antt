@@ -1,25 +1,25 @@
 -- In a quiet run what stands in a live region is carried, and so is what it has spoken.
 use Rattle.std.proofs.Common.{◌≡◌, ℕ, ◌<◌, true, false, List, [], length, refl, sym, ◌∙◌, ap, subst}
 use Rattle.id_list.specs.List.{Among}
-use Rattle.id_parts.specs.declared.row.Node.{Node}
-use Rattle.id_parts.specs.Tables.{HasNear, HasOperand, is_binder, is_expression, is_next, is_thing}
+use Rattle.id_table.specs.declared.row.Node.{Node}
+use Rattle.id_table.specs.Tables.{HasNear, HasOperand, is_binder, is_expression, is_next, is_thing}
 use Rattle.id_check.specs.declared.checked.Checked.{Checked}
 use Rattle.id_check.specs.Programs.{Stands, place, region, rows, binder}
-use Rattle.id_graph.specs.declared.dests.Port.TheVariants.{Zero}
-use Rattle.id_graph.specs.declared.instr.Op.TheVariants as op
-use Rattle.id_graph.specs.Graph.{Parts}
+use Rattle.id_instr.specs.declared.dests.Port.TheVariants.{Zero}
+use Rattle.id_instr.specs.declared.instr.Op.TheVariants as op
+use Rattle.id_instr.specs.Graph.{Parts}
 use Rattle.id_tag.specs.declared.Value.{Value}
 use Rattle.id_tag.specs.declared.Payload.TheVariants.{Token}
 use Rattle.id_ops.specs.declared.Operands.TheVariants.{One as Alone}
 use Rattle.id_ops.specs.Operators.{constant_value}
 use Rattle.id_value.specs.declared.Constant.{Constant}
 use Rattle.id_core.specs.Machines.{World}
-use Rattle.id_meaning.specs.declared.Path.{Path}
-use Rattle.id_meaning.specs.declared.SourceValue.{SourceValue}
-use Rattle.id_meaning.specs.Sources.{Source, AreInputs, value_kind, value_of}
-use Rattle.id_build.specs.declared.arc.Origin.{Origin}
-use Rattle.id_build.specs.Rows.{label, node, origin, port_at, port_of}
-use Rattle.id_build.specs.Schemas.{Numbered}
+use Rattle.id_source.specs.declared.Path.{Path}
+use Rattle.id_source.specs.declared.SourceValue.{SourceValue}
+use Rattle.id_source.specs.Sources.{Source, AreInputs, value_kind, value_of}
+use Rattle.id_pieces.specs.declared.arc.Origin.{Origin}
+use Rattle.id_pieces.specs.Rows.{label, node, origin, port_at, port_of}
+use Rattle.id_pieces.specs.Schemas.{Numbered}
 use Rattle.id_runs.specs.Activations.{Activation, tag_in}
 use Rattle.id_runs.specs.Events.{Event}
 use Rattle.id_runs.specs.Runs.{Reach, handled}
@@ -33,7 +33,7 @@ use Rattle.id_laws.proofs.HasKinds.{binder_thing, expression_thing, operand_of}
 use Rattle.id_laws.proofs.Firings.{alone_fired, spoken}
 use Rattle.id_laws.proofs.Triggers.{one_activation}
 use Rattle.id_laws.proofs.Speakers.{expression_speaks, binder_speaks}
-use Rattle.id_build.specs.declared.arc.Form.TheVariants.{Plain}
+use Rattle.id_pieces.specs.declared.arc.Form.TheVariants.{Plain}
 use Rattle.id_laws.proofs.CarriedValues.{expression_plain, label_plain, merged, stands_constant}
 use Rattle.id_laws.specs.Topics.{StandsFor}
 

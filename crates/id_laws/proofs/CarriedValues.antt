@@ -3,12 +3,12 @@ use Rattle.std.proofs.Common.{◌≡◌, ℕ, true, false, cond, List, refl, sym
 use Rattle.id_value.specs.declared.Constant.{Constant}
 use Rattle.id_value.specs.declared.Outcome.{Outcome}
 use Rattle.id_value.specs.declared.Outcome.TheVariants.{Gives}
-use Rattle.id_parts.specs.declared.row.Node.{Node}
-use Rattle.id_parts.specs.declared.row.Node.TheVariants.{Next}
-use Rattle.id_parts.specs.Tables.{is_expression, is_next}
+use Rattle.id_table.specs.declared.row.Node.{Node}
+use Rattle.id_table.specs.declared.row.Node.TheVariants.{Next}
+use Rattle.id_table.specs.Tables.{is_expression, is_next}
 use Rattle.id_check.specs.declared.checked.Checked.{Checked}
-use Rattle.id_graph.specs.declared.instr.PortKind.{PortKind}
-use Rattle.id_graph.specs.declared.instr.PortKind.TheVariants as kinds
+use Rattle.id_instr.specs.declared.instr.PortKind.{PortKind}
+use Rattle.id_instr.specs.declared.instr.PortKind.TheVariants as kinds
 use Rattle.id_tag.specs.Kinds.{kind_of, same_kind}
 use Rattle.id_tag.specs.declared.Value.{Value}
 use Rattle.id_tag.specs.declared.Value.TheVariants as value
@@ -16,9 +16,9 @@ use Rattle.id_tag.specs.declared.Tag.{Tag}
 use Rattle.id_ops.specs.declared.Fired.TheVariants.{Out, Nothing, Sent}
 use Rattle.id_ops.specs.Operators.{constant_value, fired_by}
 use Rattle.id_value.specs.declared.Constant.TheVariants as constants
-use Rattle.id_meaning.specs.declared.SourceValue.{SourceValue}
-use Rattle.id_meaning.specs.Sources.{Source, value_kind, value_of}
-use Rattle.id_build.specs.Rows.{block, label, label_by, node, port_of}
+use Rattle.id_source.specs.declared.SourceValue.{SourceValue}
+use Rattle.id_source.specs.Sources.{Source, value_kind, value_of}
+use Rattle.id_pieces.specs.Rows.{block, label, label_by, node, port_of}
 use Rattle.id_runs.specs.Events.{Event}
 use Rattle.id_laws.specs.Topics.{StandsFor, number_stands, truth_stands, name_stands}
 

@@ -10,18 +10,18 @@ use Rattle.id_list.specs.List.{AllDiffer, Among}
 use Rattle.id_list.proofs.AmongLemmas.{Among-from_at, at-from_Among}
 use Rattle.id_list.proofs.DifferLemmas.{AllDiffer-from_map}
 use Rattle.id_list.proofs.PlacesLemmas.{Among-from_remove, taken-or-left}
-use Rattle.id_meaning.specs.declared.Ask.{Ask}
-use Rattle.id_meaning.specs.declared.NameValue.{NameValue}
-use Rattle.id_meaning.specs.declared.Put.{Put}
-use Rattle.id_meaning.specs.declared.Shape.{Shape}
-use Rattle.id_meaning.specs.declared.Site.{Site}
-use Rattle.id_meaning.specs.declared.SourceFault.{SourceFault}
-use Rattle.id_meaning.specs.declared.SourceValue.{SourceValue}
+use Rattle.id_source.specs.declared.Ask.{Ask}
+use Rattle.id_source.specs.declared.NameValue.{NameValue}
+use Rattle.id_source.specs.declared.Put.{Put}
+use Rattle.id_source.specs.declared.Shape.{Shape}
+use Rattle.id_source.specs.declared.Site.{Site}
+use Rattle.id_source.specs.declared.SourceFault.{SourceFault}
+use Rattle.id_source.specs.declared.SourceValue.{SourceValue}
 use Rattle.id_check.specs.Programs.{place}
-use Rattle.id_meaning.specs.Facts.{outermost, site}
-use Rattle.id_meaning.specs.Rounds.{IsAnswer, IsCoherent}
-use Rattle.id_meaning.specs.Sources.{AreInputs, Source, main_body}
-use Rattle.id_meaning.proofs.Coherence.{coherence}
+use Rattle.id_source.specs.Facts.{outermost, site}
+use Rattle.id_source.specs.Rounds.{IsAnswer, IsCoherent}
+use Rattle.id_source.specs.Sources.{AreInputs, Source, main_body}
+use Rattle.id_source.proofs.Coherence.{coherence}
 use Rattle.id_laws.specs.Laws.{IsComplete, IsSound}
 use Rattle.id_laws.specs.Determinate.{Determinate, RunOf, ShowTheSame, end_of}
 use Rattle.id_laws.proofs.EveryRun.{completeness, soundness}

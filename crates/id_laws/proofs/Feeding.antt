@@ -1,27 +1,27 @@
 -- What comes along an arc tells what its port wants, where it tells what its origin speaks of.
 use Rattle.std.proofs.Common.{◌≡◌, inl, inr, ℕ, suc, ◌+◌, ◌-◌, ◌<◌, Bool as Truth, true, false, List, length, get_or, refl, sym, ◌∙◌, ap, subst, arith}
-use Rattle.id_parts.specs.declared.row.Region.{Region}
-use Rattle.id_parts.specs.declared.row.Node.{Node}
-use Rattle.id_parts.specs.declared.row.Node.TheVariants.{Head, Literal, Unary, Binary, Split, If, Enter, Arg, Binding, Program}
-use Rattle.id_parts.specs.declared.row.Node.TheVariants.{Start, LoopHead, Entries, Switches, Turn, Next, Reset}
-use Rattle.id_parts.specs.declared.row.Node.TheVariants.{Array, Fetch, Address, Store}
-use Rattle.id_parts.specs.Rows.{top}
-use Rattle.id_parts.specs.Tables.{HasPart, HasOperand, begins_block, is_expression, is_top}
+use Rattle.id_table.specs.declared.row.Region.{Region}
+use Rattle.id_table.specs.declared.row.Node.{Node}
+use Rattle.id_table.specs.declared.row.Node.TheVariants.{Head, Literal, Unary, Binary, Split, If, Enter, Arg, Binding, Program}
+use Rattle.id_table.specs.declared.row.Node.TheVariants.{Start, LoopHead, Entries, Switches, Turn, Next, Reset}
+use Rattle.id_table.specs.declared.row.Node.TheVariants.{Array, Fetch, Address, Store}
+use Rattle.id_table.specs.Rows.{top}
+use Rattle.id_table.specs.Tables.{HasPart, HasOperand, begins_block, is_expression, is_top}
 use Rattle.id_check.specs.declared.checked.Checked.{Checked}
 use Rattle.id_check.specs.Programs.{place, region, rows}
-use Rattle.id_graph.specs.declared.dests.Port.{Port}
-use Rattle.id_graph.specs.declared.dests.Port.TheVariants.{Zero, One}
+use Rattle.id_instr.specs.declared.dests.Port.{Port}
+use Rattle.id_instr.specs.declared.dests.Port.TheVariants.{Zero, One}
 use Rattle.id_tag.specs.declared.Value.{Value}
-use Rattle.id_meaning.specs.declared.Fact.TheVariants.{Has}
-use Rattle.id_meaning.specs.Sources.{Source}
-use Rattle.id_meaning.specs.Facts.{conditional_has}
-use Rattle.id_meaning.specs.Rounds.{Holds}
+use Rattle.id_source.specs.declared.Fact.TheVariants.{Has}
+use Rattle.id_source.specs.Sources.{Source}
+use Rattle.id_source.specs.Facts.{conditional_has}
+use Rattle.id_source.specs.Rounds.{Holds}
 use Rattle.id_desugar.specs.Ends.{end_of}
 use Rattle.id_desugar.specs.Regions.{imports_of}
-use Rattle.id_build.specs.declared.arc.Origin.{Origin}
-use Rattle.id_build.specs.Rows.{block, node, body_of, entering, trigger_of, turn_row, origin}
+use Rattle.id_pieces.specs.declared.arc.Origin.{Origin}
+use Rattle.id_pieces.specs.Rows.{block, node, body_of, entering, trigger_of, turn_row, origin}
 use Rattle.id_desugar.specs.Ends.{next_of}
-use Rattle.id_build.specs.Schemas.{Feeds}
+use Rattle.id_pieces.specs.Schemas.{Feeds}
 use Rattle.id_runs.specs.Activations.{Activation, at_iteration}
 use Rattle.id_runs.specs.Events.{Event}
 use Rattle.id_laws.specs.Activations.{of_call, of_loop, Tests, of_arms, of_turns, Speaks, Moves, Live}
@@ -29,8 +29,8 @@ use Rattle.id_laws.specs.Topics.{Turned, ValueOf, NameIn, ResultOf, TestOf, spli
 use Rattle.id_laws.specs.Topics.{topic_of, wants, topic_at, result_at, result_of}
 use Rattle.id_laws.proofs.Assumed.{IsKnown}
 use Rattle.id_laws.proofs.Loops.{loop_of_head, loop_of_row, next_block, reset_in, reset_node, turn_in, turn_node}
-use Rattle.id_build.proofs.LoopsLemmas.{next_is}
-use Rattle.id_build.proofs.NamesSeen.{listed}
+use Rattle.id_pieces.proofs.LoopsLemmas.{next_is}
+use Rattle.id_arcs.proofs.NamesSeen.{listed}
 use Rattle.id_laws.proofs.Arcs.{Arc, to_back, to_literal, to_unary, to_left, to_right, to_test, to_trigger, to_import_test, to_import, to_then, to_else}
 use Rattle.id_laws.proofs.Arcs.{to_enter, to_context, to_argument, to_label, to_loop_context, to_entering, to_head, to_loop_back, fed}
 use Rattle.id_laws.proofs.Arcs.{to_variable, to_entry, to_turn, to_turn_name, to_next, to_reset}
@@ -39,7 +39,7 @@ use Rattle.id_laws.specs.Topics.{of_fetch, of_store}
 use Rattle.id_laws.proofs.Calls.{arg_at}
 use Rattle.id_laws.proofs.Stores.{address_at}
 use Rattle.id_laws.proofs.Conditionals.{arm_of, chosen, conditional, test_at, arm_live}
-use Rattle.id_build.proofs.EndsLemmas.{end_is}
+use Rattle.id_pieces.proofs.EndsLemmas.{end_is}
 use Rattle.id_laws.proofs.Regions.{HeadOf, of_block, of_tests, region_of}
 use Rattle.id_laws.proofs.Sources.{begins_other, tests_other, is_mover, mover_returns, Returns, to_trigger_again, to_result, to_variable_again, to_entry_again}
 use Rattle.id_laws.proofs.Origins.{origin_shows, named_tells}
@@ -186,7 +186,7 @@ module _ (S : Source) (known : IsKnown S.checked) (number : ℕ → ℕ → ℕ)
   by_arc {n} v within (to_import_test {t = t} k is less) says tells = at_tests n (suc k) v is (test_tells n t v within is says tells)
   by_arc {n} v within (to_import {t = t} k is less) says tells =
       let b = get_or (imports_of P n) k 0 in
-      let z = known.imported n t b within is (Rattle.id_build.proofs.NamesSeen.listed (imports_of P n) k less) in
+      let z = known.imported n t b within is (Rattle.id_arcs.proofs.NamesSeen.listed (imports_of P n) k less) in
       at_switch n (suc k) v is (named_tells S known number run seats a (region P n) b v z.0 z.1 z.2 tells)
   by_arc {n} v within (to_then {s = s} {x = x} {y = y} is) says tells = at_node n 0 Zero v (If s x y) is (arm_tells n s x y true v within is tells)
   by_arc {n} v within (to_else {s = s} {x = x} {y = y} is) says tells = at_node n 0 Zero v (If s x y) is (arm_tells n s x y false v within is tells)

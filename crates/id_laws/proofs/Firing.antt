@@ -1,17 +1,17 @@
 -- What a firing tells, where its operands tell what their ports want: one case for each part of a row.
 use Rattle.std.proofs.Common.{◌≡◌, inl, inr, ℕ, zero, suc, ◌+◌, ◌-◌, ◌<◌, Bool as Truth, true, false, cond, List, length, arith, get_or, refl, sym, ◌∙◌, ap}
 use Rattle.std.proofs.Common.{subst}
-use Rattle.id_parts.specs.declared.row.Node.{Node}
-use Rattle.id_parts.specs.declared.row.Node.TheVariants.{Head, Param, Literal, Unary, Binary, Split, If, Enter, Arg, Call, Array, Fetch, Address, Store}
-use Rattle.id_parts.specs.declared.row.Node.TheVariants.{Binding, Program, Start, LoopHead, Variable, Entries, Switches, Turn, Next, Reset, Loop}
-use Rattle.id_parts.specs.Rows.{arm_at, top}
-use Rattle.id_parts.specs.Tables.{begins_block}
+use Rattle.id_table.specs.declared.row.Node.{Node}
+use Rattle.id_table.specs.declared.row.Node.TheVariants.{Head, Param, Literal, Unary, Binary, Split, If, Enter, Arg, Call, Array, Fetch, Address, Store}
+use Rattle.id_table.specs.declared.row.Node.TheVariants.{Binding, Program, Start, LoopHead, Variable, Entries, Switches, Turn, Next, Reset, Loop}
+use Rattle.id_table.specs.Rows.{arm_at, top}
+use Rattle.id_table.specs.Tables.{begins_block}
 use Rattle.id_check.specs.declared.checked.Checked.{Checked}
 use Rattle.id_check.specs.Programs.{place, region, rows}
-use Rattle.id_graph.specs.declared.dests.Port.{Port}
-use Rattle.id_graph.specs.declared.dests.Port.TheVariants.{Zero, One}
-use Rattle.id_build.specs.declared.arc.Form.{Form}
-use Rattle.id_graph.specs.declared.instr.PortKind.TheVariants.{Signal as SignalKind, Int as IntKind}
+use Rattle.id_instr.specs.declared.dests.Port.{Port}
+use Rattle.id_instr.specs.declared.dests.Port.TheVariants.{Zero, One}
+use Rattle.id_pieces.specs.declared.arc.Form.{Form}
+use Rattle.id_instr.specs.declared.instr.PortKind.TheVariants.{Signal as SignalKind, Int as IntKind}
 use Rattle.id_tag.specs.declared.Tag.{Tag}
 use Rattle.id_tag.specs.declared.Value.{Value}
 use Rattle.id_tag.specs.declared.Value.TheVariants as value
@@ -22,16 +22,16 @@ use Rattle.id_ops.specs.declared.Fresh.{Fresh}
 use Rattle.id_ops.specs.declared.Fired.{Fired}
 use Rattle.id_ops.specs.declared.Fired.TheVariants.{Out, Side, Sent, Moved, Nothing}
 use Rattle.id_ops.specs.Operators.{fired_switch, fired}
-use Rattle.id_meaning.specs.declared.Path.{Path}
-use Rattle.id_meaning.specs.declared.SourceValue.{SourceValue}
-use Rattle.id_meaning.specs.declared.SourceValue.TheVariants as source
-use Rattle.id_meaning.specs.declared.Fact.TheVariants.{Has}
-use Rattle.id_meaning.specs.Sources.{Source}
-use Rattle.id_meaning.specs.Facts.{below, without, next_has}
-use Rattle.id_meaning.specs.Rounds.{Holds}
+use Rattle.id_source.specs.declared.Path.{Path}
+use Rattle.id_source.specs.declared.SourceValue.{SourceValue}
+use Rattle.id_source.specs.declared.SourceValue.TheVariants as source
+use Rattle.id_source.specs.declared.Fact.TheVariants.{Has}
+use Rattle.id_source.specs.Sources.{Source}
+use Rattle.id_source.specs.Facts.{below, without, next_has}
+use Rattle.id_source.specs.Rounds.{Holds}
 use Rattle.id_desugar.specs.Ends.{end_of}
 use Rattle.id_desugar.specs.Regions.{imports_of}
-use Rattle.id_build.specs.Rows.{block, next_of, node, port_at, binary_op, op_by, param_of, port_of, result_of}
+use Rattle.id_pieces.specs.Rows.{block, next_of, node, port_at, binary_op, op_by, param_of, port_of, result_of}
 use Rattle.id_runs.specs.Activations.{Activation, at_iteration, tag_in, activation_of}
 use Rattle.id_runs.specs.Events.{Event}
 use Rattle.id_laws.specs.Activations.{of_call, of_loop, Tests, of_arms, of_turns, by_test, Live, on_side, path_at}
@@ -43,7 +43,7 @@ use Rattle.id_laws.proofs.Loops.{loop_of_row, loop_stands, next_at, reset_last, 
 use Rattle.id_laws.proofs.Loops.{switches_node, switches_region, switches_within, turn_region_at}
 use Rattle.id_laws.proofs.Opened.{InLoop, live_loop, loop_path, next_path}
 use Rattle.id_laws.proofs.Regions.{no_depth, region_of, same_depth}
-use Rattle.id_build.proofs.NamesSeen.{listed}
+use Rattle.id_arcs.proofs.NamesSeen.{listed}
 use Rattle.id_scope.specs.Scopes.{loops_between}
 use Rattle.id_laws.proofs.Sources.{tests_other}
 use Rattle.id_laws.proofs.Arcs.{Does, starts, returns, enters, constant, unary, binary, turns_on, hands, joins, opens, passes, gets, names, answers}

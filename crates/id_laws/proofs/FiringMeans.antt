@@ -3,10 +3,10 @@ use Rattle.std.proofs.Common.{◌≡◌, ◌⊎◌, inl, inr, ℕ, ◌+◌, Bool
 use Rattle.id_value.specs.declared.Constant.{Constant}
 use Rattle.id_value.specs.declared.Constant.TheVariants as constants
 use Rattle.id_value.specs.declared.FaultKind.{FaultKind}
-use Rattle.id_parts.specs.declared.row.Node.TheVariants.{Arg, Program, Start}
+use Rattle.id_table.specs.declared.row.Node.TheVariants.{Arg, Program, Start}
 use Rattle.id_check.specs.Programs.{place, region}
-use Rattle.id_graph.specs.declared.dests.Port.{Port}
-use Rattle.id_graph.specs.declared.dests.Port.TheVariants.{Zero, One}
+use Rattle.id_instr.specs.declared.dests.Port.{Port}
+use Rattle.id_instr.specs.declared.dests.Port.TheVariants.{Zero, One}
 use Rattle.id_tag.specs.declared.Context.{Context}
 use Rattle.id_tag.specs.declared.Tag.{Tag}
 use Rattle.id_tag.specs.declared.Value.{Value}
@@ -17,14 +17,14 @@ use Rattle.id_ops.specs.declared.Fired.{Fired}
 use Rattle.id_ops.specs.declared.Fired.TheVariants.{Out, Side, Entered, Sent, Moved, Asked, Stored, Failed, Nothing}
 use Rattle.id_ops.specs.Operators.{constant_value}
 use Rattle.id_tag.specs.declared.Structure.{Structure}
-use Rattle.id_meaning.specs.declared.Path.{Path}
-use Rattle.id_meaning.specs.declared.SourceFault.TheVariants.{Operator}
-use Rattle.id_meaning.specs.declared.SourceValue.{SourceValue}
-use Rattle.id_meaning.specs.declared.SourceValue.TheVariants as source
-use Rattle.id_meaning.specs.Sources.{Source, value_of}
-use Rattle.id_meaning.specs.Facts.{site}
-use Rattle.id_meaning.specs.Rounds.{Faulty}
-use Rattle.id_build.specs.Rows.{Entry, entering, loop_entries, node, param_of}
+use Rattle.id_source.specs.declared.Path.{Path}
+use Rattle.id_source.specs.declared.SourceFault.TheVariants.{Operator}
+use Rattle.id_source.specs.declared.SourceValue.{SourceValue}
+use Rattle.id_source.specs.declared.SourceValue.TheVariants as source
+use Rattle.id_source.specs.Sources.{Source, value_of}
+use Rattle.id_source.specs.Facts.{site}
+use Rattle.id_source.specs.Rounds.{Faulty}
+use Rattle.id_pieces.specs.Rows.{Entry, entering, loop_entries, node, param_of}
 use Rattle.id_runs.specs.Activations.{Activation, at_iteration, tag_in}
 use Rattle.id_runs.specs.Events.{Event, FiresAs}
 use Rattle.id_laws.specs.Activations.{Begins, Opens, PathOf, Live, ReturnsTo}

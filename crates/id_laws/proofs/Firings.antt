@@ -2,13 +2,13 @@
 use Rattle.std.proofs.Common.{◌≡◌, inl, inr, ℕ, ◌<◌, Bool as Truth, true, false, List, [], length, refl, sym, ◌∙◌, ap, subst}
 use Rattle.id_list.specs.List.{Among}
 use Rattle.id_check.specs.Programs.{rows}
-use Rattle.id_graph.specs.declared.dests.Port.{Port}
-use Rattle.id_graph.specs.declared.dests.Port.TheVariants.{Zero, One}
-use Rattle.id_graph.specs.declared.dests.Dest.{Dest}
-use Rattle.id_graph.specs.declared.instr.Instr.{Instr}
-use Rattle.id_graph.specs.declared.instr.Op.{Op}
-use Rattle.id_graph.specs.Graph.{Parts}
-use Rattle.id_graph.specs.Ports.{two_ports}
+use Rattle.id_instr.specs.declared.dests.Port.{Port}
+use Rattle.id_instr.specs.declared.dests.Port.TheVariants.{Zero, One}
+use Rattle.id_instr.specs.declared.dests.Dest.{Dest}
+use Rattle.id_instr.specs.declared.instr.Instr.{Instr}
+use Rattle.id_instr.specs.declared.instr.Op.{Op}
+use Rattle.id_instr.specs.Graph.{Parts}
+use Rattle.id_instr.specs.Ports.{two_ports}
 use Rattle.id_tag.specs.declared.Tag.{Tag}
 use Rattle.id_tag.specs.declared.Value.{Value}
 use Rattle.id_tag.specs.declared.Payload.{Payload}
@@ -21,10 +21,10 @@ use Rattle.id_ops.specs.declared.Fired.TheVariants.{Out, Side, Moved}
 use Rattle.id_ops.specs.Operators.{fired}
 use Rattle.id_record.specs.Records.{dests_at, sent_by}
 use Rattle.id_core.specs.Machines.{World}
-use Rattle.id_meaning.specs.Sources.{Source}
-use Rattle.id_build.specs.declared.arc.Origin.{Origin}
-use Rattle.id_build.specs.declared.arc.Form.TheVariants.{Plain}
-use Rattle.id_build.specs.Schemas.{Feeds, Numbered}
+use Rattle.id_source.specs.Sources.{Source}
+use Rattle.id_pieces.specs.declared.arc.Origin.{Origin}
+use Rattle.id_pieces.specs.declared.arc.Form.TheVariants.{Plain}
+use Rattle.id_pieces.specs.Schemas.{Feeds, Numbered}
 use Rattle.id_runs.specs.Activations.{Activation, at_iteration, main_activation, tag_in}
 use Rattle.id_runs.specs.Events.{Event, FiresAs, fired_event}
 use Rattle.id_runs.specs.Runs.{Origin as ComesFrom, Reach, handled}
@@ -39,8 +39,8 @@ use Rattle.id_laws.proofs.Arcs.{Does, makes}
 use Rattle.id_laws.proofs.Assumed.{IsKnown}
 use Rattle.id_laws.proofs.Sent.{dests_are}
 use Rattle.id_laws.proofs.Start.{is_there}
-use Rattle.id_build.specs.declared.arc.Form.{Form}
-use Rattle.id_build.specs.Rows.{op_by}
+use Rattle.id_pieces.specs.declared.arc.Form.{Form}
+use Rattle.id_pieces.specs.Rows.{op_by}
 
 module _ (S : Source) (g : Parts) (number : ℕ → ℕ → ℕ) (numbered : Numbered S.checked g number) (known : IsKnown S.checked) (count : ℕ)
     (only : Exclusive g S.inputs count)

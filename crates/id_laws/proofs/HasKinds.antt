@@ -17,33 +17,33 @@ use Rattle.id_value.specs.declared.Outcome.TheVariants.{Gives, Lacks}
 use Rattle.id_value.specs.Results.{result_of_unary, result_of_binary}
 use Rattle.id_value.proofs.ResultsLemmas.{IsNumberOrFault, whole-number, calculated-number}
 use Rattle.id_list.proofs.AmongLemmas.{Among-from_at}
-use Rattle.id_parts.specs.declared.row.Node.{Node}
-use Rattle.id_parts.specs.declared.row.Node.TheVariants.{Head, Param, Split, If, Binding, Program, Enter, Arg, Def, Fetch, Address}
-use Rattle.id_parts.specs.declared.row.Node.TheVariants.{Start, LoopHead, Variable, Entries, Switches, Turn, NextUse, Next, Body, Reset}
-use Rattle.id_parts.specs.Rows.{at}
-use Rattle.id_parts.specs.Tables.{HasOperand, is_thing, is_binder, is_expression}
-use Rattle.id_parts.proofs.RegionLemmas.{HasPart-operand}
+use Rattle.id_table.specs.declared.row.Node.{Node}
+use Rattle.id_table.specs.declared.row.Node.TheVariants.{Head, Param, Split, If, Binding, Program, Enter, Arg, Def, Fetch, Address}
+use Rattle.id_table.specs.declared.row.Node.TheVariants.{Start, LoopHead, Variable, Entries, Switches, Turn, NextUse, Next, Body, Reset}
+use Rattle.id_table.specs.Rows.{at}
+use Rattle.id_table.specs.Tables.{HasOperand, is_thing, is_binder, is_expression}
+use Rattle.id_table.proofs.RegionLemmas.{HasPart-operand}
 use Rattle.id_check.specs.declared.checked.Checked.{Checked}
 use Rattle.id_scope.specs.Kinds.{constant_kind, unary_kind, binary_kind}
 use Rattle.id_check.specs.Programs.{Stands, kind, place, rows}
-use Rattle.id_meaning.specs.declared.Path.{Path}
-use Rattle.id_meaning.specs.declared.SourceValue.{SourceValue}
-use Rattle.id_meaning.specs.declared.Fact.{Fact}
-use Rattle.id_meaning.specs.declared.Fact.TheVariants.{Has}
-use Rattle.id_meaning.specs.declared.Fact.TheVariants as facts
-use Rattle.id_meaning.specs.declared.Ask.{Ask}
-use Rattle.id_meaning.specs.declared.Put.{Put}
-use Rattle.id_meaning.specs.declared.SourceValue.TheVariants as source
-use Rattle.id_meaning.specs.Sources.{Source, AreFor, AreInputs, IsInput, SuitsParam, main_params, value_kind, value_of, constant_kind as input_kind_of}
-use Rattle.id_meaning.specs.Facts.{Rule, Chooses, then_arm, else_arm, param_has, literal_has, unary_has, binary_has, name_has, conditional_has, block_has}
-use Rattle.id_meaning.specs.Facts.{binding_has, argument_has, call_has, first_has, next_has, loop_has, array_has, fetch_has, asks, puts, site}
-use Rattle.id_meaning.specs.Rounds.{Every, Rounds, Holds}
-use Rattle.id_build.specs.Rows.{node, port_at, port_of, param_of}
+use Rattle.id_source.specs.declared.Path.{Path}
+use Rattle.id_source.specs.declared.SourceValue.{SourceValue}
+use Rattle.id_source.specs.declared.Fact.{Fact}
+use Rattle.id_source.specs.declared.Fact.TheVariants.{Has}
+use Rattle.id_source.specs.declared.Fact.TheVariants as facts
+use Rattle.id_source.specs.declared.Ask.{Ask}
+use Rattle.id_source.specs.declared.Put.{Put}
+use Rattle.id_source.specs.declared.SourceValue.TheVariants as source
+use Rattle.id_source.specs.Sources.{Source, AreFor, AreInputs, IsInput, SuitsParam, main_params, value_kind, value_of, constant_kind as input_kind_of}
+use Rattle.id_source.specs.Facts.{Rule, Chooses, then_arm, else_arm, param_has, literal_has, unary_has, binary_has, name_has, conditional_has, block_has}
+use Rattle.id_source.specs.Facts.{binding_has, argument_has, call_has, first_has, next_has, loop_has, array_has, fetch_has, asks, puts, site}
+use Rattle.id_source.specs.Rounds.{Every, Rounds, Holds}
+use Rattle.id_pieces.specs.Rows.{node, port_at, port_of, param_of}
 use Rattle.id_laws.specs.Activations.{main_head}
 use Rattle.id_laws.proofs.Assumed.{IsKnown}
 use Rattle.id_check.proofs.ProgramsLemmas.{loop_row, next_row}
 use Rattle.id_laws.proofs.Blocks.{IsParam, a_param}
-use Rattle.id_parts.specs.Turns.{IsDefOf, params_at}
+use Rattle.id_table.specs.Turns.{IsDefOf, params_at}
 use Rattle.id_laws.proofs.Calls.{enter_at, called_is}
 
 -- the kind of a constant

@@ -1,22 +1,22 @@
 -- The inputs of a program are inputs for each graph that the schemas give it.
 use Rattle.std.proofs.Common.{◌≡◌, ℕ, ◌<◌, Some, List, [], ◌∷◌, length, map, sym, ◌∙◌, ap, subst, inl, inr, refl}
 use Rattle.id_list.specs.List.{Among}
-use Rattle.id_parts.specs.declared.row.Node.{Node}
-use Rattle.id_parts.specs.declared.row.Node.TheVariants.{Param}
-use Rattle.id_parts.specs.Turns.{params_at}
+use Rattle.id_table.specs.declared.row.Node.{Node}
+use Rattle.id_table.specs.declared.row.Node.TheVariants.{Param}
+use Rattle.id_table.specs.Turns.{params_at}
 use Rattle.id_check.specs.declared.checked.Checked.{Checked}
 use Rattle.id_check.specs.Programs.{kind, rows}
-use Rattle.id_graph.specs.declared.instr.Block.{Block}
-use Rattle.id_graph.specs.declared.instr.Op.TheVariants.{Merge}
-use Rattle.id_graph.specs.Graph.{Parts}
+use Rattle.id_instr.specs.declared.instr.Block.{Block}
+use Rattle.id_instr.specs.declared.instr.Op.TheVariants.{Merge}
+use Rattle.id_instr.specs.Graph.{Parts}
 use Rattle.id_tag.specs.Kinds.{kind_of as token_kind}
 use Rattle.id_core.specs.Machines.{AreTaken, TakesInputs}
 use Rattle.id_value.specs.declared.Constant.{Constant}
 use Rattle.id_value.specs.declared.Constant.TheVariants as value
 use Rattle.id_ops.specs.Operators.{constant_value}
-use Rattle.id_meaning.specs.Sources.{AreFor, AreInputs, SuitsParam, source, constant_kind}
-use Rattle.id_build.specs.Rows.{node, port_at, port_of}
-use Rattle.id_build.specs.Schemas.{Numbered, Schemas}
+use Rattle.id_source.specs.Sources.{AreFor, AreInputs, SuitsParam, source, constant_kind}
+use Rattle.id_pieces.specs.Rows.{node, port_at, port_of}
+use Rattle.id_pieces.specs.Schemas.{Numbered, Schemas}
 use Rattle.id_laws.specs.Activations.{main_head}
 use Rattle.id_laws.proofs.Arcs.{enters}
 use Rattle.id_laws.proofs.Blocks.{a_param}

@@ -2,22 +2,22 @@
 use Rattle.std.proofs.Common.{◌≡◌, ℕ, zero, suc, ◌+◌, ◌-◌, ◌<◌, ◌≤◌, ◌++◌, true, List, [], ◌∷◌, length}
 use Rattle.std.proofs.Common.{refl, sym, ◌∙◌, ap, subst, arith}
 use Rattle.std.specs.Prelude.{take}
-use Rattle.id_parts.specs.declared.row.Region.{Region}
-use Rattle.id_parts.specs.declared.row.Row.{Row}
-use Rattle.id_parts.specs.declared.row.Node.TheVariants.{Program, Start, LoopHead, Switches}
-use Rattle.id_parts.specs.Loops.{depth, loops_from}
-use Rattle.id_parts.specs.Rows.{arm_at, at}
-use Rattle.id_parts.specs.Tables.{is_binder}
+use Rattle.id_table.specs.declared.row.Region.{Region}
+use Rattle.id_table.specs.declared.row.Row.{Row}
+use Rattle.id_table.specs.declared.row.Node.TheVariants.{Program, Start, LoopHead, Switches}
+use Rattle.id_table.specs.Loops.{depth, loops_from}
+use Rattle.id_table.specs.Rows.{arm_at, at}
+use Rattle.id_table.specs.Tables.{is_binder}
 use Rattle.id_check.specs.declared.checked.Checked.{Checked}
 use Rattle.id_scope.specs.Scopes.{loops_between}
 use Rattle.id_check.specs.Programs.{region, rows}
 use Rattle.id_tag.specs.declared.Value.TheVariants as value
-use Rattle.id_meaning.specs.declared.Path.{Path}
-use Rattle.id_meaning.specs.declared.PathStep.{PathStep}
-use Rattle.id_meaning.specs.Sources.{Source}
-use Rattle.id_meaning.specs.Facts.{below, without}
-use Rattle.id_build.specs.Rows.{block, node, origin}
-use Rattle.id_build.proofs.NamesSeen.{Sees, own, handed, entered as entered_in}
+use Rattle.id_source.specs.declared.Path.{Path}
+use Rattle.id_source.specs.declared.PathStep.{PathStep}
+use Rattle.id_source.specs.Sources.{Source}
+use Rattle.id_source.specs.Facts.{below, without}
+use Rattle.id_pieces.specs.Rows.{block, node, origin}
+use Rattle.id_arcs.proofs.NamesSeen.{Sees, own, handed, entered as entered_in}
 use Rattle.id_runs.specs.Activations.{Activation, at_iteration}
 use Rattle.id_runs.specs.Events.{Event}
 use Rattle.id_laws.specs.Activations.{of_turns, Seat, Outermost, Below, path_at, Speaks, Live, again}

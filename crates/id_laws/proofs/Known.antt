@@ -1,12 +1,12 @@
 -- The rows of a checked program are known: the table, the binders and the kinds that the check has found.
 use Rattle.std.proofs.Common.{◌≡◌, inl, inr, ℕ, ◌<◌, ◌+◌, true, Some, map, length, refl, sym, ◌∙◌, ap, subst, if◌then◌else◌}
 use Rattle.std.specs.Prelude.{slice_get, unwrap_or}
-use Rattle.id_parts.specs.declared.row.Node.{Node}
-use Rattle.id_parts.specs.declared.row.Node.TheVariants.{Param, Literal, Name, Unary, Binary, Arg, Call, Def, Block, Binding, Start, Next, Array, Fetch}
-use Rattle.id_parts.specs.Tables.{AreApart, is_binder, is_top}
-use Rattle.id_parts.specs.Turns.{IsDefOf, params_at}
-use Rattle.id_parts.proofs.BlocksLemmas.{Among-from_params_at}
-use Rattle.id_parts.proofs.PlacesLemmas.{AreApart-rows_of}
+use Rattle.id_table.specs.declared.row.Node.{Node}
+use Rattle.id_table.specs.declared.row.Node.TheVariants.{Param, Literal, Name, Unary, Binary, Arg, Call, Def, Block, Binding, Start, Next, Array, Fetch}
+use Rattle.id_table.specs.Tables.{AreApart, is_binder, is_top}
+use Rattle.id_table.specs.Turns.{IsDefOf, params_at}
+use Rattle.id_table.proofs.BlocksLemmas.{Among-from_params_at}
+use Rattle.id_table.proofs.PlacesLemmas.{AreApart-rows_of}
 use Rattle.id_check.specs.declared.checked.Checked.{Checked}
 use Rattle.id_scope.specs.Causes.{defines_main}
 use Rattle.id_scope.specs.Kinds.{link_of}
@@ -15,23 +15,23 @@ use Rattle.id_check.proofs.ProgramsLemmas.{table_of, bound_name_row, kind_along,
 use Rattle.id_check.proofs.ProgramsLemmas.{def_row, enter_row, callee_row, call_row, next_row, argument_row}
 use Rattle.id_check.proofs.ProgramsLemmas.{argument_call, switches_row}
 use Rattle.id_check.proofs.ProgramsLemmas.{array_row, fetch_row, address_row, store_row}
-use Rattle.id_meaning.specs.Sources.{head_of}
+use Rattle.id_source.specs.Sources.{head_of}
 use Rattle.id_meaning.proofs.ArgumentsLemmas.{argument-get}
-use Rattle.id_build.specs.Rows.{block, called, entering, first_binder, node, outer_at, param_at, param_of}
-use Rattle.id_build.specs.Rows as build
+use Rattle.id_pieces.specs.Rows.{block, called, entering, first_binder, node, outer_at, param_at, param_of}
+use Rattle.id_pieces.specs.Rows as build
 use Rattle.id_value.specs.declared.Kind.TheVariants as kinds
 use Rattle.id_list.specs.List.{Among}
 use Rattle.id_desugar.specs.Regions.{imports_of, nexts_of}
 use Rattle.id_laws.specs.Activations.{main_head, Tests, of_arms, of_turns}
 use Rattle.id_laws.specs.Topics.{Addresses, of_fetch, of_store}
 use Rattle.id_laws.proofs.Assumed.{IsKnown}
-use Rattle.id_build.proofs.EndsLemmas.{call_is}
-use Rattle.id_build.proofs.ImportsLemmas.{name_seen, split_seen, switches_seen, first_seen, loop_seen, turn_seen}
-use Rattle.id_build.proofs.LoopsLemmas.{start_head}
+use Rattle.id_pieces.proofs.EndsLemmas.{call_is}
+use Rattle.id_arcs.proofs.ImportsLemmas.{name_seen, split_seen, switches_seen, first_seen, loop_seen, turn_seen}
+use Rattle.id_pieces.proofs.LoopsLemmas.{start_head}
 use Rattle.id_laws.proofs.LoopRows.{entering_binds, import_binds}
 use Rattle.id_list.proofs.AmongLemmas.{Among-either, Among-from_map}
-use Rattle.id_parts.proofs.DepthLemmas.{depth-head}
-use Rattle.id_build.proofs.NamesSeen.{Sees}
+use Rattle.id_table.proofs.DepthLemmas.{depth-head}
+use Rattle.id_arcs.proofs.NamesSeen.{Sees}
 
 some_is : {A : Type 0} {x y : A} → Some x ≡ Some y → x ≡ y
 some_is h = cc

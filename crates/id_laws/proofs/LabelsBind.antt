@@ -5,19 +5,19 @@ use Rattle.std.proofs.Common.{◌∙◌, ap, arith}
 use Rattle.std.specs.List.{count_by}
 use Rattle.std.proofs.lemmas.Bool.Decides.{nat_tests}
 use Rattle.std.proofs.lemmas.List.Sums.{sum_by-cons}
-use Rattle.id_parts.specs.declared.row.Node.{Node}
-use Rattle.id_parts.specs.declared.row.Node.TheVariants.{Head, Param, Split, If, Program, Enter, Call, Binding, Start, LoopHead, Entries, Loop, Fetch}
-use Rattle.id_parts.specs.Tables.{begins_block, is_binder}
-use Rattle.id_parts.specs.Loops.{IsLoopOf}
+use Rattle.id_table.specs.declared.row.Node.{Node}
+use Rattle.id_table.specs.declared.row.Node.TheVariants.{Head, Param, Split, If, Program, Enter, Call, Binding, Start, LoopHead, Entries, Loop, Fetch}
+use Rattle.id_table.specs.Tables.{begins_block, is_binder}
+use Rattle.id_table.specs.Loops.{IsLoopOf}
 use Rattle.id_check.specs.declared.checked.Checked.{Checked}
 use Rattle.id_check.specs.Programs.{place, rows}
-use Rattle.id_graph.specs.declared.instr.Instr.{Instr}
-use Rattle.id_graph.specs.declared.instr.Op.{Op}
-use Rattle.id_graph.specs.declared.instr.Op.TheVariants as op
-use Rattle.id_graph.specs.Graph.{Parts}
+use Rattle.id_instr.specs.declared.instr.Instr.{Instr}
+use Rattle.id_instr.specs.declared.instr.Op.{Op}
+use Rattle.id_instr.specs.declared.instr.Op.TheVariants as op
+use Rattle.id_instr.specs.Graph.{Parts}
 use Rattle.id_core.specs.Observed as shown
-use Rattle.id_build.specs.Rows.{block, label, label_by, node, op_by}
-use Rattle.id_build.specs.Schemas.{Numbered, Made}
+use Rattle.id_pieces.specs.Rows.{block, label, label_by, node, op_by}
+use Rattle.id_pieces.specs.Schemas.{Numbered, Made}
 use Rattle.id_desugar.specs.Ends.{next_of}
 use Rattle.id_laws.specs.Activations.{main_head, of_arms, of_call, of_loop}
 use Rattle.id_laws.specs.Topics.{of_fetch, IsPart}
@@ -29,7 +29,7 @@ use Rattle.id_laws.proofs.Arcs.{gets_last, allocates, addresses, fetches, gets_r
 use Rattle.id_laws.proofs.LoopRows.{entries_place, loop_marks, variable_at}
 use Rattle.id_laws.proofs.Conditionals.{conditional}
 use Rattle.id_laws.proofs.Tokens.{one_part}
-use Rattle.id_build.specs.declared.arc.Form.{Form}
+use Rattle.id_pieces.specs.declared.arc.Form.{Form}
 use Rattle.id_laws.proofs.Calls.{call_at, enter_at}
 
 -- ---- counts

@@ -3,13 +3,13 @@ use Rattle.std.proofs.Common.{◌≡◌, ℕ, true, Option, Some, None, [], slic
 use Rattle.id_value.specs.declared.Kind.TheVariants as kinds
 use Rattle.id_check.specs.declared.checked.Checked.{Checked}
 use Rattle.id_check.specs.Programs.{kind, place, rows}
-use Rattle.id_parts.specs.Rows.{at}
-use Rattle.id_graph.specs.declared.instr.Instr.{Instr}
-use Rattle.id_graph.specs.Graph.{Parts}
+use Rattle.id_table.specs.Rows.{at}
+use Rattle.id_instr.specs.declared.instr.Instr.{Instr}
+use Rattle.id_instr.specs.Graph.{Parts}
 use Rattle.id_core.specs.Observed as shown
-use Rattle.id_meaning.specs.Sources.{source}
-use Rattle.id_build.specs.Rows.{label}
-use Rattle.id_build.specs.Schemas.{Numbered}
+use Rattle.id_source.specs.Sources.{source}
+use Rattle.id_pieces.specs.Rows.{label}
+use Rattle.id_pieces.specs.Schemas.{Numbered}
 use Rattle.id_laws.specs.Laws.{IsBinder, AreLabels}
 use Rattle.id_laws.specs.Topics.{IsPart}
 use Rattle.id_laws.proofs.Assumed.{IsKnown}

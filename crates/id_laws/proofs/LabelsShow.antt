@@ -5,20 +5,20 @@ use Rattle.std.specs.List.{count_by}
 use Rattle.std.specs.Option.{option_map_or}
 use Rattle.std.proofs.lemmas.Bool.{eqb-true}
 use Rattle.std.proofs.lemmas.List.Sums.{sum_by-cons}
-use Rattle.id_parts.specs.declared.row.Node.{Node}
-use Rattle.id_parts.specs.declared.row.Node.TheVariants.{Head, Param, Binding, LoopHead, Entries, Switches, Start, Reset, Next, Variable}
-use Rattle.id_parts.specs.Tables.{begins_block, is_binder, is_thing}
-use Rattle.id_parts.specs.Turns.{IsDefOf}
+use Rattle.id_table.specs.declared.row.Node.{Node}
+use Rattle.id_table.specs.declared.row.Node.TheVariants.{Head, Param, Binding, LoopHead, Entries, Switches, Start, Reset, Next, Variable}
+use Rattle.id_table.specs.Tables.{begins_block, is_binder, is_thing}
+use Rattle.id_table.specs.Turns.{IsDefOf}
 use Rattle.id_check.specs.declared.checked.Checked.{Checked}
 use Rattle.id_check.specs.Programs.{place, rows}
-use Rattle.id_graph.specs.declared.instr.Instr.{Instr}
-use Rattle.id_graph.specs.declared.instr.Op.TheVariants as op
-use Rattle.id_graph.specs.Graph.{Parts}
+use Rattle.id_instr.specs.declared.instr.Instr.{Instr}
+use Rattle.id_instr.specs.declared.instr.Op.TheVariants as op
+use Rattle.id_instr.specs.Graph.{Parts}
 use Rattle.id_valid.specs.Validator.{is_value}
 use Rattle.id_core.specs.Observed as shown
-use Rattle.id_build.specs.declared.arc.Form.TheVariants.{Plain}
-use Rattle.id_build.specs.Rows.{block, label, label_by, node, op_by, port_at}
-use Rattle.id_build.specs.Schemas.{Numbered, Made, IsNumber}
+use Rattle.id_pieces.specs.declared.arc.Form.TheVariants.{Plain}
+use Rattle.id_pieces.specs.Rows.{block, label, label_by, node, op_by, port_at}
+use Rattle.id_pieces.specs.Schemas.{Numbered, Made, IsNumber}
 use Rattle.id_laws.specs.Activations.{main_head, Begins, of_call, of_loop, Tests, of_arms, of_turns}
 use Rattle.id_laws.specs.Topics.{of_fetch, of_store, IsPart}
 use Rattle.id_laws.proofs.Stores.{address_at}
@@ -29,7 +29,7 @@ use Rattle.id_laws.proofs.Arcs.{sends_in, gives_back, varies, takes_in, moves_on
 use Rattle.id_laws.proofs.Arcs.{gets_last, allocates, addresses, fetches, gets_reply, stores}
 use Rattle.id_laws.proofs.LabelsBind.{claims_place}
 use Rattle.id_laws.proofs.LoopRows.{LoopPlace, LabelAt, label_at, variable_at, head_place, start_place, entries_place, switches_place, reset_place}
-use Rattle.id_build.specs.declared.arc.Form.{Form}
+use Rattle.id_pieces.specs.declared.arc.Form.{Form}
 use Rattle.id_laws.proofs.Calls.{CallAt, ArgAt, call_at, arg_at, arg_place}
 use Rattle.id_desugar.specs.Ends.{end_of, next_of}
 

@@ -1,14 +1,14 @@
 -- What goes to each entry of a loop.
 use Rattle.std.proofs.Common.{◌≡◌, ℕ, zero, suc, ◌+◌, ◌<◌, Bool as Truth, true, false, cond, Some, List, [], ◌∷◌}
 use Rattle.std.proofs.Common.{◌++◌, map, length, slice_get, get_or, refl, sym, ◌∙◌, ap, subst, arith}
-use Rattle.id_parts.specs.declared.row.Node.{Node}
-use Rattle.id_parts.specs.declared.row.Node.TheVariants.{Variable}
-use Rattle.id_parts.specs.Tables.{is_variable}
+use Rattle.id_table.specs.declared.row.Node.{Node}
+use Rattle.id_table.specs.declared.row.Node.TheVariants.{Variable}
+use Rattle.id_table.specs.Tables.{is_variable}
 use Rattle.id_check.specs.declared.checked.Checked.{Checked}
 use Rattle.id_check.specs.Programs.{rows}
 use Rattle.id_desugar.specs.Ends.{next_of}
 use Rattle.id_desugar.specs.Regions.{imports_of, nexts_from, nexts_of}
-use Rattle.id_build.specs.Rows.{Entry, entering, entries_row, first_binder, import_entries, loop_entries, node, variable_entries}
+use Rattle.id_pieces.specs.Rows.{Entry, entering, entries_row, first_binder, import_entries, loop_entries, node, variable_entries}
 use Rattle.id_laws.proofs.LoopRows.{variable_within}
 
 true_false : true ≡ false → ⊥

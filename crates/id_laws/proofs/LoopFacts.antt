@@ -3,28 +3,28 @@ use Rattle.std.proofs.Common.{◌≡◌, inl, inr, ℕ, zero, suc, ◌+◌, ◌-
 use Rattle.std.proofs.Common.{slice_get, get_or, refl, sym, ◌∙◌, ap, subst, arith}
 use Rattle.id_list.specs.List.{Among}
 use Rattle.id_list.proofs.AmongLemmas.{Among-right}
-use Rattle.id_parts.specs.declared.row.Region.{Region}
-use Rattle.id_parts.specs.declared.row.Node.TheVariants.{Start, LoopHead, Variable, Entries, Switches, Turn, Next}
-use Rattle.id_parts.specs.Rows.{arm_at, top}
-use Rattle.id_parts.specs.Tables.{is_top, is_variable, is_in_loop}
-use Rattle.id_parts.specs.Loops.{IsLoopOf, IsNextOf, StandsAt}
+use Rattle.id_table.specs.declared.row.Region.{Region}
+use Rattle.id_table.specs.declared.row.Node.TheVariants.{Start, LoopHead, Variable, Entries, Switches, Turn, Next}
+use Rattle.id_table.specs.Rows.{arm_at, top}
+use Rattle.id_table.specs.Tables.{is_top, is_variable, is_in_loop}
+use Rattle.id_table.specs.Loops.{IsLoopOf, IsNextOf, StandsAt}
 use Rattle.id_check.specs.declared.checked.Checked.{Checked}
 use Rattle.id_check.specs.Programs.{region, rows}
-use Rattle.id_graph.specs.declared.dests.Port.TheVariants.{Zero, One}
-use Rattle.id_graph.specs.declared.instr.Op.TheVariants as op
-use Rattle.id_graph.specs.declared.instr.PortKind.TheVariants.{Signal}
-use Rattle.id_meaning.specs.Facts.{LoopStands}
+use Rattle.id_instr.specs.declared.dests.Port.TheVariants.{Zero, One}
+use Rattle.id_instr.specs.declared.instr.Op.TheVariants as op
+use Rattle.id_instr.specs.declared.instr.PortKind.TheVariants.{Signal}
+use Rattle.id_source.specs.Facts.{LoopStands}
 use Rattle.id_desugar.specs.Ends.{end_of, next_of}
 use Rattle.id_desugar.specs.Regions.{imports_of, nexts_from, nexts_of, taken, handed}
-use Rattle.id_build.specs.declared.arc.Origin.{Origin}
-use Rattle.id_build.specs.declared.arc.Form.TheVariants.{Plain}
-use Rattle.id_build.specs.Rows.{Entry, block, entering, entries_row, entry_feeds, feed, feeds_of, first_binder}
-use Rattle.id_build.specs.Rows.{import_entries, label, label_by, loop_entries, name_in}
-use Rattle.id_build.specs.Rows.{node, output, port_at, trigger_of, turn_feeds, turn_row, variable_entries}
-use Rattle.id_build.specs.Schemas.{Feeds}
-use Rattle.id_build.proofs.EndsLemmas.{loop_same}
-use Rattle.id_build.proofs.LoopsLemmas.{entries_are, entries_node, entries_stand, entries_within, next_is, loop_rows, the_loop}
-use Rattle.id_build.proofs.NamesSeen.{Sees, handed as by_switches, entered, of_turns as turns}
+use Rattle.id_pieces.specs.declared.arc.Origin.{Origin}
+use Rattle.id_pieces.specs.declared.arc.Form.TheVariants.{Plain}
+use Rattle.id_pieces.specs.Rows.{Entry, block, entering, entries_row, entry_feeds, feed, feeds_of, first_binder}
+use Rattle.id_pieces.specs.Rows.{import_entries, label, label_by, loop_entries, name_in}
+use Rattle.id_pieces.specs.Rows.{node, output, port_at, trigger_of, turn_feeds, turn_row, variable_entries}
+use Rattle.id_pieces.specs.Schemas.{Feeds}
+use Rattle.id_pieces.proofs.EndsLemmas.{loop_same}
+use Rattle.id_pieces.proofs.LoopsLemmas.{entries_are, entries_node, entries_stand, entries_within, next_is, loop_rows, the_loop}
+use Rattle.id_arcs.proofs.NamesSeen.{Sees, handed as by_switches, entered, of_turns as turns}
 use Rattle.id_laws.proofs.Assumed.{IsKnown}
 use Rattle.id_laws.proofs.Arcs.{Does, moves_on, moves_name, takes_in, import_listed}
 use Rattle.id_laws.proofs.Loops.{LoopOf, loop_by, loop_of_head, same_loop, start_before, start_node, turn_in, turn_node, turn_region, turn_within}

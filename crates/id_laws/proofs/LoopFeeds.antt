@@ -1,14 +1,14 @@
 -- What feeds the sends into a loop, its entries, and what hands on from one iteration to the next.
 use Rattle.std.proofs.Common.{◌≡◌, inl, inr, ℕ, zero, suc, ◌+◌, ◌<◌, true, List, [], ◌∷◌, length, get_or, ap, subst, arith}
 use Rattle.id_list.specs.List.{Among}
-use Rattle.id_parts.specs.declared.row.Region.{Region}
-use Rattle.id_parts.specs.declared.row.Node.TheVariants.{Start, Entries, Turn}
+use Rattle.id_table.specs.declared.row.Region.{Region}
+use Rattle.id_table.specs.declared.row.Node.TheVariants.{Start, Entries, Turn}
 use Rattle.id_check.specs.declared.checked.Checked.{Checked}
 use Rattle.id_check.specs.Programs.{region, rows}
-use Rattle.id_graph.specs.declared.dests.Port.TheVariants.{Zero, One}
+use Rattle.id_instr.specs.declared.dests.Port.TheVariants.{Zero, One}
 use Rattle.id_desugar.specs.Regions.{imports_of}
-use Rattle.id_build.specs.Rows.{block, entering, entry_feeds, feed, import_feeds, name_in, node, output, turn_feeds, turn_row}
-use Rattle.id_build.specs.Schemas.{Feeds}
+use Rattle.id_pieces.specs.Rows.{block, entering, entry_feeds, feed, import_feeds, name_in, node, output, turn_feeds, turn_row}
+use Rattle.id_pieces.specs.Schemas.{Feeds}
 use Rattle.id_laws.proofs.Arcs.{import_listed}
 use Rattle.id_laws.proofs.Speakers.{fed_as}
 use Rattle.id_laws.proofs.Assumed.{IsKnown}

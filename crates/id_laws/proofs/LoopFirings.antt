@@ -1,18 +1,18 @@
 -- In a quiet run what a loop hands on comes to its next iteration, and what its `Start` takes in to its first.
 use Rattle.std.proofs.Common.{◌≡◌, inl, ℕ, suc, ◌+◌, ◌<◌, true, cond, Some, List, [], length, get_or, slice_get, refl, sym, ◌∙◌, ap, subst, arith}
 use Rattle.id_list.specs.List.{Among}
-use Rattle.id_parts.specs.declared.row.Node.TheVariants.{Start}
-use Rattle.id_parts.specs.Rows.{arm_at, top}
-use Rattle.id_parts.specs.Tables.{begins_block}
+use Rattle.id_table.specs.declared.row.Node.TheVariants.{Start}
+use Rattle.id_table.specs.Rows.{arm_at, top}
+use Rattle.id_table.specs.Tables.{begins_block}
 use Rattle.id_check.specs.declared.checked.Checked.{Checked}
 use Rattle.id_check.specs.Programs.{region, rows}
-use Rattle.id_graph.specs.declared.dests.Dest.{Dest}
-use Rattle.id_graph.specs.declared.dests.Port.{Port}
-use Rattle.id_graph.specs.declared.dests.Port.TheVariants.{Zero, One}
-use Rattle.id_graph.specs.declared.instr.Op.TheVariants as op
-use Rattle.id_graph.specs.declared.instr.PortKind.{PortKind}
-use Rattle.id_graph.specs.declared.instr.PortKind.TheVariants as kinds
-use Rattle.id_graph.specs.Graph.{Parts, arcs_on}
+use Rattle.id_instr.specs.declared.dests.Dest.{Dest}
+use Rattle.id_instr.specs.declared.dests.Port.{Port}
+use Rattle.id_instr.specs.declared.dests.Port.TheVariants.{Zero, One}
+use Rattle.id_instr.specs.declared.instr.Op.TheVariants as op
+use Rattle.id_instr.specs.declared.instr.PortKind.{PortKind}
+use Rattle.id_instr.specs.declared.instr.PortKind.TheVariants as kinds
+use Rattle.id_instr.specs.Graph.{Parts, arcs_on}
 use Rattle.id_tag.specs.declared.Context.{Context}
 use Rattle.id_tag.specs.declared.Value.{Value}
 use Rattle.id_tag.specs.declared.Value.TheVariants as value
@@ -22,12 +22,12 @@ use Rattle.id_ops.specs.declared.Operands.TheVariants.{One as Alone}
 use Rattle.id_ops.specs.declared.Fired.TheVariants.{Out, Nothing, Entered, Moved, Sent}
 use Rattle.id_ops.specs.Operators.{fired}
 use Rattle.id_core.specs.Machines.{World}
-use Rattle.id_meaning.specs.Sources.{Source}
+use Rattle.id_source.specs.Sources.{Source}
 use Rattle.id_desugar.specs.Regions.{imports_of}
-use Rattle.id_build.specs.declared.arc.Origin.{Origin}
-use Rattle.id_build.specs.declared.arc.Form.TheVariants.{SendTo}
-use Rattle.id_build.specs.Rows.{Entry, entering, entries_row, loop_entries, name_in, node, output, port_at, trigger_of, turn_row}
-use Rattle.id_build.specs.Schemas.{Feeds, Numbered}
+use Rattle.id_pieces.specs.declared.arc.Origin.{Origin}
+use Rattle.id_pieces.specs.declared.arc.Form.TheVariants.{SendTo}
+use Rattle.id_pieces.specs.Rows.{Entry, entering, entries_row, loop_entries, name_in, node, output, port_at, trigger_of, turn_row}
+use Rattle.id_pieces.specs.Schemas.{Feeds, Numbered}
 use Rattle.id_runs.specs.Activations.{Activation, at_iteration, tag_in}
 use Rattle.id_runs.specs.Events.{Event, FiresAs}
 use Rattle.id_runs.specs.Runs.{Reach, handled}

@@ -4,23 +4,23 @@ use Rattle.std.proofs.Common.{Some, None, List, [], ◌∷◌, ◌++◌, map, le
 use Rattle.std.proofs.Common.{slice_get, get_or, unwrap_or, refl, sym, ◌∙◌, ap, subst, arith}
 use Rattle.id_list.specs.List.{Among}
 use Rattle.id_list.proofs.AmongLemmas.{Among-either, Among-from_map}
-use Rattle.id_parts.specs.declared.row.Node.{Node}
-use Rattle.id_parts.specs.declared.row.Node.TheVariants.{Head, Param, Name, NextUse, Split, Binding, LoopHead, Variable, Entries, Switches, Next, Start, Reset}
-use Rattle.id_parts.specs.Rows.{at}
-use Rattle.id_parts.specs.Tables.{begins_block, is_binder, is_variable}
-use Rattle.id_parts.specs.Loops.{IsLoopOf, IsNextOf}
-use Rattle.id_parts.specs.Turns.{params_at}
+use Rattle.id_table.specs.declared.row.Node.{Node}
+use Rattle.id_table.specs.declared.row.Node.TheVariants.{Head, Param, Name, NextUse, Split, Binding, LoopHead, Variable, Entries, Switches, Next, Start, Reset}
+use Rattle.id_table.specs.Rows.{at}
+use Rattle.id_table.specs.Tables.{begins_block, is_binder, is_variable}
+use Rattle.id_table.specs.Loops.{IsLoopOf, IsNextOf}
+use Rattle.id_table.specs.Turns.{params_at}
 use Rattle.id_check.specs.declared.checked.Checked.{Checked}
 use Rattle.id_check.specs.Programs.{binder, kind, place, rows}
 use Rattle.id_check.proofs.ProgramsLemmas.{bound_name_row, bound_use_row, next_row, table_of}
-use Rattle.id_graph.specs.declared.instr.Op.TheVariants as op
+use Rattle.id_instr.specs.declared.instr.Op.TheVariants as op
 use Rattle.id_desugar.specs.Ends.{next_of, end_of}
 use Rattle.id_desugar.specs.Regions.{imports_of, nexts_of, nexts_from, taken, handed, used, used_by, with_use, is_outside, has, imports_by, is_right_in}
-use Rattle.id_build.specs.declared.arc.Form.TheVariants.{Plain}
-use Rattle.id_build.specs.Rows.{Entry, block, entering, entries, entries_by, entries_row, first_binder}
-use Rattle.id_build.specs.Rows.{import_entries, label, label_by, loop_entries, node, outer_at, param_entry, port_at}
-use Rattle.id_build.specs.Rows.{variable_entries}
-use Rattle.id_build.proofs.LoopsLemmas.{entries_node, entries_stand, entries_within, next_is}
+use Rattle.id_pieces.specs.declared.arc.Form.TheVariants.{Plain}
+use Rattle.id_pieces.specs.Rows.{Entry, block, entering, entries, entries_by, entries_row, first_binder}
+use Rattle.id_pieces.specs.Rows.{import_entries, label, label_by, loop_entries, node, outer_at, param_entry, port_at}
+use Rattle.id_pieces.specs.Rows.{variable_entries}
+use Rattle.id_pieces.proofs.LoopsLemmas.{entries_node, entries_stand, entries_within, next_is}
 use Rattle.id_laws.proofs.Arcs.{Does, enters, names, place_shown, varies, takes_in}
 use Rattle.id_laws.proofs.Blocks.{a_param}
 
@@ -34,7 +34,7 @@ some_is h = cc
 pub past : (P : Checked) (n : ℕ) (f : Node → Truth) → f Head ≡ false → f (node P n) ≡ true → n < length (rows P)
 past P n f none is = go (rows P) n is
   where
-    go : (R : List Rattle.id_parts.specs.declared.row.Row.Row) (i : ℕ) → f (at R i).node ≡ true → i < length R
+    go : (R : List Rattle.id_table.specs.declared.row.Row.Row) (i : ℕ) → f (at R i).node ≡ true → i < length R
     go [] i e = absurd (true_false (sym e ∙ none))
     go (r ∷ R) zero e = omega arith
     go (r ∷ R) (suc i) e = let less = go R i e in omega (arith, less)

@@ -1,27 +1,27 @@
 -- What a loop gives, and what its entries are given, tells what is wanted there.
 use Rattle.std.proofs.Common.{◌≡◌, ℕ, suc, ◌+◌, ◌-◌, ◌<◌, true, List, length, get_or, refl, sym, ◌∙◌, ap, subst, arith}
-use Rattle.id_parts.specs.declared.row.Region.{Region}
-use Rattle.id_parts.specs.declared.row.Node.TheVariants.{Program, Start, LoopHead, Variable}
-use Rattle.id_parts.specs.Rows.{top}
-use Rattle.id_parts.specs.Tables.{begins_block, is_binder}
+use Rattle.id_table.specs.declared.row.Region.{Region}
+use Rattle.id_table.specs.declared.row.Node.TheVariants.{Program, Start, LoopHead, Variable}
+use Rattle.id_table.specs.Rows.{top}
+use Rattle.id_table.specs.Tables.{begins_block, is_binder}
 use Rattle.id_check.specs.declared.checked.Checked.{Checked}
 use Rattle.id_check.specs.Programs.{place, region, rows}
 use Rattle.id_scope.specs.Scopes.{loops_between}
-use Rattle.id_graph.specs.declared.dests.Port.TheVariants.{Zero}
+use Rattle.id_instr.specs.declared.dests.Port.TheVariants.{Zero}
 use Rattle.id_tag.specs.declared.Context.{Context}
 use Rattle.id_tag.specs.declared.Tag.{Tag}
 use Rattle.id_tag.specs.declared.Value.{Value}
 use Rattle.id_tag.specs.declared.Payload.TheVariants.{Token}
-use Rattle.id_meaning.specs.declared.Path.{Path}
-use Rattle.id_meaning.specs.declared.Fact.TheVariants.{Has}
-use Rattle.id_meaning.specs.Sources.{Source}
-use Rattle.id_meaning.specs.Facts.{NextStands, below, without, first_has, loop_has}
-use Rattle.id_meaning.specs.Rounds.{Holds}
+use Rattle.id_source.specs.declared.Path.{Path}
+use Rattle.id_source.specs.declared.Fact.TheVariants.{Has}
+use Rattle.id_source.specs.Sources.{Source}
+use Rattle.id_source.specs.Facts.{NextStands, below, without, first_has, loop_has}
+use Rattle.id_source.specs.Rounds.{Holds}
 use Rattle.id_desugar.specs.Ends.{end_of, next_of}
 use Rattle.id_desugar.specs.Regions.{imports_of}
-use Rattle.id_build.specs.Rows.{Entry, block, entering, entries_row, first_binder, node}
-use Rattle.id_build.proofs.LoopsLemmas.{entries_node, entries_stand, entries_within, next_is}
-use Rattle.id_build.proofs.NamesSeen.{Sees, listed}
+use Rattle.id_pieces.specs.Rows.{Entry, block, entering, entries_row, first_binder, node}
+use Rattle.id_pieces.proofs.LoopsLemmas.{entries_node, entries_stand, entries_within, next_is}
+use Rattle.id_arcs.proofs.NamesSeen.{Sees, listed}
 use Rattle.id_runs.specs.Activations.{Activation, at_iteration, tag_in}
 use Rattle.id_runs.specs.Events.{Event}
 use Rattle.id_laws.specs.Activations.{of_loop, Opens, Live, entered}
@@ -35,7 +35,7 @@ use Rattle.id_laws.proofs.Loops.{last_row, loop_of_start, loop_stands, next_bloc
 use Rattle.id_laws.proofs.Regions.{no_depth, region_of, same_depth}
 use Rattle.id_laws.proofs.Seats.{OneSeat, one_path, entered_path, live_path}
 use Rattle.id_laws.proofs.TurnedOn.{holds_by, turned_on, without_none}
-use Rattle.id_parts.specs.Tables.{is_expression}
+use Rattle.id_table.specs.Tables.{is_expression}
 
 module _ (S : Source) (known : IsKnown S.checked) (number : ℕ → ℕ → ℕ) (run : List Event) (seats : OneSeat S number run) where
   abbrev P : Checked

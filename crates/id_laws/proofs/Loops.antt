@@ -1,17 +1,17 @@
 -- What stands where in a loop.
 use Rattle.std.proofs.Common.{◌≡◌, inl, inr, ℕ, ◌+◌, ◌-◌, ◌<◌, true, false, length, refl, sym, ◌∙◌, ap, subst, arith}
-use Rattle.id_parts.specs.declared.row.Node.{Node}
-use Rattle.id_parts.specs.declared.row.Node.TheVariants.{Start, LoopHead, Variable, Switches, Turn, NextUse, Next, Body, Reset, Loop}
-use Rattle.id_parts.specs.Rows.{arm_at, top}
-use Rattle.id_parts.specs.Tables.{HasPart, is_in_loop}
-use Rattle.id_parts.specs.Loops.{IsLoop, IsLoopOf}
+use Rattle.id_table.specs.declared.row.Node.{Node}
+use Rattle.id_table.specs.declared.row.Node.TheVariants.{Start, LoopHead, Variable, Switches, Turn, NextUse, Next, Body, Reset, Loop}
+use Rattle.id_table.specs.Rows.{arm_at, top}
+use Rattle.id_table.specs.Tables.{HasPart, is_in_loop}
+use Rattle.id_table.specs.Loops.{IsLoop, IsLoopOf}
 use Rattle.id_check.specs.declared.checked.Checked.{Checked}
 use Rattle.id_check.specs.Programs.{place, region, rows}
 use Rattle.id_desugar.specs.Ends.{end_of, next_of}
-use Rattle.id_build.specs.Rows.{block, node, switches_at, turn_row}
-use Rattle.id_build.proofs.EndsLemmas.{loop_is, loop_same}
-use Rattle.id_build.proofs.LoopsLemmas.{next_is}
-use Rattle.id_meaning.specs.Facts.{LoopStands, NextStands}
+use Rattle.id_pieces.specs.Rows.{block, node, switches_at, turn_row}
+use Rattle.id_pieces.proofs.EndsLemmas.{loop_is, loop_same}
+use Rattle.id_pieces.proofs.LoopsLemmas.{next_is}
+use Rattle.id_source.specs.Facts.{LoopStands, NextStands}
 use Rattle.id_laws.specs.Topics.{result_at, result_of}
 use Rattle.id_laws.proofs.Assumed.{IsKnown}
 

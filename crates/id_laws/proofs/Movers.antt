@@ -6,10 +6,10 @@ use Rattle.id_value.specs.declared.Outcome.{Outcome}
 use Rattle.id_value.specs.declared.Outcome.TheVariants.{Gives, Fails, Lacks}
 use Rattle.id_value.specs.declared.Constant.TheVariants as constants
 use Rattle.id_value.specs.Results.{result_of_unary, calculated}
-use Rattle.id_graph.specs.declared.instr.Dyadic.TheVariants as class
-use Rattle.id_graph.specs.declared.instr.Op.{Op}
-use Rattle.id_graph.specs.declared.instr.Op.TheVariants as op
-use Rattle.id_graph.specs.declared.instr.PortKind.{PortKind}
+use Rattle.id_instr.specs.declared.instr.Dyadic.TheVariants as class
+use Rattle.id_instr.specs.declared.instr.Op.{Op}
+use Rattle.id_instr.specs.declared.instr.Op.TheVariants as op
+use Rattle.id_instr.specs.declared.instr.PortKind.{PortKind}
 use Rattle.id_tag.specs.Kinds.{kind_of, same_kind}
 use Rattle.id_tag.specs.declared.Context.{Context}
 use Rattle.id_tag.specs.declared.Tag.{Tag}
@@ -23,8 +23,8 @@ use Rattle.id_ops.specs.declared.Fired.{Fired}
 use Rattle.id_ops.specs.declared.Fired.TheVariants.{Out, Side, Sent, Moved, Failed, Nothing}
 use Rattle.id_ops.specs.Operators.{fired, fired_by, fired_enter, fired_next, fired_reset}
 use Rattle.id_check.specs.declared.checked.Checked.{Checked}
-use Rattle.id_build.specs.declared.arc.Form.{Form}
-use Rattle.id_build.specs.Rows.{node, op_by}
+use Rattle.id_pieces.specs.declared.arc.Form.{Form}
+use Rattle.id_pieces.specs.Rows.{node, op_by}
 use Rattle.id_laws.proofs.Arcs.{Does, starts, returns, enters, constant, unary, binary, turns_on, hands, joins, opens, passes, gets, names, answers}
 use Rattle.id_laws.proofs.Arcs.{sends_in, gives_back, varies, takes_in, moves_on, moves_name, advances, resets, gets_last}
 use Rattle.id_laws.proofs.Arcs.{allocates, addresses, fetches, gets_reply, stores}
@@ -32,9 +32,9 @@ use Rattle.id_laws.specs.Topics.{of_fetch, of_store}
 use Rattle.id_laws.specs.Activations.{of_arms, of_turns, of_call, of_loop}
 use Rattle.id_runs.specs.Events.{GivesOn}
 use Rattle.id_laws.proofs.Sources.{is_mover}
-use Rattle.id_parts.specs.declared.row.Node.{Node}
-use Rattle.id_parts.specs.declared.row.Node.TheVariants.{Head, LoopHead, Turn, Next, Reset}
-use Rattle.id_parts.specs.Tables.{begins_block}
+use Rattle.id_table.specs.declared.row.Node.{Node}
+use Rattle.id_table.specs.declared.row.Node.TheVariants.{Head, LoopHead, Turn, Next, Reset}
+use Rattle.id_table.specs.Tables.{begins_block}
 
 tested : (b : Truth) (f : Fired) (k : ℕ) (v : Value) → (f ≡ Moved k v → ⊥) → cond b f Nothing ≡ Moved k v → ⊥
 tested true f k v never e = never e

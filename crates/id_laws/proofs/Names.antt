@@ -4,12 +4,12 @@ use Rattle.std.specs.Prelude.{option_map}
 use Rattle.id_value.specs.declared.Constant.{Constant}
 use Rattle.id_list.specs.List.{Among}
 use Rattle.id_list.proofs.AmongLemmas.{Among-map}
-use Rattle.id_parts.specs.declared.row.Node.TheVariants.{Array}
+use Rattle.id_table.specs.declared.row.Node.TheVariants.{Array}
 use Rattle.id_check.specs.declared.checked.Checked.{Checked}
 use Rattle.id_check.specs.Programs.{place, rows}
-use Rattle.id_graph.specs.declared.instr.Instr.{Instr}
-use Rattle.id_graph.specs.declared.instr.Op.TheVariants as op
-use Rattle.id_graph.specs.Graph.{Parts}
+use Rattle.id_instr.specs.declared.instr.Instr.{Instr}
+use Rattle.id_instr.specs.declared.instr.Op.TheVariants as op
+use Rattle.id_instr.specs.Graph.{Parts}
 use Rattle.id_tag.specs.declared.Cell.{Cell}
 use Rattle.id_tag.specs.declared.Structure.{Structure}
 use Rattle.id_tag.specs.declared.Tag.{Tag}
@@ -18,10 +18,10 @@ use Rattle.id_tag.specs.declared.Payload.TheVariants.{Read, Write}
 use Rattle.id_ops.specs.declared.Fired.{Fired}
 use Rattle.id_valid.specs.Roles.{op_at}
 use Rattle.id_core.specs.Machines.{World}
-use Rattle.id_meaning.specs.declared.Site.{Site}
-use Rattle.id_meaning.specs.Sources.{Source}
-use Rattle.id_build.specs.Rows.{node}
-use Rattle.id_build.specs.Schemas.{Numbered}
+use Rattle.id_source.specs.declared.Site.{Site}
+use Rattle.id_source.specs.Sources.{Source}
+use Rattle.id_pieces.specs.Rows.{node}
+use Rattle.id_pieces.specs.Schemas.{Numbered}
 use Rattle.id_runs.specs.Cells.{Replies, cell_at}
 use Rattle.id_runs.specs.Events.{Event, FiresAs, fired_event, payload_of}
 use Rattle.id_runs.specs.Runs.{Reach, handled}

@@ -5,14 +5,14 @@ use Rattle.id_list.specs.List.{Among}
 use Rattle.id_list.proofs.AmongLemmas.{Among-map}
 use Rattle.id_check.specs.declared.checked.Checked.{Checked}
 use Rattle.id_check.specs.Programs.{place}
-use Rattle.id_graph.specs.declared.instr.Instr.{Instr}
-use Rattle.id_graph.specs.Graph.{Parts}
+use Rattle.id_instr.specs.declared.instr.Instr.{Instr}
+use Rattle.id_instr.specs.Graph.{Parts}
 use Rattle.id_core.specs.Events.{EventView}
 use Rattle.id_core.specs.Machines.{World}
 use Rattle.id_core.specs.Observed as shown
 use Rattle.id_value.specs.declared.Constant.{Constant}
-use Rattle.id_build.specs.Rows.{node}
-use Rattle.id_build.specs.Schemas.{Numbered}
+use Rattle.id_pieces.specs.Rows.{node}
+use Rattle.id_pieces.specs.Schemas.{Numbered}
 use Rattle.id_runs.specs.Events.{Event, payload_of}
 use Rattle.id_runs.specs.Runs.{Reach, handled}
 use Rattle.id_runs.proofs.RecordsOfRuns.{Shows, from_record, recorded}

@@ -1,16 +1,16 @@
 -- A loop of a context ends in one iteration alone: before an iteration that is live its predicate has been true.
 use Rattle.std.proofs.Common.{◌≡◌, inl, inr, ℕ, ◌+◌, ◌<◌, true, false, List, length, refl, sym, ◌∙◌, ap, subst, arith}
 use Rattle.std.proofs.lemmas.Bool.{cases_lt}
-use Rattle.id_parts.specs.declared.row.Region.{Region}
-use Rattle.id_parts.specs.declared.row.Node.TheVariants.{Switches}
-use Rattle.id_parts.specs.Rows.{arm_at}
+use Rattle.id_table.specs.declared.row.Region.{Region}
+use Rattle.id_table.specs.declared.row.Node.TheVariants.{Switches}
+use Rattle.id_table.specs.Rows.{arm_at}
 use Rattle.id_check.specs.declared.checked.Checked.{Checked}
 use Rattle.id_check.specs.Programs.{rows}
-use Rattle.id_graph.specs.Graph.{Parts}
+use Rattle.id_instr.specs.Graph.{Parts}
 use Rattle.id_tag.specs.declared.Context.{Context}
-use Rattle.id_meaning.specs.Sources.{Source}
-use Rattle.id_build.specs.Rows.{block, node}
-use Rattle.id_build.specs.Schemas.{Numbered}
+use Rattle.id_source.specs.Sources.{Source}
+use Rattle.id_pieces.specs.Rows.{block, node}
+use Rattle.id_pieces.specs.Schemas.{Numbered}
 use Rattle.id_runs.specs.Activations.{Activation, at_iteration}
 use Rattle.id_runs.specs.Events.{Event, FiresOnce}
 use Rattle.id_runs.specs.Serials.{ContextsApart}

@@ -5,20 +5,20 @@ use Rattle.std.specs.Option.{option_map_or}
 use Rattle.id_value.specs.declared.Kind.{Kind}
 use Rattle.id_list.specs.List.{Among, AllDiffer}
 use Rattle.id_list.proofs.AmongLemmas.{Among-from_at}
-use Rattle.id_parts.specs.declared.row.Region.{Region}
-use Rattle.id_parts.specs.declared.row.Node.{Node}
-use Rattle.id_parts.specs.declared.row.Node.TheVariants.{Head, Param, If, Program, Enter, Arg, Call, Start, LoopHead}
-use Rattle.id_parts.specs.declared.row.Node.TheVariants.{Variable, Entries, Turn, Next, Reset, Loop, Fetch}
-use Rattle.id_parts.specs.Tables.{begins_block}
-use Rattle.id_parts.specs.Rows.{arm_at}
-use Rattle.id_parts.specs.Turns.{params_at}
+use Rattle.id_table.specs.declared.row.Region.{Region}
+use Rattle.id_table.specs.declared.row.Node.{Node}
+use Rattle.id_table.specs.declared.row.Node.TheVariants.{Head, Param, If, Program, Enter, Arg, Call, Start, LoopHead}
+use Rattle.id_table.specs.declared.row.Node.TheVariants.{Variable, Entries, Turn, Next, Reset, Loop, Fetch}
+use Rattle.id_table.specs.Tables.{begins_block}
+use Rattle.id_table.specs.Rows.{arm_at}
+use Rattle.id_table.specs.Turns.{params_at}
 use Rattle.id_check.specs.declared.checked.Checked.{Checked}
 use Rattle.id_check.specs.Programs.{region, rows, place}
-use Rattle.id_graph.specs.declared.dests.Port.{Port}
-use Rattle.id_graph.specs.declared.dests.Port.TheVariants.{Zero, One}
-use Rattle.id_graph.specs.declared.instr.Instr.{Instr}
-use Rattle.id_graph.specs.Ports.{two_ports}
-use Rattle.id_graph.specs.Graph.{Parts, arcs_on}
+use Rattle.id_instr.specs.declared.dests.Port.{Port}
+use Rattle.id_instr.specs.declared.dests.Port.TheVariants.{Zero, One}
+use Rattle.id_instr.specs.declared.instr.Instr.{Instr}
+use Rattle.id_instr.specs.Ports.{two_ports}
+use Rattle.id_instr.specs.Graph.{Parts, arcs_on}
 use Rattle.id_tag.specs.declared.Context.{Context}
 use Rattle.id_tag.specs.declared.Tag.{Tag}
 use Rattle.id_tag.specs.declared.Value.{Value}
@@ -29,10 +29,10 @@ use Rattle.id_record.specs.Records.{dests_at}
 use Rattle.id_core.specs.Events.{tag_of}
 use Rattle.id_core.specs.Machines.{World}
 use Rattle.id_value.specs.declared.Constant.{Constant}
-use Rattle.id_meaning.specs.Sources.{Source, IsInput}
-use Rattle.id_build.specs.declared.arc.Origin.{Origin}
-use Rattle.id_build.specs.Rows.{Entry, answer_row, block, node, origin, op_by, called, param_of}
-use Rattle.id_build.specs.Schemas.{Feeds, Numbered}
+use Rattle.id_source.specs.Sources.{Source, IsInput}
+use Rattle.id_pieces.specs.declared.arc.Origin.{Origin}
+use Rattle.id_pieces.specs.Rows.{Entry, answer_row, block, node, origin, op_by, called, param_of}
+use Rattle.id_pieces.specs.Schemas.{Feeds, Numbered}
 use Rattle.id_runs.specs.Activations.{Activation, at_iteration, main_activation, tag_in, activation_of}
 use Rattle.id_runs.specs.Events.{Event, Took, Looked, Wrote, Waits, Blocked, Fires, FiresOnce, sends_of, FiresAs, Enters, payload_of, fired_event}
 use Rattle.id_runs.specs.Keys.{Key, AtPort, ByFetch, ByStore, key_of}
@@ -61,14 +61,14 @@ use Rattle.id_laws.proofs.Assumed.{IsKnown}
 use Rattle.id_laws.proofs.LoopEntries.{GivenAs, as_first, as_import, given_as, one_entry}
 use Rattle.id_laws.proofs.Loops.{last_region, loop_of_head, loop_of_row, loop_of_start, reset_last, switches_node, switches_row, switches_within, turn_node}
 use Rattle.id_laws.proofs.OneEnd.{one_end}
-use Rattle.id_build.proofs.LoopsLemmas.{entries_node, next_is}
+use Rattle.id_pieces.proofs.LoopsLemmas.{entries_node, next_is}
 use Rattle.id_laws.proofs.Blocks.{IsParam, a_param, params_differ}
 use Rattle.id_laws.proofs.Conditionals.{arm_of, conditional, sides_apart}
 use Rattle.id_laws.proofs.Origins.{origin_shows}
 use Rattle.id_laws.proofs.Senders.{CameBy, AskedBy, StoredBy, SentSo, as_token, as_read, as_write, sent_so}
 use Rattle.id_laws.proofs.Start.{Started, started, starts_once}
 use Rattle.id_laws.proofs.Tokens.{one_part}
-use Rattle.id_build.specs.declared.arc.Form.{Form}
+use Rattle.id_pieces.specs.declared.arc.Form.{Form}
 use Rattle.id_laws.proofs.Calls.{arg_at}
 use Rattle.id_laws.proofs.Seats.{OneSeat, one_opening, not_main, event_context, seat_other, live_path}
 use Rattle.id_laws.proofs.StartTells.{seats, opening_live}
@@ -79,7 +79,7 @@ use Rattle.id_runs.specs.Serials.{ContextsApart}
 use Rattle.id_runs.proofs.Serials.{contexts_apart}
 use Rattle.id_runs.proofs.SentOnce.{sent_once}
 use Rattle.id_runs.proofs.Waiting.{has_fired}
-use Rattle.id_record.specs.Events.{tag_of}
+use Rattle.id_line.specs.Events.{tag_of}
 
 same_port : {t u : Tag} {p q : Port} {v w : Value} → Token t p v ≡ Token u q w → p ≡ q
 same_port h = cc

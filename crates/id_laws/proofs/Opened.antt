@@ -1,17 +1,17 @@
 -- What the context of a live region was opened for: main's body, or the block whose head the region's is, or stands in.
 use Rattle.std.proofs.Common.{◌≡◌, inl, ℕ, ◌+◌, ◌-◌, ◌<◌, List, length, refl, sym, ◌∙◌, ap, subst, arith}
-use Rattle.id_parts.specs.declared.row.Region.{Region}
-use Rattle.id_parts.specs.declared.row.Node.TheVariants.{Head, Enter, Program, Start, LoopHead, Switches}
-use Rattle.id_parts.specs.Tables.{HasPart, begins_block}
+use Rattle.id_table.specs.declared.row.Region.{Region}
+use Rattle.id_table.specs.declared.row.Node.TheVariants.{Head, Enter, Program, Start, LoopHead, Switches}
+use Rattle.id_table.specs.Tables.{HasPart, begins_block}
 use Rattle.id_check.specs.declared.checked.Checked.{Checked}
 use Rattle.id_check.specs.Programs.{place, region, rows}
-use Rattle.id_graph.specs.Graph.{Parts}
+use Rattle.id_instr.specs.Graph.{Parts}
 use Rattle.id_tag.specs.declared.Context.{Context}
-use Rattle.id_meaning.specs.declared.Path.{Path}
-use Rattle.id_meaning.specs.Sources.{Source}
-use Rattle.id_meaning.specs.Facts.{below}
-use Rattle.id_build.specs.Rows.{block, node}
-use Rattle.id_build.specs.Schemas.{Numbered}
+use Rattle.id_source.specs.declared.Path.{Path}
+use Rattle.id_source.specs.Sources.{Source}
+use Rattle.id_source.specs.Facts.{below}
+use Rattle.id_pieces.specs.Rows.{block, node}
+use Rattle.id_pieces.specs.Schemas.{Numbered}
 use Rattle.id_runs.specs.Activations.{Activation, at_iteration, main_context}
 use Rattle.id_runs.specs.Events.{Event}
 use Rattle.id_runs.specs.Serials.{ContextsApart}
@@ -21,8 +21,8 @@ use Rattle.id_laws.proofs.Begun.{begun_at}
 use Rattle.id_laws.proofs.Calls.{called_head}
 use Rattle.id_laws.proofs.Conditionals.{main_head_is}
 use Rattle.id_laws.proofs.Loops.{LoopOf, loop_of_row, loop_of_start, start_place}
-use Rattle.id_parts.specs.Turns.{IsDefOf}
-use Rattle.id_build.proofs.EndsLemmas.{body_region}
+use Rattle.id_table.specs.Turns.{IsDefOf}
+use Rattle.id_pieces.proofs.EndsLemmas.{body_region}
 use Rattle.id_laws.proofs.Regions.{region_of}
 use Rattle.id_laws.proofs.Seats.{OneSeat, one_seat, one_path, entered_path, live_path, not_main, one_opening}
 use Rattle.id_desugar.specs.Ends.{end_of}

@@ -11,10 +11,10 @@ use Rattle.id_value.specs.declared.Logic.TheVariants as logic
 use Rattle.id_value.specs.declared.Truth.TheVariants as truth
 use Rattle.id_value.specs.declared.Outcome.{Outcome}
 use Rattle.id_value.specs.Results.{result_of_unary, result_of_binary}
-use Rattle.id_graph.specs.declared.instr.Dyadic.{Dyadic}
-use Rattle.id_graph.specs.declared.instr.Dyadic.TheVariants as dyadic
-use Rattle.id_graph.specs.declared.instr.PortKind.{PortKind}
-use Rattle.id_graph.specs.declared.instr.PortKind.TheVariants as port
+use Rattle.id_instr.specs.declared.instr.Dyadic.{Dyadic}
+use Rattle.id_instr.specs.declared.instr.Dyadic.TheVariants as dyadic
+use Rattle.id_instr.specs.declared.instr.PortKind.{PortKind}
+use Rattle.id_instr.specs.declared.instr.PortKind.TheVariants as port
 use Rattle.id_tag.specs.declared.Structure.{Structure}
 use Rattle.id_tag.specs.declared.Value.{Value}
 use Rattle.id_tag.specs.declared.Value.TheVariants as value
@@ -22,7 +22,7 @@ use Rattle.id_ops.specs.declared.Operands.TheVariants.{One, Two}
 use Rattle.id_ops.specs.declared.Fired.{Fired}
 use Rattle.id_ops.specs.declared.Fired.TheVariants.{Nothing}
 use Rattle.id_ops.specs.Operators.{constant_value, fired_by, fired_unary, fired_binary}
-use Rattle.id_build.specs.Rows.{binary_op}
+use Rattle.id_pieces.specs.Rows.{binary_op}
 
 -- the firing does nothing, or what the outcome says
 abbrev pub Agrees : Fired → Outcome → Type 0

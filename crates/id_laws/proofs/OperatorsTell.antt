@@ -9,9 +9,9 @@ use Rattle.id_value.specs.declared.BinaryOp.{BinaryOp}
 use Rattle.id_value.specs.declared.Outcome.{Outcome}
 use Rattle.id_value.specs.declared.Outcome.TheVariants.{Gives, Fails, Lacks}
 use Rattle.id_value.specs.Results.{result_of_unary, result_of_binary}
-use Rattle.id_parts.specs.declared.row.Node.{Node}
-use Rattle.id_parts.specs.declared.row.Node.TheVariants.{Literal, Unary, Binary, Binding, Program, Array, Fetch, Address, Store}
-use Rattle.id_parts.specs.Tables.{HasNear, is_expression, is_store}
+use Rattle.id_table.specs.declared.row.Node.{Node}
+use Rattle.id_table.specs.declared.row.Node.TheVariants.{Literal, Unary, Binary, Binding, Program, Array, Fetch, Address, Store}
+use Rattle.id_table.specs.Tables.{HasNear, is_expression, is_store}
 use Rattle.id_check.specs.declared.checked.Checked.{Checked}
 use Rattle.id_check.specs.Programs.{Stands, place, region, rows}
 use Rattle.id_tag.specs.declared.Tag.{Tag}
@@ -23,17 +23,17 @@ use Rattle.id_ops.specs.declared.Fired.{Fired}
 use Rattle.id_ops.specs.declared.Fired.TheVariants.{Out, Failed}
 use Rattle.id_ops.specs.Operators.{constant_value, fired_by, fired_unary, fired_binary, fired_alloc, fired_address, fired_store, structure_in, address_in}
 use Rattle.id_tag.specs.declared.Structure.{Structure}
-use Rattle.id_meaning.specs.declared.Path.{Path}
-use Rattle.id_meaning.specs.declared.Site.{Site}
-use Rattle.id_meaning.specs.declared.SourceFault.TheVariants.{Operator}
-use Rattle.id_meaning.specs.declared.SourceValue.{SourceValue}
-use Rattle.id_meaning.specs.declared.SourceValue.TheVariants as source
-use Rattle.id_meaning.specs.declared.Fact.TheVariants.{On, Has}
-use Rattle.id_meaning.specs.Sources.{Source, value_of}
-use Rattle.id_meaning.specs.Facts.{without, literal_has, unary_has, binary_has, binding_has, unary_fails, binary_fails}
-use Rattle.id_meaning.specs.Facts.{site, shape, shape_made, array_has, asks, puts, bad_bounds, out_of_fetch, out_of_store}
-use Rattle.id_meaning.specs.Rounds.{Holds, Faulty}
-use Rattle.id_build.specs.Rows.{node, port_at, binary_op}
+use Rattle.id_source.specs.declared.Path.{Path}
+use Rattle.id_source.specs.declared.Site.{Site}
+use Rattle.id_source.specs.declared.SourceFault.TheVariants.{Operator}
+use Rattle.id_source.specs.declared.SourceValue.{SourceValue}
+use Rattle.id_source.specs.declared.SourceValue.TheVariants as source
+use Rattle.id_source.specs.declared.Fact.TheVariants.{On, Has}
+use Rattle.id_source.specs.Sources.{Source, value_of}
+use Rattle.id_source.specs.Facts.{without, literal_has, unary_has, binary_has, binding_has, unary_fails, binary_fails}
+use Rattle.id_source.specs.Facts.{site, shape, shape_made, array_has, asks, puts, bad_bounds, out_of_fetch, out_of_store}
+use Rattle.id_source.specs.Rounds.{Holds, Faulty}
+use Rattle.id_pieces.specs.Rows.{node, port_at, binary_op}
 use Rattle.id_runs.specs.Activations.{Activation, tag_in}
 use Rattle.id_runs.specs.Events.{Event}
 use Rattle.id_laws.specs.Activations.{PathOf, Live}

@@ -1,30 +1,30 @@
 -- What comes from where an expression has its value tells the expression's value.
 use Rattle.std.proofs.Common.{◌≡◌, Bool as Truth, ℕ, zero, suc, ◌<◌, ◌+◌, true, false, Some, List, length, get_or, refl, sym, ◌∙◌, ap, subst, arith}
-use Rattle.id_parts.specs.declared.row.Region.{Region}
-use Rattle.id_parts.specs.declared.row.Node.{Node}
-use Rattle.id_parts.specs.declared.row.Node.TheVariants.{Param, Literal, Name, Unary, Binary, If, Call, Block}
-use Rattle.id_parts.specs.declared.row.Node.TheVariants.{Binding, Program, Next, Loop, Array, Fetch}
-use Rattle.id_parts.specs.Rows.{arm_at, at, top}
-use Rattle.id_parts.specs.Tables.{HasPart, HasNear, HasOperand, is_binder, is_block, is_expression}
+use Rattle.id_table.specs.declared.row.Region.{Region}
+use Rattle.id_table.specs.declared.row.Node.{Node}
+use Rattle.id_table.specs.declared.row.Node.TheVariants.{Param, Literal, Name, Unary, Binary, If, Call, Block}
+use Rattle.id_table.specs.declared.row.Node.TheVariants.{Binding, Program, Next, Loop, Array, Fetch}
+use Rattle.id_table.specs.Rows.{arm_at, at, top}
+use Rattle.id_table.specs.Tables.{HasPart, HasNear, HasOperand, is_binder, is_block, is_expression}
 use Rattle.id_check.specs.declared.checked.Checked.{Checked}
 use Rattle.id_check.specs.Programs as checked
 use Rattle.id_check.specs.Programs.{place, region, rows}
 use Rattle.id_tag.specs.declared.Value.{Value}
-use Rattle.id_meaning.specs.declared.Fact.TheVariants.{Has}
-use Rattle.id_meaning.specs.Sources.{Source}
-use Rattle.id_meaning.specs.Facts.{name_has, block_has, without}
-use Rattle.id_meaning.specs.Rounds.{Holds}
+use Rattle.id_source.specs.declared.Fact.TheVariants.{Has}
+use Rattle.id_source.specs.Sources.{Source}
+use Rattle.id_source.specs.Facts.{name_has, block_has, without}
+use Rattle.id_source.specs.Rounds.{Holds}
 use Rattle.id_desugar.specs.Regions.{imports_of}
-use Rattle.id_build.specs.Rows.{block, entries_row, label, label_by, node, output, name_in, named_in, origin_of, origin}
+use Rattle.id_pieces.specs.Rows.{block, entries_row, label, label_by, node, output, name_in, named_in, origin_of, origin}
 use Rattle.id_runs.specs.Activations.{Activation}
 use Rattle.id_runs.specs.Events.{Event}
 use Rattle.id_laws.specs.Activations.{Live, Tests, of_arms, of_turns}
 use Rattle.id_laws.specs.Topics.{ValueOf, NameIn, Tells, speaks_of, split_of, topic_of}
 use Rattle.id_laws.proofs.Assumed.{IsKnown}
 use Rattle.id_laws.proofs.LoopRows.{variable_of_next}
-use Rattle.id_build.proofs.LoopsLemmas.{entries_node, entries_stand}
+use Rattle.id_pieces.proofs.LoopsLemmas.{entries_node, entries_stand}
 use Rattle.id_laws.proofs.Regions.{as_tests, region_of, same_depth}
-use Rattle.id_build.proofs.NamesSeen.{Sees, Comes, from_label, from_switch, from_entry, comes}
+use Rattle.id_arcs.proofs.NamesSeen.{Sees, Comes, from_label, from_switch, from_entry, comes}
 use Rattle.id_laws.proofs.Seats.{OneSeat}
 use Rattle.id_laws.proofs.TurnedOn.{holds_by, without_none, turned_on}
 

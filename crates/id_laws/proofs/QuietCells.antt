@@ -4,41 +4,41 @@ use Rattle.std.specs.Prelude.{option_map}
 use Rattle.std.specs.List.{filter_map}
 use Rattle.id_list.specs.List.{Among}
 use Rattle.id_list.proofs.AmongLemmas.{Among-map, Among-from_map}
-use Rattle.id_parts.specs.Tables.{is_next}
+use Rattle.id_table.specs.Tables.{is_next}
 use Rattle.id_check.specs.declared.checked.Checked.{Checked}
 use Rattle.id_check.specs.Programs.{place, region}
-use Rattle.id_graph.specs.Graph.{Parts}
+use Rattle.id_instr.specs.Graph.{Parts}
 use Rattle.id_tag.specs.declared.Cell.{Cell}
 use Rattle.id_tag.specs.declared.Structure.{Structure}
 use Rattle.id_tag.specs.declared.Tag.{Tag}
 use Rattle.id_tag.specs.declared.Value.{Value}
 use Rattle.id_tag.specs.declared.Payload.TheVariants.{Write}
 use Rattle.id_tag.specs.Tags.{same_tag}
-use Rattle.id_bank.specs.declared.WriteAnswer.TheVariants.{Readers, Second}
-use Rattle.id_bank.specs.Cells.{CellState}
-use Rattle.id_bank.specs.declared.Reader.{Reader}
-use Rattle.id_record.specs.declared.step.Step.TheVariants.{Went}
-use Rattle.id_record.specs.declared.step.Verdict.TheVariants as verdict
-use Rattle.id_record.specs.Events.{full_step}
+use Rattle.id_slot.specs.declared.WriteAnswer.TheVariants.{Readers, Second}
+use Rattle.id_slot.specs.Cells.{CellState}
+use Rattle.id_slot.specs.declared.Reader.{Reader}
+use Rattle.id_line.specs.declared.step.Step.TheVariants.{Went}
+use Rattle.id_line.specs.declared.step.Verdict.TheVariants as verdict
+use Rattle.id_line.specs.Events.{full_step}
 use Rattle.id_core.specs.Events.{EventView, tag_of}
 use Rattle.id_core.specs.Machines.{World, IsQuiet}
 use Rattle.id_core.specs.Observed as shown
-use Rattle.id_meaning.specs.declared.Path.{Path}
-use Rattle.id_meaning.specs.declared.PathStep.{PathStep}
-use Rattle.id_meaning.specs.declared.Site.{Site}
-use Rattle.id_meaning.specs.declared.Shape.{Shape}
-use Rattle.id_meaning.specs.declared.Put.{Put}
-use Rattle.id_meaning.specs.declared.Ask.{Ask}
-use Rattle.id_meaning.specs.declared.SourceValue.{SourceValue}
-use Rattle.id_meaning.specs.declared.Fact.{Fact}
-use Rattle.id_meaning.specs.declared.Fact.TheVariants as fact
-use Rattle.id_meaning.specs.Facts.{put}
-use Rattle.id_meaning.specs.Orders.{SiteBefore, StepBefore, StepsBefore}
-use Rattle.id_meaning.specs.Sources.{Source, AreInputs}
-use Rattle.id_meaning.specs.Rounds.{Holds, IsWaiting}
-use Rattle.id_build.specs.Rows.{node}
-use Rattle.id_build.specs.Schemas.{Numbered}
-use Rattle.id_observe.specs.Observed.{name_by}
+use Rattle.id_source.specs.declared.Path.{Path}
+use Rattle.id_source.specs.declared.PathStep.{PathStep}
+use Rattle.id_source.specs.declared.Site.{Site}
+use Rattle.id_source.specs.declared.Shape.{Shape}
+use Rattle.id_source.specs.declared.Put.{Put}
+use Rattle.id_source.specs.declared.Ask.{Ask}
+use Rattle.id_source.specs.declared.SourceValue.{SourceValue}
+use Rattle.id_source.specs.declared.Fact.{Fact}
+use Rattle.id_source.specs.declared.Fact.TheVariants as fact
+use Rattle.id_source.specs.Facts.{put}
+use Rattle.id_source.specs.Orders.{SiteBefore, StepBefore, StepsBefore}
+use Rattle.id_source.specs.Sources.{Source, AreInputs}
+use Rattle.id_source.specs.Rounds.{Holds, IsWaiting}
+use Rattle.id_pieces.specs.Rows.{node}
+use Rattle.id_pieces.specs.Schemas.{Numbered}
+use Rattle.id_observed.specs.Observed.{name_by}
 use Rattle.id_runs.specs.Activations.{tag_in}
 use Rattle.id_runs.specs.Cells.{WrittenBy, cell_at}
 use Rattle.id_runs.specs.Events.{Event, Looked, Wrote}

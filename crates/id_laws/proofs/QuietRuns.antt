@@ -9,25 +9,25 @@ use Rattle.id_value.specs.declared.FaultKind.{FaultKind}
 use Rattle.id_value.specs.declared.FaultKind.TheVariants.{BadBounds, OutOfBounds}
 use Rattle.id_list.specs.List.{Among}
 use Rattle.id_list.proofs.AmongLemmas.{Among-from_at}
-use Rattle.id_parts.specs.declared.row.Node.TheVariants.{Head, Unary, Binary, Array, Fetch, Address}
-use Rattle.id_parts.specs.Rows.{top}
-use Rattle.id_parts.specs.Tables.{HasOperand, is_binder}
+use Rattle.id_table.specs.declared.row.Node.TheVariants.{Head, Unary, Binary, Array, Fetch, Address}
+use Rattle.id_table.specs.Rows.{top}
+use Rattle.id_table.specs.Tables.{HasOperand, is_binder}
 use Rattle.id_check.specs.declared.checked.Checked.{Checked}
 use Rattle.id_check.specs.Programs.{kind as kind_at, place, rows}
-use Rattle.id_graph.specs.declared.dests.Port.{Port}
-use Rattle.id_graph.specs.declared.dests.Port.TheVariants.{Zero, One}
-use Rattle.id_graph.specs.declared.instr.Op.{Op}
-use Rattle.id_graph.specs.declared.instr.Op.TheVariants as op
-use Rattle.id_graph.specs.declared.instr.PortKind.{PortKind}
-use Rattle.id_graph.specs.declared.instr.Instr.{Instr}
-use Rattle.id_graph.specs.Ports.{two_ports}
-use Rattle.id_graph.specs.Graph.{Parts}
+use Rattle.id_instr.specs.declared.dests.Port.{Port}
+use Rattle.id_instr.specs.declared.dests.Port.TheVariants.{Zero, One}
+use Rattle.id_instr.specs.declared.instr.Op.{Op}
+use Rattle.id_instr.specs.declared.instr.Op.TheVariants as op
+use Rattle.id_instr.specs.declared.instr.PortKind.{PortKind}
+use Rattle.id_instr.specs.declared.instr.Instr.{Instr}
+use Rattle.id_instr.specs.Ports.{two_ports}
+use Rattle.id_instr.specs.Graph.{Parts}
 use Rattle.id_tag.specs.Kinds.{kind_of, same_kind}
-use Rattle.id_bank.specs.declared.WriteAnswer.TheVariants.{Second}
+use Rattle.id_slot.specs.declared.WriteAnswer.TheVariants.{Second}
 use Rattle.id_tag.specs.declared.Cell.{Cell}
 use Rattle.id_tag.specs.declared.Structure.{Structure}
 use Rattle.id_tag.specs.declared.Tag.{Tag}
-use Rattle.id_meaning.specs.declared.Path.{Path}
+use Rattle.id_source.specs.declared.Path.{Path}
 use Rattle.id_tag.specs.declared.Value.{Value}
 use Rattle.id_tag.specs.declared.Value.TheVariants as value
 use Rattle.id_tag.specs.declared.Payload.{Payload}
@@ -39,27 +39,27 @@ use Rattle.id_ops.specs.declared.Fired.{Fired}
 use Rattle.id_ops.specs.declared.Fired.TheVariants.{Out, Side, Sent, Moved, Asked, Stored, Failed, Nothing, Entered}
 use Rattle.id_ops.specs.Operators.{constant_value, fired, fired_by, fired_merge}
 use Rattle.id_valid.specs.Validator.{is_value}
-use Rattle.id_record.specs.declared.step.Step.TheVariants.{Went, Fault}
-use Rattle.id_record.specs.declared.step.Fault.TheVariants.{Operator}
+use Rattle.id_line.specs.declared.step.Step.TheVariants.{Went, Fault}
+use Rattle.id_line.specs.declared.step.Fault.TheVariants.{Operator}
 use Rattle.id_core.specs.Events.{EventView}
 use Rattle.id_core.specs.Machines.{World, IsQuiet, main_tag}
 use Rattle.id_core.specs.Observed as shown
-use Rattle.id_meaning.specs.declared.Site.{Site}
-use Rattle.id_meaning.specs.declared.SourceValue.{SourceValue}
-use Rattle.id_meaning.specs.declared.SourceValue.TheVariants as source
-use Rattle.id_meaning.specs.declared.SourceFault.{SourceFault}
-use Rattle.id_meaning.specs.declared.NameValue.{NameValue}
-use Rattle.id_meaning.specs.declared.Fact.{Fact}
-use Rattle.id_meaning.specs.declared.Fact.TheVariants.{Has}
-use Rattle.id_meaning.specs.Names.{IsNameValue}
-use Rattle.id_meaning.specs.Sources.{Source, AreInputs, body_of, main_body, value_kind, value_of}
-use Rattle.id_meaning.specs.Facts.{outermost, FaultRule, unary_fails, binary_fails, bad_bounds, out_of_fetch, out_of_store, second_store}
-use Rattle.id_meaning.specs.Rounds.{Every, Holds, FaultFree, Answers, IsAnswer}
-use Rattle.id_build.specs.declared.arc.Origin.{Origin}
+use Rattle.id_source.specs.declared.Site.{Site}
+use Rattle.id_source.specs.declared.SourceValue.{SourceValue}
+use Rattle.id_source.specs.declared.SourceValue.TheVariants as source
+use Rattle.id_source.specs.declared.SourceFault.{SourceFault}
+use Rattle.id_source.specs.declared.NameValue.{NameValue}
+use Rattle.id_source.specs.declared.Fact.{Fact}
+use Rattle.id_source.specs.declared.Fact.TheVariants.{Has}
+use Rattle.id_source.specs.Names.{IsNameValue}
+use Rattle.id_source.specs.Sources.{Source, AreInputs, body_of, main_body, value_kind, value_of}
+use Rattle.id_source.specs.Facts.{outermost, FaultRule, unary_fails, binary_fails, bad_bounds, out_of_fetch, out_of_store, second_store}
+use Rattle.id_source.specs.Rounds.{Every, Holds, FaultFree, Answers, IsAnswer}
+use Rattle.id_pieces.specs.declared.arc.Origin.{Origin}
 use Rattle.id_desugar.specs.Ends.{end_of}
-use Rattle.id_build.specs.Rows.{label, node, answer_row, binary_op, origin, output, port_at, port_of, result_of}
-use Rattle.id_build.specs.Rows as built
-use Rattle.id_build.specs.Schemas.{Feeds, Numbered}
+use Rattle.id_pieces.specs.Rows.{label, node, answer_row, binary_op, origin, output, port_at, port_of, result_of}
+use Rattle.id_pieces.specs.Rows as built
+use Rattle.id_pieces.specs.Schemas.{Feeds, Numbered}
 use Rattle.id_runs.specs.Activations.{Activation, main_activation, tag_in}
 use Rattle.id_runs.specs.Events.{Event, FiresAs, GivesOn, fired_event, payload_of}
 use Rattle.id_runs.specs.Cells.{WrittenBy}
@@ -80,7 +80,7 @@ use Rattle.id_laws.proofs.Assumed.{IsKnown}
 use Rattle.id_laws.proofs.CarriedFacts.{address_part, carried, one_structure, body_region, structure_of}
 use Rattle.id_laws.proofs.CarriedThings.{constant_spoken, here_is, operand_spoken, said_at}
 use Rattle.id_laws.proofs.CarriedValues.{sent_in, stands_constant}
-use Rattle.id_build.proofs.EndsLemmas.{end_is}
+use Rattle.id_pieces.proofs.EndsLemmas.{end_is}
 use Rattle.id_laws.proofs.Firings.{PartFired, alone_fired, both_fired, came, sent_handled, start_handled}
 use Rattle.id_laws.proofs.HasKinds.{Has_kind, port_taking, operand_of, binder_thing, expression_thing}
 use Rattle.id_laws.proofs.Speakers.{expression_speaks, binder_speaks, fed_as}

@@ -1,22 +1,22 @@
 -- The heads of regions, and how many loops are round what stands in them.
 use Rattle.std.proofs.Common.{◌≡◌, inl, inr, ℕ, ◌+◌, ◌-◌, ◌<◌, true, false, length, refl, sym, ◌∙◌, ap, subst, arith}
-use Rattle.id_parts.specs.declared.row.Region.{Region}
+use Rattle.id_table.specs.declared.row.Region.{Region}
 use Rattle.std.proofs.lemmas.Bool.{cases_lt}
 use Rattle.std.proofs.lemmas.List.{get_or_past}
-use Rattle.id_parts.specs.declared.row.Row.{Row}
-use Rattle.id_parts.specs.declared.row.Node.{Node}
-use Rattle.id_parts.specs.declared.row.Node.TheVariants.{Head, Param, Binding, Program, Variable, Next}
-use Rattle.id_parts.specs.Rows.{at, no_row, top}
-use Rattle.id_parts.specs.Loops.{StandsInSide, loops_from}
-use Rattle.id_parts.specs.Regions.{StandsInArm}
-use Rattle.id_parts.specs.Tables.{HasPart, begins_block, is_binder}
+use Rattle.id_table.specs.declared.row.Row.{Row}
+use Rattle.id_table.specs.declared.row.Node.{Node}
+use Rattle.id_table.specs.declared.row.Node.TheVariants.{Head, Param, Binding, Program, Variable, Next}
+use Rattle.id_table.specs.Rows.{at, no_row, top}
+use Rattle.id_table.specs.Loops.{StandsInSide, loops_from}
+use Rattle.id_table.specs.Regions.{StandsInArm}
+use Rattle.id_table.specs.Tables.{HasPart, begins_block, is_binder}
 use Rattle.id_check.specs.declared.checked.Checked.{Checked}
 use Rattle.id_scope.specs.Scopes.{loops_between}
 use Rattle.id_check.specs.Programs.{region, rows}
-use Rattle.id_build.specs.Rows.{block, label, label_by, node}
-use Rattle.id_build.proofs.EndsLemmas.{not_last}
-use Rattle.id_build.proofs.NamesSeen.{HasSwitches}
-use Rattle.id_build.proofs.NamesSeen as seen
+use Rattle.id_pieces.specs.Rows.{block, label, label_by, node}
+use Rattle.id_pieces.proofs.EndsLemmas.{not_last}
+use Rattle.id_arcs.proofs.NamesSeen.{HasSwitches}
+use Rattle.id_arcs.proofs.NamesSeen as seen
 use Rattle.id_laws.specs.Activations.{Tests, of_arms, of_turns}
 use Rattle.id_laws.proofs.Assumed.{IsKnown}
 

@@ -1,23 +1,23 @@
 -- Where contexts stand: each has one seat, so an activation has one path, and each path is that of one activation.
 use Rattle.std.proofs.Common.{◌≡◌, ◌⊎◌, inl, inr, ℕ, suc, ◌<◌, List, [], ◌∷◌, ◌++◌, length, refl, sym, ◌∙◌, ap, subst, arith}
-use Rattle.id_parts.specs.declared.row.Region.{Region}
+use Rattle.id_table.specs.declared.row.Region.{Region}
 use Rattle.id_check.specs.Programs.{place, region, rows}
-use Rattle.id_graph.specs.Graph.{Parts}
+use Rattle.id_instr.specs.Graph.{Parts}
 use Rattle.id_tag.specs.declared.Context.{Context}
 use Rattle.id_tag.specs.declared.Tag.{Tag}
 use Rattle.id_ops.specs.declared.Fired.{Fired}
 use Rattle.id_ops.specs.declared.Fired.TheVariants.{Entered}
-use Rattle.id_meaning.specs.declared.Path.{Path}
-use Rattle.id_meaning.specs.declared.PathStep.{PathStep}
-use Rattle.id_meaning.specs.Sources.{Source}
-use Rattle.id_meaning.specs.Facts.{outermost, below}
-use Rattle.id_build.specs.Schemas.{Numbered}
+use Rattle.id_source.specs.declared.Path.{Path}
+use Rattle.id_source.specs.declared.PathStep.{PathStep}
+use Rattle.id_source.specs.Sources.{Source}
+use Rattle.id_source.specs.Facts.{outermost, below}
+use Rattle.id_pieces.specs.Schemas.{Numbered}
 use Rattle.id_runs.specs.Activations.{Activation, at_iteration, main_context, main_activation, tag_in}
 use Rattle.id_runs.specs.Events.{Event, FiresAs, FiresOnce, fired_event}
 use Rattle.id_laws.specs.Activations.{Seat, Outermost, Below, path_at, Begins, Opens, SeatOf, main_seat, made_seat, PathOf}
 use Rattle.id_laws.specs.Activations.{Live, at_start, on_side, entered, again}
 use Rattle.id_laws.proofs.Assumed.{IsKnown}
-use Rattle.id_parts.specs.Turns.{IsDefOf}
+use Rattle.id_table.specs.Turns.{IsDefOf}
 use Rattle.id_laws.proofs.Arcs.{opens, part_of}
 use Rattle.id_laws.proofs.Begun.{one_begun_at}
 use Rattle.id_laws.proofs.Tokens.{one_part, same_activation, same_number}

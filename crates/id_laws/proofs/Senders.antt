@@ -10,19 +10,19 @@ use Rattle.id_value.specs.Results.{result_of_unary, calculated}
 use Rattle.std.specs.Prelude.{option_map}
 use Rattle.id_list.specs.List.{Among}
 use Rattle.id_list.proofs.AmongLemmas.{Among-map}
-use Rattle.id_parts.specs.declared.row.Node.TheVariants.{Fetch, Store}
-use Rattle.id_parts.specs.Tables.{begins_block}
+use Rattle.id_table.specs.declared.row.Node.TheVariants.{Fetch, Store}
+use Rattle.id_table.specs.Tables.{begins_block}
 use Rattle.id_check.specs.Programs.{region, rows}
-use Rattle.id_graph.specs.declared.dests.Port.{Port}
-use Rattle.id_graph.specs.declared.dests.Port.TheVariants.{Zero}
-use Rattle.id_graph.specs.declared.dests.Dest.{Dest}
-use Rattle.id_graph.specs.declared.instr.Instr.{Instr}
-use Rattle.id_graph.specs.declared.instr.Dyadic.TheVariants as class
-use Rattle.id_graph.specs.declared.instr.Op.{Op}
-use Rattle.id_graph.specs.declared.instr.Op.TheVariants as op
-use Rattle.id_graph.specs.declared.instr.PortKind.{PortKind}
-use Rattle.id_graph.specs.Graph.{Parts}
-use Rattle.id_graph.specs.Ports.{two_ports}
+use Rattle.id_instr.specs.declared.dests.Port.{Port}
+use Rattle.id_instr.specs.declared.dests.Port.TheVariants.{Zero}
+use Rattle.id_instr.specs.declared.dests.Dest.{Dest}
+use Rattle.id_instr.specs.declared.instr.Instr.{Instr}
+use Rattle.id_instr.specs.declared.instr.Dyadic.TheVariants as class
+use Rattle.id_instr.specs.declared.instr.Op.{Op}
+use Rattle.id_instr.specs.declared.instr.Op.TheVariants as op
+use Rattle.id_instr.specs.declared.instr.PortKind.{PortKind}
+use Rattle.id_instr.specs.Graph.{Parts}
+use Rattle.id_instr.specs.Ports.{two_ports}
 use Rattle.id_tag.specs.Kinds.{kind_of, same_kind}
 use Rattle.id_tag.specs.declared.Context.{Context}
 use Rattle.id_tag.specs.declared.Tag.{Tag}
@@ -43,9 +43,9 @@ use Rattle.id_record.specs.Sends.{beside, moved_to}
 use Rattle.id_core.specs.Steps.{token_to}
 use Rattle.id_record.specs.Records.{dests_at, sent_by}
 use Rattle.id_core.specs.Machines.{World}
-use Rattle.id_meaning.specs.Sources.{Source}
-use Rattle.id_build.specs.Rows.{node, op_by}
-use Rattle.id_build.specs.Schemas.{Numbered, IsNumber}
+use Rattle.id_source.specs.Sources.{Source}
+use Rattle.id_pieces.specs.Rows.{node, op_by}
+use Rattle.id_pieces.specs.Schemas.{Numbered, IsNumber}
 use Rattle.id_runs.specs.Activations.{Activation, at_iteration, tag_in, activation_of}
 use Rattle.id_runs.specs.Events.{Event, Looked, FiresAs, GivesOn, fired_event, payload_of, sends_of}
 use Rattle.id_runs.specs.Cells.{Replies, cell_at}

@@ -1,19 +1,19 @@
 -- What sends to a tag of its own, and into a context: the way back of a block, arguments, and the first values and imports of a loop.
 use Rattle.std.proofs.Common.{◌≡◌, ℕ, suc, ◌<◌, true, length, refl, sym, ap}
 use Rattle.id_list.proofs.AmongLemmas.{Among-from_at}
-use Rattle.id_parts.specs.declared.row.Region.{Region}
-use Rattle.id_parts.specs.declared.row.Node.{Node}
-use Rattle.id_parts.specs.declared.row.Node.TheVariants.{Head, LoopHead, Array, Fetch, Store}
-use Rattle.id_parts.specs.Rows.{top}
-use Rattle.id_parts.specs.Tables.{begins_block}
-use Rattle.id_parts.specs.Turns.{params_at}
+use Rattle.id_table.specs.declared.row.Region.{Region}
+use Rattle.id_table.specs.declared.row.Node.{Node}
+use Rattle.id_table.specs.declared.row.Node.TheVariants.{Head, LoopHead, Array, Fetch, Store}
+use Rattle.id_table.specs.Rows.{top}
+use Rattle.id_table.specs.Tables.{begins_block}
+use Rattle.id_table.specs.Turns.{params_at}
 use Rattle.id_check.specs.declared.checked.Checked.{Checked}
 use Rattle.id_check.specs.Programs.{region, rows}
-use Rattle.id_graph.specs.declared.dests.Port.TheVariants.{Zero}
-use Rattle.id_graph.specs.declared.instr.Op.TheVariants as op
-use Rattle.id_graph.specs.declared.instr.PortKind.{PortKind}
-use Rattle.id_build.specs.declared.arc.Form.{Form}
-use Rattle.id_build.specs.Rows.{called, loop_entries, node, op_by, param_of}
+use Rattle.id_instr.specs.declared.dests.Port.TheVariants.{Zero}
+use Rattle.id_instr.specs.declared.instr.Op.TheVariants as op
+use Rattle.id_instr.specs.declared.instr.PortKind.{PortKind}
+use Rattle.id_pieces.specs.declared.arc.Form.{Form}
+use Rattle.id_pieces.specs.Rows.{called, loop_entries, node, op_by, param_of}
 use Rattle.id_laws.specs.Activations.{Begins}
 use Rattle.id_laws.specs.Topics.{IsPart, Turned, WayBack, ContextOf, topic_at, wants}
 use Rattle.id_laws.specs.Ways.{SendsTo, of_argument, of_entry}

@@ -2,10 +2,10 @@
 use Rattle.std.proofs.Common.{◌≡◌, ℕ, Bool as Truth, Option, Some, None, [], slice_get, ap}
 use Rattle.std.specs.Option.{option_map_or}
 use Rattle.id_list.specs.List.{Among}
-use Rattle.id_graph.specs.declared.dests.Dest.{Dest}
-use Rattle.id_graph.specs.declared.instr.Instr.{Instr}
-use Rattle.id_graph.specs.Graph.{Parts, arcs_on}
-use Rattle.id_build.specs.Schemas.{Sends}
+use Rattle.id_instr.specs.declared.dests.Dest.{Dest}
+use Rattle.id_instr.specs.declared.instr.Instr.{Instr}
+use Rattle.id_instr.specs.Graph.{Parts, arcs_on}
+use Rattle.id_pieces.specs.Schemas.{Sends}
 
 -- the destination is one of the instruction's of this number, on the side
 pub sends_there : (g : Parts) (m : ℕ) (b : Truth) (d : Dest) (o : Option Instr) → slice_get g.instrs m ≡ o → Among d (option_map_or (arcs_on b) o [])

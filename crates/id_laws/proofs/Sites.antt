@@ -1,11 +1,11 @@
 -- What stands at one path and place in a run is one thing under one activation; where fetches and stores stand.
 use Rattle.std.proofs.Common.{◌≡◌, inr, ℕ, ◌<◌, true, List, length, refl, sym, ◌∙◌, ap, subst}
 use Rattle.id_list.proofs.AmongLemmas.{Among-map}
-use Rattle.id_parts.specs.declared.row.Region.{Region}
-use Rattle.id_parts.specs.Tables.{is_thing}
+use Rattle.id_table.specs.declared.row.Region.{Region}
+use Rattle.id_table.specs.Tables.{is_thing}
 use Rattle.id_check.specs.declared.checked.Checked.{Checked}
 use Rattle.id_check.specs.Programs.{place, region, rows}
-use Rattle.id_graph.specs.Graph.{Parts}
+use Rattle.id_instr.specs.Graph.{Parts}
 use Rattle.id_tag.specs.declared.Cell.{Cell}
 use Rattle.id_tag.specs.declared.Structure.{Structure}
 use Rattle.id_tag.specs.declared.Tag.{Tag}
@@ -13,17 +13,17 @@ use Rattle.id_tag.specs.declared.Value.{Value}
 use Rattle.id_tag.specs.declared.Value.TheVariants as value
 use Rattle.id_tag.specs.declared.Payload.TheVariants.{Read, Write}
 use Rattle.id_ops.specs.declared.Fired.TheVariants.{Out}
-use Rattle.id_bank.specs.declared.ReadAnswer.{ReadAnswer}
-use Rattle.id_bank.specs.declared.WriteAnswer.{WriteAnswer}
+use Rattle.id_slot.specs.declared.ReadAnswer.{ReadAnswer}
+use Rattle.id_slot.specs.declared.WriteAnswer.{WriteAnswer}
 use Rattle.id_core.specs.Machines.{World}
 use Rattle.id_core.specs.Observed as shown
-use Rattle.id_meaning.specs.declared.Path.{Path}
-use Rattle.id_meaning.specs.declared.Site.{Site}
-use Rattle.id_meaning.specs.Sources.{Source}
-use Rattle.id_meaning.specs.Facts.{ask, put, site}
-use Rattle.id_meaning.specs.Rounds.{Holds}
-use Rattle.id_build.specs.Rows.{node}
-use Rattle.id_build.specs.Schemas.{Numbered}
+use Rattle.id_source.specs.declared.Path.{Path}
+use Rattle.id_source.specs.declared.Site.{Site}
+use Rattle.id_source.specs.Sources.{Source}
+use Rattle.id_source.specs.Facts.{ask, put, site}
+use Rattle.id_source.specs.Rounds.{Holds}
+use Rattle.id_pieces.specs.Rows.{node}
+use Rattle.id_pieces.specs.Schemas.{Numbered}
 use Rattle.id_runs.specs.Activations.{Activation, tag_in}
 use Rattle.id_runs.specs.Cells.{ReadBy, WrittenBy}
 use Rattle.id_runs.specs.Events.{Event, Looked, Wrote, FiresAs, FiresOnce, fired_event, payload_of}

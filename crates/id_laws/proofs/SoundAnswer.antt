@@ -3,12 +3,12 @@ use Rattle.std.proofs.Common.{◌≡◌, inr, ℕ, Bool as Truth, true, false, c
 use Rattle.std.specs.Prelude.{option_and_then}
 use Rattle.id_list.specs.List.{Among}
 use Rattle.id_list.proofs.AmongLemmas.{Among-from_at}
-use Rattle.id_parts.specs.declared.row.Node.TheVariants.{Program}
+use Rattle.id_table.specs.declared.row.Node.TheVariants.{Program}
 use Rattle.id_check.specs.declared.checked.Checked.{Checked}
 use Rattle.id_check.specs.Programs.{place, region}
-use Rattle.id_graph.specs.declared.dests.Port.{Port}
-use Rattle.id_graph.specs.declared.dests.Port.TheVariants.{Zero, One}
-use Rattle.id_graph.specs.Graph.{Parts}
+use Rattle.id_instr.specs.declared.dests.Port.{Port}
+use Rattle.id_instr.specs.declared.dests.Port.TheVariants.{Zero, One}
+use Rattle.id_instr.specs.Graph.{Parts}
 use Rattle.id_tag.specs.declared.Value.{Value}
 use Rattle.id_tag.specs.declared.Payload.{Payload}
 use Rattle.id_tag.specs.declared.Payload.TheVariants.{Token, Read, Write}
@@ -18,16 +18,16 @@ use Rattle.id_tag.proofs.TagsLemmas.{one_from_same_tag}
 use Rattle.id_core.specs.Events.{EventView}
 use Rattle.id_core.specs.Machines.{World, main_tag}
 use Rattle.id_core.specs.Observed as shown
-use Rattle.id_meaning.specs.declared.SourceValue.{SourceValue}
-use Rattle.id_meaning.specs.declared.Path.{Path}
-use Rattle.id_meaning.specs.declared.Site.{Site}
-use Rattle.id_meaning.specs.declared.Fact.TheVariants.{Has}
-use Rattle.id_meaning.specs.Sources.{Source, main_body, body_of}
-use Rattle.id_meaning.specs.Facts.{outermost}
-use Rattle.id_meaning.specs.Rounds.{Holds, Answers}
+use Rattle.id_source.specs.declared.SourceValue.{SourceValue}
+use Rattle.id_source.specs.declared.Path.{Path}
+use Rattle.id_source.specs.declared.Site.{Site}
+use Rattle.id_source.specs.declared.Fact.TheVariants.{Has}
+use Rattle.id_source.specs.Sources.{Source, main_body, body_of}
+use Rattle.id_source.specs.Facts.{outermost}
+use Rattle.id_source.specs.Rounds.{Holds, Answers}
 use Rattle.id_desugar.specs.Ends.{end_of}
-use Rattle.id_build.specs.Rows.{node, answer_row}
-use Rattle.id_build.specs.Schemas.{Numbered}
+use Rattle.id_pieces.specs.Rows.{node, answer_row}
+use Rattle.id_pieces.specs.Schemas.{Numbered}
 use Rattle.id_runs.specs.Activations.{main_activation, main_context, at_iteration, tag_in}
 use Rattle.id_runs.specs.Events.{Event}
 use Rattle.id_runs.specs.Runs.{Reach, handled}
@@ -39,7 +39,7 @@ use Rattle.id_laws.proofs.Assumed.{IsKnown}
 use Rattle.id_laws.proofs.Arcs.{answers, part_of}
 use Rattle.id_laws.proofs.Tokens.{told_at}
 use Rattle.id_laws.proofs.Senders.{last_row}
-use Rattle.id_build.proofs.EndsLemmas.{end_is}
+use Rattle.id_pieces.proofs.EndsLemmas.{end_is}
 use Rattle.id_laws.proofs.Start.{main_is_head, main_within}
 use Rattle.id_laws.proofs.Seats.{main_path_is}
 use Rattle.id_laws.proofs.StartTells.{all_tell, seats}

@@ -8,7 +8,7 @@ use Rattle.id_value.specs.declared.FaultKind.{FaultKind}
 use Rattle.id_list.specs.List.{Among}
 use Rattle.id_check.specs.declared.checked.Checked.{Checked}
 use Rattle.id_check.specs.Programs.{place}
-use Rattle.id_graph.specs.Graph.{Parts}
+use Rattle.id_instr.specs.Graph.{Parts}
 use Rattle.id_tag.specs.declared.Cell.{Cell}
 use Rattle.id_tag.specs.declared.Structure.{Structure}
 use Rattle.id_tag.specs.declared.Tag.{Tag}
@@ -18,31 +18,31 @@ use Rattle.id_tag.specs.Tags.{same_tag}
 use Rattle.id_tag.proofs.TagsLemmas.{same_tag_laws}
 use Rattle.id_ops.specs.declared.Fired.{Fired}
 use Rattle.id_ops.specs.declared.Fired.TheVariants.{Out, Side, Sent, Moved, Asked, Stored, Failed, Nothing, Entered}
-use Rattle.id_bank.specs.declared.WriteAnswer.{WriteAnswer}
-use Rattle.id_bank.specs.declared.WriteAnswer.TheVariants.{Readers, Second}
-use Rattle.id_record.specs.declared.step.Step.{Step}
-use Rattle.id_record.specs.declared.step.Step.TheVariants.{Went, Stuck, Fault}
-use Rattle.id_record.specs.declared.step.Fault.TheVariants.{Operator, SecondStore}
-use Rattle.id_record.specs.declared.step.Verdict.TheVariants as verdict
-use Rattle.id_record.specs.Events.{full_step}
-use Rattle.id_element.specs.Steps.{fill_verdict}
+use Rattle.id_slot.specs.declared.WriteAnswer.{WriteAnswer}
+use Rattle.id_slot.specs.declared.WriteAnswer.TheVariants.{Readers, Second}
+use Rattle.id_line.specs.declared.step.Step.{Step}
+use Rattle.id_line.specs.declared.step.Step.TheVariants.{Went, Stuck, Fault}
+use Rattle.id_line.specs.declared.step.Fault.TheVariants.{Operator, SecondStore}
+use Rattle.id_line.specs.declared.step.Verdict.TheVariants as verdict
+use Rattle.id_line.specs.Events.{full_step}
+use Rattle.id_firing.specs.Steps.{fill_verdict}
 use Rattle.id_core.specs.Events.{EventView}
 use Rattle.id_core.specs.Steps.{fired_step}
 use Rattle.id_core.specs.Machines.{World}
 use Rattle.id_core.specs.Observed as shown
-use Rattle.id_observe.specs.Observed.{stores_as}
-use Rattle.id_meaning.specs.declared.Path.{Path}
-use Rattle.id_meaning.specs.declared.PathStep.{PathStep}
-use Rattle.id_meaning.specs.declared.Site.{Site}
-use Rattle.id_meaning.specs.declared.SourceFault.{SourceFault}
-use Rattle.id_meaning.specs.declared.SourceFault.TheVariants as fault
-use Rattle.id_meaning.specs.declared.SourceValue.{SourceValue}
-use Rattle.id_meaning.specs.Facts.{put, second_store, site}
-use Rattle.id_meaning.specs.Orders.{SiteBefore, step_cmp}
-use Rattle.id_meaning.specs.Sources.{Source}
-use Rattle.id_meaning.specs.Rounds.{Faulty, Holds}
-use Rattle.id_meaning.proofs.PathOrderLemmas.{less_number, less_steps, same_number, same_steps, step_total}
-use Rattle.id_build.specs.Schemas.{Numbered}
+use Rattle.id_observed.specs.Observed.{stores_as}
+use Rattle.id_source.specs.declared.Path.{Path}
+use Rattle.id_source.specs.declared.PathStep.{PathStep}
+use Rattle.id_source.specs.declared.Site.{Site}
+use Rattle.id_source.specs.declared.SourceFault.{SourceFault}
+use Rattle.id_source.specs.declared.SourceFault.TheVariants as fault
+use Rattle.id_source.specs.declared.SourceValue.{SourceValue}
+use Rattle.id_source.specs.Facts.{put, second_store, site}
+use Rattle.id_source.specs.Orders.{SiteBefore, step_cmp}
+use Rattle.id_source.specs.Sources.{Source}
+use Rattle.id_source.specs.Rounds.{Faulty, Holds}
+use Rattle.id_source.proofs.PathOrderLemmas.{less_number, less_steps, same_number, same_steps, step_total}
+use Rattle.id_pieces.specs.Schemas.{Numbered}
 use Rattle.id_runs.specs.Activations.{activation_of}
 use Rattle.id_runs.specs.Cells.{WrittenBy, cell_at}
 use Rattle.id_runs.specs.Events.{Waits, Blocked, Fires, Event, Took, Looked, Wrote, FiresAs, came_to}

@@ -5,14 +5,14 @@ use Rattle.std.proofs.Common.{◌+◌, subst, arith}
 use Rattle.std.specs.List.{filter_map, cons_option}
 use Rattle.id_list.specs.List.{Among, AllDiffer}
 use Rattle.id_list.proofs.AmongLemmas.{Among-map}
-use Rattle.id_parts.specs.declared.row.Node.{Node}
-use Rattle.id_parts.specs.declared.row.Node.TheVariants.{Param, Binding, Next, Variable}
-use Rattle.id_parts.specs.Tables.{HasNear, is_binder, is_next}
+use Rattle.id_table.specs.declared.row.Node.{Node}
+use Rattle.id_table.specs.declared.row.Node.TheVariants.{Param, Binding, Next, Variable}
+use Rattle.id_table.specs.Tables.{HasNear, is_binder, is_next}
 use Rattle.id_check.specs.declared.checked.Checked.{Checked}
 use Rattle.id_check.specs.Programs.{place, region, rows}
-use Rattle.id_graph.specs.declared.dests.Port.{Port}
-use Rattle.id_graph.specs.declared.dests.Port.TheVariants.{Zero, One}
-use Rattle.id_graph.specs.Graph.{Parts}
+use Rattle.id_instr.specs.declared.dests.Port.{Port}
+use Rattle.id_instr.specs.declared.dests.Port.TheVariants.{Zero, One}
+use Rattle.id_instr.specs.Graph.{Parts}
 use Rattle.id_tag.specs.declared.Tag.{Tag}
 use Rattle.id_tag.specs.declared.Value.{Value}
 use Rattle.id_tag.specs.declared.Payload.{Payload}
@@ -21,17 +21,17 @@ use Rattle.id_tag.specs.declared.Structure.{Structure}
 use Rattle.id_core.specs.Events.{EventView}
 use Rattle.id_core.specs.Machines.{World}
 use Rattle.id_core.specs.Observed as shown
-use Rattle.id_meaning.specs.declared.Path.{Path}
-use Rattle.id_meaning.specs.declared.Site.{Site}
-use Rattle.id_meaning.specs.declared.SourceValue.{SourceValue}
-use Rattle.id_meaning.specs.declared.NameValue.{NameValue}
-use Rattle.id_meaning.specs.declared.Fact.TheVariants.{Has}
-use Rattle.id_meaning.specs.Sources.{Source}
-use Rattle.id_meaning.specs.Facts.{binding_has, site}
-use Rattle.id_meaning.specs.Rounds.{Holds}
-use Rattle.id_meaning.specs.Names.{IsNameValue}
-use Rattle.id_build.specs.Rows.{block, label, label_by, node}
-use Rattle.id_build.specs.Schemas.{Numbered}
+use Rattle.id_source.specs.declared.Path.{Path}
+use Rattle.id_source.specs.declared.Site.{Site}
+use Rattle.id_source.specs.declared.SourceValue.{SourceValue}
+use Rattle.id_source.specs.declared.NameValue.{NameValue}
+use Rattle.id_source.specs.declared.Fact.TheVariants.{Has}
+use Rattle.id_source.specs.Sources.{Source}
+use Rattle.id_source.specs.Facts.{binding_has, site}
+use Rattle.id_source.specs.Rounds.{Holds}
+use Rattle.id_source.specs.Names.{IsNameValue}
+use Rattle.id_pieces.specs.Rows.{block, label, label_by, node}
+use Rattle.id_pieces.specs.Schemas.{Numbered}
 use Rattle.id_runs.specs.Activations.{Activation, tag_in}
 use Rattle.id_runs.specs.Events.{Event}
 use Rattle.id_runs.specs.Keys.{Key, AtPort, key_of}

@@ -2,21 +2,21 @@
 use Rattle.std.proofs.Common.{◌≡◌, inr, ℕ, zero, suc, Bool as Truth, true, false, List, refl, sym, ◌∙◌, ap, subst, inl}
 use Rattle.id_list.specs.List.{Among}
 use Rattle.id_list.proofs.AmongLemmas.{Among-map, Among-from_map}
-use Rattle.id_parts.specs.declared.row.Node.{Node}
-use Rattle.id_parts.specs.declared.row.Node.TheVariants.{Literal, Unary, Binary, If, Program, Call, Head, LoopHead, Turn, Next, Reset, Loop, Array, Fetch}
-use Rattle.id_parts.specs.Tables.{begins_block, is_expression}
+use Rattle.id_table.specs.declared.row.Node.{Node}
+use Rattle.id_table.specs.declared.row.Node.TheVariants.{Literal, Unary, Binary, If, Program, Call, Head, LoopHead, Turn, Next, Reset, Loop, Array, Fetch}
+use Rattle.id_table.specs.Tables.{begins_block, is_expression}
 use Rattle.id_check.specs.declared.checked.Checked.{Checked}
 use Rattle.id_check.specs.Programs.{place, region}
-use Rattle.id_graph.specs.declared.dests.Dest.{Dest}
-use Rattle.id_graph.specs.declared.instr.Op.TheVariants as op
-use Rattle.id_graph.specs.Graph.{Parts}
+use Rattle.id_instr.specs.declared.dests.Dest.{Dest}
+use Rattle.id_instr.specs.declared.instr.Op.TheVariants as op
+use Rattle.id_instr.specs.Graph.{Parts}
 use Rattle.id_tag.specs.declared.Tag.{Tag}
 use Rattle.id_tag.specs.declared.Value.{Value}
 use Rattle.id_tag.specs.declared.Message.{Message}
 use Rattle.id_tag.specs.declared.Cell.{Cell}
 use Rattle.id_tag.specs.declared.Structure.{Structure}
 use Rattle.id_tag.specs.declared.Payload.TheVariants.{Token}
-use Rattle.id_graph.specs.declared.dests.Port.TheVariants.{Zero}
+use Rattle.id_instr.specs.declared.dests.Port.TheVariants.{Zero}
 use Rattle.id_ops.specs.declared.Fired.{Fired}
 use Rattle.id_ops.specs.declared.Fired.TheVariants.{Out, Side, Sent, Moved, Asked, Stored, Failed, Nothing, Entered}
 use Rattle.id_core.specs.Events.{EventView, tag_of}
@@ -24,14 +24,14 @@ use Rattle.id_record.specs.Records.{dests_at, sent_by}
 use Rattle.id_core.specs.Steps.{token_to}
 use Rattle.id_core.specs.Machines.{World}
 use Rattle.id_core.specs.Observed as shown
-use Rattle.id_meaning.specs.declared.Path.{Path}
-use Rattle.id_meaning.specs.declared.Site.{Site}
-use Rattle.id_meaning.specs.declared.Fact.TheVariants.{Has}
-use Rattle.id_meaning.specs.Sources.{Source}
-use Rattle.id_meaning.specs.Rounds.{Holds}
-use Rattle.id_build.specs.declared.arc.Form.{Form}
-use Rattle.id_build.specs.Rows.{node, op_by}
-use Rattle.id_build.specs.Schemas.{Makes, Numbered}
+use Rattle.id_source.specs.declared.Path.{Path}
+use Rattle.id_source.specs.declared.Site.{Site}
+use Rattle.id_source.specs.declared.Fact.TheVariants.{Has}
+use Rattle.id_source.specs.Sources.{Source}
+use Rattle.id_source.specs.Rounds.{Holds}
+use Rattle.id_pieces.specs.declared.arc.Form.{Form}
+use Rattle.id_pieces.specs.Rows.{node, op_by}
+use Rattle.id_pieces.specs.Schemas.{Makes, Numbered}
 use Rattle.id_runs.specs.Activations.{Activation, activation_of, tag_in}
 use Rattle.id_runs.specs.Cells.{at_once, by_fill}
 use Rattle.id_runs.specs.Events.{Event, FiresAs, payload_of, sends_of}

@@ -1,26 +1,26 @@
 -- What feeds a part is a part, and not the answer's.
 use Rattle.std.proofs.Common.{◌≡◌, ◌⊎◌, inl, inr, ℕ, suc, ◌+◌, ◌-◌, ◌<◌, Bool as Truth, true, false, length, get_or, refl, sym, ◌∙◌, ap, subst, arith}
-use Rattle.id_parts.specs.declared.row.Region.{Region}
-use Rattle.id_parts.specs.declared.row.Node.{Node}
-use Rattle.id_parts.specs.declared.row.Node.TheVariants.{Head, Param, Literal, Name, Unary, Binary, Split, If, Enter, Arg, Call, Block}
-use Rattle.id_parts.specs.declared.row.Node.TheVariants.{Binding, Program, Start, LoopHead, Variable, Entries, Switches, Turn, Next, Reset, Loop}
-use Rattle.id_parts.specs.declared.row.Node.TheVariants.{Array, Fetch, Address, Store}
-use Rattle.id_parts.specs.Rows.{at}
-use Rattle.id_parts.specs.Tables.{HasPart, HasOperand, begins_block, is_binder, is_block, is_expression}
+use Rattle.id_table.specs.declared.row.Region.{Region}
+use Rattle.id_table.specs.declared.row.Node.{Node}
+use Rattle.id_table.specs.declared.row.Node.TheVariants.{Head, Param, Literal, Name, Unary, Binary, Split, If, Enter, Arg, Call, Block}
+use Rattle.id_table.specs.declared.row.Node.TheVariants.{Binding, Program, Start, LoopHead, Variable, Entries, Switches, Turn, Next, Reset, Loop}
+use Rattle.id_table.specs.declared.row.Node.TheVariants.{Array, Fetch, Address, Store}
+use Rattle.id_table.specs.Rows.{at}
+use Rattle.id_table.specs.Tables.{HasPart, HasOperand, begins_block, is_binder, is_block, is_expression}
 use Rattle.id_check.specs.declared.checked.Checked.{Checked}
 use Rattle.id_check.specs.Programs.{region, rows}
-use Rattle.id_graph.specs.declared.dests.Port.{Port}
-use Rattle.id_graph.specs.declared.dests.Port.TheVariants.{Zero, One}
-use Rattle.id_build.specs.declared.arc.Origin.{Origin}
+use Rattle.id_instr.specs.declared.dests.Port.{Port}
+use Rattle.id_instr.specs.declared.dests.Port.TheVariants.{Zero, One}
+use Rattle.id_pieces.specs.declared.arc.Origin.{Origin}
 use Rattle.id_desugar.specs.Ends.{end_of}
 use Rattle.id_desugar.specs.Regions.{imports_of}
-use Rattle.id_build.specs.Rows.{label, label_by, block, node, output, name_in, named_in, origin_of, origin}
-use Rattle.id_build.specs.Rows.{trigger_of, body_of, turn_row, next_of, entering, entries_row}
-use Rattle.id_build.specs.Schemas.{Feeds}
+use Rattle.id_pieces.specs.Rows.{label, label_by, block, node, output, name_in, named_in, origin_of, origin}
+use Rattle.id_pieces.specs.Rows.{trigger_of, body_of, turn_row, next_of, entering, entries_row}
+use Rattle.id_pieces.specs.Schemas.{Feeds}
 use Rattle.id_laws.specs.Topics.{of_fetch, of_store, IsPart}
 use Rattle.id_laws.proofs.Assumed.{IsKnown}
 use Rattle.id_laws.proofs.Loops.{loop_of_head, loop_of_row, reset_node, reset_within, turn_node, turn_within, turn_in}
-use Rattle.id_build.proofs.LoopsLemmas.{entries_node, entries_stand, entries_within, next_is}
+use Rattle.id_pieces.proofs.LoopsLemmas.{entries_node, entries_stand, entries_within, next_is}
 use Rattle.id_laws.proofs.Arcs.{starts, enters, constant, unary, binary, turns_on, hands, joins, opens, gets, names, part_of, fed}
 use Rattle.id_laws.proofs.Arcs.{Arc, to_back, to_literal, to_unary, to_left, to_right, to_test, to_trigger, to_import_test, to_import, to_then, to_else}
 use Rattle.id_laws.proofs.Arcs.{to_enter, to_context, to_argument, to_label, to_loop_context, to_entering, to_head, to_loop_back}
@@ -30,8 +30,8 @@ use Rattle.id_laws.proofs.Arcs.{gets_last, takes_in, varies, moves_on, moves_nam
 use Rattle.id_laws.proofs.Calls.{arg_at}
 use Rattle.id_laws.proofs.Stores.{address_at}
 use Rattle.id_laws.proofs.Conditionals.{arm_of, conditional, test_at}
-use Rattle.id_build.proofs.EndsLemmas.{end_is}
-use Rattle.id_build.proofs.NamesSeen.{Sees, Comes, from_label, from_switch, from_entry, comes, listed}
+use Rattle.id_pieces.proofs.EndsLemmas.{end_is}
+use Rattle.id_arcs.proofs.NamesSeen.{Sees, Comes, from_label, from_switch, from_entry, comes, listed}
 use Rattle.id_laws.specs.Activations.{Begins, Tests, of_arms, of_turns, of_call, of_loop}
 use Rattle.id_laws.proofs.Regions.{as_tests, label_row, HeadOf, of_block, of_tests, region_of}
 

@@ -1,17 +1,17 @@
 -- Where the values of things come from.
 use Rattle.std.proofs.Common.{◌≡◌, ℕ, ◌<◌, true, false, Some, length, sym, ◌∙◌, ap, subst}
 use Rattle.id_list.specs.List.{Among}
-use Rattle.id_parts.specs.declared.row.Region.{Region}
-use Rattle.id_parts.specs.declared.row.Node.{Node}
-use Rattle.id_parts.specs.declared.row.Node.TheVariants.{Param, Literal, Name, Unary, Binary, If, Block, Binding, Call, Next, Loop, Array, Fetch}
-use Rattle.id_parts.specs.Tables.{is_binder, is_block, is_expression}
+use Rattle.id_table.specs.declared.row.Region.{Region}
+use Rattle.id_table.specs.declared.row.Node.{Node}
+use Rattle.id_table.specs.declared.row.Node.TheVariants.{Param, Literal, Name, Unary, Binary, If, Block, Binding, Call, Next, Loop, Array, Fetch}
+use Rattle.id_table.specs.Tables.{is_binder, is_block, is_expression}
 use Rattle.id_check.specs.declared.checked.Checked.{Checked}
 use Rattle.id_check.specs.Programs as checked
 use Rattle.id_check.specs.Programs.{region, rows}
-use Rattle.id_graph.specs.declared.dests.Port.{Port}
-use Rattle.id_build.specs.declared.arc.Origin.{Origin}
-use Rattle.id_build.specs.Rows.{block, label, label_by, node, name_in, named_in, origin, origin_of, output, feed, feeds_of, reply}
-use Rattle.id_build.specs.Schemas.{Feeds}
+use Rattle.id_instr.specs.declared.dests.Port.{Port}
+use Rattle.id_pieces.specs.declared.arc.Origin.{Origin}
+use Rattle.id_pieces.specs.Rows.{block, label, label_by, node, name_in, named_in, origin, origin_of, output, feed, feeds_of, reply}
+use Rattle.id_pieces.specs.Schemas.{Feeds}
 use Rattle.id_laws.specs.Carried.{speaker, speaker_of}
 use Rattle.id_laws.proofs.Assumed.{IsKnown}
 

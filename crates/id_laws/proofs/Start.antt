@@ -6,16 +6,16 @@ use Rattle.std.proofs.lemmas.Bool.{eqb-true, eq-eqb}
 use Rattle.id_value.specs.declared.Kind.{Kind}
 use Rattle.id_list.specs.List.{Among, AllDiffer}
 use Rattle.id_list.proofs.AmongLemmas.{Among-from_at}
-use Rattle.id_parts.specs.declared.row.Node.{Node}
-use Rattle.id_parts.specs.declared.row.Node.TheVariants.{Head, Param, Def, LoopHead, Loop}
-use Rattle.id_parts.specs.Tables.{begins_block, is_thing}
-use Rattle.id_parts.specs.Turns.{IsTable, IsDefOf, params_at}
+use Rattle.id_table.specs.declared.row.Node.{Node}
+use Rattle.id_table.specs.declared.row.Node.TheVariants.{Head, Param, Def, LoopHead, Loop}
+use Rattle.id_table.specs.Tables.{begins_block, is_thing}
+use Rattle.id_table.specs.Turns.{IsTable, IsDefOf, params_at}
 use Rattle.id_check.specs.declared.checked.Checked.{Checked}
 use Rattle.id_check.specs.Programs.{place, rows}
-use Rattle.id_graph.specs.declared.dests.Port.{Port}
-use Rattle.id_graph.specs.declared.dests.Port.TheVariants.{Zero}
-use Rattle.id_graph.specs.declared.instr.Instr.{Instr}
-use Rattle.id_graph.specs.Graph.{Parts}
+use Rattle.id_instr.specs.declared.dests.Port.{Port}
+use Rattle.id_instr.specs.declared.dests.Port.TheVariants.{Zero}
+use Rattle.id_instr.specs.declared.instr.Instr.{Instr}
+use Rattle.id_instr.specs.Graph.{Parts}
 use Rattle.id_tag.specs.declared.Value.{Value}
 use Rattle.id_tag.specs.declared.Value.TheVariants.{Signal, Continuation}
 use Rattle.id_tag.specs.declared.Payload.{Payload}
@@ -25,10 +25,10 @@ use Rattle.id_valid.specs.Roles.{has_main_place, same_place}
 use Rattle.id_core.specs.Machines.{input_messages, block_messages}
 use Rattle.id_value.specs.declared.Constant.{Constant}
 use Rattle.id_ops.specs.Operators.{constant_value}
-use Rattle.id_meaning.specs.Sources.{Source}
-use Rattle.id_build.specs.Rows.{Entry, node, answer_row, entries, entries_by, param_entry}
-use Rattle.id_graph.specs.declared.instr.Block.{Block}
-use Rattle.id_build.specs.Schemas.{Numbered, all_heads, block_of}
+use Rattle.id_source.specs.Sources.{Source}
+use Rattle.id_pieces.specs.Rows.{Entry, node, answer_row, entries, entries_by, param_entry}
+use Rattle.id_instr.specs.declared.instr.Block.{Block}
+use Rattle.id_pieces.specs.Schemas.{Numbered, all_heads, block_of}
 use Rattle.id_runs.specs.Activations.{main_activation, tag_in}
 use Rattle.id_runs.specs.Keys.{Key, AtPort, ByFetch, ByStore, key_of}
 use Rattle.id_runs.specs.Runs.{starting}
@@ -85,7 +85,7 @@ module _ (S : Source) (g : Parts) (number : ℕ → ℕ → ℕ) (numbered : Num
 
   pub main_within : main < length (rows P)
   main_within = let d = known.main in let f = (known.table).formed in
-      omega (arith, d.within, ((f.each P.main d.within).parts main (subst (λ m. Rattle.id_parts.specs.Tables.HasPart m main) (sym d.node) (inl refl))).1)
+      omega (arith, d.within, ((f.each P.main d.within).parts main (subst (λ m. Rattle.id_table.specs.Tables.HasPart m main) (sym d.node) (inl refl))).1)
 
   answer_within : answer_row P < length (rows P)
   answer_within = let t = known.table in omega (arith, t.some)

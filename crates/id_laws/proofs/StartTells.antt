@@ -3,14 +3,14 @@ use Rattle.std.proofs.Common.{◌≡◌, ℕ, zero, suc, ◌-◌, List, [], leng
 use Rattle.std.specs.Prelude.{take}
 use Rattle.id_list.specs.List.{Among}
 use Rattle.id_list.proofs.AmongLemmas.{Among-from_at}
-use Rattle.id_parts.specs.Rows.{top}
-use Rattle.id_parts.specs.Turns.{params_at}
+use Rattle.id_table.specs.Rows.{top}
+use Rattle.id_table.specs.Turns.{params_at}
 use Rattle.id_check.specs.declared.checked.Checked.{Checked}
 use Rattle.id_scope.specs.Scopes.{loops_between}
 use Rattle.id_check.specs.Programs.{place, region, rows}
-use Rattle.id_graph.specs.declared.dests.Port.{Port}
-use Rattle.id_graph.specs.declared.dests.Port.TheVariants.{Zero}
-use Rattle.id_graph.specs.Graph.{Parts}
+use Rattle.id_instr.specs.declared.dests.Port.{Port}
+use Rattle.id_instr.specs.declared.dests.Port.TheVariants.{Zero}
+use Rattle.id_instr.specs.Graph.{Parts}
 use Rattle.id_tag.specs.declared.Value.{Value}
 use Rattle.id_tag.specs.declared.Value.TheVariants.{Signal, Continuation}
 use Rattle.id_tag.specs.declared.Payload.{Payload}
@@ -19,12 +19,12 @@ use Rattle.id_core.specs.Machines.{World}
 use Rattle.id_value.specs.declared.Constant.{Constant}
 use Rattle.id_ops.specs.Operators.{constant_value}
 use Rattle.id_laws.proofs.FiringMeans.{constant_stands}
-use Rattle.id_meaning.specs.declared.Fact.TheVariants.{Has}
-use Rattle.id_meaning.specs.Sources.{Source, IsInput, value_of}
-use Rattle.id_meaning.specs.Facts.{outermost, without, param_has}
-use Rattle.id_meaning.specs.Rounds.{Holds}
-use Rattle.id_build.specs.Rows.{answer_row}
-use Rattle.id_build.specs.Schemas.{Numbered}
+use Rattle.id_source.specs.declared.Fact.TheVariants.{Has}
+use Rattle.id_source.specs.Sources.{Source, IsInput, value_of}
+use Rattle.id_source.specs.Facts.{outermost, without, param_has}
+use Rattle.id_source.specs.Rounds.{Holds}
+use Rattle.id_pieces.specs.Rows.{answer_row}
+use Rattle.id_pieces.specs.Schemas.{Numbered}
 use Rattle.id_runs.specs.Activations.{main_activation, tag_in, Activation}
 use Rattle.id_runs.specs.Events.{Event}
 use Rattle.id_runs.specs.Runs.{Reach, starting}

@@ -1,18 +1,18 @@
 -- What speaks in a run stays in its iteration, and what moves goes to the next one or to the first.
 use Rattle.std.proofs.Common.{◌≡◌, inr, ℕ, Bool as Truth, true, false, List, refl, sym, ◌∙◌, ap, subst}
-use Rattle.id_parts.specs.declared.row.Node.TheVariants.{Reset}
+use Rattle.id_table.specs.declared.row.Node.TheVariants.{Reset}
 use Rattle.id_check.specs.Programs.{region}
-use Rattle.id_graph.specs.declared.dests.Port.{Port}
-use Rattle.id_graph.specs.declared.dests.Port.TheVariants.{Zero, One}
+use Rattle.id_instr.specs.declared.dests.Port.{Port}
+use Rattle.id_instr.specs.declared.dests.Port.TheVariants.{Zero, One}
 use Rattle.id_ops.specs.declared.Operands.{Operands}
-use Rattle.id_graph.specs.Graph.{Parts}
+use Rattle.id_instr.specs.Graph.{Parts}
 use Rattle.id_tag.specs.declared.Tag.{Tag}
 use Rattle.id_tag.specs.declared.Value.{Value}
 use Rattle.id_core.specs.Machines.{World}
-use Rattle.id_meaning.specs.Sources.{Source}
-use Rattle.id_build.specs.declared.arc.Origin.{Origin}
-use Rattle.id_build.specs.Rows.{node, op_by}
-use Rattle.id_build.specs.Schemas.{Numbered}
+use Rattle.id_source.specs.Sources.{Source}
+use Rattle.id_pieces.specs.declared.arc.Origin.{Origin}
+use Rattle.id_pieces.specs.Rows.{node, op_by}
+use Rattle.id_pieces.specs.Schemas.{Numbered}
 use Rattle.id_runs.specs.Activations.{Activation, tag_in}
 use Rattle.id_runs.specs.Events.{Event, GivesOn}
 use Rattle.id_runs.specs.Runs.{Reach}

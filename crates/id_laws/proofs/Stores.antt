@@ -1,11 +1,11 @@
 -- The `Address` of a store, and the store of an `Address`.
 use Rattle.std.proofs.Common.{◌≡◌, inl, ℕ, ◌<◌, length, refl, sym, subst, arith}
-use Rattle.id_parts.specs.declared.row.Node.TheVariants.{Address, Store}
-use Rattle.id_parts.specs.Tables.{HasPart}
+use Rattle.id_table.specs.declared.row.Node.TheVariants.{Address, Store}
+use Rattle.id_table.specs.Tables.{HasPart}
 use Rattle.id_check.specs.declared.checked.Checked.{Checked}
 use Rattle.id_check.specs.Programs.{place, region, rows}
-use Rattle.id_build.specs.Rows.{node}
-use Rattle.id_meaning.specs.Facts.{StoreStands}
+use Rattle.id_pieces.specs.Rows.{node}
+use Rattle.id_source.specs.Facts.{StoreStands}
 use Rattle.id_laws.proofs.Assumed.{IsKnown}
 
 -- the `Address` at the row a is that of the store at the row n

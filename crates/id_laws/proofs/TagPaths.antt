@@ -3,14 +3,14 @@ use Rattle.std.proofs.Common.{◌≡◌, inl, inr, ℕ, suc, ◌≤◌, ◌<◌,
 use Rattle.std.proofs.Common.{◌+◌, ◌-◌, refl, sym, ◌∙◌, ap, subst, arith}
 use Rattle.std.proofs.lemmas.Bool.{eq-eqb}
 use Rattle.id_list.specs.List.{Among, AllDiffer}
-use Rattle.id_parts.specs.declared.row.Region.{Region}
-use Rattle.id_parts.specs.declared.row.Node.TheVariants.{Enter}
+use Rattle.id_table.specs.declared.row.Region.{Region}
+use Rattle.id_table.specs.declared.row.Node.TheVariants.{Enter}
 use Rattle.std.specs.Prelude.{option_map}
-use Rattle.id_graph.specs.declared.instr.Instr.{Instr}
-use Rattle.id_graph.specs.declared.instr.Op.TheVariants.{Enter as EnterOp}
+use Rattle.id_instr.specs.declared.instr.Instr.{Instr}
+use Rattle.id_instr.specs.declared.instr.Op.TheVariants.{Enter as EnterOp}
 use Rattle.id_check.specs.declared.checked.Checked.{Checked}
 use Rattle.id_check.specs.Programs.{place, rows}
-use Rattle.id_graph.specs.Graph.{Parts}
+use Rattle.id_instr.specs.Graph.{Parts}
 use Rattle.id_valid.specs.Roles.{op_at}
 use Rattle.id_tag.specs.declared.Context.{Context}
 use Rattle.id_tag.specs.declared.Tag.{Tag}
@@ -18,11 +18,11 @@ use Rattle.id_core.specs.Machines.{World}
 use Rattle.id_core.specs.Observed as shown
 use Rattle.id_paths.specs.Paths.{enter_in, enters_loop, step_of}
 use Rattle.id_paths.proofs.PathsLemmas.{Leads, under_main, under_enter, path_of-leads}
-use Rattle.id_meaning.specs.declared.Path.{Path}
-use Rattle.id_meaning.specs.declared.PathStep.{PathStep}
-use Rattle.id_meaning.specs.Sources.{Source}
-use Rattle.id_build.specs.Rows.{node}
-use Rattle.id_build.specs.Schemas.{Numbered}
+use Rattle.id_source.specs.declared.Path.{Path}
+use Rattle.id_source.specs.declared.PathStep.{PathStep}
+use Rattle.id_source.specs.Sources.{Source}
+use Rattle.id_pieces.specs.Rows.{node}
+use Rattle.id_pieces.specs.Schemas.{Numbered}
 use Rattle.id_runs.specs.Activations.{Activation, activation_of, tag_in}
 use Rattle.id_runs.specs.Events.{Event}
 use Rattle.id_runs.specs.Runs.{Reach}
@@ -31,7 +31,7 @@ use Rattle.id_laws.specs.Laws.{events}
 use Rattle.id_laws.specs.Activations.{Seat, Outermost, Below, path_at, Begins, of_call, of_loop, Opens, SeatOf, main_seat, made_seat, Live, PathOf}
 use Rattle.id_laws.proofs.Assumed.{IsKnown}
 use Rattle.id_laws.proofs.Loops.{loop_of_start, start_place}
-use Rattle.id_parts.specs.Tables.{begins_block}
+use Rattle.id_table.specs.Tables.{begins_block}
 use Rattle.id_laws.proofs.Arcs.{opens, makes, part_of, place_shown, starts}
 use Rattle.id_laws.proofs.Observing.{part_place}
 use Rattle.id_laws.proofs.Seats.{length_snoc}

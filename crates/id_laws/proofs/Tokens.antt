@@ -1,13 +1,13 @@
 -- What a token for a part tells.
 use Rattle.std.proofs.Common.{◌≡◌, ℕ, List, sym, ap, subst}
 use Rattle.id_check.specs.declared.checked.Checked.{Checked}
-use Rattle.id_graph.specs.declared.dests.Port.{Port}
-use Rattle.id_graph.specs.Graph.{Parts}
+use Rattle.id_instr.specs.declared.dests.Port.{Port}
+use Rattle.id_instr.specs.Graph.{Parts}
 use Rattle.id_tag.specs.declared.Tag.{Tag}
 use Rattle.id_tag.specs.declared.Value.{Value}
 use Rattle.id_tag.specs.declared.Payload.TheVariants.{Token}
-use Rattle.id_meaning.specs.Sources.{Source}
-use Rattle.id_build.specs.Schemas.{Numbered}
+use Rattle.id_source.specs.Sources.{Source}
+use Rattle.id_pieces.specs.Schemas.{Numbered}
 use Rattle.id_runs.specs.Activations.{Activation, tag_in, activation_of}
 use Rattle.id_runs.specs.Events.{Event}
 use Rattle.id_laws.specs.Topics.{IsPart, Tells, Told, topic_at}

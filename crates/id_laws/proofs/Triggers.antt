@@ -1,31 +1,31 @@
 -- In a quiet run the trigger of each live region has spoken, and names come there from their labels.
 use Rattle.std.proofs.Common.{◌≡◌, ℕ, suc, ◌<◌, inl, inr, Bool as Truth, true, cond, List, [], length, get_or, refl, sym, ◌∙◌, ap, subst, arith, Some, ◌+◌}
-use Rattle.id_parts.specs.declared.row.Region.{Region}
-use Rattle.id_parts.specs.declared.row.Node.TheVariants.{Head, Program, Split, Start, Switches, LoopHead}
-use Rattle.id_parts.specs.Loops.{depth, loops_from}
-use Rattle.id_parts.specs.Rows.{arm_at, top}
-use Rattle.id_parts.specs.Tables.{HasPart, begins_block, is_binder}
+use Rattle.id_table.specs.declared.row.Region.{Region}
+use Rattle.id_table.specs.declared.row.Node.TheVariants.{Head, Program, Split, Start, Switches, LoopHead}
+use Rattle.id_table.specs.Loops.{depth, loops_from}
+use Rattle.id_table.specs.Rows.{arm_at, top}
+use Rattle.id_table.specs.Tables.{HasPart, begins_block, is_binder}
 use Rattle.id_check.specs.declared.checked.Checked.{Checked}
 use Rattle.id_scope.specs.Scopes.{loops_between}
 use Rattle.id_check.specs.Programs.{place, region, rows}
-use Rattle.id_graph.specs.declared.dests.Port.TheVariants.{Zero, One as Second}
-use Rattle.id_graph.specs.declared.instr.Op.TheVariants.{Merge, Switch, Enter as EnterOp}
-use Rattle.id_graph.specs.declared.instr.PortKind.{PortKind}
-use Rattle.id_graph.specs.declared.instr.PortKind.TheVariants as kinds
-use Rattle.id_graph.specs.Graph.{Parts}
+use Rattle.id_instr.specs.declared.dests.Port.TheVariants.{Zero, One as Second}
+use Rattle.id_instr.specs.declared.instr.Op.TheVariants.{Merge, Switch, Enter as EnterOp}
+use Rattle.id_instr.specs.declared.instr.PortKind.{PortKind}
+use Rattle.id_instr.specs.declared.instr.PortKind.TheVariants as kinds
+use Rattle.id_instr.specs.Graph.{Parts}
 use Rattle.id_tag.specs.declared.Value.{Value}
 use Rattle.id_tag.specs.declared.Value.TheVariants.{Signal, Bool as TruthValue, Continuation}
 use Rattle.id_tag.specs.Kinds.{kind_of, same_kind}
 use Rattle.id_ops.specs.declared.Operands.TheVariants.{One, Two}
 use Rattle.id_ops.specs.declared.Fired.TheVariants.{Side, Nothing}
 use Rattle.id_core.specs.Machines.{World}
-use Rattle.id_meaning.specs.declared.Path.{Path}
-use Rattle.id_meaning.specs.Sources.{Source}
-use Rattle.id_meaning.specs.Facts.{below, without}
+use Rattle.id_source.specs.declared.Path.{Path}
+use Rattle.id_source.specs.Sources.{Source}
+use Rattle.id_source.specs.Facts.{below, without}
 use Rattle.id_desugar.specs.Regions.{imports_of, nexts_of}
-use Rattle.id_build.specs.declared.arc.Origin.{Origin}
-use Rattle.id_build.specs.Rows.{block, entering, entries_row, label, node, name_in, origin, output, port_at, trigger_of}
-use Rattle.id_build.specs.Schemas.{Feeds, Numbered}
+use Rattle.id_pieces.specs.declared.arc.Origin.{Origin}
+use Rattle.id_pieces.specs.Rows.{block, entering, entries_row, label, node, name_in, origin, output, port_at, trigger_of}
+use Rattle.id_pieces.specs.Schemas.{Feeds, Numbered}
 use Rattle.id_runs.specs.Activations.{Activation, main_activation, at_iteration, tag_in}
 use Rattle.id_runs.specs.Events.{Event}
 use Rattle.id_runs.specs.Runs.{Reach, handled}
@@ -41,14 +41,14 @@ use Rattle.id_laws.proofs.LoopFacts.{entering_long, entry_does, entry_within, im
 use Rattle.id_laws.proofs.LoopFirings.{entered_in, merge_out, name_again, turned_again}
 use Rattle.id_laws.proofs.Iterations.{loop_between, seen_depth, without_below, without_moved}
 use Rattle.id_laws.proofs.Firings.{alone_fired, both_fired, came, spoken, spoken_on, start_handled, sent_handled}
-use Rattle.id_build.proofs.NamesSeen.{Sees, Comes, from_label, from_switch, from_entry, comes, listed}
+use Rattle.id_arcs.proofs.NamesSeen.{Sees, Comes, from_label, from_switch, from_entry, comes, listed}
 use Rattle.id_laws.proofs.Speakers.{fed_as}
 use Rattle.id_laws.proofs.TurnedOn.{without_none}
 use Rattle.std.specs.Prelude.{option_map}
 use Rattle.id_tag.specs.declared.Context.{Context}
 use Rattle.id_valid.specs.Roles.{op_at}
 use Rattle.id_tag.specs.declared.Payload.TheVariants.{Token}
-use Rattle.id_graph.specs.declared.instr.Instr.{Instr}
+use Rattle.id_instr.specs.declared.instr.Instr.{Instr}
 use Rattle.id_laws.proofs.Begun.{begun_at}
 use Rattle.id_laws.proofs.Conditionals.{tests_no_block}
 use Rattle.id_laws.proofs.Regions.{as_tests, label_depth, label_row, region_of, same_depth}

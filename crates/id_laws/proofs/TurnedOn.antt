@@ -4,30 +4,30 @@ use Rattle.std.proofs.Common.{refl, sym, ◌∙◌, ap, subst, arith}
 use Rattle.std.specs.Prelude.{take}
 use Rattle.std.proofs.lemmas.Bool.{cases_eq}
 use Rattle.std.proofs.lemmas.Bool.Decides.{nat_tests}
-use Rattle.id_parts.specs.declared.row.Region.{Region}
-use Rattle.id_parts.specs.declared.row.Node.{Node}
-use Rattle.id_parts.specs.declared.row.Node.TheVariants.{Head, Split, If, Call}
-use Rattle.id_parts.specs.declared.row.Node.TheVariants.{Def, Program, Switches, Body, Next, Loop, LoopHead, Address, Store}
-use Rattle.id_parts.specs.Rows.{arm_at, at, top}
-use Rattle.id_parts.specs.Tables.{is_expression, is_top}
-use Rattle.id_parts.specs.Turns.{IsDefOf, operand, left, right, test, argument, body, statement, Root, of_procedure}
-use Rattle.id_parts.specs.Turns.{of_then, of_otherwise, TurnedIn, root, part}
-use Rattle.id_parts.specs.Turns.{low, high, fetched, fetch_index, address_target, address_index, stored_value, stored}
-use Rattle.id_parts.specs.Turns.{of_test, of_statement, of_store, of_next, of_last}
+use Rattle.id_table.specs.declared.row.Region.{Region}
+use Rattle.id_table.specs.declared.row.Node.{Node}
+use Rattle.id_table.specs.declared.row.Node.TheVariants.{Head, Split, If, Call}
+use Rattle.id_table.specs.declared.row.Node.TheVariants.{Def, Program, Switches, Body, Next, Loop, LoopHead, Address, Store}
+use Rattle.id_table.specs.Rows.{arm_at, at, top}
+use Rattle.id_table.specs.Tables.{is_expression, is_top}
+use Rattle.id_table.specs.Turns.{IsDefOf, operand, left, right, test, argument, body, statement, Root, of_procedure}
+use Rattle.id_table.specs.Turns.{of_then, of_otherwise, TurnedIn, root, part}
+use Rattle.id_table.specs.Turns.{low, high, fetched, fetch_index, address_target, address_index, stored_value, stored}
+use Rattle.id_table.specs.Turns.{of_test, of_statement, of_store, of_next, of_last}
 use Rattle.id_check.specs.declared.checked.Checked.{Checked}
 use Rattle.id_check.specs.Programs.{Stands, place, region, rows}
 use Rattle.id_desugar.specs.Ends.{end_of}
-use Rattle.id_meaning.specs.declared.Path.{Path}
-use Rattle.id_meaning.specs.declared.Fact.{Fact}
-use Rattle.id_meaning.specs.declared.SourceValue.TheVariants as source
-use Rattle.id_meaning.specs.declared.Fact.TheVariants.{On, Has}
-use Rattle.id_meaning.specs.Sources.{Source, body_of}
-use Rattle.id_meaning.specs.Facts.{outermost, below, without, Rule, main_on, operand_on, left_on, right_on, test_on, arm_on, argument_on, callee_on}
-use Rattle.id_meaning.specs.Facts.{statement_on, store_on, body_on, bounds_low_on, bounds_high_on, fetch_target_on}
-use Rattle.id_meaning.specs.Facts.{fetch_index_on, store_target_on, store_index_on, store_value_on}
-use Rattle.id_meaning.specs.Facts.{BodyStores, StoreStands, loop_store_on}
-use Rattle.id_meaning.specs.Rounds.{Every, Rounds, Holds}
-use Rattle.id_build.specs.Rows.{node}
+use Rattle.id_source.specs.declared.Path.{Path}
+use Rattle.id_source.specs.declared.Fact.{Fact}
+use Rattle.id_source.specs.declared.SourceValue.TheVariants as source
+use Rattle.id_source.specs.declared.Fact.TheVariants.{On, Has}
+use Rattle.id_source.specs.Sources.{Source, body_of}
+use Rattle.id_source.specs.Facts.{outermost, below, without, Rule, main_on, operand_on, left_on, right_on, test_on, arm_on, argument_on, callee_on}
+use Rattle.id_source.specs.Facts.{statement_on, store_on, body_on, bounds_low_on, bounds_high_on, fetch_target_on}
+use Rattle.id_source.specs.Facts.{fetch_index_on, store_target_on, store_index_on, store_value_on}
+use Rattle.id_source.specs.Facts.{BodyStores, StoreStands, loop_store_on}
+use Rattle.id_source.specs.Rounds.{Every, Rounds, Holds}
+use Rattle.id_pieces.specs.Rows.{node}
 use Rattle.id_runs.specs.Activations.{Activation}
 use Rattle.id_runs.specs.Events.{Event}
 use Rattle.id_laws.specs.Activations.{Tests, PathOf, Goes, by_test, of_arms, of_turns, of_call, of_loop, Live, at_start, on_side, entered, again}
@@ -36,10 +36,10 @@ use Rattle.id_laws.proofs.Loops.{LoopOf, body_at, loop_by, loop_of_row, loop_of_
 use Rattle.id_laws.proofs.Loops.{same_loop, start_place, start_region, switches_node, test_row}
 use Rattle.id_laws.proofs.Opened.{InLoop, live_loop, loop_path, next_path}
 use Rattle.id_laws.proofs.Regions.{region_of}
-use Rattle.id_build.specs.Rows.{block}
-use Rattle.id_parts.specs.Loops.{IsLoopOf}
-use Rattle.id_parts.specs.Turns.{IsStatement}
-use Rattle.id_meaning.specs.Facts.{BodyBinds, NextStands, loop_test_on, turn_on, loop_statement_on, next_on, last_on}
+use Rattle.id_pieces.specs.Rows.{block}
+use Rattle.id_table.specs.Loops.{IsLoopOf}
+use Rattle.id_table.specs.Turns.{IsStatement}
+use Rattle.id_source.specs.Facts.{BodyBinds, NextStands, loop_test_on, turn_on, loop_statement_on, next_on, last_on}
 use Rattle.id_laws.proofs.Calls.{call_at, callee_stands}
 use Rattle.id_laws.proofs.Stores.{address_at}
 use Rattle.id_laws.proofs.Conditionals.{arm_of, chosen, conditional, one_test}

@@ -8,34 +8,34 @@ use Rattle.id_value.specs.declared.Constant.{Constant}
 use Rattle.id_value.specs.declared.Constant.TheVariants as constants
 use Rattle.id_value.specs.declared.UnaryOp.{UnaryOp}
 use Rattle.id_value.specs.declared.UnaryOp.TheVariants as before
-use Rattle.id_parts.specs.declared.row.Row.{Row}
-use Rattle.id_parts.specs.declared.row.Region.{Region}
-use Rattle.id_parts.specs.declared.row.Node.{Node}
-use Rattle.id_parts.specs.declared.row.Node.TheVariants.{Head, Param, Literal, Name, Unary, Binary, Split, If, Block}
-use Rattle.id_parts.specs.declared.row.Node.TheVariants.{Binding, Def, Program, Enter, Arg, Call, Array, Fetch}
-use Rattle.id_parts.specs.declared.row.Node.TheVariants.{Address, Store}
-use Rattle.id_parts.specs.declared.row.Node.TheVariants.{Start, LoopHead, Variable, Entries, Switches, Turn, NextUse, Next, Body, Reset, Loop}
-use Rattle.id_parts.specs.Rows.{at}
-use Rattle.id_parts.specs.Tables.{HasPart, HasOperand, begins_block, is_binder, is_block, is_expression}
-use Rattle.id_parts.proofs.RegionLemmas.{HasPart-operand}
+use Rattle.id_table.specs.declared.row.Row.{Row}
+use Rattle.id_table.specs.declared.row.Region.{Region}
+use Rattle.id_table.specs.declared.row.Node.{Node}
+use Rattle.id_table.specs.declared.row.Node.TheVariants.{Head, Param, Literal, Name, Unary, Binary, Split, If, Block}
+use Rattle.id_table.specs.declared.row.Node.TheVariants.{Binding, Def, Program, Enter, Arg, Call, Array, Fetch}
+use Rattle.id_table.specs.declared.row.Node.TheVariants.{Address, Store}
+use Rattle.id_table.specs.declared.row.Node.TheVariants.{Start, LoopHead, Variable, Entries, Switches, Turn, NextUse, Next, Body, Reset, Loop}
+use Rattle.id_table.specs.Rows.{at}
+use Rattle.id_table.specs.Tables.{HasPart, HasOperand, begins_block, is_binder, is_block, is_expression}
+use Rattle.id_table.proofs.RegionLemmas.{HasPart-operand}
 use Rattle.id_check.specs.declared.checked.Checked.{Checked}
 use Rattle.id_scope.specs.Kinds.{constant_kind, unary_kind, binary_kind}
 use Rattle.id_check.specs.Programs.{kind, region, rows}
 use Rattle.id_check.proofs.ProgramsLemmas.{unary_row, bound_name_row, loop_row, next_row, split_row, switches_row}
-use Rattle.id_graph.specs.declared.dests.Port.{Port}
-use Rattle.id_graph.specs.declared.dests.Port.TheVariants.{Zero, One}
-use Rattle.id_graph.specs.declared.instr.PortKind.{PortKind}
-use Rattle.id_graph.specs.declared.instr.PortKind.TheVariants.{Signal, Bool as TruthPort, Address as AddressPort, Context}
-use Rattle.id_graph.specs.Ports as ports
-use Rattle.id_graph.specs.Ports.{operand_kind, outcome_kind, port_kind, sends}
+use Rattle.id_instr.specs.declared.dests.Port.{Port}
+use Rattle.id_instr.specs.declared.dests.Port.TheVariants.{Zero, One}
+use Rattle.id_instr.specs.declared.instr.PortKind.{PortKind}
+use Rattle.id_instr.specs.declared.instr.PortKind.TheVariants.{Signal, Bool as TruthPort, Address as AddressPort, Context}
+use Rattle.id_instr.specs.Ports as ports
+use Rattle.id_instr.specs.Ports.{operand_kind, outcome_kind, port_kind, sends}
 use Rattle.id_desugar.specs.Regions.{nexts_of}
-use Rattle.id_build.specs.declared.arc.Origin.{Origin}
+use Rattle.id_pieces.specs.declared.arc.Origin.{Origin}
 use Rattle.id_desugar.specs.Ends.{end_of, next_of}
 use Rattle.id_desugar.specs.Regions.{imports_of}
-use Rattle.id_build.specs.Rows.{node, port_of, port_at, binary_op, result_of, body_of, output, trigger_of, name_in}
-use Rattle.id_build.specs.Rows.{named_in, origin_of, origin, op_by, param_of}
-use Rattle.id_build.specs.Rows.{block, entering, entries_row, label, first_binder, turn_row}
-use Rattle.id_build.specs.Schemas.{Feeds}
+use Rattle.id_pieces.specs.Rows.{node, port_of, port_at, binary_op, result_of, body_of, output, trigger_of, name_in}
+use Rattle.id_pieces.specs.Rows.{named_in, origin_of, origin, op_by, param_of}
+use Rattle.id_pieces.specs.Rows.{block, entering, entries_row, label, first_binder, turn_row}
+use Rattle.id_pieces.specs.Schemas.{Feeds}
 use Rattle.id_laws.specs.Activations.{Begins, of_call, of_loop, Tests, of_arms, of_turns}
 use Rattle.id_laws.specs.Topics.{Addresses, of_fetch, of_store}
 use Rattle.id_laws.proofs.Stores.{address_at}
@@ -46,17 +46,17 @@ use Rattle.id_laws.proofs.Arcs.{Arc, to_back, to_literal, to_unary, to_left, to_
 use Rattle.id_laws.proofs.Arcs.{to_label, opens, passes, gets, to_enter, to_context, to_argument, to_loop_context, to_entering, to_head}
 use Rattle.id_laws.proofs.Arcs.{to_loop_back, to_variable, to_entry, to_turn, to_turn_name, to_next, to_reset, to_low}
 use Rattle.id_laws.proofs.Arcs.{to_high, to_target, to_index, to_fetch, to_store, to_stored}
-use Rattle.id_build.proofs.EndsLemmas.{end_is, HeadOf, of_procedure, of_arm, region_of}
-use Rattle.id_build.proofs.EndsLemmas as ends
-use Rattle.id_build.proofs.LoopsLemmas.{the_loop, entries_node, entries_stand, entries_within, next_is, reset_is, start_head, turn_block, turn_is}
-use Rattle.id_build.proofs.ImportsLemmas.{name_seen, split_seen, switches_seen, first_seen, loop_seen, turn_seen}
-use Rattle.id_build.proofs.RowLemmas.{IsSeen}
+use Rattle.id_pieces.proofs.EndsLemmas.{end_is, HeadOf, of_procedure, of_arm, region_of}
+use Rattle.id_pieces.proofs.EndsLemmas as ends
+use Rattle.id_pieces.proofs.LoopsLemmas.{the_loop, entries_node, entries_stand, entries_within, next_is, reset_is, start_head, turn_block, turn_is}
+use Rattle.id_arcs.proofs.ImportsLemmas.{name_seen, split_seen, switches_seen, first_seen, loop_seen, turn_seen}
+use Rattle.id_arcs.proofs.RowLemmas.{IsSeen}
 use Rattle.id_laws.proofs.Assumed.{IsKnown}
-use Rattle.id_build.proofs.NamesSeen.{Comes, HasSwitches, from_entry, from_label, from_switch, comes, listed}
-use Rattle.id_build.proofs.NamesSeen as seen
+use Rattle.id_arcs.proofs.NamesSeen.{Comes, HasSwitches, from_entry, from_label, from_switch, comes, listed}
+use Rattle.id_arcs.proofs.NamesSeen as seen
 use Rattle.id_laws.proofs.LoopRows.{BinderAt, entered_as, entering_binds, import_binds, label_at}
 use Rattle.id_laws.proofs.WantedKinds.{operands_of}
-use Rattle.id_build.specs.declared.arc.Form.{Form}
+use Rattle.id_pieces.specs.declared.arc.Form.{Form}
 use Rattle.id_laws.proofs.Calls.{arg_at}
 
 some_is : {A : Type 0} {x y : A} → Some x ≡ Some y → x ≡ y

@@ -10,37 +10,37 @@ use Rattle.id_value.specs.declared.Kind.{Kind}
 use Rattle.id_value.specs.declared.Kind.TheVariants as kinds
 use Rattle.id_list.specs.List.{Among, AllDiffer}
 use Rattle.id_list.proofs.AmongLemmas.{Among-map, Among-from_map, Among-left, Among-right, Among-either, Among-from_at}
-use Rattle.id_parts.specs.declared.row.Row.{Row}
-use Rattle.id_parts.specs.declared.row.Node.{Node}
-use Rattle.id_parts.specs.declared.row.Node.TheVariants.{Head, Param, Literal, Unary as UnaryNode, Binary as BinaryNode, Split, If, Binding, Program}
-use Rattle.id_parts.specs.declared.row.Node.TheVariants.{Enter as EnterNode, Arg, Call, Start, LoopHead, Variable, Entries, Switches, Turn, Next as NextNode}
-use Rattle.id_parts.specs.declared.row.Node.TheVariants.{Reset as ResetNode, Loop, Def, Array, Fetch, Address, Store}
-use Rattle.id_parts.specs.Rows.{at}
-use Rattle.id_parts.specs.Tables.{begins_block, is_param}
-use Rattle.id_parts.specs.Turns.{params_at}
-use Rattle.id_parts.specs.Loops.{IsLoopOf}
-use Rattle.id_parts.specs.declared.row.Region.{Region}
+use Rattle.id_table.specs.declared.row.Row.{Row}
+use Rattle.id_table.specs.declared.row.Node.{Node}
+use Rattle.id_table.specs.declared.row.Node.TheVariants.{Head, Param, Literal, Unary as UnaryNode, Binary as BinaryNode, Split, If, Binding, Program}
+use Rattle.id_table.specs.declared.row.Node.TheVariants.{Enter as EnterNode, Arg, Call, Start, LoopHead, Variable, Entries, Switches, Turn, Next as NextNode}
+use Rattle.id_table.specs.declared.row.Node.TheVariants.{Reset as ResetNode, Loop, Def, Array, Fetch, Address, Store}
+use Rattle.id_table.specs.Rows.{at}
+use Rattle.id_table.specs.Tables.{begins_block, is_param}
+use Rattle.id_table.specs.Turns.{params_at}
+use Rattle.id_table.specs.Loops.{IsLoopOf}
+use Rattle.id_table.specs.declared.row.Region.{Region}
 use Rattle.id_check.specs.declared.checked.Checked.{Checked}
 use Rattle.id_check.specs.Programs.{region, rows}
-use Rattle.id_graph.specs.declared.dests.Port.{Port}
-use Rattle.id_graph.specs.declared.dests.Port.TheVariants.{Zero, One}
-use Rattle.id_graph.specs.declared.dests.Dest.{Dest}
-use Rattle.id_graph.specs.declared.instr.PortKind.TheVariants.{Signal}
-use Rattle.id_graph.specs.declared.instr.Op.{Op}
-use Rattle.id_graph.specs.declared.instr.Op.TheVariants.{Const, Unary, Binary, Merge, Switch, Back, Enter, Send, Next, Reset, Alloc, Address as AddressOp}
-use Rattle.id_graph.specs.declared.instr.Op.TheVariants.{Fetch as FetchOp, Store as StoreOp}
-use Rattle.id_graph.specs.declared.instr.Instr.{Instr}
-use Rattle.id_graph.specs.declared.instr.Block.{Block}
-use Rattle.id_graph.specs.Ports.{port_kind, sends, two_sides}
-use Rattle.id_graph.specs.Graph.{Parts, arcs, arcs_on, false_arcs, kind_at}
-use Rattle.id_meaning.specs.Sources.{source}
-use Rattle.id_build.specs.declared.arc.Origin.{Origin}
+use Rattle.id_instr.specs.declared.dests.Port.{Port}
+use Rattle.id_instr.specs.declared.dests.Port.TheVariants.{Zero, One}
+use Rattle.id_instr.specs.declared.dests.Dest.{Dest}
+use Rattle.id_instr.specs.declared.instr.PortKind.TheVariants.{Signal}
+use Rattle.id_instr.specs.declared.instr.Op.{Op}
+use Rattle.id_instr.specs.declared.instr.Op.TheVariants.{Const, Unary, Binary, Merge, Switch, Back, Enter, Send, Next, Reset, Alloc, Address as AddressOp}
+use Rattle.id_instr.specs.declared.instr.Op.TheVariants.{Fetch as FetchOp, Store as StoreOp}
+use Rattle.id_instr.specs.declared.instr.Instr.{Instr}
+use Rattle.id_instr.specs.declared.instr.Block.{Block}
+use Rattle.id_instr.specs.Ports.{port_kind, sends, two_sides}
+use Rattle.id_instr.specs.Graph.{Parts, arcs, arcs_on, false_arcs, kind_at}
+use Rattle.id_source.specs.Sources.{source}
+use Rattle.id_pieces.specs.declared.arc.Origin.{Origin}
 use Rattle.id_desugar.specs.Ends.{end_of, next_of}
 use Rattle.id_desugar.specs.Regions.{imports_of}
-use Rattle.id_build.specs.Rows.{node, answer_row, body_of, name_in, feed, feeds_of, origin, port_at, port_of, result_of, trigger_of, called, op_by, output}
-use Rattle.id_build.specs.Rows.{param_of, Entry, block, entering, entries, entry_feeds, import_feeds, loop_entries, param_entry, turn_feeds, turn_row}
-use Rattle.id_build.specs.Rows.{entries_by}
-use Rattle.id_build.specs.Schemas.{Feeds, HasSide, Numbered, Schemas, Sends, all_heads, block_of}
+use Rattle.id_pieces.specs.Rows.{node, answer_row, body_of, name_in, feed, feeds_of, origin, port_at, port_of, result_of, trigger_of, called, op_by, output}
+use Rattle.id_pieces.specs.Rows.{param_of, Entry, block, entering, entries, entry_feeds, import_feeds, loop_entries, param_entry, turn_feeds, turn_row}
+use Rattle.id_pieces.specs.Rows.{entries_by}
+use Rattle.id_pieces.specs.Schemas.{Feeds, HasSide, Numbered, Schemas, Sends, all_heads, block_of}
 use Rattle.id_valid.specs.Roles.{op_at, merge_kind, back_kind, is_first, is_second, is_entry, is_reply, replies_to, same_port, is_dest, arcs_into}
 use Rattle.id_valid.specs.Roles.{needs_no_arc}
 use Rattle.id_valid.specs.Validator.{is_value, IsAnswer, FillsRoles, IsTaken, IsFed, IsEntered, IsSentTo, AreNamed, IsSound, IsValid}
@@ -51,15 +51,15 @@ use Rattle.id_laws.proofs.Arcs.{sends_in, gives_back, varies, takes_in, moves_on
 use Rattle.id_laws.proofs.Arcs.{gets_reply, stores, import_listed, FromArm, one_feed, target_part, opens, passes, gets}
 use Rattle.id_laws.proofs.Blocks.{a_param, all_listed, any_head, param_listed}
 use Rattle.id_laws.proofs.LoopRows.{entered_as, entry_merge, loop_merge}
-use Rattle.id_build.proofs.EndsLemmas.{end_is, loop_same, not_last}
-use Rattle.id_build.proofs.LoopsLemmas.{the_loop, start_head}
+use Rattle.id_pieces.proofs.EndsLemmas.{end_is, loop_same, not_last}
+use Rattle.id_pieces.proofs.LoopsLemmas.{the_loop, start_head}
 use Rattle.id_laws.proofs.Assumed.{IsKnown}
 use Rattle.id_laws.proofs.Start.{main_block, main_is_head, main_within, the_block}
 use Rattle.id_laws.proofs.Tokens.{one_part}
 use Rattle.id_laws.proofs.ValidCounts.{any_among, among_any, all_among, sum_at, sum_once, count_among, count_some, count_once}
 use Rattle.id_laws.proofs.ValidKinds.{typed, port_is}
 use Rattle.id_laws.proofs.ValidTests.{same_number, number_is, second_of, third_of, fourth_of, still, or_last, dest, is_dest-itself, dest_is}
-use Rattle.id_build.specs.declared.arc.Form.{Form}
+use Rattle.id_pieces.specs.declared.arc.Form.{Form}
 use Rattle.id_laws.proofs.Calls.{arg_at, call_at, called_head, enter_at}
 
 pub is_value_port : (k : Kind) → is_value (port_of k) ≡ true

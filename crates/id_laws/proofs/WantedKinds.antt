@@ -7,13 +7,13 @@ use Rattle.id_value.specs.declared.BinaryOp.{BinaryOp}
 use Rattle.id_value.specs.declared.BinaryOp.TheVariants as class
 use Rattle.id_value.specs.declared.Comparison.TheVariants.{Lt, Le, Gt, Ge, Eq, Ne}
 use Rattle.id_value.specs.declared.Logic.TheVariants.{And, Or}
-use Rattle.id_graph.specs.Ports.{operand_kind, outcome_kind}
-use Rattle.id_parts.specs.declared.row.Node.TheVariants.{Binary}
+use Rattle.id_instr.specs.Ports.{operand_kind, outcome_kind}
+use Rattle.id_table.specs.declared.row.Node.TheVariants.{Binary}
 use Rattle.id_check.specs.declared.checked.Checked.{Checked}
 use Rattle.id_scope.specs.Kinds.{binary_kind}
 use Rattle.id_check.specs.Programs.{Stands, kind}
 use Rattle.id_check.proofs.ProgramsLemmas.{arithmetic_row, logic_row, order_row, equality_row}
-use Rattle.id_build.specs.Rows.{binary_op, port_of}
+use Rattle.id_pieces.specs.Rows.{binary_op, port_of}
 
 -- the operands of an operator between them are of one kind, which the instruction takes
 pub record Operands (P : Checked) (o : BinaryOp) (a b : ℕ) : Type 0 where

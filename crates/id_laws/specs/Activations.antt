@@ -1,8 +1,8 @@
 -- Where a context stands, which regions are live and where procedures return to, in a run (docs/MEANING.md, "Laws").
 use Rattle.std.specs.Prelude.{◌≡◌, ◌<◌, ◌+◌, ℕ, suc, Bool, true, List, length}
-use Rattle.id_parts.specs.declared.row.Region.{Region}
-use Rattle.id_parts.specs.declared.row.Node.TheVariants.{Split, Enter, Start, Switches}
-use Rattle.id_parts.specs.Rows.{arm_at, at, top}
+use Rattle.id_table.specs.declared.row.Region.{Region}
+use Rattle.id_table.specs.declared.row.Node.TheVariants.{Split, Enter, Start, Switches}
+use Rattle.id_table.specs.Rows.{arm_at, at, top}
 use Rattle.id_check.specs.declared.checked.Checked.{Checked}
 use Rattle.id_check.specs.Programs.{place, region, rows}
 use Rattle.id_tag.specs.declared.Context.{Context}
@@ -10,15 +10,15 @@ use Rattle.id_tag.specs.declared.Value.{Value}
 use Rattle.id_tag.specs.declared.Value.TheVariants as value
 use Rattle.id_ops.specs.declared.Fired.{Fired}
 use Rattle.id_ops.specs.declared.Fired.TheVariants.{Entered, Moved}
-use Rattle.id_meaning.specs.declared.Path.{Path}
-use Rattle.id_meaning.specs.declared.SourceValue.TheVariants as source
-use Rattle.id_meaning.specs.declared.Fact.TheVariants.{Has}
-use Rattle.id_meaning.specs.Sources.{Source, head_of}
-use Rattle.id_meaning.specs.Facts.{outermost, below}
+use Rattle.id_source.specs.declared.Path.{Path}
+use Rattle.id_source.specs.declared.SourceValue.TheVariants as source
+use Rattle.id_source.specs.declared.Fact.TheVariants.{Has}
+use Rattle.id_source.specs.Sources.{Source, head_of}
+use Rattle.id_source.specs.Facts.{outermost, below}
 use Rattle.id_desugar.specs.Ends.{end_of}
-use Rattle.id_meaning.specs.Rounds.{Holds}
-use Rattle.id_build.specs.declared.arc.Origin.{Origin}
-use Rattle.id_build.specs.Rows.{answer_row, called, node, origin}
+use Rattle.id_source.specs.Rounds.{Holds}
+use Rattle.id_pieces.specs.declared.arc.Origin.{Origin}
+use Rattle.id_pieces.specs.Rows.{answer_row, called, node, origin}
 use Rattle.id_runs.specs.Activations.{Activation, at_iteration, main_context, main_activation, tag_in}
 use Rattle.id_runs.specs.Events.{Event, FiresAs, GivesOn}
 

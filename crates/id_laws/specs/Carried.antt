@@ -1,22 +1,22 @@
 -- When a fact of the source is carried by a quiet run (docs/MEANING.md, "Laws").
 use Rattle.std.specs.Prelude.{◌≡◌, ◌<◌, ℕ, ℤ, true, List, length}
-use Rattle.id_parts.specs.declared.row.Node.{Node}
-use Rattle.id_parts.specs.declared.row.Node.TheVariants.{Param, Binding, Next, Fetch, Store}
-use Rattle.id_parts.specs.Tables.{is_thing}
+use Rattle.id_table.specs.declared.row.Node.{Node}
+use Rattle.id_table.specs.declared.row.Node.TheVariants.{Param, Binding, Next, Fetch, Store}
+use Rattle.id_table.specs.Tables.{is_thing}
 use Rattle.id_check.specs.declared.checked.Checked.{Checked}
 use Rattle.id_check.specs.Programs.{place, region, rows}
-use Rattle.id_bank.specs.declared.ReadAnswer.{ReadAnswer}
-use Rattle.id_bank.specs.declared.WriteAnswer.{WriteAnswer}
+use Rattle.id_slot.specs.declared.ReadAnswer.{ReadAnswer}
+use Rattle.id_slot.specs.declared.WriteAnswer.{WriteAnswer}
 use Rattle.id_tag.specs.declared.Structure.{Structure}
 use Rattle.id_tag.specs.declared.Value.{Value}
-use Rattle.id_meaning.specs.declared.Path.{Path}
-use Rattle.id_meaning.specs.declared.Site.{Site}
-use Rattle.id_meaning.specs.declared.SourceValue.{SourceValue}
-use Rattle.id_meaning.specs.declared.Fact.{Fact}
-use Rattle.id_meaning.specs.declared.Fact.TheVariants.{On, Has, Shape, Put, Ask}
-use Rattle.id_meaning.specs.Sources.{Source}
-use Rattle.id_build.specs.declared.arc.Origin.{Origin}
-use Rattle.id_build.specs.Rows.{label, node, origin, output}
+use Rattle.id_source.specs.declared.Path.{Path}
+use Rattle.id_source.specs.declared.Site.{Site}
+use Rattle.id_source.specs.declared.SourceValue.{SourceValue}
+use Rattle.id_source.specs.declared.Fact.{Fact}
+use Rattle.id_source.specs.declared.Fact.TheVariants.{On, Has, Shape, Put, Ask}
+use Rattle.id_source.specs.Sources.{Source}
+use Rattle.id_pieces.specs.declared.arc.Origin.{Origin}
+use Rattle.id_pieces.specs.Rows.{label, node, origin, output}
 use Rattle.id_runs.specs.Activations.{Activation, tag_in}
 use Rattle.id_runs.specs.Cells.{ReadBy, WrittenBy}
 use Rattle.id_runs.specs.Events.{Event}

@@ -1,10 +1,10 @@
 -- *Determinate*: what all runs of one source have in common (docs/MEANING.md, "Laws").
 use Rattle.std.specs.Prelude.{◌≡◌, ℕ, List, [], IsPermutation}
-use Rattle.id_graph.specs.Graph.{Parts}
-use Rattle.id_build.specs.Schemas.{Schemas}
+use Rattle.id_instr.specs.Graph.{Parts}
+use Rattle.id_pieces.specs.Schemas.{Schemas}
 use Rattle.id_core.specs.Machines.{World, IsQuiet, start, run}
 use Rattle.id_core.specs.Observed as shown
-use Rattle.id_meaning.specs.Sources.{Source, AreInputs}
+use Rattle.id_source.specs.Sources.{Source, AreInputs}
 
 -- a run of a source: of a graph that the schemas give its program, numbered in any way, on so many elements, with
 -- deliveries at these positions, one after another

@@ -2,43 +2,43 @@
 use Rattle.std.specs.Prelude.{◌≡◌, ◌≢◌, ◌≤◌, ◌<◌, ◌++◌, ◌&&◌, ℕ, ℤ, Bool, true, false, Option, Some, None, List}
 use Rattle.std.specs.Prelude.{length, map, count_by}
 use Rattle.id_check.specs.declared.checked.Checked.{Checked}
-use Rattle.id_graph.specs.declared.dests.Port.{Port}
-use Rattle.id_graph.specs.Graph.{Parts}
+use Rattle.id_instr.specs.declared.dests.Port.{Port}
+use Rattle.id_instr.specs.Graph.{Parts}
 use Rattle.id_tag.specs.declared.Tag.{Tag}
 use Rattle.id_tag.specs.declared.Payload.{Payload}
 use Rattle.id_tag.specs.declared.Payload.TheVariants.{Token, Read, Write}
 use Rattle.id_tag.specs.declared.Structure.{Structure}
 use Rattle.id_tag.specs.declared.Message.{Message}
 use Rattle.id_tag.specs.Tags.{same_tag}
-use Rattle.id_match.specs.Ports.{same_port}
-use Rattle.id_record.specs.declared.step.Step.TheVariants.{Stuck}
+use Rattle.id_front.specs.Ports.{same_port}
+use Rattle.id_line.specs.declared.step.Step.TheVariants.{Stuck}
 use Rattle.id_core.specs.Events.{EventView, tag_of}
 use Rattle.id_core.specs.Machines.{World, IsQuiet, TakesInputs, start, run}
 use Rattle.id_core.specs.Observed as shown
 use Rattle.id_value.specs.declared.Constant.{Constant}
-use Rattle.id_meaning.specs.declared.Ask.{Ask}
-use Rattle.id_meaning.specs.declared.Put.{Put}
-use Rattle.id_meaning.specs.declared.Shape.{Shape}
-use Rattle.id_meaning.specs.declared.Site.{Site}
-use Rattle.id_meaning.specs.declared.SourceValue.{SourceValue}
-use Rattle.id_meaning.specs.declared.SourceFault.{SourceFault}
-use Rattle.id_meaning.specs.declared.Fact.TheVariants.{Has}
-use Rattle.id_meaning.specs.declared.Fact.TheVariants as fact
-use Rattle.id_meaning.specs.declared.NameValue.{NameValue}
-use Rattle.id_meaning.specs.declared.Path.{Path}
+use Rattle.id_source.specs.declared.Ask.{Ask}
+use Rattle.id_source.specs.declared.Put.{Put}
+use Rattle.id_source.specs.declared.Shape.{Shape}
+use Rattle.id_source.specs.declared.Site.{Site}
+use Rattle.id_source.specs.declared.SourceValue.{SourceValue}
+use Rattle.id_source.specs.declared.SourceFault.{SourceFault}
+use Rattle.id_source.specs.declared.Fact.TheVariants.{Has}
+use Rattle.id_source.specs.declared.Fact.TheVariants as fact
+use Rattle.id_source.specs.declared.NameValue.{NameValue}
+use Rattle.id_source.specs.declared.Path.{Path}
 use Rattle.id_list.specs.List.{Among, AllDiffer}
-use Rattle.id_parts.specs.declared.row.Node.{Node}
-use Rattle.id_parts.specs.declared.row.Node.TheVariants.{Fetch}
-use Rattle.id_parts.specs.Rows.{at}
-use Rattle.id_parts.specs.Tables.{is_binder, is_expression, is_thing}
+use Rattle.id_table.specs.declared.row.Node.{Node}
+use Rattle.id_table.specs.declared.row.Node.TheVariants.{Fetch}
+use Rattle.id_table.specs.Rows.{at}
+use Rattle.id_table.specs.Tables.{is_binder, is_expression, is_thing}
 use Rattle.id_check.specs.Programs.{kind, place, rows}
-use Rattle.id_meaning.specs.Sources.{Source, AreInputs, value_kind}
-use Rattle.id_meaning.specs.Facts.{site}
-use Rattle.id_meaning.specs.Rounds.{Holds, Faulty, FaultFree, Answers, IsAnswer, IsCoherent, IsWaiting}
-use Rattle.id_meaning.specs.Names.{IsNameValue}
-use Rattle.id_build.specs.declared.arc.Form.{Form}
-use Rattle.id_build.specs.Rows.{label}
-use Rattle.id_build.specs.Schemas.{Makes, Schemas}
+use Rattle.id_source.specs.Sources.{Source, AreInputs, value_kind}
+use Rattle.id_source.specs.Facts.{site}
+use Rattle.id_source.specs.Rounds.{Holds, Faulty, FaultFree, Answers, IsAnswer, IsCoherent, IsWaiting}
+use Rattle.id_source.specs.Names.{IsNameValue}
+use Rattle.id_pieces.specs.declared.arc.Form.{Form}
+use Rattle.id_pieces.specs.Rows.{label}
+use Rattle.id_pieces.specs.Schemas.{Makes, Schemas}
 use Rattle.id_valid.specs.Validator.{IsValid}
 -- *Suited* speaks of the runs of every valid graph, *Serials* of those of every graph
 pub use Rattle.id_runs.specs.Suited.{Suited}

@@ -2,19 +2,19 @@
 -- (docs/MEANING.md, "Laws").
 use Rattle.std.specs.Prelude.{◌≡◌, ◌<◌, ◌+◌, ℕ, zero, suc, ℤ, Bool as Truth, true, List, get_or, length}
 use Rattle.id_value.specs.Bounds.{is_inside}
-use Rattle.id_parts.specs.declared.row.Region.{Region}
-use Rattle.id_parts.specs.declared.row.Node.{Node}
-use Rattle.id_parts.specs.declared.row.Node.TheVariants.{Head, Param, Literal, Unary, Binary, Split, If, Enter, Arg}
-use Rattle.id_parts.specs.declared.row.Node.TheVariants.{Call}
-use Rattle.id_parts.specs.declared.row.Node.TheVariants.{Binding, Def, Program}
-use Rattle.id_parts.specs.declared.row.Node.TheVariants.{Start, LoopHead, Variable, Entries, Switches, Turn, Next}
-use Rattle.id_parts.specs.declared.row.Node.TheVariants.{Reset, Loop, Array, Fetch, Address, Store}
-use Rattle.id_parts.specs.Rows.{arm_at, top}
+use Rattle.id_table.specs.declared.row.Region.{Region}
+use Rattle.id_table.specs.declared.row.Node.{Node}
+use Rattle.id_table.specs.declared.row.Node.TheVariants.{Head, Param, Literal, Unary, Binary, Split, If, Enter, Arg}
+use Rattle.id_table.specs.declared.row.Node.TheVariants.{Call}
+use Rattle.id_table.specs.declared.row.Node.TheVariants.{Binding, Def, Program}
+use Rattle.id_table.specs.declared.row.Node.TheVariants.{Start, LoopHead, Variable, Entries, Switches, Turn, Next}
+use Rattle.id_table.specs.declared.row.Node.TheVariants.{Reset, Loop, Array, Fetch, Address, Store}
+use Rattle.id_table.specs.Rows.{arm_at, top}
 use Rattle.id_check.specs.declared.checked.Checked.{Checked}
 use Rattle.id_scope.specs.Scopes.{loops_between}
 use Rattle.id_check.specs.Programs.{place, region, rows}
-use Rattle.id_graph.specs.declared.dests.Port.{Port}
-use Rattle.id_graph.specs.declared.dests.Port.TheVariants.{Zero, One}
+use Rattle.id_instr.specs.declared.dests.Port.{Port}
+use Rattle.id_instr.specs.declared.dests.Port.TheVariants.{Zero, One}
 use Rattle.id_tag.specs.declared.Context.{Context}
 use Rattle.id_tag.specs.declared.Structure.{Structure}
 use Rattle.id_tag.specs.declared.Cell.{Cell}
@@ -25,20 +25,20 @@ use Rattle.id_tag.specs.declared.Payload.{Payload}
 use Rattle.id_tag.specs.declared.Payload.TheVariants.{Token, Read, Write}
 use Rattle.id_ops.specs.declared.Fired.TheVariants.{Out}
 use Rattle.id_core.specs.Machines.{World}
-use Rattle.id_meaning.specs.declared.Path.{Path}
-use Rattle.id_meaning.specs.declared.Site.{Site}
-use Rattle.id_meaning.specs.declared.SourceValue.{SourceValue}
-use Rattle.id_meaning.specs.declared.SourceValue.TheVariants as source
-use Rattle.id_meaning.specs.declared.Fact.TheVariants.{Has}
-use Rattle.id_meaning.specs.Sources.{Source}
-use Rattle.id_meaning.specs.Facts.{ask, put, shape, site, without}
-use Rattle.id_meaning.specs.Rounds.{Holds}
+use Rattle.id_source.specs.declared.Path.{Path}
+use Rattle.id_source.specs.declared.Site.{Site}
+use Rattle.id_source.specs.declared.SourceValue.{SourceValue}
+use Rattle.id_source.specs.declared.SourceValue.TheVariants as source
+use Rattle.id_source.specs.declared.Fact.TheVariants.{Has}
+use Rattle.id_source.specs.Sources.{Source}
+use Rattle.id_source.specs.Facts.{ask, put, shape, site, without}
+use Rattle.id_source.specs.Rounds.{Holds}
 use Rattle.id_desugar.specs.Ends.{end_of}
 use Rattle.id_desugar.specs.Regions.{imports_of}
-use Rattle.id_build.specs.declared.arc.Origin.{Origin}
-use Rattle.id_build.specs.declared.arc.Form.{Form}
-use Rattle.id_build.specs.Rows.{block, entering, next_of, node, origin}
-use Rattle.id_build.specs.Schemas.{Makes, Feeds}
+use Rattle.id_pieces.specs.declared.arc.Origin.{Origin}
+use Rattle.id_pieces.specs.declared.arc.Form.{Form}
+use Rattle.id_pieces.specs.Rows.{block, entering, next_of, node, origin}
+use Rattle.id_pieces.specs.Schemas.{Makes, Feeds}
 use Rattle.id_runs.specs.Activations.{Activation, at_iteration, tag_in}
 use Rattle.id_runs.specs.Events.{Event, FiresAs}
 use Rattle.id_runs.specs.Runs.{Moving}

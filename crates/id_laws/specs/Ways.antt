@@ -1,20 +1,20 @@
 -- How a message comes to a port: one way for each kind of sending, whatever the node (docs/MEANING.md, "Laws").
 use Rattle.std.specs.Prelude.{◌≡◌, ◌<◌, ◌+◌, ℕ, suc, List, length, slice_get, Some}
-use Rattle.id_parts.specs.declared.row.Node.TheVariants.{Arg, Fetch, Start}
+use Rattle.id_table.specs.declared.row.Node.TheVariants.{Arg, Fetch, Start}
 use Rattle.id_check.specs.declared.checked.Checked.{Checked}
 use Rattle.id_check.specs.Programs.{rows}
-use Rattle.id_graph.specs.declared.dests.Port.{Port}
-use Rattle.id_graph.specs.declared.dests.Port.TheVariants.{Zero}
+use Rattle.id_instr.specs.declared.dests.Port.{Port}
+use Rattle.id_instr.specs.declared.dests.Port.TheVariants.{Zero}
 use Rattle.id_tag.specs.declared.Context.{Context}
 use Rattle.id_tag.specs.declared.Value.{Value}
 use Rattle.id_tag.specs.declared.Value.TheVariants.{Signal, Continuation}
 use Rattle.id_ops.specs.declared.Fired.TheVariants.{Sent}
 use Rattle.id_ops.specs.Operators.{constant_value}
 use Rattle.id_value.specs.declared.Constant.{Constant}
-use Rattle.id_meaning.specs.Sources.{Source, IsInput}
-use Rattle.id_build.specs.declared.arc.Origin.{Origin}
-use Rattle.id_build.specs.Rows.{Entry, answer_row, loop_entries, node, param_of}
-use Rattle.id_build.specs.Schemas.{Feeds}
+use Rattle.id_source.specs.Sources.{Source, IsInput}
+use Rattle.id_pieces.specs.declared.arc.Origin.{Origin}
+use Rattle.id_pieces.specs.Rows.{Entry, answer_row, loop_entries, node, param_of}
+use Rattle.id_pieces.specs.Schemas.{Feeds}
 use Rattle.id_runs.specs.Activations.{Activation, at_iteration, main_activation, tag_in}
 use Rattle.id_runs.specs.Cells.{Replies}
 use Rattle.id_runs.specs.Events.{Event, FiresAs, fired_event}

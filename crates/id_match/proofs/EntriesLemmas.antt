@@ -15,18 +15,18 @@ use Rattle.std.proofs.lemmas.Map.{lookup-none}
 use Rattle.std.proofs.lemmas.Map.Entries.{none_past_head, place_from_lookup, lookup_from_place}
 use Rattle.std.proofs.lemmas.Map.Keys.{IsDistinct-tail, IsDistinct-cons, IsDistinct-from_apart}
 use Rattle.std.proofs.lemmas.Option.{slice_get_within, get_or_from_slice_get, slice_get-get_or}
-use Rattle.id_graph.specs.declared.dests.Port.TheVariants.{Zero, One}
-use Rattle.id_graph.specs.declared.dests.Port.{Port}
+use Rattle.id_instr.specs.declared.dests.Port.TheVariants.{Zero, One}
+use Rattle.id_instr.specs.declared.dests.Port.{Port}
 use Rattle.id_tag.specs.declared.Tag.{Tag}
 use Rattle.id_tag.specs.declared.Value.{Value}
 use Rattle.id_tag.specs.Tags.{tag_cmp, same_tag}
 use Rattle.id_tag.proofs.SortedLemmas.{entries-from_sort}
 use Rattle.id_tag.proofs.TagsLemmas.{tags_total, exact_tags, ties-same_tag, same_tag_laws, one_from_same_tag}
-use Rattle.id_match.specs.declared.Half.{Half}
-use Rattle.id_match.specs.declared.Entry.{Entry}
-use Rattle.id_match.specs.Waiting.{Store, at_port, waits, entry_at, entries_of}
-use Rattle.id_match.specs.Ports.{same_port}
-use Rattle.id_match.proofs.WaitingLemmas.{get_half, find_half}
+use Rattle.id_front.specs.declared.Half.{Half}
+use Rattle.id_front.specs.declared.Entry.{Entry}
+use Rattle.id_front.specs.Waiting.{Store, at_port, waits, entry_at, entries_of}
+use Rattle.id_front.specs.Ports.{same_port}
+use Rattle.id_front.proofs.WaitingLemmas.{get_half, find_half}
 
 -- ---- how many
 

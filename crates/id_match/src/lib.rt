@@ -14,68 +14,31 @@ ghost use Rattle.std.specs.FinMap as map;
 ghost use Rattle.id_tag.specs.Tags.{same_tag};
 ghost use Rattle.id_tag.specs.declared.Tag.{Tag};
 ghost use Rattle.id_tag.specs.declared.Value.{Value};
-ghost use Rattle.id_graph.specs.declared.dests.Port.{Port};
+ghost use Rattle.id_instr.specs.declared.dests.Port.{Port};
 ghost use Rattle.id_tag.specs.declared.plain.Plain.{Plain};
-ghost use Rattle.id_match.specs.declared.Met.TheVariants as meeting;
-ghost use Rattle.id_match.specs.declared.Offered.TheVariants.{Kept, Taken, Pair as Both};
-ghost use Rattle.id_match.specs.Waiting.{pair_of};
-ghost use Rattle.id_match.specs.Halves.{answer_at, half_after};
-ghost use Rattle.id_match.specs.Meetings.{told};
+ghost use Rattle.id_front.specs.declared.Met.TheVariants as meeting;
+ghost use Rattle.id_front.specs.declared.Offered.TheVariants.{Kept, Taken, Pair as Both};
+ghost use Rattle.id_front.specs.Waiting.{pair_of};
+ghost use Rattle.id_front.specs.Halves.{answer_at, half_after};
+ghost use Rattle.id_front.specs.Meetings.{told};
 ghost use Rattle.id_tag.specs.Plains.{tag_in, whole};
 ghost use Rattle.std.specs.Map.{lookup};
-ghost use Rattle.id_match.specs.Front.{HoldsSame, IsMarked, IsPlaced, MarksSame, OthersSame, Puts};
-ghost use Rattle.id_match.specs.Front.{front_entries, front_half, slot_half, slot_tag};
+ghost use Rattle.id_front.specs.Front.{HoldsSame, IsMarked, IsPlaced, MarksSame, OthersSame, Puts};
+ghost use Rattle.id_front.specs.Front.{front_entries, front_half, slot_half, slot_tag};
 
 mod frames;
-mod front;
 mod rear;
 
-use front::{
-    Behind, Pair, Slot, count, has, has_room, in_front, larger, leave_behind, mark, meet, put,
-    slot_for, slot_in, stands_behind, step_behind, take,
+use id_front::{
+    Behind, Pair, Slot, count, has, has_room, in_front, larger, leave_behind, mark, meet, pair,
+    put, slot_for, slot_in, stands_behind, step_behind, take,
 };
+pub use id_front::{Entry, Half, Met, Offered};
 use id_graph::Port;
 use id_tag::{Plain, PlainToken, Tag, Value};
 use rear::{Rear, sort_by_tag};
 use std::alloc::{AllocError, Global};
 use std::marker::Model;
-
-/// A value that waits, with its port.
-#[derive(Clone, Copy)]
-pub struct Half {
-    pub port: Port,
-    pub value: Value,
-}
-
-/// What an offer comes to.
-#[derive(Clone, Copy, PartialEq, Eq)]
-pub enum Offered {
-    /// The value waits for its partner.
-    Kept,
-    /// The values of port 0 and port 1, neither of which waits any longer.
-    Pair(Value, Value),
-    /// A value waits at that port already.
-    Taken,
-}
-
-/// What an offer of a plain value comes to, in short.
-#[derive(Clone, Copy)]
-pub enum Met {
-    /// The value waits for its partner.
-    Kept,
-    /// The plain value of the other port: neither waits any longer.
-    Partner(Plain),
-    /// The value was not offered: what waits under its tag is no plain value, or waits at its port.
-    Apart,
-}
-
-/// A value that waits, with its tag and port.
-#[derive(Clone, Copy)]
-pub struct Entry {
-    pub tag: Tag,
-    pub port: Port,
-    pub value: Value,
-}
 
 /// The values that wait for their partner, by tag and port.
 #[derive(Drop)]
@@ -94,9 +57,9 @@ pub struct Waiting {
 impl Model for Waiting {
     ghost use Rattle.std.specs.FinMap as map;
     ghost use Rattle.id_tag.specs.Tags.{tag_cmp};
-    ghost use Rattle.id_match.specs.declared.Half.{Half};
+    ghost use Rattle.id_front.specs.declared.Half.{Half};
     ghost use Rattle.id_match.specs.Codes.{coded_store};
-    ghost use Rattle.id_match.specs.Front.{IsKept, all_entries};
+    ghost use Rattle.id_front.specs.Front.{IsKept, all_entries};
 
     ghost Value = { map.FinMap tag_cmp Half };
 
@@ -110,8 +73,8 @@ impl Model for Waiting {
 impl Waiting {
     ghost use Rattle.std.specs.Prelude.{◌↔◌, length};
     ghost use Rattle.std.specs.List.{Contains};
-    ghost use Rattle.id_match.specs.declared.Entry.{Entry};
-    ghost use Rattle.id_match.specs.Waiting.{waits, offer_answer, offer_after, entries_of};
+    ghost use Rattle.id_front.specs.declared.Entry.{Entry};
+    ghost use Rattle.id_front.specs.Waiting.{waits, offer_answer, offer_after, entries_of};
     ghost use Rattle.id_match.specs.Keyed.{keyed_after};
 
     /// The store in which nothing waits. Takes no memory.
@@ -408,15 +371,5 @@ fn crowded_by(crowded: usize, fits: bool, answer: Offered) -> usize
         Offered::Kept if fits => crowded.saturating_add(16),
         Offered::Pair(_, _) if fits => crowded.saturating_sub(15),
         _ => crowded,
-    }
-}
-
-// The two values by port, of which `value` came to this port.
-fn pair(port: Port, value: Value, partner: Value) -> Offered
-    ensures { result ≡ pair_of port value partner }
-{
-    match port {
-        Port::Zero => Offered::Pair(value, partner),
-        Port::One => Offered::Pair(partner, value),
     }
 }

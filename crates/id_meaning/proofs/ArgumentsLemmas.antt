@@ -6,17 +6,17 @@ use Rattle.std.proofs.lemmas.Bool.{cases_lt, false≢true, lt-ltb}
 use Rattle.std.proofs.lemmas.Option.{slice_get_within}
 use Rattle.id_list.proofs.AmongLemmas.{Among-from_at}
 use Rattle.id_list.proofs.PlacesLemmas.{slice_get-last}
-use Rattle.id_parts.specs.declared.row.Row.{Row}
-use Rattle.id_parts.specs.declared.row.Node.{Node}
-use Rattle.id_parts.specs.declared.row.Node.TheVariants.{Arg}
-use Rattle.id_parts.specs.Rows.{at, no_row}
-use Rattle.id_parts.specs.Turns.{IsDefOf, params_at}
-use Rattle.id_parts.proofs.BlocksLemmas.{length-run, params_at-run, run}
+use Rattle.id_table.specs.declared.row.Row.{Row}
+use Rattle.id_table.specs.declared.row.Node.{Node}
+use Rattle.id_table.specs.declared.row.Node.TheVariants.{Arg}
+use Rattle.id_table.specs.Rows.{at, no_row}
+use Rattle.id_table.specs.Turns.{IsDefOf, params_at}
+use Rattle.id_table.proofs.BlocksLemmas.{length-run, params_at-run, run}
 use Rattle.id_check.specs.declared.checked.Checked.{Checked}
 use Rattle.id_check.specs.Programs.{Calls, Stands, rows}
 use Rattle.id_check.proofs.ProgramsLemmas.{argument_call, call_row, table_of}
-use Rattle.id_meaning.specs.Effects.{param_row}
-use Rattle.id_meaning.proofs.ParamsLemmas.{params-among}
+use Rattle.id_effects.specs.Effects.{param_row}
+use Rattle.id_source.proofs.ParamsLemmas.{params-among}
 
 -- at a row past the last nothing comes
 pub past : (R : List Row) (n : ℕ) → length R ≤ n → at R n ≡ no_row

@@ -6,33 +6,39 @@ use Rattle.std.proofs.lemmas.Bool.{eq-eqb}
 use Rattle.id_list.specs.List.{Among}
 use Rattle.id_list.proofs.AmongLemmas.{Among-left, Among-right}
 use Rattle.id_value.specs.declared.Kind.{Kind}
-use Rattle.id_parts.specs.declared.row.Node.{Node}
-use Rattle.id_parts.specs.declared.row.Node.TheVariants as node
-use Rattle.id_parts.specs.Rows.{at}
-use Rattle.id_parts.specs.Turns.{params_at}
+use Rattle.id_table.specs.declared.row.Node.{Node}
+use Rattle.id_table.specs.declared.row.Node.TheVariants as node
+use Rattle.id_table.specs.Rows.{at}
+use Rattle.id_table.specs.Turns.{params_at}
 use Rattle.id_check.specs.Programs.{Stands, binder, rows}
 use Rattle.id_check.proofs.ProgramsLemmas.{callee_row}
-use Rattle.id_meaning.specs.declared.calls.OnCall.{OnCall}
-use Rattle.id_meaning.specs.declared.cells.Cells.{Cells}
-use Rattle.id_meaning.specs.declared.cells.RowFact.{RowFact}
-use Rattle.id_meaning.specs.declared.cells.RowFact.TheVariants.{On, Has}
-use Rattle.id_meaning.specs.declared.cells.RowValue.{RowValue}
-use Rattle.id_meaning.specs.declared.cells.Trail.{Trail}
-use Rattle.id_meaning.specs.declared.cells.Trail.TheVariants.{Below}
-use Rattle.id_meaning.specs.declared.links.Links.{Links}
-use Rattle.id_meaning.specs.declared.queues.Queues.{Queues}
-use Rattle.id_meaning.specs.declared.queues.Wait.{Wait}
-use Rattle.id_meaning.specs.Sources.{Source}
-use Rattle.id_meaning.specs.Links.{AreArgs, AreReads, AreTurns, Leads, awaited, awaited_of, far_from, targets, users_of}
-use Rattle.id_meaning.specs.Cells.{AreChained, find, items, out_of, same_trail, values}
-use Rattle.id_meaning.specs.Effects.{all_passed, all_passes, call_by, callee_by, callee_of, effects, entered, entered_by, entered_of, exit_by, from_found}
-use Rattle.id_meaning.specs.Effects.{body_in, given_of, haves, is_awaited_by, is_end, is_row, param_haves, param_row, pass_by, passed_of, seen, woken_by}
-use Rattle.id_meaning.specs.Listed.{AreFound}
-use Rattle.id_meaning.specs.Waits.{AreWaits}
+use Rattle.id_effects.specs.declared.calls.OnCall.{OnCall}
+use Rattle.id_cells.specs.declared.cells.Cells.{Cells}
+use Rattle.id_facts.specs.declared.facts.RowFact.{RowFact}
+use Rattle.id_facts.specs.declared.facts.RowFact.TheVariants.{On, Has}
+use Rattle.id_facts.specs.declared.facts.RowValue.{RowValue}
+use Rattle.id_facts.specs.declared.facts.Trail.{Trail}
+use Rattle.id_facts.specs.declared.facts.Trail.TheVariants.{Below}
+use Rattle.id_links.specs.declared.links.Links.{Links}
+use Rattle.id_cells.specs.declared.queues.Queues.{Queues}
+use Rattle.id_cells.specs.declared.queues.Wait.{Wait}
+use Rattle.id_source.specs.Sources.{Source}
+use Rattle.id_links.specs.Links.{AreArgs, AreReads, AreTurns, Leads, awaited, awaited_of, far_from, targets, users_of}
+use Rattle.id_cells.specs.Cells.{AreChained, find, items, out_of, values}
+use Rattle.id_facts.specs.RowFacts.{same_trail}
+use Rattle.id_effects.specs.Effects.{all_passed, all_passes, call_by, callee_by, callee_of, effects, entered, entered_by, entered_of, exit_by}
+use Rattle.id_given.specs.Given.{from_found}
+use Rattle.id_effects.specs.Effects.{body_in, is_awaited_by, is_end, is_row, param_haves, param_row, pass_by, passed_of, woken_by}
+use Rattle.id_given.specs.Given.{given_of, seen}
+use Rattle.id_facts.specs.Firsts.{haves}
+use Rattle.id_listing.specs.Listed.{AreFound}
+use Rattle.id_cells.specs.Waits.{AreWaits}
 use Rattle.id_meaning.proofs.ArgumentsLemmas.{get-param_row}
-use Rattle.id_meaning.proofs.LookupLemmas.{find-all, find-true, trail-itself, values-all}
+use Rattle.id_cells.proofs.LookupLemmas.{find-all, find-true, values-all}
+use Rattle.id_facts.proofs.OneLemmas.{trail-itself}
 use Rattle.id_meaning.proofs.PartsFollowLemmas.{asker, found-by, from-call, from-exit, from-given, from-pass, from-woken, haves-all, reader, when-same}
-use Rattle.id_meaning.proofs.RulesLemmas.{AllAmong, IsOnBy, part-within}
+use Rattle.id_meaning.proofs.RulesLemmas.{AllAmong, part-within}
+use Rattle.id_facts.proofs.FactsLemmas.{IsOnBy}
 
 -- who waits for a binder looks for it at its path
 pub awaited-is : (b : ℕ) (p : Trail) → nat_eq b b && same_trail p p ≡ true

@@ -4,56 +4,49 @@ use Rattle.std.proofs.Common.{List, [], ◌∷◌, length, refl, ap, sym, ◌∙
 use Rattle.id_list.specs.List.{Among}
 use Rattle.id_value.specs.declared.Constant.{Constant}
 use Rattle.id_value.specs.declared.Constant.TheVariants as constant
-use Rattle.id_parts.specs.declared.row.Node.{Node}
-use Rattle.id_parts.specs.declared.row.Node.TheVariants as node
-use Rattle.id_parts.specs.Rows.{at}
-use Rattle.id_parts.specs.Tables.{is_call, is_thing}
-use Rattle.id_parts.specs.Turns.{Turns, operand, left, right, test, body, low, high, fetched, fetch_index, address_target, address_index}
-use Rattle.id_parts.specs.Turns.{statement, stored, stored_value}
+use Rattle.id_table.specs.declared.row.Node.{Node}
+use Rattle.id_table.specs.declared.row.Node.TheVariants as node
+use Rattle.id_table.specs.Rows.{at}
+use Rattle.id_table.specs.Tables.{is_call, is_thing}
+use Rattle.id_table.specs.Turns.{Turns, operand, left, right, test, body, low, high, fetched, fetch_index, address_target, address_index}
+use Rattle.id_table.specs.Turns.{statement, stored, stored_value}
 use Rattle.id_check.specs.Programs.{Stands, place, rows}
-use Rattle.id_meaning.specs.declared.Path.{Path}
-use Rattle.id_meaning.specs.declared.SourceValue.{SourceValue}
-use Rattle.id_meaning.specs.declared.SourceValue.TheVariants as value
-use Rattle.id_meaning.specs.declared.Site.{Site}
-use Rattle.id_meaning.specs.declared.Shape.{Shape as Shaped}
-use Rattle.id_meaning.specs.declared.Put.{Put as Stored}
-use Rattle.id_meaning.specs.declared.Ask.{Ask as Asked}
-use Rattle.id_meaning.specs.declared.Fact.{Fact}
-use Rattle.id_meaning.specs.declared.Fact.TheVariants as fact
-use Rattle.id_meaning.specs.declared.cells.RowFact.{RowFact}
-use Rattle.id_meaning.specs.declared.cells.RowFact.TheVariants.{On, Has, Shape, Put, Ask}
-use Rattle.id_meaning.specs.declared.cells.RowValue.{RowValue}
-use Rattle.id_meaning.specs.declared.cells.RowValue.TheVariants.{Int, Bool, Name}
-use Rattle.id_meaning.specs.declared.cells.Trail.{Trail}
-use Rattle.id_meaning.specs.declared.cells.Trail.TheVariants.{Outermost, Below}
-use Rattle.id_meaning.specs.Sources.{Source, main_body, value_of}
-use Rattle.id_meaning.specs.Facts.{LoopStands, StoreStands, Rule, ask, below, between, put, shape, site, without}
-use Rattle.id_meaning.specs.Facts as rule
-use Rattle.id_meaning.specs.Rounds.{Every, Rounds}
-use Rattle.id_meaning.specs.Links.{BodyTurns, arm_of, far_from, of_binding, of_next, of_store}
-use Rattle.id_meaning.specs.Cells.{AreBefore, fact_at, out_of, path_of, row_of}
-use Rattle.id_meaning.specs.Effects.{row_value}
-use Rattle.id_meaning.specs.Listed.{AreFound, BeginsOn, IsArrayOn, IsOfThing, IsRound, IsThing, fact_of, name_at, path_at, site_at, step_at, steps_in_all}
-use Rattle.id_meaning.specs.Listed.{steps_of, value_at}
-use Rattle.id_meaning.proofs.CheckedLemmas.{apart_of, binder_of, far-between, next-region, thing-binder, use_binder}
-use Rattle.id_meaning.proofs.Coherence.{choice}
-use Rattle.id_meaning.proofs.PathsLemmas.{Inside, all_steps, fact-before, inside-more, path-below, path-out, steps-suc}
-use Rattle.id_meaning.proofs.RulesLemmas.{AllAmong, IsOnBy, RowRule, value-row}
+use Rattle.id_source.specs.declared.Path.{Path}
+use Rattle.id_source.specs.declared.SourceValue.{SourceValue}
+use Rattle.id_source.specs.declared.SourceValue.TheVariants as value
+use Rattle.id_source.specs.declared.Site.{Site}
+use Rattle.id_source.specs.declared.Shape.{Shape as Shaped}
+use Rattle.id_source.specs.declared.Put.{Put as Stored}
+use Rattle.id_source.specs.declared.Ask.{Ask as Asked}
+use Rattle.id_source.specs.declared.Fact.{Fact}
+use Rattle.id_source.specs.declared.Fact.TheVariants as fact
+use Rattle.id_facts.specs.declared.facts.RowFact.{RowFact}
+use Rattle.id_facts.specs.declared.facts.RowFact.TheVariants.{On, Has, Shape, Put, Ask}
+use Rattle.id_facts.specs.declared.facts.RowValue.{RowValue}
+use Rattle.id_facts.specs.declared.facts.RowValue.TheVariants.{Int, Bool, Name}
+use Rattle.id_facts.specs.declared.facts.Trail.{Trail}
+use Rattle.id_facts.specs.declared.facts.Trail.TheVariants.{Outermost, Below}
+use Rattle.id_source.specs.Sources.{Source, main_body, value_of}
+use Rattle.id_source.specs.Facts.{LoopStands, StoreStands, Rule, ask, below, between, put, shape, site, without}
+use Rattle.id_source.specs.Facts as rule
+use Rattle.id_source.specs.Rounds.{Every, Rounds}
+use Rattle.id_links.specs.Links.{BodyTurns, arm_of, far_from, of_binding, of_next, of_store}
+use Rattle.id_facts.specs.RowFacts.{AreBefore, fact_at, path_of, row_of}
+use Rattle.id_cells.specs.Cells.{out_of}
+use Rattle.id_facts.specs.Firsts.{row_value}
+use Rattle.id_listing.specs.Listed.{AreFound, BeginsOn, IsArrayOn, IsOfThing, IsRound, fact_of, name_at, path_at, site_at, step_at, steps_in_all}
+use Rattle.id_source.specs.Things.{IsThing}
+use Rattle.id_listing.specs.Listed.{steps_of, value_at}
+use Rattle.id_source.proofs.CheckedLemmas.{apart_of, binder_of, far-between, next-region, thing-binder, use_binder}
+use Rattle.id_source.proofs.Coherence.{choice}
+use Rattle.id_facts.proofs.FactsLemmas.{Inside, fact-before, inside-more}
+use Rattle.id_listing.proofs.PathsLemmas.{all_steps, path-below, path-out, steps-suc}
+use Rattle.id_meaning.proofs.RulesLemmas.{AllAmong, RowRule, value-row}
+use Rattle.id_facts.proofs.FactsLemmas.{IsOnBy}
 use Rattle.id_meaning.proofs.RulesLemmas as row
-use Rattle.id_meaning.proofs.StepsLemmas.{below-once, last-same, none-below, none-last}
-use Rattle.id_meaning.proofs.ThingsLemmas.{node-thing, part-thing}
-
--- ---- facts and their numbers
-
-pub among-at : (fs : List RowFact) (i : ℕ) → i < length fs → Among (fact_at fs i) fs
-among-at [] i l = absurd (omega arith)
-among-at (f ∷ fs) zero l = inl refl
-among-at (f ∷ fs) (suc i) l = inr (among-at fs i (omega arith))
-
-pub index-of : (f : RowFact) (fs : List RowFact) → Among f fs → (i : ℕ) × (i < length fs) × (fact_at fs i ≡ f)
-index-of f [] h = absurd h
-index-of f (g ∷ fs) (inl e) = (0, omega arith, sym e)
-index-of f (g ∷ fs) (inr h) = let r = index-of f fs h in (suc r.0, (let l = r.1 in omega arith), r.2)
+use Rattle.id_source.proofs.StepsLemmas.{below-once, last-same, none-below, none-last}
+use Rattle.id_source.proofs.ThingsLemmas.{node-thing, part-thing}
+use Rattle.id_facts.proofs.FactsLemmas.{among-at, index-of}
 
 pub among-inside : (fs : List RowFact) → AreBefore fs → (f : RowFact) → Among f fs → Inside (length fs) (path_of f)
 among-inside fs b f h =

@@ -14,29 +14,32 @@ use Rattle.id_value.specs.declared.Outcome.{Outcome}
 use Rattle.id_value.specs.declared.Outcome.TheVariants.{Gives, Fails, Lacks}
 use Rattle.id_value.specs.Bounds.{are_good, is_inside}
 use Rattle.id_value.specs.Results.{result_of_unary, result_of_binary}
-use Rattle.id_parts.specs.declared.row.Node.{Node}
-use Rattle.id_parts.specs.declared.row.Node.TheVariants as node
-use Rattle.id_parts.specs.Rows.{at}
-use Rattle.id_parts.specs.Tables.{is_thing}
+use Rattle.id_table.specs.declared.row.Node.{Node}
+use Rattle.id_table.specs.declared.row.Node.TheVariants as node
+use Rattle.id_table.specs.Rows.{at}
+use Rattle.id_table.specs.Tables.{is_thing}
 use Rattle.id_check.specs.Programs.{Stands, binder, rows}
-use Rattle.id_meaning.specs.declared.cells.Bounds.{Bounds}
-use Rattle.id_meaning.specs.declared.cells.Cells.{Cells}
-use Rattle.id_meaning.specs.declared.cells.RowFact.{RowFact}
-use Rattle.id_meaning.specs.declared.cells.RowFact.TheVariants.{On, Has, Shape, Put, Ask}
-use Rattle.id_meaning.specs.declared.cells.RowValue.{RowValue}
-use Rattle.id_meaning.specs.declared.cells.RowValue.TheVariants.{Int, Bool, Name}
-use Rattle.id_meaning.specs.declared.cells.Sort.TheVariants.{Shapes}
-use Rattle.id_meaning.specs.declared.cells.Trail.{Trail}
-use Rattle.id_meaning.specs.Sources.{Source}
-use Rattle.id_meaning.specs.Facts.{StoreStands}
-use Rattle.id_meaning.specs.Links.{arm_of, far_from, test_of}
-use Rattle.id_meaning.specs.Cells.{AreChained, bounds_by, chain, chain_by, fact_at, find, items, out_of, shapes, values}
-use Rattle.id_meaning.specs.Effects.{arm_by, arms, array_by, arrays, asked, asked_by, binaries, binary_by, constant_of, fetch_by, fetches, from_found}
-use Rattle.id_meaning.specs.Effects.{from_on, given, given_of, gives, haves, is_in_some, made, made_by, ons, put_in, rights_of, row_value, seen}
-use Rattle.id_meaning.specs.Effects.{all_rights, store_at, store_by, stored, stored_by, stores, unaries, unary_by}
+use Rattle.id_cells.specs.declared.cells.Bounds.{Bounds}
+use Rattle.id_cells.specs.declared.cells.Cells.{Cells}
+use Rattle.id_facts.specs.declared.facts.RowFact.{RowFact}
+use Rattle.id_facts.specs.declared.facts.RowFact.TheVariants.{On, Has, Shape, Put, Ask}
+use Rattle.id_facts.specs.declared.facts.RowValue.{RowValue}
+use Rattle.id_facts.specs.declared.facts.RowValue.TheVariants.{Int, Bool, Name}
+use Rattle.id_facts.specs.declared.facts.Sort.TheVariants.{Shapes}
+use Rattle.id_facts.specs.declared.facts.Trail.{Trail}
+use Rattle.id_source.specs.Sources.{Source}
+use Rattle.id_source.specs.Facts.{StoreStands}
+use Rattle.id_links.specs.Links.{arm_of, far_from, test_of}
+use Rattle.id_cells.specs.Cells.{AreChained, bounds_by, chain, find, items, out_of, shapes, values}
+use Rattle.id_facts.specs.RowFacts.{chain_by, fact_at}
+use Rattle.id_given.specs.Given.{arm_by, arms, array_by, arrays, asked, asked_by, binaries, binary_by, constant_of, fetch_by, fetches, from_found}
+use Rattle.id_given.specs.Given.{from_on, given, given_of, gives, is_in_some, made, made_by, put_in, rights_of, seen}
+use Rattle.id_facts.specs.Firsts.{haves, ons, row_value}
+use Rattle.id_given.specs.Given.{all_rights, store_at, store_by, stored, stored_by, stores, unaries, unary_by}
 use Rattle.id_meaning.proofs.ArgumentsLemmas.{row-within}
-use Rattle.id_meaning.proofs.LookupLemmas.{bounds-true, fact-there, find-true, told-among, values-true}
-use Rattle.id_meaning.proofs.RulesLemmas.{AllAmong, IsOnBy, RowRule, part-within}
+use Rattle.id_cells.proofs.LookupLemmas.{bounds-true, fact-there, find-true, told-among, values-true}
+use Rattle.id_meaning.proofs.RulesLemmas.{AllAmong, RowRule, part-within}
+use Rattle.id_facts.proofs.FactsLemmas.{IsOnBy}
 use Rattle.id_meaning.proofs.RulesLemmas as row
 
 -- ---- lists of facts

@@ -5,29 +5,34 @@ use Rattle.std.specs.Prelude.{pos}
 use Rattle.std.proofs.lemmas.Bool.{false≢true}
 use Rattle.id_list.specs.List.{Among}
 use Rattle.id_list.proofs.AmongLemmas.{Among-either}
-use Rattle.id_parts.specs.declared.row.Node.{Node}
-use Rattle.id_parts.specs.declared.row.Node.TheVariants as node
-use Rattle.id_parts.specs.Rows.{at}
-use Rattle.id_parts.specs.Tables.{is_switches, is_thing}
+use Rattle.id_table.specs.declared.row.Node.{Node}
+use Rattle.id_table.specs.declared.row.Node.TheVariants as node
+use Rattle.id_table.specs.Rows.{at}
+use Rattle.id_table.specs.Tables.{is_switches, is_thing}
 use Rattle.id_check.specs.Programs.{rows}
-use Rattle.id_meaning.specs.declared.cells.Cells.{Cells}
-use Rattle.id_meaning.specs.declared.cells.Point.{Point}
-use Rattle.id_meaning.specs.declared.cells.RowFact.{RowFact}
-use Rattle.id_meaning.specs.declared.cells.RowFact.TheVariants.{On, Has, Shape, Put, Ask}
-use Rattle.id_meaning.specs.declared.cells.RowValue.{RowValue}
-use Rattle.id_meaning.specs.declared.cells.RowValue.TheVariants.{Name}
-use Rattle.id_meaning.specs.declared.cells.Sort.TheVariants.{Named, Puts, Asks}
-use Rattle.id_meaning.specs.declared.cells.Trail.{Trail}
-use Rattle.id_meaning.specs.declared.cells.Trail.TheVariants.{Outermost, Below}
-use Rattle.id_meaning.specs.declared.links.Links.{Links}
-use Rattle.id_meaning.specs.declared.queues.Queues.{Queues}
-use Rattle.id_meaning.specs.Sources.{Source}
-use Rattle.id_meaning.specs.Links.{AreTurns, TurnsOn, targets}
-use Rattle.id_meaning.specs.Cells.{AreChained, ask_by, asks, chain, chain_by, fact_at, items, named, named_by, put_by, puts, queue_of}
-use Rattle.id_meaning.specs.Effects.{all_effects, all_woken, call_at, effects, exit_at, gain, gains, given, loop_by, ons, pass_of, queue, reached, start_at}
-use Rattle.id_meaning.specs.Listed.{AreFound, IsThing}
+use Rattle.id_cells.specs.declared.cells.Cells.{Cells}
+use Rattle.id_cells.specs.declared.cells.Point.{Point}
+use Rattle.id_facts.specs.declared.facts.RowFact.{RowFact}
+use Rattle.id_facts.specs.declared.facts.RowFact.TheVariants.{On, Has, Shape, Put, Ask}
+use Rattle.id_facts.specs.declared.facts.RowValue.{RowValue}
+use Rattle.id_facts.specs.declared.facts.RowValue.TheVariants.{Name}
+use Rattle.id_facts.specs.declared.facts.Sort.TheVariants.{Named, Puts, Asks}
+use Rattle.id_facts.specs.declared.facts.Trail.{Trail}
+use Rattle.id_facts.specs.declared.facts.Trail.TheVariants.{Outermost, Below}
+use Rattle.id_links.specs.declared.links.Links.{Links}
+use Rattle.id_cells.specs.declared.queues.Queues.{Queues}
+use Rattle.id_source.specs.Sources.{Source}
+use Rattle.id_links.specs.Links.{AreTurns, TurnsOn, targets}
+use Rattle.id_cells.specs.Cells.{AreChained, ask_by, asks, chain, items, named, named_by, put_by, puts, queue_of}
+use Rattle.id_facts.specs.RowFacts.{chain_by, fact_at}
+use Rattle.id_effects.specs.Effects.{all_effects, all_woken, call_at, effects, exit_at, gain, gains, loop_by, pass_of, reached, start_at}
+use Rattle.id_cells.specs.Queues.{queue}
+use Rattle.id_given.specs.Given.{given}
+use Rattle.id_facts.specs.Firsts.{ons}
+use Rattle.id_listing.specs.Listed.{AreFound}
+use Rattle.id_source.specs.Things.{IsThing}
 use Rattle.id_meaning.proofs.CompleteLemmas.{among-inside}
-use Rattle.id_meaning.proofs.LookupLemmas.{ask-true, fact-there, named-true, put-true, told-among}
+use Rattle.id_cells.proofs.LookupLemmas.{ask-true, fact-there, named-true, put-true, told-among}
 use Rattle.id_meaning.proofs.EffectsLemmas.{Given, given-only, haves-among, ons-among}
 use Rattle.id_meaning.proofs.FollowsLemmas.{BeginsIn, all-woken-only, answered-only, call-only, exit-only, loop-only, pass-only, start-only}
 use Rattle.id_meaning.proofs.RulesLemmas as row

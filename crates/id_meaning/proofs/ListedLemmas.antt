@@ -9,24 +9,26 @@ use Rattle.std.proofs.lemmas.Map.Made.{AllPairs-from_IsDistinct}
 use Rattle.id_list.specs.List.{Among}
 use Rattle.id_check.specs.declared.checked.Checked.{Checked}
 use Rattle.id_check.specs.Programs.{place}
-use Rattle.id_meaning.specs.declared.Shape.{Shape as Shaped}
-use Rattle.id_meaning.specs.declared.Put.{Put as Stored}
-use Rattle.id_meaning.specs.declared.Ask.{Ask as Asked}
-use Rattle.id_meaning.specs.declared.Fact.{Fact}
-use Rattle.id_meaning.specs.declared.Fact.TheVariants as fact
-use Rattle.id_meaning.specs.declared.cells.Trail.{Trail}
-use Rattle.id_meaning.specs.declared.cells.RowFact.{RowFact}
-use Rattle.id_meaning.specs.declared.cells.RowFact.TheVariants.{On, Has, Shape, Put, Ask}
-use Rattle.id_meaning.specs.declared.cells.RowValue.{RowValue}
-use Rattle.id_meaning.specs.declared.cells.RowValue.TheVariants.{Int, Bool, Name}
-use Rattle.id_meaning.specs.Sources.{Source}
-use Rattle.id_meaning.specs.Rounds.{Rounds}
-use Rattle.id_meaning.specs.Computed.{AreFacts, HasMoreFacts}
-use Rattle.id_meaning.specs.Cells.{fact_at}
-use Rattle.id_meaning.specs.Listed.{AreFound, AreShown, IsPart, IsRound, IsThing, NamesArray, fact_of, facts_in, name_at, path_at, value_at}
-use Rattle.id_meaning.proofs.CheckedLemmas.{apart_of}
-use Rattle.id_meaning.proofs.CompleteLemmas.{IsThere, among-at, name-once, path-once, there-of}
-use Rattle.id_meaning.proofs.OrdersLemmas.{FactsRise-up, is_same, is_same-flips, is_same-itself, is_same-one}
+use Rattle.id_source.specs.declared.Shape.{Shape as Shaped}
+use Rattle.id_source.specs.declared.Put.{Put as Stored}
+use Rattle.id_source.specs.declared.Ask.{Ask as Asked}
+use Rattle.id_source.specs.declared.Fact.{Fact}
+use Rattle.id_source.specs.declared.Fact.TheVariants as fact
+use Rattle.id_facts.specs.declared.facts.Trail.{Trail}
+use Rattle.id_facts.specs.declared.facts.RowFact.{RowFact}
+use Rattle.id_facts.specs.declared.facts.RowFact.TheVariants.{On, Has, Shape, Put, Ask}
+use Rattle.id_facts.specs.declared.facts.RowValue.{RowValue}
+use Rattle.id_facts.specs.declared.facts.RowValue.TheVariants.{Int, Bool, Name}
+use Rattle.id_source.specs.Sources.{Source}
+use Rattle.id_source.specs.Rounds.{Rounds}
+use Rattle.id_source.specs.Computed.{AreFacts, HasMoreFacts}
+use Rattle.id_facts.specs.RowFacts.{fact_at}
+use Rattle.id_listing.specs.Listed.{AreFound, AreShown, IsPart, IsRound, NamesArray, fact_of, facts_in, name_at, path_at, value_at}
+use Rattle.id_source.specs.Things.{IsThing}
+use Rattle.id_source.proofs.CheckedLemmas.{apart_of}
+use Rattle.id_meaning.proofs.CompleteLemmas.{IsThere, name-once, path-once, there-of}
+use Rattle.id_facts.proofs.FactsLemmas.{among-at}
+use Rattle.id_listing.proofs.OrdersLemmas.{FactsRise-up, is_same, is_same-flips, is_same-itself, is_same-one}
 
 -- ---- lists in another order
 

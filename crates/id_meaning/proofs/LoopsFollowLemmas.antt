@@ -4,35 +4,39 @@ use Rattle.std.proofs.Common.{if◌then◌else◌, refl, ap, sym, ◌∙◌, sub
 use Rattle.std.proofs.lemmas.Bool.{eq-eqb, lt-ltb}
 use Rattle.id_list.specs.List.{Among}
 use Rattle.id_list.proofs.AmongLemmas.{Among-left, Among-right}
-use Rattle.id_parts.specs.declared.row.Node.{Node}
-use Rattle.id_parts.specs.declared.row.Node.TheVariants as node
-use Rattle.id_parts.specs.Rows.{at}
-use Rattle.id_parts.specs.Tables.{is_switches}
+use Rattle.id_table.specs.declared.row.Node.{Node}
+use Rattle.id_table.specs.declared.row.Node.TheVariants as node
+use Rattle.id_table.specs.Rows.{at}
+use Rattle.id_table.specs.Tables.{is_switches}
 use Rattle.id_check.specs.Programs.{Stands, binder, rows}
-use Rattle.id_meaning.specs.declared.cells.Cells.{Cells}
-use Rattle.id_meaning.specs.declared.cells.RowFact.{RowFact}
-use Rattle.id_meaning.specs.declared.cells.RowFact.TheVariants.{On, Has}
-use Rattle.id_meaning.specs.declared.cells.RowValue.{RowValue}
-use Rattle.id_meaning.specs.declared.cells.RowValue.TheVariants.{Bool}
-use Rattle.id_meaning.specs.declared.cells.Trail.{Trail}
-use Rattle.id_meaning.specs.declared.cells.Trail.TheVariants.{Below}
-use Rattle.id_meaning.specs.declared.links.Links.{Links}
-use Rattle.id_meaning.specs.declared.loops.Iteration.{Iteration}
-use Rattle.id_meaning.specs.declared.queues.Queues.{Queues}
-use Rattle.id_meaning.specs.declared.queues.Wait.{Wait}
-use Rattle.id_meaning.specs.Sources.{Source}
-use Rattle.id_meaning.specs.Facts.{LoopStands, NextStands}
-use Rattle.id_meaning.specs.Links.{AreArgs, AreReads, AreTurns, BodyTurns, Leads, awaited, awaited_of, far_from, of_binding, of_next, of_store, some_row}
-use Rattle.id_meaning.specs.Links.{targets, test_of_loop, turned_by, users_of}
-use Rattle.id_meaning.specs.Cells.{AreChained, find, items, next_of, out_of, values}
-use Rattle.id_meaning.specs.Effects.{effects, exit_by, first_of, firsts, has_at, haves, is_awaited_by, is_end, iteration_by, iteration_in, iteration_of}
-use Rattle.id_meaning.specs.Effects.{next_by, on_at, ons, seen, start_by, switches_by, turn_by, woken_by}
-use Rattle.id_meaning.specs.Listed.{AreFound}
-use Rattle.id_meaning.specs.Waits.{AreWaits}
+use Rattle.id_cells.specs.declared.cells.Cells.{Cells}
+use Rattle.id_facts.specs.declared.facts.RowFact.{RowFact}
+use Rattle.id_facts.specs.declared.facts.RowFact.TheVariants.{On, Has}
+use Rattle.id_facts.specs.declared.facts.RowValue.{RowValue}
+use Rattle.id_facts.specs.declared.facts.RowValue.TheVariants.{Bool}
+use Rattle.id_facts.specs.declared.facts.Trail.{Trail}
+use Rattle.id_facts.specs.declared.facts.Trail.TheVariants.{Below}
+use Rattle.id_links.specs.declared.links.Links.{Links}
+use Rattle.id_effects.specs.declared.loops.Iteration.{Iteration}
+use Rattle.id_cells.specs.declared.queues.Queues.{Queues}
+use Rattle.id_cells.specs.declared.queues.Wait.{Wait}
+use Rattle.id_source.specs.Sources.{Source}
+use Rattle.id_source.specs.Facts.{LoopStands, NextStands}
+use Rattle.id_links.specs.Links.{AreArgs, AreReads, AreTurns, BodyTurns, Leads, awaited, awaited_of, far_from, of_binding, of_next, of_store, some_row}
+use Rattle.id_links.specs.Links.{targets, test_of_loop, turned_by, users_of}
+use Rattle.id_cells.specs.Cells.{AreChained, find, items, next_of, out_of, values}
+use Rattle.id_effects.specs.Effects.{effects, exit_by, first_of, firsts, has_at, is_awaited_by, is_end, iteration_by, iteration_in, iteration_of}
+use Rattle.id_facts.specs.Firsts.{haves}
+use Rattle.id_effects.specs.Effects.{next_by, on_at, start_by, switches_by, turn_by, woken_by}
+use Rattle.id_given.specs.Given.{seen}
+use Rattle.id_facts.specs.Firsts.{ons}
+use Rattle.id_listing.specs.Listed.{AreFound}
+use Rattle.id_cells.specs.Waits.{AreWaits}
 use Rattle.id_meaning.proofs.CallsFollowLemmas.{awaited-is}
-use Rattle.id_meaning.proofs.LookupLemmas.{values-all}
+use Rattle.id_cells.proofs.LookupLemmas.{values-all}
 use Rattle.id_meaning.proofs.PartsFollowLemmas.{asker, found-by, from-exit, from-loop, from-start, from-woken, haves-all, ons-all, reader, when-same}
-use Rattle.id_meaning.proofs.RulesLemmas.{AllAmong, IsOnBy, part-within}
+use Rattle.id_meaning.proofs.RulesLemmas.{AllAmong, part-within}
+use Rattle.id_facts.proofs.FactsLemmas.{IsOnBy}
 
 module _ (S : Source) (l : Links) (W : Queues) (c : Cells) (chained : AreChained c) (found : AreFound S (items c)) (turns : AreTurns (rows S.checked) l.turns)
     (reads : AreReads S.checked l.reads) (args : AreArgs S.checked l.args) (waits : AreWaits S.checked l (items c) W)

@@ -11,32 +11,35 @@ use Rattle.id_value.specs.declared.Outcome.{Outcome}
 use Rattle.id_value.specs.declared.Outcome.TheVariants.{Gives}
 use Rattle.id_value.specs.Bounds.{are_good, is_inside}
 use Rattle.id_value.specs.Results.{result_of_unary, result_of_binary}
-use Rattle.id_parts.specs.declared.row.Node.{Node}
-use Rattle.id_parts.specs.declared.row.Node.TheVariants as node
-use Rattle.id_parts.specs.Tables.{HasPart}
+use Rattle.id_table.specs.declared.row.Node.{Node}
+use Rattle.id_table.specs.declared.row.Node.TheVariants as node
+use Rattle.id_table.specs.Tables.{HasPart}
 use Rattle.id_check.specs.Programs.{Stands, rows}
-use Rattle.id_meaning.specs.declared.cells.Bounds.{Bounds}
-use Rattle.id_meaning.specs.declared.cells.Cells.{Cells}
-use Rattle.id_meaning.specs.declared.cells.Point.{Point}
-use Rattle.id_meaning.specs.declared.cells.RowFact.{RowFact}
-use Rattle.id_meaning.specs.declared.cells.RowFact.TheVariants.{On, Has, Shape, Put, Ask}
-use Rattle.id_meaning.specs.declared.cells.RowValue.{RowValue}
-use Rattle.id_meaning.specs.declared.cells.RowValue.TheVariants.{Int, Bool, Name}
-use Rattle.id_meaning.specs.declared.cells.Trail.{Trail}
-use Rattle.id_meaning.specs.declared.links.Links.{Links}
-use Rattle.id_meaning.specs.declared.queues.Queues.{Queues}
-use Rattle.id_meaning.specs.Sources.{Source}
-use Rattle.id_meaning.specs.Facts.{StoreStands}
-use Rattle.id_meaning.specs.Listed.{AreFound}
-use Rattle.id_meaning.specs.Links.{AreReads, AreTurns, Leads, PartTurns, arm_of, beyond, index_of, linked_of, reads_of, some_row, target_of, test_of}
-use Rattle.id_meaning.specs.Cells.{AreChained, asks, items, puts, shapes, values}
-use Rattle.id_meaning.specs.Effects.{all_rights, answered, arm_by, arms, array_by, arrays, asked, asked_by, binaries, binary_by, constant_of, effects, fetch_by}
-use Rattle.id_meaning.specs.Effects.{fetches, given, gives, is_in_some, made, made_by, put_in, rights_of, row_value, seen, store_at}
-use Rattle.id_meaning.specs.Effects.{store_by, stored, stored_by, stores, unaries, unary_by}
+use Rattle.id_cells.specs.declared.cells.Bounds.{Bounds}
+use Rattle.id_cells.specs.declared.cells.Cells.{Cells}
+use Rattle.id_cells.specs.declared.cells.Point.{Point}
+use Rattle.id_facts.specs.declared.facts.RowFact.{RowFact}
+use Rattle.id_facts.specs.declared.facts.RowFact.TheVariants.{On, Has, Shape, Put, Ask}
+use Rattle.id_facts.specs.declared.facts.RowValue.{RowValue}
+use Rattle.id_facts.specs.declared.facts.RowValue.TheVariants.{Int, Bool, Name}
+use Rattle.id_facts.specs.declared.facts.Trail.{Trail}
+use Rattle.id_links.specs.declared.links.Links.{Links}
+use Rattle.id_cells.specs.declared.queues.Queues.{Queues}
+use Rattle.id_source.specs.Sources.{Source}
+use Rattle.id_source.specs.Facts.{StoreStands}
+use Rattle.id_listing.specs.Listed.{AreFound}
+use Rattle.id_links.specs.Links.{AreReads, AreTurns, Leads, PartTurns, arm_of, beyond, index_of, linked_of, reads_of, some_row, target_of, test_of}
+use Rattle.id_cells.specs.Cells.{AreChained, asks, items, puts, shapes, values}
+use Rattle.id_given.specs.Given.{all_rights, answered, arm_by, arms, array_by, arrays, asked, asked_by, binaries, binary_by, constant_of, fetch_by}
+use Rattle.id_effects.specs.Effects.{effects}
+use Rattle.id_given.specs.Given.{fetches, given, gives, is_in_some, made, made_by, put_in, rights_of, seen, store_at}
+use Rattle.id_facts.specs.Firsts.{row_value}
+use Rattle.id_given.specs.Given.{store_by, stored, stored_by, stores, unaries, unary_by}
 use Rattle.id_meaning.proofs.ComesLemmas.{asks-all, found-at, from-reader, from-shape, from-turns, given-at, inside-some, puts-all, rows-differ, shapes-all}
-use Rattle.id_meaning.proofs.LookupLemmas.{find-all, values-all, values-self}
+use Rattle.id_cells.proofs.LookupLemmas.{find-all, values-all, values-self}
 use Rattle.id_meaning.proofs.PartsFollowLemmas.{found-by, from-given, haves-all, reader}
-use Rattle.id_meaning.proofs.RulesLemmas.{AllAmong, IsOnBy, part-within}
+use Rattle.id_meaning.proofs.RulesLemmas.{AllAmong, part-within}
+use Rattle.id_facts.proofs.FactsLemmas.{IsOnBy}
 use Rattle.id_meaning.proofs.TwoPartsLemmas.{array-order, binary-order, fetch-order, if-order, store-order}
 
 -- ---- lists of facts

@@ -12,43 +12,41 @@ use Rattle.id_value.specs.declared.BinaryOp.{BinaryOp}
 use Rattle.id_value.specs.declared.Outcome.TheVariants.{Gives}
 use Rattle.id_value.specs.Bounds.{are_good, is_inside}
 use Rattle.id_value.specs.Results.{result_of_unary, result_of_binary}
-use Rattle.id_parts.specs.declared.row.Node.{Node}
-use Rattle.id_parts.specs.declared.row.Node.TheVariants as node
-use Rattle.id_parts.specs.Rows.{at}
-use Rattle.id_parts.specs.Tables.{HasPart, is_call}
-use Rattle.id_parts.specs.Turns.{Turns, operand, left, right, test, argument, body, low, high, fetched, fetch_index, address_target, address_index}
-use Rattle.id_parts.specs.Turns.{params_at, statement, stored, stored_value}
+use Rattle.id_table.specs.declared.row.Node.{Node}
+use Rattle.id_table.specs.declared.row.Node.TheVariants as node
+use Rattle.id_table.specs.Rows.{at}
+use Rattle.id_table.specs.Tables.{HasPart, is_call}
+use Rattle.id_table.specs.Turns.{Turns, operand, left, right, test, argument, body, low, high, fetched, fetch_index, address_target, address_index}
+use Rattle.id_table.specs.Turns.{params_at, statement, stored, stored_value}
 use Rattle.id_check.specs.Programs.{Stands, binder, place, rows}
 use Rattle.id_check.proofs.ProgramsLemmas.{binder_below, table_of}
-use Rattle.id_meaning.specs.declared.Path.{Path}
-use Rattle.id_meaning.specs.declared.SourceValue.{SourceValue}
-use Rattle.id_meaning.specs.declared.SourceValue.TheVariants as value
-use Rattle.id_meaning.specs.declared.Site.{Site}
-use Rattle.id_meaning.specs.declared.Fact.TheVariants as fact
-use Rattle.id_meaning.specs.declared.cells.RowFact.{RowFact}
-use Rattle.id_meaning.specs.declared.cells.RowFact.TheVariants.{On, Has, Shape, Put, Ask}
-use Rattle.id_meaning.specs.declared.cells.RowValue.{RowValue}
-use Rattle.id_meaning.specs.declared.cells.RowValue.TheVariants.{Int, Bool, Name}
-use Rattle.id_meaning.specs.declared.cells.Trail.{Trail}
-use Rattle.id_meaning.specs.declared.cells.Trail.TheVariants.{Outermost, Below}
-use Rattle.id_meaning.specs.Sources.{Source, IsInput, main_body, value_of}
-use Rattle.id_meaning.specs.Facts.{LoopStands, NextStands, StoreStands, BodyBinds, BodyStores, Rule, ask, below, between, put, shape, site, without}
-use Rattle.id_meaning.specs.Facts as rule
-use Rattle.id_meaning.specs.Rounds.{Rounds}
-use Rattle.id_meaning.specs.Links.{BodyTurns, PartTurns, arm_of, far_from, of_binding, of_next, of_store}
-use Rattle.id_meaning.specs.Cells.{fact_at, out_of, path_of, row_of}
-use Rattle.id_meaning.specs.Effects.{row_value}
-use Rattle.id_meaning.specs.Listed.{BeginsOn, IsArrayOn, IsOfThing, IsRound, IsThing, NamesArray, NamesArrays, fact_of, name_at, path_at, value_at}
-use Rattle.id_meaning.proofs.CheckedLemmas.{far-between, next-loop, thing-param, use_binder}
-use Rattle.id_meaning.proofs.AroundLemmas.{around-within}
-use Rattle.id_meaning.proofs.ParamsLemmas.{input_param, params-among}
-use Rattle.id_meaning.proofs.PathsLemmas.{path-below, path-out}
-use Rattle.id_meaning.proofs.ThingsLemmas.{main-thing, node-thing, part-thing}
-
--- the row is On at the path by the fact of number i
-pub record IsOnBy (fs : List RowFact) (i : ℕ) (p : Trail) (n : ℕ) : Type 0 where
-  pub within : i < length fs
-  pub fact : fact_at fs i ≡ On p n
+use Rattle.id_source.specs.declared.Path.{Path}
+use Rattle.id_source.specs.declared.SourceValue.{SourceValue}
+use Rattle.id_source.specs.declared.SourceValue.TheVariants as value
+use Rattle.id_source.specs.declared.Site.{Site}
+use Rattle.id_source.specs.declared.Fact.TheVariants as fact
+use Rattle.id_facts.specs.declared.facts.RowFact.{RowFact}
+use Rattle.id_facts.specs.declared.facts.RowFact.TheVariants.{On, Has, Shape, Put, Ask}
+use Rattle.id_facts.specs.declared.facts.RowValue.{RowValue}
+use Rattle.id_facts.specs.declared.facts.RowValue.TheVariants.{Int, Bool, Name}
+use Rattle.id_facts.specs.declared.facts.Trail.{Trail}
+use Rattle.id_facts.specs.declared.facts.Trail.TheVariants.{Outermost, Below}
+use Rattle.id_source.specs.Sources.{Source, IsInput, main_body, value_of}
+use Rattle.id_source.specs.Facts.{LoopStands, NextStands, StoreStands, BodyBinds, BodyStores, Rule, ask, below, between, put, shape, site, without}
+use Rattle.id_source.specs.Facts as rule
+use Rattle.id_source.specs.Rounds.{Rounds}
+use Rattle.id_links.specs.Links.{BodyTurns, PartTurns, arm_of, far_from, of_binding, of_next, of_store}
+use Rattle.id_facts.specs.RowFacts.{fact_at, path_of, row_of}
+use Rattle.id_cells.specs.Cells.{out_of}
+use Rattle.id_facts.specs.Firsts.{row_value}
+use Rattle.id_listing.specs.Listed.{BeginsOn, IsArrayOn, IsOfThing, IsRound, NamesArray, NamesArrays, fact_of, name_at, path_at, value_at}
+use Rattle.id_source.specs.Things.{IsThing}
+use Rattle.id_source.proofs.CheckedLemmas.{far-between, next-loop, thing-param, use_binder}
+use Rattle.id_links.proofs.AroundLemmas.{around-within}
+use Rattle.id_source.proofs.ParamsLemmas.{input_param, params-among}
+use Rattle.id_listing.proofs.PathsLemmas.{path-below, path-out}
+use Rattle.id_source.proofs.ThingsLemmas.{main-thing, node-thing, part-thing}
+use Rattle.id_facts.proofs.FactsLemmas.{IsOnBy}
 
 -- from these facts of rows this one follows by one rule, where these are all
 pub data RowRule (S : Source) (fs : List RowFact) : List RowFact → RowFact → Type 0 where

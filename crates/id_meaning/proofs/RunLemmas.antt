@@ -7,37 +7,42 @@ use Rattle.id_list.specs.List.{Among}
 use Rattle.id_list.proofs.AmongLemmas.{Among-left, Among-right}
 use Rattle.id_check.specs.declared.checked.Checked.{Checked}
 use Rattle.id_check.specs.Programs.{place, rows}
-use Rattle.id_meaning.specs.declared.Fact.{Fact}
-use Rattle.id_meaning.specs.declared.Fact.TheVariants as fact
-use Rattle.id_meaning.specs.declared.Path.{Path}
-use Rattle.id_meaning.specs.declared.cells.Cells.{Cells}
-use Rattle.id_meaning.specs.declared.cells.RowFact.{RowFact}
-use Rattle.id_meaning.specs.declared.cells.RowFact.TheVariants.{On, Has}
-use Rattle.id_meaning.specs.declared.cells.RowValue.{RowValue}
-use Rattle.id_meaning.specs.declared.cells.Trail.TheVariants.{Below}
-use Rattle.id_meaning.specs.declared.links.Links.{Links}
-use Rattle.id_meaning.specs.declared.queues.Queues.{Queues}
+use Rattle.id_source.specs.declared.Fact.{Fact}
+use Rattle.id_source.specs.declared.Fact.TheVariants as fact
+use Rattle.id_source.specs.declared.Path.{Path}
+use Rattle.id_cells.specs.declared.cells.Cells.{Cells}
+use Rattle.id_facts.specs.declared.facts.RowFact.{RowFact}
+use Rattle.id_facts.specs.declared.facts.RowFact.TheVariants.{On, Has}
+use Rattle.id_facts.specs.declared.facts.RowValue.{RowValue}
+use Rattle.id_facts.specs.declared.facts.Trail.TheVariants.{Below}
+use Rattle.id_links.specs.declared.links.Links.{Links}
+use Rattle.id_cells.specs.declared.queues.Queues.{Queues}
 use Rattle.id_meaning.specs.declared.round.RoundsError.{RoundsError}
 use Rattle.id_meaning.specs.declared.round.RoundsError.TheVariants.{BadRounds, TooManyFacts, Memory}
 use Rattle.id_meaning.specs.declared.run.Followed.{Followed}
-use Rattle.id_meaning.specs.Sources.{Source}
-use Rattle.id_meaning.specs.Rounds.{Every, Rounds}
-use Rattle.id_meaning.specs.Computed.{HasMoreFacts}
-use Rattle.id_meaning.specs.Links.{AreArgs, AreReads, AreTurns}
-use Rattle.id_meaning.specs.Cells.{AddsFacts, AreChained, all_learnt, fact_at, items, path_of, row_of}
-use Rattle.id_meaning.specs.Effects.{all_effects, first_facts}
-use Rattle.id_meaning.specs.Listed.{IsRound, fact_of, path_at, value_at}
-use Rattle.id_meaning.specs.Waits.{AreWaits, Goes, Waits}
+use Rattle.id_source.specs.Sources.{Source}
+use Rattle.id_source.specs.Rounds.{Every, Rounds}
+use Rattle.id_source.specs.Computed.{HasMoreFacts}
+use Rattle.id_links.specs.Links.{AreArgs, AreReads, AreTurns}
+use Rattle.id_cells.specs.Cells.{AddsFacts, AreChained, items}
+use Rattle.id_facts.specs.RowFacts.{all_learnt, fact_at, path_of, row_of}
+use Rattle.id_effects.specs.Effects.{all_effects}
+use Rattle.id_facts.specs.Firsts.{first_facts}
+use Rattle.id_listing.specs.Listed.{IsRound, fact_of, path_at, value_at}
+use Rattle.id_cells.specs.Waits.{AreWaits, Waits}
+use Rattle.id_meaning.specs.Following.{Goes}
 use Rattle.id_meaning.specs.Following.{AreFirst, FollowsNews, IsFewRound, IsFresh, IsStop, news_behind}
 use Rattle.id_meaning.proofs.AllFollowLemmas.{all-follow}
 use Rattle.id_meaning.proofs.CompleteLemmas.{among-inside}
 use Rattle.id_meaning.proofs.GivenLemmas.{all-effects-only}
-use Rattle.id_meaning.proofs.LearnLemmas.{Arises, Learns, arises-old-or-new, first-all, first-arises, first-round}
-use Rattle.id_meaning.proofs.LearnLemmas.{learns-so, learnt-has, learnt-kept, learnt-part, learnt-round, none-round}
+use Rattle.id_meaning.proofs.LearnLemmas.{Arises, arises-old-or-new, first-all, first-arises, first-round}
+use Rattle.id_facts.proofs.LearntLemmas.{Learns}
+use Rattle.id_facts.proofs.LearntLemmas.{learns-so}
+use Rattle.id_meaning.proofs.LearnLemmas.{learnt-has, learnt-kept, learnt-part, learnt-round, none-round}
 use Rattle.id_meaning.proofs.ListedLemmas.{more-facts, part}
-use Rattle.id_meaning.proofs.NumbersLemmas.{last-number}
-use Rattle.id_meaning.proofs.PathsLemmas.{path-below}
-use Rattle.id_meaning.proofs.WaitsLemmas.{AreWaits-more}
+use Rattle.id_source.proofs.NumbersLemmas.{last-number}
+use Rattle.id_listing.proofs.PathsLemmas.{path-below}
+use Rattle.id_cells.proofs.WaitsLemmas.{AreWaits-more}
 
 -- ---- where nothing is news
 

@@ -3,24 +3,24 @@ use Rattle.std.proofs.Common.{◌≡◌, inl, inr, ◌<◌, ◌-◌, ℕ, zero, 
 use Rattle.id_list.specs.List.{Among}
 use Rattle.id_list.proofs.AmongLemmas.{Among-either}
 use Rattle.id_value.specs.declared.BinaryOp.{BinaryOp}
-use Rattle.id_tree.specs.Tree.{Tree, binding, define, more, next, param, store}
-use Rattle.id_parts.specs.declared.row.Row.{Row}
-use Rattle.id_parts.specs.declared.row.Stand.{Stand}
-use Rattle.id_parts.specs.declared.row.Node.{Node}
-use Rattle.id_parts.specs.declared.row.Node.TheVariants.{Head, Param, Literal, Name, Unary, Binary, Split, If, Enter, Arg, Call, Block, Binding, Def, Program}
-use Rattle.id_parts.specs.declared.row.Node.TheVariants.{Start, LoopHead, Variable, Entries, Switches, Turn, NextUse, Next, Body, Reset, Loop}
-use Rattle.id_parts.specs.declared.row.Node.TheVariants.{Array, Fetch, Address, Store}
-use Rattle.id_parts.specs.Names.{first_names, number_of}
-use Rattle.id_parts.specs.Rows.{Parts, add, add_arguments, add_nexts, add_variables, arm, at, count_of, in_top, last, naming, rows_of, size, with_row}
-use Rattle.id_parts.specs.Trees.{IsProgramTree, IsTree, Sort, Expression, Arguments, Statements, by_literal, by_unary, by_binary, by_name, by_conditional}
-use Rattle.id_parts.specs.Trees.{by_call, by_loop, by_array, by_fetch, next_statement, store_statement, no_arguments, more_arguments, by_block}
-use Rattle.id_parts.specs.Trees.{no_statements, more_statements, no_params, more_params, no_defs, more_defs}
-use Rattle.id_parts.proofs.TableLemmas.{Are-add}
+use Rattle.id_grammar.specs.Tree.{Tree, binding, define, more, next, param, store}
+use Rattle.id_table.specs.declared.row.Row.{Row}
+use Rattle.id_table.specs.declared.row.Stand.{Stand}
+use Rattle.id_table.specs.declared.row.Node.{Node}
+use Rattle.id_table.specs.declared.row.Node.TheVariants.{Head, Param, Literal, Name, Unary, Binary, Split, If, Enter, Arg, Call, Block, Binding, Def, Program}
+use Rattle.id_table.specs.declared.row.Node.TheVariants.{Start, LoopHead, Variable, Entries, Switches, Turn, NextUse, Next, Body, Reset, Loop}
+use Rattle.id_table.specs.declared.row.Node.TheVariants.{Array, Fetch, Address, Store}
+use Rattle.id_table.specs.Names.{first_names, number_of}
+use Rattle.id_table.specs.Rows.{Parts, add, add_arguments, add_nexts, add_variables, arm, at, count_of, in_top, last, naming, rows_of, size, with_row}
+use Rattle.id_table.specs.Trees.{IsProgramTree, IsTree, Sort, Expression, Arguments, Statements, by_literal, by_unary, by_binary, by_name, by_conditional}
+use Rattle.id_table.specs.Trees.{by_call, by_loop, by_array, by_fetch, next_statement, store_statement, no_arguments, more_arguments, by_block}
+use Rattle.id_table.specs.Trees.{no_statements, more_statements, no_params, more_params, no_defs, more_defs}
+use Rattle.id_table.proofs.TableLemmas.{Are-add}
 use Rattle.id_check.proofs.NotedLemmas.{IsProgramTree-tree_in}
 use Rattle.id_check.specs.declared.checked.Checked.{Checked}
 use Rattle.id_check.specs.Programs.{Stands, rows, tree}
 use Rattle.id_check.proofs.ProgramsLemmas.{table_of}
-use Rattle.id_meaning.specs.Facts.{StoreStands}
+use Rattle.id_source.specs.Facts.{StoreStands}
 
 -- the one operand of two stands before the other
 abbrev Two : Node → Type 0

@@ -2,17 +2,31 @@
 use Rattle.std.specs.Prelude.{◌≡◌, ◌≤◌, ℕ, List, [], length, drop}
 use Rattle.id_value.specs.declared.Constant.{Constant}
 use Rattle.id_check.specs.declared.checked.Checked.{Checked}
-use Rattle.id_meaning.specs.declared.cells.RowFact.{RowFact}
-use Rattle.id_meaning.specs.declared.links.Links.{Links}
+use Rattle.id_facts.specs.declared.facts.RowFact.{RowFact}
+use Rattle.id_links.specs.declared.links.Links.{Links}
 use Rattle.id_meaning.specs.declared.round.RoundsError.{RoundsError}
 use Rattle.id_meaning.specs.declared.round.RoundsError.TheVariants.{BadRounds, TooManyFacts, Memory}
 use Rattle.id_meaning.specs.declared.run.Followed.{Followed}
-use Rattle.id_meaning.specs.Sources.{Source}
-use Rattle.id_meaning.specs.Computed.{HasMoreFacts}
-use Rattle.id_meaning.specs.Cells.{AddsFacts, AreChained, all_learnt, items}
-use Rattle.id_meaning.specs.Effects.{first_facts}
-use Rattle.id_meaning.specs.Listed.{IsRound}
-use Rattle.id_meaning.specs.Waits.{Goes, Waits, width}
+use Rattle.id_source.specs.Sources.{Source}
+use Rattle.id_source.specs.Computed.{HasMoreFacts}
+use Rattle.id_cells.specs.Cells.{AddsFacts, AreChained, items}
+use Rattle.id_facts.specs.RowFacts.{all_learnt}
+use Rattle.id_facts.specs.Firsts.{first_facts}
+use Rattle.id_listing.specs.Listed.{IsRound}
+use Rattle.id_cells.specs.Waits.{Waits}
+use Rattle.id_cells.specs.Queues.{width}
+use Rattle.std.specs.Prelude.{◌⊎◌, ◌<◌, ◌++◌}
+use Rattle.id_cells.specs.declared.cells.Cells.{Cells}
+use Rattle.id_cells.specs.declared.queues.Queues.{Queues}
+use Rattle.id_effects.specs.Effects.{all_effects}
+
+-- what follows from the front of these facts has been learnt: from all of them, or more than 1,000,000
+pub record Goes (P : Checked) (l : Links) (W : Queues) (c : Cells) (gs fs ds : List RowFact) : Type 0 where
+  pub front : List RowFact
+  pub rest : List RowFact
+  pub parts : gs ≡ front ++ rest
+  pub facts : ds ≡ all_learnt fs (all_effects P l W c front)
+  pub done : (rest ≡ []) ⊎ (1000000 < length ds)
 
 -- the facts are those that follow from none, 1,000,000 at most
 pub record AreFirst (P : Checked) (is : List Constant) (fs : List RowFact) : Type 0 where

@@ -1,133 +1,17 @@
-//! What a program means: inputs, paths, values and facts of its source.
+//! What a program means: the facts of each of its rounds.
 //!
 //! Keeps: nothing beyond its values.
-//! Errors: `InputError`, the refusals 15 to 18, and `RoundsError`, 24 and 25, or want of memory.
-//! Read first: docs/MEANING.md ("Facts", "Rounds"), then `rounds`; `read_inputs`.
-//! Not here: graphs, tags and messages, which the meaning does not speak of.
+//! Errors: `RoundsError`, the refusals 24 and 25, or want of memory.
+//! Read first: docs/MEANING.md ("Facts", "Rounds"), then `rounds`.
+//! Not here: sources and their facts as definitions (`id_source`), inputs (`id_inputs`), what follows from one fact
+//!     (`id_effects`); graphs, tags and messages, which the meaning does not speak of.
 #![tactic(auto)]
 
-mod calls;
-mod cells;
-mod edges;
-mod effects;
-mod inputs;
-mod links;
-mod listing;
-mod loops;
-mod operators;
-mod params;
-mod queues;
 mod round;
 mod run;
-mod structures;
-mod waits;
 
-use id_list::Sequence;
-use id_value::FaultKind;
-pub use inputs::{InputError, Inputs, param_name, read_inputs};
+pub use id_inputs::{InputError, Inputs, param_name, read_inputs};
+pub use id_source::{
+    Ask, Fact, NameValue, Path, PathStep, Put, Shape, Site, SourceFault, SourceValue,
+};
 pub use round::{MAX_FACTS, MAX_ROUNDS, RoundsError, rounds};
-
-/// One step of a path: the call (number 0) or the loop (its iteration, from 0) at a place.
-#[derive(Clone, Copy, PartialEq, Eq, PartialOrd, Ord)]
-pub struct PathStep {
-    pub place: usize,
-    pub number: u64,
-}
-
-/// The calls and iterations that lead to an evaluation, the outermost first.
-#[derive(Drop)]
-pub struct Path {
-    pub steps: Sequence<PathStep>,
-}
-
-/// A path and a place: where a structure was made, which is its name, where a fetch or a store is On, or where a fault
-/// came.
-#[derive(Drop)]
-pub struct Site {
-    pub path: Path,
-    pub place: usize,
-}
-
-/// A value of the source.
-#[derive(Drop)]
-pub enum SourceValue {
-    /// A whole number.
-    Int(i64),
-    /// A truth value.
-    Bool(bool),
-    /// A structure: the path and place of its `array`.
-    Name(Site),
-}
-
-/// A structure and its bounds.
-#[derive(Drop)]
-pub struct Shape {
-    pub name: Site,
-    pub low: i64,
-    pub high: i64,
-}
-
-/// What a store puts into a cell of a structure.
-#[derive(Drop)]
-pub struct Put {
-    pub name: Site,
-    pub index: i64,
-    pub value: SourceValue,
-    pub store: Site,
-}
-
-/// That a fetch asks for a cell of a structure.
-#[derive(Drop)]
-pub struct Ask {
-    pub fetch: Site,
-    pub name: Site,
-    pub index: i64,
-}
-
-/// A fact of the source.
-#[derive(Drop)]
-pub enum Fact {
-    /// The expression or store at the place is evaluated at the path.
-    On {
-        path: Path,
-        place: usize,
-    },
-    /// The expression or binder at the place has the value at the path.
-    Has {
-        path: Path,
-        place: usize,
-        value: SourceValue,
-    },
-    /// The structure is there, with these bounds.
-    Shape(Shape),
-    /// The store puts the value into the cell.
-    Put(Put),
-    /// The fetch asks for the cell.
-    Ask(Ask),
-}
-
-/// A fault of the source.
-#[derive(Drop)]
-pub enum SourceFault {
-    /// What went wrong, and at which operator, `array`, fetch or store.
-    Operator {
-        kind: FaultKind,
-        site: Site,
-    },
-    /// Two stores put a value into one cell, the first of them first by path and place.
-    SecondStore {
-        name: Site,
-        index: i64,
-        first: Site,
-        second: Site,
-    },
-}
-
-/// What a binder Has at a path.
-#[derive(Drop)]
-pub struct NameValue {
-    pub path: Path,
-    /// The place of the binder.
-    pub place: usize,
-    pub value: SourceValue,
-}

@@ -1,14 +1,14 @@
 //! The rounds of a source as lists of facts (docs/MEANING.md, "Rounds").
 
 ghost use Rattle.std.specs.Prelude.{◌≡◌, ◌≤◌, ◌<◌, length, IfOk, IfErr, OnOk};
-ghost use Rattle.id_meaning.specs.Sources.{source};
-ghost use Rattle.id_meaning.specs.Computed.{AreFacts, HasMoreFacts};
+ghost use Rattle.id_source.specs.Sources.{source};
+ghost use Rattle.id_source.specs.Computed.{AreFacts, HasMoreFacts};
 
-use crate::Fact;
-use crate::inputs::Inputs;
-use crate::listing::list;
 use crate::run::run;
 use id_check::Checked;
+use id_inputs::Inputs;
+use id_listing::list;
+use id_source::Fact;
 use std::alloc::{AllocError, Global};
 
 /// The most rounds that may be asked for.

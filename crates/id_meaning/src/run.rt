@@ -2,21 +2,20 @@
 
 ghost use Rattle.std.specs.Prelude.{◌≡◌, ◌≤◌, ◌<◌, [], drop, length, IfErr, IfOk, OnOk};
 ghost use Rattle.id_check.specs.Programs.{rows};
-ghost use Rattle.id_meaning.specs.Sources.{source};
-ghost use Rattle.id_meaning.specs.Computed.{HasMoreFacts};
-ghost use Rattle.id_meaning.specs.Links.{AreArgs, AreReads, AreTurns};
-ghost use Rattle.id_meaning.specs.Cells.{items};
-ghost use Rattle.id_meaning.specs.Listed.{IsRound};
-ghost use Rattle.id_meaning.specs.Waits.{Goes};
+ghost use Rattle.id_source.specs.Sources.{source};
+ghost use Rattle.id_source.specs.Computed.{HasMoreFacts};
+ghost use Rattle.id_links.specs.Links.{AreArgs, AreReads, AreTurns};
+ghost use Rattle.id_cells.specs.Cells.{items};
+ghost use Rattle.id_listing.specs.Listed.{IsRound};
+ghost use Rattle.id_meaning.specs.Following.{Goes};
 ghost use Rattle.id_meaning.specs.Following.{AreFirst, FollowsNews, IsFewRound, IsFresh, IsStop};
 
-use crate::cells::{Cells, Facts, QUEUES, RowFact};
-use crate::effects::{add_effects, first_facts};
-use crate::links::{Links, link};
-use crate::queues::Queues;
 use crate::round::{MAX_FACTS, RoundsError};
-use crate::waits::wait_all;
+use id_cells::{Cells, QUEUES, Queues, wait_all};
 use id_check::Checked;
+use id_effects::add_effects;
+use id_facts::{Facts, RowFact, first_facts};
+use id_links::{Links, link};
 use id_value::Constant;
 use std::alloc::{AllocError, Global};
 

@@ -6,11 +6,11 @@ use Rattle.std.specs.Ordering.{nat_cmp}
 use Rattle.std.specs.declared.cmp.Ordering.TheVariants.{Less}
 use Rattle.std.proofs.lemmas.Bool.Decides.{nat_tests}
 use Rattle.id_tag.specs.declared.Message.{Message}
-use Rattle.id_graph.specs.Graph.{Parts}
-use Rattle.id_record.specs.Events.{EventView}
+use Rattle.id_instr.specs.Graph.{Parts}
+use Rattle.id_line.specs.Events.{EventView}
 use Rattle.id_merge.specs.Merged.{by_moment, AreRecords, IsBelow}
-use Rattle.id_element.specs.Replays.{ElementView, Replays, after_all, messages}
-use Rattle.id_element.specs.Steps.{State, fresh, state_after, event_of, next_stamp}
+use Rattle.id_desk.specs.Replays.{ElementView, Replays, after_all, messages}
+use Rattle.id_firing.specs.Steps.{State, fresh, state_after, event_of, next_stamp}
 use Rattle.id_merge.proofs.MergedLemmas.{earlier_stamp}
 use Rattle.id_record.proofs.EachLemmas.{each-append, each-weaker}
 use Rattle.id_merge.proofs.OrderedLemmas.{sorted-push}

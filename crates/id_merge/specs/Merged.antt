@@ -8,7 +8,7 @@ use Rattle.std.specs.declared.cmp.Ordering.{Ordering}
 use Rattle.id_merge.specs.declared.merge.Place.{Place}
 use Rattle.id_merge.specs.declared.merge.Head.{Head}
 use Rattle.id_merge.specs.declared.merge.Candidate.{Candidate}
-use Rattle.id_record.specs.Events.{EventView}
+use Rattle.id_line.specs.Events.{EventView}
 
 -- the order of events: by stamp, and at one stamp by element
 abbrev pub by_moment : EventView → EventView → Ordering

@@ -4,7 +4,7 @@ ghost use Rattle.std.specs.Prelude.{◌≡◌, ◌+◌, ◌-◌, ◌^◌, ◌<�
 ghost use Rattle.std.specs.Prelude.{MatchOption};
 ghost use Rattle.std.specs.List.{flat_map};
 ghost use Rattle.std.specs.List.Sorted.{IsStrictlyIncreasing, IsStrictlySortedBy};
-ghost use Rattle.id_record.specs.Events.{EventView};
+ghost use Rattle.id_line.specs.Events.{EventView};
 ghost use Rattle.id_merge.specs.Merged.{by_moment, AreRecords, AreMerged, IsEarliest, IsMerge, earlier_of, head_of};
 
 use id_element::Element;
@@ -36,7 +36,7 @@ pub struct Merged<'a> {
 
 impl<'a> Model for Merged<'a> {
     ghost use Rattle.std.specs.Prelude.{List, All};
-    ghost use Rattle.id_record.specs.Events.{EventView};
+    ghost use Rattle.id_line.specs.Events.{EventView};
     ghost use Rattle.id_merge.specs.Merged.{IsPlace, events_at};
 
     ghost Value = { List EventView };

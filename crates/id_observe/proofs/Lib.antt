@@ -1,4 +1,1 @@
-pub mod ObservedLemmas
 pub mod NothingLemmas
-pub mod FirstsLemmas
-pub mod MarkedLemmas

@@ -6,20 +6,20 @@ use Rattle.std.specs.List.{filter_map, flat_map, cons_option, AllByRecursion}
 use Rattle.std.specs.FinMap.{empty, entries, len-empty, len-entries}
 use Rattle.std.proofs.lemmas.List.Elements.{recursion_from_All}
 use Rattle.std.proofs.lemmas.Option.{slice_get_within, get_or_from_slice_get}
-use Rattle.id_graph.specs.declared.instr.Instr.{Instr}
-use Rattle.id_graph.specs.declared.instr.Op.{Op}
-use Rattle.id_graph.specs.Graph.{Parts}
+use Rattle.id_instr.specs.declared.instr.Instr.{Instr}
+use Rattle.id_instr.specs.declared.instr.Op.{Op}
+use Rattle.id_instr.specs.Graph.{Parts}
 use Rattle.id_valid.specs.Roles.{op_at}
 use Rattle.id_tag.specs.declared.Tag.{Tag}
 use Rattle.id_tag.specs.Tags.{cell_cmp}
-use Rattle.id_bank.specs.Cells.{Cells, CellState, cells_of, deferred_of, filled_at, readers_at}
-use Rattle.id_record.specs.Events.{EventView, tag_of}
-use Rattle.id_element.specs.Replays.{ElementView}
-use Rattle.id_meaning.specs.declared.Path.{Path}
+use Rattle.id_slot.specs.Cells.{Cells, CellState, cells_of, deferred_of, filled_at, readers_at}
+use Rattle.id_line.specs.Events.{EventView, tag_of}
+use Rattle.id_desk.specs.Replays.{ElementView}
+use Rattle.id_source.specs.declared.Path.{Path}
 use Rattle.id_paths.specs.Paths.{is_alloc}
-use Rattle.id_observe.specs.Observed.{HaveNoCells, MakesNone, ask_of, cells_in}
+use Rattle.id_observed.specs.Observed.{HaveNoCells, MakesNone, ask_of, cells_in}
 use Rattle.id_paths.specs.Paths.{events_of, path_in}
-use Rattle.id_observe.specs.Observed.{put_of, shape_of, structures_in, waiting_in}
+use Rattle.id_observed.specs.Observed.{put_of, shape_of, structures_in, waiting_in}
 use Rattle.id_paths.specs.Paths.{structure_in}
 use Rattle.id_paths.proofs.SkippedLemmas.{made_by-none}
 

@@ -1,3 +1,1 @@
 -- What public clauses cite.
-pub mod Observed
-pub mod Firsts

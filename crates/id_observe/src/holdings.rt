@@ -2,32 +2,23 @@
 
 ghost use Rattle.std.specs.Prelude.{◌≡◌, ◌++◌, ◌↔◌, [], map, option_and_then, slice_get, IfOk, OnOk, IsTrue};
 ghost use Rattle.std.specs.List.{cons_option, filter_map, flat_map};
-ghost use Rattle.id_bank.specs.Cells.{cells_of, deferred_of};
-ghost use Rattle.id_observe.specs.Observed.{HaveNoCells, MakesNone, IsNamed, answer_in, ask_of, cell_value_of};
-ghost use Rattle.id_observe.specs.Observed.{cell_values_in, shape_at, source_value, structures_in};
+ghost use Rattle.id_slot.specs.Cells.{cells_of, deferred_of};
+ghost use Rattle.id_observed.specs.Observed.{HaveNoCells, MakesNone, IsNamed, answer_in, ask_of, cell_value_of};
+ghost use Rattle.id_observed.specs.Observed.{cell_values_in, shape_at, source_value, structures_in};
 ghost use Rattle.id_paths.specs.Paths.{structure_by};
-ghost use Rattle.id_observe.specs.Observed.{waiting_in};
+ghost use Rattle.id_observed.specs.Observed.{waiting_in};
 ghost use Rattle.id_paths.specs.Paths.{path_by};
 
-use crate::observe::{all_structures, all_waiting, answer, source_value, value_in};
 use id_bank::{Cells, Filled};
 use id_element::Element;
 use id_graph::Graph;
 use id_list::Sequence;
 use id_meaning::{Ask, Path, Shape, Site, SourceValue};
+use id_observed::{CellValue, Named, all_structures, all_waiting, answer, source_value, value_in};
 use id_paths::{Paths, is_alloc};
 use id_tag::Structure;
 use id_valid::Valid;
 use std::alloc::{AllocError, Global};
-
-/// What a cell holds.
-#[derive(Drop)]
-pub struct CellValue {
-    /// The name of its structure.
-    pub name: Site,
-    pub index: i64,
-    pub value: SourceValue,
-}
 
 /// What a run shows of its answer and of structures, named by paths and places of the text alone.
 #[derive(Drop)]
@@ -153,13 +144,6 @@ fn all_cell_values(
         add_cell_values(alloc, paths, element.cells(alloc)?, &mut values)?;
     }
     Ok(values)
-}
-
-/// A structure and its name.
-#[derive(Drop)]
-struct Named {
-    structure: Structure,
-    name: Site,
 }
 
 /// Adds what these cells hold. Where many of one structure stand together, its name is looked up once for them.

@@ -7,12 +7,9 @@
 //!     what is shown is printed (`id_print`).
 #![tactic(auto)]
 
-mod first;
 mod holdings;
-mod observe;
 
-pub use first::first_fault;
-pub use holdings::{CellValue, Holdings, observe_holdings};
+pub use holdings::{Holdings, observe_holdings};
 pub use id_merge::{Merged, merge_records};
+pub use id_observed::{CellValue, Observed, answer, first_fault, observe_records};
 pub use id_paths::main_tag;
-pub use observe::{Observed, answer, observe_records};

@@ -11,13 +11,13 @@ use Rattle.id_value.specs.declared.FaultKind.TheVariants.{BadBounds, OutOfBounds
 use Rattle.id_value.specs.Bounds.{are_good, is_inside}
 use Rattle.id_value.specs.Results.{calculated, whole}
 use Rattle.id_value.proofs.ResultsLemmas.{IsNumberOrFault, calculated-number, whole-number}
-use Rattle.id_graph.specs.declared.instr.PortKind.{PortKind}
-use Rattle.id_graph.specs.declared.instr.PortKind.TheVariants as kind
-use Rattle.id_graph.specs.declared.instr.Dyadic.{Dyadic}
-use Rattle.id_graph.specs.declared.instr.Dyadic.TheVariants as class
-use Rattle.id_graph.specs.declared.instr.Op.{Op}
-use Rattle.id_graph.specs.declared.instr.Op.TheVariants.{Const, Unary, Binary, Merge, Switch, Back, Enter, Send, Next, Reset, Alloc, Address, Fetch, Store}
-use Rattle.id_graph.specs.Ports.{sends}
+use Rattle.id_instr.specs.declared.instr.PortKind.{PortKind}
+use Rattle.id_instr.specs.declared.instr.PortKind.TheVariants as kind
+use Rattle.id_instr.specs.declared.instr.Dyadic.{Dyadic}
+use Rattle.id_instr.specs.declared.instr.Dyadic.TheVariants as class
+use Rattle.id_instr.specs.declared.instr.Op.{Op}
+use Rattle.id_instr.specs.declared.instr.Op.TheVariants.{Const, Unary, Binary, Merge, Switch, Back, Enter, Send, Next, Reset, Alloc, Address, Fetch, Store}
+use Rattle.id_instr.specs.Ports.{sends}
 use Rattle.id_tag.specs.Kinds.{kind_of, same_kind}
 use Rattle.id_tag.specs.declared.Context.{Context}
 use Rattle.id_tag.specs.declared.Structure.{Structure}

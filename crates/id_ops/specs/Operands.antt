@@ -1,10 +1,10 @@
 -- Operands and results against the ports of the operator (docs/MACHINE.md, "Firing").
 use Rattle.std.specs.Prelude.{◌≡◌, IsTrue, Some, None}
-use Rattle.id_graph.specs.declared.instr.Op.{Op}
-use Rattle.id_graph.specs.declared.instr.Op.TheVariants.{Fetch, Store}
-use Rattle.id_graph.specs.declared.instr.PortKind.TheVariants.{Int, Context}
-use Rattle.id_graph.specs.declared.dests.Port.TheVariants.{Zero, One as OnePort}
-use Rattle.id_graph.specs.Ports.{port_kind, sends, two_sides}
+use Rattle.id_instr.specs.declared.instr.Op.{Op}
+use Rattle.id_instr.specs.declared.instr.Op.TheVariants.{Fetch, Store}
+use Rattle.id_instr.specs.declared.instr.PortKind.TheVariants.{Int, Context}
+use Rattle.id_instr.specs.declared.dests.Port.TheVariants.{Zero, One as OnePort}
+use Rattle.id_instr.specs.Ports.{port_kind, sends, two_sides}
 use Rattle.id_tag.specs.Kinds.{kind_of}
 use Rattle.id_ops.specs.declared.Operands.{Operands}
 use Rattle.id_ops.specs.declared.Operands.TheVariants.{One, Two}

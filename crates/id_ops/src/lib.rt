@@ -8,8 +8,8 @@
 #![tactic(auto)]
 
 ghost use Rattle.std.specs.Prelude.{◌≡◌, ◌≢◌, ◌<◌, ◌-◌, ◌^◌};
-ghost use Rattle.id_graph.specs.declared.instr.Op.TheVariants.{Next};
-ghost use Rattle.id_graph.specs.declared.instr.PortKind.{PortKind};
+ghost use Rattle.id_instr.specs.declared.instr.Op.TheVariants.{Next};
+ghost use Rattle.id_instr.specs.declared.instr.PortKind.{PortKind};
 ghost use Rattle.id_ops.specs.declared.Fired.TheVariants.{Nothing};
 ghost use Rattle.id_ops.specs.Operands.{Suits, IsOfKind};
 ghost use Rattle.id_ops.specs.Operators.{constant_value, fired_by, fired_const, fired_unary, fired_binary, fired_merge};

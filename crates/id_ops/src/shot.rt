@@ -2,8 +2,8 @@
 
 ghost use Rattle.std.specs.Prelude.{◌≡◌, ◌≢◌, ◌<◌, ◌-◌, ◌^◌, ℕ, true, false, None, IfSome};
 ghost use Rattle.std.specs.Option.{is_some};
-ghost use Rattle.id_graph.specs.declared.instr.Op.TheVariants.{Alloc, Next};
-ghost use Rattle.id_graph.specs.declared.instr.PortKind.{PortKind};
+ghost use Rattle.id_instr.specs.declared.instr.Op.TheVariants.{Alloc, Next};
+ghost use Rattle.id_instr.specs.declared.instr.PortKind.{PortKind};
 ghost use Rattle.id_tag.specs.Plains.{is_word, whole};
 ghost use Rattle.id_tag.specs.Kinds.{kind_of};
 ghost use Rattle.id_tag.specs.declared.Tag.{Tag};

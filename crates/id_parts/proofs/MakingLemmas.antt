@@ -6,29 +6,29 @@ use mathlib.Core.Former.{Count}
 use Rattle.id_value.specs.declared.Kind.{Kind}
 use Rattle.id_value.specs.declared.BinaryOp.{BinaryOp}
 use Rattle.id_value.specs.declared.UnaryOp.{UnaryOp}
-use Rattle.id_tree.specs.declared.tree.Expr.{Loop, Loop'}
-use Rattle.id_tree.specs.declared.tree.Expr.{Expr, Array, Binary, Fetch, If, Unary, Call, Call', Block, Block'}
-use Rattle.id_tree.specs.declared.tree.Pair.{Pair}
-use Rattle.id_tree.specs.declared.tree.Expr.{Row_of-Expr, end_of-Expr, more_of-Expr, items-the_row-Expr, items_hidden-the_row-Expr-0}
-use Rattle.id_tree.specs.declared.tree.Expr.{Row_of-Stmt, end_of-Stmt, more_of-Stmt, items-the_row-Stmt, items_hidden-the_row-Stmt-1}
-use Rattle.id_tree.specs.declared.tree.Triple.{Triple}
-use Rattle.id_tree.specs.declared.tree.Call.{Call as Passing}
-use Rattle.id_tree.specs.declared.tree.Block.{Block as Inner}
-use Rattle.id_tree.specs.declared.tree.Loop.{Loop as Round}
-use Rattle.id_tree.specs.declared.tree.Def.{Def}
-use Rattle.id_tree.specs.declared.tree.Stmt.{Stmt}
-use Rattle.id_tree.specs.declared.tree.Stmt as stmt
-use Rattle.id_tree.specs.Tree.{Tree, array, binary, call, block, binding, conditional, fetch, store, define, loop, more, unary}
-use Rattle.id_tree.specs.Tree.{tree_of, args_tree, stmt_tree, row_tree, def_tree, defs_tree}
-use Rattle.id_parts.specs.declared.node.Pairing.{Pairing}
-use Rattle.id_parts.specs.declared.node.Pairing.TheVariants as pair
-use Rattle.id_parts.specs.declared.row.Stand.{Stand}
-use Rattle.id_parts.specs.declared.row.Node.{Node}
-use Rattle.id_parts.specs.declared.row.Node.TheVariants as node
-use Rattle.id_parts.specs.Names.{number_of}
-use Rattle.id_parts.specs.Rows.{Parts, add, add_arguments, add_nexts, arm, begin_loop, count_of, in_top, last, naming, size, with_row}
-use Rattle.id_parts.specs.Nodes.{other_side, pair_node}
-use Rattle.id_parts.specs.Making.{IsAdded, add_argument, add_body, add_next, end_loop, exprs_tree, pair_tree, stmts_tree}
+use Rattle.id_grammar.specs.declared.tree.Expr.{Loop, Loop'}
+use Rattle.id_grammar.specs.declared.tree.Expr.{Expr, Array, Binary, Fetch, If, Unary, Call, Call', Block, Block'}
+use Rattle.id_grammar.specs.declared.tree.Pair.{Pair}
+use Rattle.id_grammar.specs.declared.tree.Expr.{Row_of-Expr, end_of-Expr, more_of-Expr, items-the_row-Expr, items_hidden-the_row-Expr-0}
+use Rattle.id_grammar.specs.declared.tree.Expr.{Row_of-Stmt, end_of-Stmt, more_of-Stmt, items-the_row-Stmt, items_hidden-the_row-Stmt-1}
+use Rattle.id_grammar.specs.declared.tree.Triple.{Triple}
+use Rattle.id_grammar.specs.declared.tree.Call.{Call as Passing}
+use Rattle.id_grammar.specs.declared.tree.Block.{Block as Inner}
+use Rattle.id_grammar.specs.declared.tree.Loop.{Loop as Round}
+use Rattle.id_grammar.specs.declared.tree.Def.{Def}
+use Rattle.id_grammar.specs.declared.tree.Stmt.{Stmt}
+use Rattle.id_grammar.specs.declared.tree.Stmt as stmt
+use Rattle.id_grammar.specs.Tree.{Tree, array, binary, call, block, binding, conditional, fetch, store, define, loop, more, unary}
+use Rattle.id_grammar.specs.Tree.{tree_of, args_tree, stmt_tree, row_tree, def_tree, defs_tree}
+use Rattle.id_table.specs.declared.node.Pairing.{Pairing}
+use Rattle.id_table.specs.declared.node.Pairing.TheVariants as pair
+use Rattle.id_table.specs.declared.row.Stand.{Stand}
+use Rattle.id_table.specs.declared.row.Node.{Node}
+use Rattle.id_table.specs.declared.row.Node.TheVariants as node
+use Rattle.id_table.specs.Names.{number_of}
+use Rattle.id_table.specs.Rows.{Parts, add, add_arguments, add_nexts, arm, begin_loop, count_of, in_top, last, naming, size, with_row}
+use Rattle.id_table.specs.Nodes.{other_side, pair_node}
+use Rattle.id_maker.specs.Making.{IsAdded, add_argument, add_body, add_next, end_loop, exprs_tree, pair_tree, stmts_tree}
 
 row_tree-items : (n : _) (r : Row_of-Stmt n) → row_tree r ≡ stmts_tree (items-the_row-Stmt n r)
 row_tree-items _ end_of-Stmt = refl

@@ -1,38 +1,13 @@
-//! The parts of a program as one flat table, made once from its tree.
+//! The parts of a program as one flat table, made once from its tree, by one walk over it.
 //!
 //! Keeps: each part stands before its row, within the row's interval; the intervals nest.
 //! Errors: want of memory alone.
-//! Read first: `Node` (which forms have which rows), `specs/Rows.antt`, then `table_of`; docs/GRAPH.md ("Parts").
-//! Not here: the tree (`id_tree`), binders and kinds (`id_check`).
-//!
-//! Rows stand in the order in which the text finishes its parts; a **marker** row stands wherever a region or a
-//! scope begins that has no row of its own, or where instructions are made between parts. A row's own parts are
-//! the rows from `first` up to it. The rows of each form:
-//!
-//! | Form | Its rows, in order |
-//! |---|---|
-//! | definition | `Head`, a `Param` each, the body's rows, `Def` |
-//! | literal, name, unary, binary | the parts' rows, then its own |
-//! | block | each statement's rows, the body's rows, `Block` |
-//! | binding | its expression's rows, `Binding` |
-//! | conditional | the predicate's rows, `Split`, the `then` arm's, the `else` arm's, `If` |
-//! | call | `Enter`, for each argument its rows and `Arg`, then `Call` |
-//! | array | lo, hi, `Array` |
-//! | fetch | target, index, `Fetch` |
-//! | store | target, index, `Address`, value, `Store` |
-//! | loop, to its body | `Start`, `LoopHead`, a `Variable` each, `Entries`, the predicate's rows, `Switches`, `Turn` |
-//! | loop, from there on | each statement's rows, `Body`, the last expression's rows, `Reset`, `Loop` |
-//! | `next` | `NextUse`, its expression's rows, `Next` |
-//! | program | the definitions' rows, then `Program` |
+//! Read first: `Node` and `specs/Rows.antt` (`id_table`), then `table_of`; docs/GRAPH.md ("Parts").
+//! Not here: rows and what is so of their table (`id_table`), how one is added (`id_maker`), the tree (`id_tree`),
+//! binders and kinds (`id_check`).
 #![tactic(auto)]
 
-mod maker;
-mod names;
-mod node;
-mod room;
-mod row;
-mod spelled;
 mod walk;
 
-pub use row::{Node, Region, Row, Table};
+pub use id_table::{Node, Region, Row, Table};
 pub use walk::table_of;

@@ -1,17 +1,16 @@
 //! The walk over the tree, in which a name gets its number where it first stands.
 
 ghost use Rattle.std.specs.Prelude.{◌≡◌, codes, IfOk, OnOk};
-ghost use Rattle.id_tree.specs.Tree.{unary, conditional, call, block, binding, loop as loop_tree, store};
-ghost use Rattle.id_tree.specs.Tree.{tree_of, stmt_tree, def_tree, defs_tree, program_tree};
-ghost use Rattle.id_parts.specs.Rows.{in_top, add, add_arguments, parts_of, rows_of};
-ghost use Rattle.id_parts.specs.Making.{add_argument, add_body, add_next, pair_tree};
-ghost use Rattle.id_parts.specs.Making.{parts, exprs_tree, stmts_tree, IsAdded, IsStart};
+ghost use Rattle.id_grammar.specs.Tree.{unary, conditional, call, block, binding, loop as loop_tree, store};
+ghost use Rattle.id_grammar.specs.Tree.{tree_of, stmt_tree, def_tree, defs_tree, program_tree};
+ghost use Rattle.id_table.specs.Rows.{in_top, add, add_arguments, parts_of, rows_of};
+ghost use Rattle.id_maker.specs.Making.{add_argument, add_body, add_next, pair_tree};
+ghost use Rattle.id_maker.specs.Making.{parts, exprs_tree, stmts_tree, IsAdded, IsStart};
 
-use crate::maker::Maker;
-use crate::names::names_of;
-use crate::node::{Pairing, other_side, pair_node, stand_in};
-use crate::room::{about_names, about_rows};
-use crate::row::{Node, Stand, Table};
+use id_maker::Maker;
+use id_table::{
+    Node, Pairing, Stand, Table, about_names, about_rows, names_of, other_side, pair_node, stand_in,
+};
 use id_text::Identifier;
 use id_tree::{Block, Call, Def, Expr, Loop, Pair, Program, Stmt, Triple};
 use id_value::UnaryOp;

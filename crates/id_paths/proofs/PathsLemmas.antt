@@ -6,20 +6,20 @@ use Rattle.std.proofs.lemmas.List.{append-nil, append_assoc, reverse-append}
 use Rattle.id_paths.proofs.WalksLemmas.{events-next}
 use Rattle.std.specs.HashMap.{get}
 use Rattle.std.specs.Option.{option_map_or, option_or}
-use Rattle.id_graph.specs.Graph.{Parts}
+use Rattle.id_instr.specs.Graph.{Parts}
 use Rattle.id_tag.specs.declared.Context.{Context}
 use Rattle.id_tag.specs.declared.Tag.{Tag}
 use Rattle.id_tag.specs.declared.Structure.{Structure}
 use Rattle.id_tag.specs.Tags.{same_context, same_structure}
-use Rattle.id_record.specs.Events.{EventView, tag_of}
-use Rattle.id_graph.specs.declared.instr.Op.{Op}
+use Rattle.id_line.specs.Events.{EventView, tag_of}
+use Rattle.id_instr.specs.declared.instr.Op.{Op}
 use Rattle.id_valid.specs.Roles.{op_at}
 use Rattle.std.specs.Prelude.{option_map}
-use Rattle.id_element.specs.Replays.{ElementView}
+use Rattle.id_desk.specs.Replays.{ElementView}
 use Rattle.id_list.specs.List.{Among}
 use Rattle.id_paths.specs.declared.paths.Paths.{Paths}
 use Rattle.id_paths.specs.Paths.{events_of, name_by, structure_by}
-use Rattle.id_meaning.specs.declared.PathStep.{PathStep}
+use Rattle.id_source.specs.declared.PathStep.{PathStep}
 use Rattle.id_paths.specs.Paths.{enter_in, enter_of, maker_in, maker_of, path_by, path_of, step_of, steps_to}
 
 some_none : {X : Type 0} {x : X} → Some x ≡ None → ⊥

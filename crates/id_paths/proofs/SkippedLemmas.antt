@@ -3,9 +3,9 @@ use Rattle.std.proofs.Common.{◌≡◌, ◌≢◌, ℕ, zero, suc, ◌<◌, Boo
 use Rattle.std.proofs.Common.{length, refl, sym, ap, ◌∙◌, arith}
 use Rattle.std.specs.Prelude.{◌==◌, if◌then◌else◌, slice_get, option_map}
 use Rattle.std.proofs.lemmas.Bool.{ne_eqb}
-use Rattle.id_graph.specs.declared.instr.Op.{Op}
-use Rattle.id_graph.specs.declared.instr.Op.TheVariants.{Const, Unary, Binary, Merge, Switch, Back, Enter, Send, Next, Reset, Alloc, Address, Fetch, Store}
-use Rattle.id_graph.specs.Graph.{Parts}
+use Rattle.id_instr.specs.declared.instr.Op.{Op}
+use Rattle.id_instr.specs.declared.instr.Op.TheVariants.{Const, Unary, Binary, Merge, Switch, Back, Enter, Send, Next, Reset, Alloc, Address, Fetch, Store}
+use Rattle.id_instr.specs.Graph.{Parts}
 use Rattle.id_valid.specs.Roles.{op_at}
 use Rattle.id_tag.specs.declared.Context.{Context}
 use Rattle.id_tag.specs.declared.Message.{Message}
@@ -14,7 +14,7 @@ use Rattle.id_tag.specs.declared.Payload.TheVariants.{Token, Read, Write}
 use Rattle.id_tag.specs.declared.Structure.{Structure}
 use Rattle.id_tag.specs.Tags.{same_context}
 use Rattle.id_ops.specs.declared.Fired.{Fired}
-use Rattle.id_record.specs.Events.{EventView, tag_of}
+use Rattle.id_line.specs.Events.{EventView, tag_of}
 use Rattle.id_paths.specs.Paths.{enter_of, entered, entered_by, if_made, if_same, is_alloc, is_enter, made_by, maker_of, making_of}
 use Rattle.id_paths.specs.Paths.{brought, main_tag}
 

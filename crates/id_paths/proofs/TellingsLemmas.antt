@@ -8,9 +8,9 @@ use Rattle.std.specs.FinMap.{get}
 use Rattle.std.specs.Option.{option_or}
 use Rattle.std.proofs.lemmas.List.Elements.{All-from_recursion}
 use Rattle.std.proofs.lemmas.Option.{get_or_from_slice_get}
-use Rattle.id_graph.specs.declared.instr.Op.{Op}
-use Rattle.id_graph.specs.declared.instr.Op.TheVariants.{Alloc, Enter}
-use Rattle.id_graph.specs.Graph.{Parts}
+use Rattle.id_instr.specs.declared.instr.Op.{Op}
+use Rattle.id_instr.specs.declared.instr.Op.TheVariants.{Alloc, Enter}
+use Rattle.id_instr.specs.Graph.{Parts}
 use Rattle.id_valid.specs.Roles.{op_at}
 use Rattle.id_tag.specs.declared.Context.{Context}
 use Rattle.id_tag.specs.declared.Structure.{Structure}
@@ -21,13 +21,13 @@ use Rattle.id_tag.specs.declared.Payload.TheVariants.{Token, Read, Write}
 use Rattle.id_tag.specs.declared.Value.TheVariants as value
 use Rattle.id_ops.specs.declared.Fired.{Fired}
 use Rattle.id_ops.specs.declared.Fired.TheVariants.{Out, Nothing}
-use Rattle.id_bank.specs.declared.ReadAnswer.{ReadAnswer}
-use Rattle.id_bank.specs.declared.ReadAnswer.TheVariants.{Now, Deferred}
-use Rattle.id_bank.specs.Cells.{read_answer}
-use Rattle.id_element.specs.Replays.{ElementView, Replays, after_all, messages}
-use Rattle.id_element.specs.Steps.{State, answer_fired, event_of, fresh, next_numbers, next_stamp, outcome, state_after}
+use Rattle.id_slot.specs.declared.ReadAnswer.{ReadAnswer}
+use Rattle.id_slot.specs.declared.ReadAnswer.TheVariants.{Now, Deferred}
+use Rattle.id_slot.specs.Cells.{read_answer}
+use Rattle.id_desk.specs.Replays.{ElementView, Replays, after_all, messages}
+use Rattle.id_firing.specs.Steps.{State, answer_fired, event_of, fresh, next_numbers, next_stamp, outcome, state_after}
 use Rattle.id_element.proofs.TellingsLemmas.{alloc-makes_nothing, enter-sends_nothing}
-use Rattle.id_record.specs.Events.{EventView, tag_of}
+use Rattle.id_line.specs.Events.{EventView, tag_of}
 use Rattle.id_record.specs.Sends.{numbered}
 use Rattle.id_record.specs.Tellings.{is_telling, makes, tells, told_at, telling_from}
 use Rattle.id_record.proofs.EachLemmas.{each-append, each-weaker}

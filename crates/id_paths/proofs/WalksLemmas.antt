@@ -7,8 +7,8 @@ use Rattle.std.proofs.lemmas.List.Elements.{filter_map-append}
 use Rattle.std.proofs.lemmas.Grind.{flat_map-append}
 use Rattle.std.proofs.lemmas.Option.{slice_get_within, get_or_from_slice_get}
 use Rattle.std.proofs.Math.Seq.{drop-cons}
-use Rattle.id_element.specs.Steps.{State}
-use Rattle.id_element.specs.Replays.{ElementView}
+use Rattle.id_firing.specs.Steps.{State}
+use Rattle.id_desk.specs.Replays.{ElementView}
 use Rattle.id_paths.specs.Paths.{events_of}
 
 -- one more element at the end of what was walked over

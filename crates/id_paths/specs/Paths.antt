@@ -4,9 +4,9 @@ use Rattle.std.specs.Prelude.{Option, Some, None, slice_get, option_map, if◌th
 use Rattle.std.specs.List.{filter_map}
 use Rattle.std.specs.HashMap.{get}
 use Rattle.std.specs.Option.{option_map_or, option_or}
-use Rattle.id_graph.specs.declared.instr.Op.{Op}
-use Rattle.id_graph.specs.declared.instr.Op.TheVariants.{Alloc, Enter}
-use Rattle.id_graph.specs.Graph.{Parts}
+use Rattle.id_instr.specs.declared.instr.Op.{Op}
+use Rattle.id_instr.specs.declared.instr.Op.TheVariants.{Alloc, Enter}
+use Rattle.id_instr.specs.Graph.{Parts}
 use Rattle.id_valid.specs.Roles.{op_at}
 use Rattle.id_tag.specs.declared.Context.{Context}
 use Rattle.id_tag.specs.declared.Tag.{Tag}
@@ -18,17 +18,17 @@ use Rattle.id_tag.specs.declared.Message.{Message}
 use Rattle.id_tag.specs.Tags.{same_context, same_structure}
 use Rattle.id_ops.specs.declared.Fired.{Fired}
 use Rattle.id_ops.specs.declared.Fired.TheVariants.{Out}
-use Rattle.id_record.specs.Events.{EventView, tag_of}
+use Rattle.id_line.specs.Events.{EventView, tag_of}
 use Rattle.id_paths.specs.declared.paths.Making.{Making}
 use Rattle.id_paths.specs.declared.paths.Paths.{Paths}
-use Rattle.id_meaning.specs.declared.Path.{Path}
-use Rattle.id_meaning.specs.declared.PathStep.{PathStep}
+use Rattle.id_source.specs.declared.Path.{Path}
+use Rattle.id_source.specs.declared.PathStep.{PathStep}
 use Rattle.std.specs.Prelude.{unwrap_or}
 use Rattle.std.specs.List.{flat_map}
 use Rattle.id_tag.specs.declared.Value.{Value}
 use Rattle.id_tag.specs.Tags.{same_tag}
-use Rattle.id_meaning.specs.declared.Site.{Site}
-use Rattle.id_element.specs.Steps.{State}
+use Rattle.id_source.specs.declared.Site.{Site}
+use Rattle.id_firing.specs.Steps.{State}
 
 -- the place of the instruction of this number
 abbrev pub place_of : Parts → ℕ → ℕ

@@ -6,7 +6,7 @@ ghost use Rattle.std.specs.List.{cons_option};
 ghost use Rattle.std.specs.Option.{option_or};
 ghost use Rattle.std.specs.HashMap.{get};
 ghost use Rattle.id_tag.specs.Tags.{same_context, same_structure};
-ghost use Rattle.id_record.specs.Events.{EventView, tag_of};
+ghost use Rattle.id_line.specs.Events.{EventView, tag_of};
 ghost use Rattle.id_valid.specs.Roles.{op_at};
 ghost use Rattle.id_paths.specs.Paths.{answers, brought, events_of, main_tag, place_of};
 ghost use Rattle.id_paths.specs.Paths.{enter_in, entered, entered_by, enters_loop, if_made, if_same, last_context};

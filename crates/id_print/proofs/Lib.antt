@@ -1,2 +1,1 @@
-pub mod NamesLemmas
-mod HeldsLemmas
+pub mod PartlyLemmas

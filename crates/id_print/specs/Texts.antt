@@ -2,21 +2,21 @@
 use Rattle.std.specs.Prelude.{ℕ, ℤ, List, ◌++◌, Option, None, Some}
 use Rattle.std.specs.Prelude.{codes}
 use Rattle.std.specs.List.{flat_map}
-use Rattle.id_meaning.specs.declared.SourceValue.{SourceValue}
-use Rattle.id_meaning.specs.declared.Site.{Site}
-use Rattle.id_meaning.specs.declared.Shape.{Shape}
-use Rattle.id_meaning.specs.declared.Put.{Put}
-use Rattle.id_meaning.specs.declared.Ask.{Ask}
+use Rattle.id_source.specs.declared.SourceValue.{SourceValue}
+use Rattle.id_source.specs.declared.Site.{Site}
+use Rattle.id_source.specs.declared.Shape.{Shape}
+use Rattle.id_source.specs.declared.Put.{Put}
+use Rattle.id_source.specs.declared.Ask.{Ask}
 use Rattle.id_value.specs.declared.FaultKind.{FaultKind}
 use Rattle.id_value.specs.declared.FaultKind.TheVariants.{Overflow, DivisionByZero, BadBounds, OutOfBounds}
-use Rattle.id_meaning.specs.declared.SourceFault.{SourceFault}
-use Rattle.id_meaning.specs.declared.SourceFault.TheVariants.{Operator, SecondStore}
-use Rattle.id_meaning.specs.declared.NameValue.{NameValue}
-use Rattle.id_meaning.specs.declared.Fact.{Fact}
-use Rattle.id_meaning.specs.declared.Fact.TheVariants.{On, Has}
-use Rattle.id_meaning.specs.declared.Fact.TheVariants as fact
-use Rattle.id_print.specs.declared.report.Held.{Held}
-use Rattle.id_print.specs.declared.report.Held.TheVariants as held
+use Rattle.id_source.specs.declared.SourceFault.{SourceFault}
+use Rattle.id_source.specs.declared.SourceFault.TheVariants.{Operator, SecondStore}
+use Rattle.id_source.specs.declared.NameValue.{NameValue}
+use Rattle.id_source.specs.declared.Fact.{Fact}
+use Rattle.id_source.specs.declared.Fact.TheVariants.{On, Has}
+use Rattle.id_source.specs.declared.Fact.TheVariants as fact
+use Rattle.id_names.specs.declared.helds.Held.{Held}
+use Rattle.id_names.specs.declared.helds.Held.TheVariants as held
 use Rattle.id_sink.specs.Texts.{point_text, site_text, value_text, point_value_text, shape_text}
 use Rattle.id_sink.specs.Texts.{cell_text, filled_text, ask_text}
 

@@ -7,13 +7,10 @@
 #![tactic(auto)]
 
 mod facts;
-mod helds;
-mod names;
 mod report;
-mod within;
 
 pub use facts::{facts_within, write_facts};
-pub use helds::Helds;
+pub use id_names::{Ending, Held, Helds};
 pub use id_sink::{PrintError, Sink, SinkFault, put, put_number, put_place};
 pub use id_trace::write_trace;
-pub use report::{Ending, Held, Report, is_within, run_report, write_fault, write_report};
+pub use report::{Report, is_within, run_report, write_fault, write_report};

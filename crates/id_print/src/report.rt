@@ -2,29 +2,31 @@
 
 ghost use Rattle.std.specs.Prelude.{◌≡◌, ◌≤◌, ◌↔◌, ◌++◌, [], codes, length, map, IsTrue, IsFalse, IfOk};
 ghost use Rattle.id_core.specs.Observed.{answer, faults, names, waiting};
-ghost use Rattle.id_meaning.specs.Orders.{NamesRise, Rises};
-ghost use Rattle.id_print.specs.declared.report.Held.TheVariants as held;
+ghost use Rattle.id_source.specs.Orders.{NamesRise, Rises};
+ghost use Rattle.id_names.specs.declared.helds.Held.TheVariants as held;
 ghost use Rattle.id_print.specs.Endings.{EndsSo};
-ghost use Rattle.id_print.specs.Names.{IsOrderOf, IsSortedOf, AreApart, AreApartBy, HeldBefore, WaitBefore};
-ghost use Rattle.id_print.specs.Names.{OfOneThing, OfOneFetch, held_lines};
+ghost use Rattle.id_names.specs.Names.{IsOrderOf, IsSortedOf, AreApart, AreApartBy, HeldBefore, WaitBefore};
+ghost use Rattle.id_names.specs.Names.{OfOneThing, OfOneFetch, held_lines};
 ghost use Rattle.id_sink.specs.Told.{Prints};
 ghost use Rattle.id_print.specs.Texts.{kind_text, fault_head_text, fault_text, answer_text, answer_value_text};
 ghost use Rattle.id_print.specs.Texts.{name_text, names_text, helds_text, waiting_text, waitings_text};
 ghost use Rattle.id_print.specs.Texts.{shown_text, quiet_text, stopped_text, stores_text, second_text};
 ghost use Rattle.id_sink.specs.Texts.{site_text};
 ghost use Rattle.id_sink.specs.Texts.{shape_text, filled_text};
-ghost use Rattle.id_print.specs.Helds.{joined};
+ghost use Rattle.id_names.specs.Helds.{joined};
 ghost use Rattle.id_print.specs.Reports.{asked, report_text};
 ghost use Rattle.id_sink.specs.Within.{SiteWithin, FilledWithin, AskWithin};
-ghost use Rattle.id_print.specs.Within.{SecondWithin, FaultWithin, NameWithin};
-ghost use Rattle.id_print.specs.Within.{NamesWithin, HeldsWithin, AsksWithin, AnswerWithin, ReportWithin};
+ghost use Rattle.id_names.specs.Within.{SecondWithin, FaultWithin, NameWithin};
+ghost use Rattle.id_names.specs.Within.{NamesWithin, HeldsWithin, AsksWithin, AnswerWithin};
+ghost use Rattle.id_print.specs.Reports.{ReportWithin};
 
-use crate::helds::{Helds, behind_first, has_lines, is_cell_first};
-use crate::names::{sorted_asks, sorted_names};
-use crate::within::{are_asks_within, are_names_within, is_answer_within, is_ending_within};
 use id_core::{CellValue, Machine};
 use id_list::Sequence;
 use id_meaning::{Ask, NameValue, Shape, Site, SourceFault, SourceValue};
+use id_names::{
+    Ending, Helds, are_asks_within, are_names_within, behind_first, has_lines, is_answer_within,
+    is_cell_first, is_ending_within, sorted_asks, sorted_names,
+};
 use id_sink::{
     Cursor, PrintError, Sink, put, put_ask, put_cell, put_content, put_point_value, put_shape,
     put_site, put_value,
@@ -32,26 +34,6 @@ use id_sink::{
 use id_text::MAX_BYTES;
 use id_value::FaultKind;
 use std::alloc::{AllocError, Global};
-
-/// How a run ended.
-#[derive(Drop)]
-pub enum Ending {
-    /// Nothing is in flight, and there was no fault.
-    Quiet,
-    /// Something is in flight for an element at its step limit.
-    Stopped,
-    /// This fault was met.
-    Fault(SourceFault),
-}
-
-/// A line about a structure.
-#[derive(Drop)]
-pub enum Held {
-    /// Its bounds.
-    Array(Shape),
-    /// A cell of it, and what it holds.
-    Cell(CellValue),
-}
 
 /// What a run has shown: how it ended, the answer, what binders have, by path and place, where that was asked for, the
 /// structures with their cells, by name and index, and the fetches that wait, by path and place.

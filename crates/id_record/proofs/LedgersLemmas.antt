@@ -2,12 +2,12 @@
 use Rattle.std.proofs.Common.{◌≡◌, ℕ, zero, suc, ◌+◌, ◌%◌, ◌^◌, ◌<◌, List, [], ◌∷◌, ◌++◌, Some, get_or, length, refl, sym, ap, ◌∙◌, arith}
 use Rattle.std.specs.Prelude.{Bool, IsFalse, IsTrue, true, false, slice_get}
 use Rattle.id_tag.specs.declared.Value.TheVariants as value
-use Rattle.id_record.specs.declared.line.Line.{Line}
-use Rattle.id_record.specs.declared.line.Kind.{Kind}
-use Rattle.id_record.specs.declared.line.Kind.TheVariants as kind
-use Rattle.id_record.specs.Lines.{Beside, IsThere, IsWithin, index_of, own, read, unpacked}
-use Rattle.id_record.specs.declared.line.ledger.Bare.{Bare}
-use Rattle.id_record.specs.declared.line.ledger.Stamps.{Stamps}
+use Rattle.id_line.specs.declared.line.Line.{Line}
+use Rattle.id_line.specs.declared.line.Kind.{Kind}
+use Rattle.id_line.specs.declared.line.Kind.TheVariants as kind
+use Rattle.id_line.specs.Lines.{Beside, IsThere, IsWithin, index_of, own, read, unpacked}
+use Rattle.id_record.specs.declared.ledger.Bare.{Bare}
+use Rattle.id_record.specs.declared.ledger.Stamps.{Stamps}
 use Rattle.id_record.specs.Ledgers.{AreBeside, Follows, bare_of, following, lines_in, sent_at, stamp_at, stamped, stamps_at, stamps_of, with_stamps}
 
 -- the stamps of a line that follow are those that follow for it

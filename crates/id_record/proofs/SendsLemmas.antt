@@ -1,8 +1,8 @@
 -- Lemmas on specs/Sends.antt, in the order of its definitions.
 use Rattle.std.specs.Prelude.{slice_get, option_map}
 use Rattle.std.proofs.lemmas.Option.{slice_get_within}
-use Rattle.id_graph.specs.Graph.{Parts, IsGraph}
-use Rattle.id_graph.specs.declared.instr.Instr.{Instr}
+use Rattle.id_instr.specs.Graph.{Parts, IsGraph}
+use Rattle.id_instr.specs.declared.instr.Instr.{Instr}
 use Rattle.id_valid.specs.Roles.{op_at}
 use Rattle.id_valid.specs.Validator.{IsValid}
 use Rattle.id_valid.proofs.ValidatorLemmas.{IsEntered-valid}
@@ -10,16 +10,16 @@ use Rattle.std.proofs.Common.{zero, suc, Some, ◌≡◌, ◌⊎◌, inl, inr, B
 use Rattle.std.proofs.Common.{List, [], ◌∷◌, ◌++◌, length, length-append, map, max, take, get_or, refl, sym, ap, ◌∙◌, arith}
 use Rattle.std.proofs.lemmas.List.{append_assoc, length-map, length-take, map_more, take_more}
 use Rattle.std.specs.Prelude.{Option, None}
-use Rattle.id_graph.specs.declared.instr.Op.{Op}
-use Rattle.id_graph.specs.declared.instr.Op.TheVariants.{Const, Unary, Binary, Merge, Switch, Back, Enter, Send, Next, Reset, Alloc, Address, Fetch, Store}
-use Rattle.id_graph.specs.declared.dests.Dest.{Dest}
+use Rattle.id_instr.specs.declared.instr.Op.{Op}
+use Rattle.id_instr.specs.declared.instr.Op.TheVariants.{Const, Unary, Binary, Merge, Switch, Back, Enter, Send, Next, Reset, Alloc, Address, Fetch, Store}
+use Rattle.id_instr.specs.declared.dests.Dest.{Dest}
 use Rattle.id_tag.specs.declared.Context.{Context}
 use Rattle.id_tag.specs.declared.Tag.{Tag}
 use Rattle.id_tag.specs.declared.Value.{Value}
 use Rattle.id_tag.specs.declared.Value.TheVariants as value
 use Rattle.id_tag.specs.declared.Payload.{Payload}
 use Rattle.id_tag.specs.declared.Payload.TheVariants.{Token}
-use Rattle.id_graph.specs.declared.dests.Port.TheVariants.{Zero}
+use Rattle.id_instr.specs.declared.dests.Port.TheVariants.{Zero}
 use Rattle.id_tag.specs.declared.Message.{Message}
 use Rattle.id_tag.specs.declared.Sender.TheVariants.{Element}
 use Rattle.id_ops.specs.declared.Fired.{Fired}

@@ -2,7 +2,7 @@
 use Rattle.std.proofs.Common.{◌≡◌, ℕ, ◌+◌, Bool, false, ◌||◌, List, [], ◌∷◌, ◌++◌, length, refl, sym, ap, ◌∙◌, append-nil, append_assoc, arith}
 use Rattle.std.specs.Prelude.{◌==◌, All}
 use Rattle.std.proofs.Math.Bool.{or-false}
-use Rattle.id_graph.specs.Graph.{Parts}
+use Rattle.id_instr.specs.Graph.{Parts}
 use Rattle.id_tag.specs.declared.Tag.{Tag}
 use Rattle.id_tag.specs.declared.Value.{Value}
 use Rattle.id_tag.specs.declared.plain.Plain.{Plain}
@@ -14,20 +14,20 @@ use Rattle.id_ops.specs.declared.shot.Shot.{Shot}
 use Rattle.id_ops.specs.declared.shot.Shot.TheVariants as shot
 use Rattle.id_ops.specs.Deeds.{fired_by_deed}
 use Rattle.id_ops.specs.Shots.{IsOwn, SendsOwn, fired_of}
-use Rattle.id_record.specs.declared.line.Handled.{Handled}
-use Rattle.id_record.specs.declared.line.Line.{Line}
-use Rattle.id_record.specs.declared.line.near.Doing.{Doing}
-use Rattle.id_record.specs.declared.line.shooting.Shooting.{Shooting}
-use Rattle.id_record.specs.declared.line.visiting.Fate.{Fate}
-use Rattle.id_record.specs.declared.line.visiting.Fate.TheVariants.{Deferred, Answered, Filled}
-use Rattle.id_record.specs.declared.line.visiting.Visiting.{Visiting}
-use Rattle.id_record.specs.Events.{EventView}
-use Rattle.id_record.specs.Lines.{Beside, IsKept}
+use Rattle.id_line.specs.declared.line.Handled.{Handled}
+use Rattle.id_line.specs.declared.line.Line.{Line}
+use Rattle.id_shots.specs.declared.near.Doing.{Doing}
+use Rattle.id_shots.specs.declared.shooting.Shooting.{Shooting}
+use Rattle.id_shots.specs.declared.visiting.Fate.{Fate}
+use Rattle.id_shots.specs.declared.visiting.Fate.TheVariants.{Deferred, Answered, Filled}
+use Rattle.id_shots.specs.declared.visiting.Visiting.{Visiting}
+use Rattle.id_line.specs.Events.{EventView}
+use Rattle.id_line.specs.Lines.{Beside, IsKept}
 use Rattle.id_record.specs.Records.{AreKept, event_of_handled, events_from}
-use Rattle.id_record.specs.Shootings.{doing, shooting}
-use Rattle.id_record.specs.Visits.{fated, visiting}
+use Rattle.id_shots.specs.Shootings.{doing, shooting}
+use Rattle.id_shots.specs.Visits.{fated, visiting}
 use Rattle.id_record.specs.Tellings.{is_number, is_telling, makes, tells, told_at, telling_from}
-use Rattle.id_record.proofs.LinesLemmas.{length-events_from}
+use Rattle.id_record.proofs.RecordsLemmas.{length-events_from}
 
 -- one more event is told of at its position
 telling_from-push : (k : ℕ) (es : List EventView) (e : EventView) → telling_from k (es ++ e ∷ []) ≡ telling_from k es ++ told_at (tells e) (k + length es)

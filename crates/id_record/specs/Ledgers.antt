@@ -1,8 +1,8 @@
 -- How a record keeps its lines: without their stamps where its element is alone.
 use Rattle.std.specs.Prelude.{◌≡◌, ℕ, ◌+◌, ◌%◌, ◌^◌, Bool, true, false, List, [], ◌∷◌, Some, length, min, slice_get}
-use Rattle.id_record.specs.declared.line.Line.{Line}
-use Rattle.id_record.specs.declared.line.ledger.Bare.{Bare}
-use Rattle.id_record.specs.declared.line.ledger.Stamps.{Stamps}
+use Rattle.id_line.specs.declared.line.Line.{Line}
+use Rattle.id_record.specs.declared.ledger.Bare.{Bare}
+use Rattle.id_record.specs.declared.ledger.Stamps.{Stamps}
 
 -- the lines, in order, and for how many more there is room
 pub record LedgerView : Type 0 where

@@ -1,6 +1,6 @@
 -- What stands beside the lines of a record, as contracts see it.
 use Rattle.std.specs.Prelude.{ℕ, List}
-use Rattle.id_record.specs.Lines.{Beside}
+use Rattle.id_line.specs.Lines.{Beside}
 
 -- the events and the cells beside the lines, the positions of the events that tell, and for how many events more each
 -- of these lists has room at least

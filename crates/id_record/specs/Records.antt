@@ -1,18 +1,18 @@
 -- The events of a record, as its lines keep them (docs/MACHINE.md, "The record").
 use Rattle.std.specs.Prelude.{ℕ, ◌+◌, ◌<◌, Bool, List, [], ◌∷◌, ◌++◌, ◌≡◌, All, drop, length, slice_get, take}
 use Rattle.std.specs.Option.{option_map_or}
-use Rattle.id_graph.specs.declared.dests.Dest.{Dest}
-use Rattle.id_graph.specs.Graph.{Parts, arcs_on}
+use Rattle.id_instr.specs.declared.dests.Dest.{Dest}
+use Rattle.id_instr.specs.Graph.{Parts, arcs_on}
 use Rattle.id_tag.specs.declared.Tag.{Tag}
 use Rattle.id_tag.specs.declared.Payload.{Payload}
 use Rattle.id_ops.specs.declared.Fired.{Fired}
 use Rattle.id_ops.specs.Operators.{side_of}
-use Rattle.id_record.specs.declared.line.Handled.{Handled}
-use Rattle.id_record.specs.declared.line.Replies.{Replies}
-use Rattle.id_record.specs.declared.line.Line.{Line}
-use Rattle.id_record.specs.Events.{EventView, full_step, tag_of, value_of}
-use Rattle.id_record.specs.declared.line.celled.Celled.{Celled}
-use Rattle.id_record.specs.Lines.{AreThere, Beside, IsKept, IsPacked, IsPackedBeside, unpacked}
+use Rattle.id_line.specs.declared.line.Handled.{Handled}
+use Rattle.id_line.specs.declared.line.Replies.{Replies}
+use Rattle.id_line.specs.declared.line.Line.{Line}
+use Rattle.id_line.specs.Events.{EventView, full_step, tag_of, value_of}
+use Rattle.id_line.specs.declared.celled.Celled.{Celled}
+use Rattle.id_line.specs.Lines.{AreThere, Beside, IsKept, IsPacked, IsPackedBeside, unpacked}
 use Rattle.id_valid.specs.Roles.{op_at}
 use Rattle.id_record.specs.Sends.{numbered, replies, sent}
 use Rattle.id_record.specs.Tellings.{is_telling, telling_from}

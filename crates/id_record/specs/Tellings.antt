@@ -6,7 +6,7 @@ use Rattle.id_tag.specs.declared.Value.{Value}
 use Rattle.id_tag.specs.declared.Value.TheVariants.{Int, Structure}
 use Rattle.id_ops.specs.declared.Fired.{Fired}
 use Rattle.id_ops.specs.declared.Fired.TheVariants.{Out, Entered}
-use Rattle.id_record.specs.Events.{EventView, value_of}
+use Rattle.id_line.specs.Events.{EventView, value_of}
 
 -- whether it is a token for instruction 0, to which the answer comes
 abbrev pub is_for_answer : Payload → Bool

@@ -1,23 +1,24 @@
 //! The record of an element: a line for each event, seen as a list of events.
 
 ghost use Rattle.std.specs.Prelude.{◌≡◌, ◌<◌, ◌≤◌, ◌+◌, OnOk, vec_len, vec_capacity};
-ghost use Rattle.id_record.specs.Events.{full_step, is_marked, second_store, tag_of, value_of};
+ghost use Rattle.id_line.specs.Events.{full_step, is_marked, second_store, tag_of, value_of};
 ghost use Rattle.id_ops.specs.Operators.{side_of};
-ghost use Rattle.id_record.specs.Lines.{AreThere};
+ghost use Rattle.id_line.specs.Lines.{AreThere};
 ghost use Rattle.id_record.specs.Records.{dests_at, replies_in};
 ghost use Rattle.id_valid.specs.Roles.{op_at};
-ghost use Rattle.id_graph.specs.Graph.{IsGraph};
+ghost use Rattle.id_instr.specs.Graph.{IsGraph};
 
-use crate::line::{
-    Celled, Doing, Handled, Handling, Ledger, Line, NO_REPLIES, Reaction, Replies, Shooting,
-    Visiting, deed_beside, deed_line, packed, packed_beside, shot, visit_beside, visited, whole,
-};
+use crate::ledger::Ledger;
 use crate::margin::{Margin, add_beside, add_line, add_shot};
 use crate::outputs::{Envelope, Outputs, chosen};
-use crate::step::{Fault, Step, Verdict};
 use crate::telling::is_telling;
 use id_graph::{Dest, Graph, Op};
+use id_line::{
+    Celled, Fault, Handled, Handling, Line, NO_REPLIES, Reaction, Replies, Step, Verdict, packed,
+    packed_beside, tag_of, value_of, whole,
+};
 use id_ops::Fired;
+use id_shots::{Doing, Shooting, Visiting, deed_beside, deed_line, shot, visit_beside, visited};
 use id_tag::{Message, Payload, Tag, Value};
 use id_valid::Valid;
 use std::alloc::{AllocError, Global};
@@ -74,7 +75,7 @@ pub struct Events<'a> {
 
 impl<'a> Model for Events<'a> {
     ghost use Rattle.std.specs.Prelude.{List};
-    ghost use Rattle.id_record.specs.Events.{EventView};
+    ghost use Rattle.id_line.specs.Events.{EventView};
 
     ghost Value = { List EventView };
 
@@ -83,12 +84,12 @@ impl<'a> Model for Events<'a> {
 
 impl<'a> Record<'a> {
     ghost use Rattle.std.specs.Prelude.{◌≡◌, ◌<◌, ◌≤◌, ◌+◌, ◌++◌, ◌∷◌, [], length, option_map, slice_get, Some, OnOk};
-    ghost use Rattle.id_record.specs.Events.{AreUnmarked, IsMarkedAt, tag_of, value_of};
+    ghost use Rattle.id_line.specs.Events.{AreUnmarked, IsMarkedAt, tag_of, value_of};
     ghost use Rattle.std.specs.Prelude.{IsFalse, IsTrue};
-    ghost use Rattle.id_record.specs.declared.line.Handled.{Handled};
-    ghost use Rattle.id_record.specs.Lines.{AreThere, IsPacked, IsPackedBeside, handled};
-    ghost use Rattle.id_record.specs.Shootings.{HasLine, doing, shooting};
-    ghost use Rattle.id_record.specs.Visits.{visiting};
+    ghost use Rattle.id_line.specs.declared.line.Handled.{Handled};
+    ghost use Rattle.id_line.specs.Lines.{AreThere, IsPacked, IsPackedBeside, handled};
+    ghost use Rattle.id_shots.specs.Shootings.{HasLine, doing, shooting};
+    ghost use Rattle.id_shots.specs.Visits.{visiting};
     ghost use Rattle.id_ops.specs.Shots.{IsBrief, IsOwn};
     ghost use Rattle.id_record.specs.Records.{GoesOn, HasPlace, StandsBeside, StandsIn, event_of_handled};
     ghost use Rattle.id_record.specs.Tellings.{telling_from};
@@ -480,7 +481,7 @@ impl<'a> Record<'a> {
 
 impl<'a> Events<'a> {
     ghost use Rattle.std.specs.Prelude.{◌≡◌, ◌<◌, ◌≤◌, length, option_map, slice_get, Some};
-    ghost use Rattle.id_record.specs.Events.{AreUnmarked, IsMarkedAt, tag_of};
+    ghost use Rattle.id_line.specs.Events.{AreUnmarked, IsMarkedAt, tag_of};
     ghost use Rattle.id_record.specs.Tellings.{telling_from};
 
     /// How many events there are. Takes no memory.
@@ -607,29 +608,6 @@ fn replies_in(all: &[Tag], replies: Replies) -> &[Tag]
     ensures { result.now ≡ replies_in all.now replies }
 {
     &all[replies.from..replies.from + replies.count]
-}
-
-/// The tag that a payload names: that of a token, of a read's reply, of a write's origin.
-#[inline(always)]
-pub fn tag_of(payload: &Payload) -> Tag
-    ensures { result ≡ tag_of payload.now }
-{
-    match *payload {
-        Payload::Token { tag, .. } => tag,
-        Payload::Read { reply, .. } => reply,
-        Payload::Write { origin, .. } => origin,
-    }
-}
-
-/// The value that a payload carries: a read carries none, and a signal stands for it.
-#[inline(always)]
-pub fn value_of(payload: &Payload) -> Value
-    ensures { result ≡ value_of payload.now }
-{
-    match *payload {
-        Payload::Token { value, .. } | Payload::Write { value, .. } => value,
-        Payload::Read { .. } => Value::Signal,
-    }
 }
 
 /// What a verdict on a message says in full.

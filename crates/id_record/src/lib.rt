@@ -9,17 +9,16 @@
 #![tactic(auto)]
 
 mod history;
-mod line;
+mod ledger;
 mod margin;
 mod outputs;
-mod step;
 mod telling;
 
-pub use history::{Event, Events, Record, full_step, tag_of, value_of};
-pub use line::{
-    Doing, Fate, Handled, Handling, NO_REPLIES, Reaction, Replies, Shooting, Visiting, has_line,
+pub use history::{Event, Events, Record, full_step};
+pub use id_line::{
+    Fault, Handled, Handling, NO_REPLIES, Reaction, Replies, Step, Verdict, tag_of, value_of,
 };
+pub use id_shots::{Doing, Fate, Shooting, Visiting, has_line};
 pub use outputs::{
     Envelope, Outputs, chosen, count_started, message, moved_to, start, token_at, token_to,
 };
-pub use step::{Fault, Step, Verdict};

@@ -4,13 +4,13 @@
 ghost use Rattle.std.specs.Prelude.{◌≡◌, ◌<◌, ◌≤◌, ◌+◌, ◌++◌, ◌∷◌, [], length, vec_len, vec_capacity, IsFalse, IsTrue};
 ghost use Rattle.std.specs.Prelude.{◌==◌, IfSome, None, OnOk};
 ghost use Rattle.id_ops.specs.Shots.{IsBrief, IsOwn};
-ghost use Rattle.id_record.specs.Lines.{IsPacked, beside};
-ghost use Rattle.id_record.specs.Shootings.{HasLine, shooting};
+ghost use Rattle.id_line.specs.Lines.{IsPacked, beside};
+ghost use Rattle.id_shots.specs.Shootings.{HasLine, shooting};
 ghost use Rattle.id_record.specs.Tellings.{told_at};
 
-use crate::line::{
-    Celled, Handled, Ledger, Line, Shooting, Spot, instr_in, payload_in, spot_of, unpack,
-};
+use crate::ledger::Ledger;
+use id_line::{Celled, Handled, Line, Spot, spot_of};
+use id_shots::{Shooting, instr_in, payload_in, unpack};
 use id_tag::Payload;
 use std::alloc::{AllocError, Global};
 use std::marker::Model;
@@ -33,9 +33,9 @@ const LEAST: usize = 32;
 
 impl Model for Margin {
     ghost use Rattle.std.specs.Prelude.{◌≤◌, ◌+◌, vec_len, vec_capacity};
-    ghost use Rattle.id_record.specs.Lines.{beside};
+    ghost use Rattle.id_line.specs.Lines.{beside};
     ghost use Rattle.id_record.specs.Margins.{MarginView};
-    ghost use Rattle.id_record.specs.Spots.{cells_at};
+    ghost use Rattle.id_line.specs.Spots.{cells_at};
 
     ghost Value = { MarginView };
 
@@ -52,9 +52,9 @@ impl Model for Margin {
 
 impl Margin {
     ghost use Rattle.std.specs.Prelude.{◌≡◌, ◌<◌, ◌++◌, ◌∷◌, [], length, OnOk};
-    ghost use Rattle.id_record.specs.Events.{tag_of};
-    ghost use Rattle.id_record.specs.Lines.{IsWithin, beside, unpacked};
-    ghost use Rattle.id_record.specs.Spots.{cell_at};
+    ghost use Rattle.id_line.specs.Events.{tag_of};
+    ghost use Rattle.id_line.specs.Lines.{IsWithin, beside, unpacked};
+    ghost use Rattle.id_line.specs.Spots.{cell_at};
     ghost use Rattle.id_record.specs.Tellings.{told_at};
 
     /// Nothing. Takes no memory.

@@ -1,11 +1,11 @@
 //! What an event sent, which contracts see as a list of messages.
 
 ghost use Rattle.std.specs.Prelude.{◌≡◌, ◌<◌, ◌++◌, length, map, slice_get, Some};
-ghost use Rattle.id_graph.specs.declared.dests.Port.TheVariants.{Zero};
+ghost use Rattle.id_instr.specs.declared.dests.Port.TheVariants.{Zero};
 ghost use Rattle.id_tag.specs.declared.Payload.TheVariants.{Token};
 ghost use Rattle.id_tag.specs.declared.Sender.TheVariants.{Element};
 ghost use Rattle.id_ops.specs.declared.Fired.TheVariants.{Entered};
-ghost use Rattle.id_graph.specs.Graph.{arcs_on};
+ghost use Rattle.id_instr.specs.Graph.{arcs_on};
 ghost use Rattle.id_ops.specs.Operators.{side_of};
 ghost use Rattle.id_record.specs.Sends.{HasSecond, beside, count_started, moved_to, replies, sent, started};
 ghost use Rattle.id_record.specs.Sends.{token_to};

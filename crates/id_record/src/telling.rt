@@ -3,7 +3,7 @@
 ghost use Rattle.std.specs.Prelude.{◌≡◌};
 ghost use Rattle.id_record.specs.Tellings.{is_for_answer, is_number, is_telling, makes};
 
-use crate::history::value_of;
+use id_line::value_of;
 use id_ops::Fired;
 use id_tag::{Payload, Value};
 

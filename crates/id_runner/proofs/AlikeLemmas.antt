@@ -5,24 +5,24 @@ use Rattle.std.specs.Prelude.{IsPermutation, IsTrue}
 use Rattle.std.specs.Ordering.{ordering_reverse}
 use Rattle.std.proofs.lemmas.Cmp.{tied_itself}
 use Rattle.std.proofs.lemmas.List.Sorted.{IsPermutation-append, IsPermutation-map}
-use Rattle.id_graph.specs.Graph.{Parts}
+use Rattle.id_instr.specs.Graph.{Parts}
 use Rattle.id_value.specs.declared.Constant.{Constant}
 use Rattle.id_list.specs.List.{Among}
-use Rattle.id_meaning.specs.declared.Ask.{Ask}
-use Rattle.id_meaning.specs.declared.NameValue.{NameValue}
-use Rattle.id_meaning.specs.declared.SourceFault.{SourceFault}
-use Rattle.id_meaning.specs.Orders.{Rises}
-use Rattle.id_meaning.specs.Sources.{AreInputs, Source}
+use Rattle.id_source.specs.declared.Ask.{Ask}
+use Rattle.id_source.specs.declared.NameValue.{NameValue}
+use Rattle.id_source.specs.declared.SourceFault.{SourceFault}
+use Rattle.id_source.specs.Orders.{Rises}
+use Rattle.id_source.specs.Sources.{AreInputs, Source}
 use Rattle.id_core.specs.Machines.{IsQuiet, start}
 use Rattle.id_core.specs.Observed as shown
 use Rattle.id_laws.specs.Laws.{IsSound, Soundness}
 use Rattle.id_laws.specs.Determinate.{Determinate, IsDeterminate, RunOf, ShowTheSame, end_of}
-use Rattle.id_print.specs.declared.report.Held.{Held}
-use Rattle.id_print.specs.declared.report.Held.TheVariants.{Array, Cell}
-use Rattle.id_print.specs.Names.{AreApartBy, HeldBefore, IsOrderOf, IsSortedOf, WaitBefore}
+use Rattle.id_names.specs.declared.helds.Held.{Held}
+use Rattle.id_names.specs.declared.helds.Held.TheVariants.{Array, Cell}
+use Rattle.id_names.specs.Names.{AreApartBy, HeldBefore, IsOrderOf, IsSortedOf, WaitBefore}
 use Rattle.id_print.specs.Reports.{asked}
 use Rattle.id_print.specs.Texts.{quiet_text}
-use Rattle.id_print.proofs.NamesLemmas.{Rises-sorted, Tells, asks_told, helds_told, names_told}
+use Rattle.id_names.proofs.NamesLemmas.{Rises-sorted, Tells, asks_told, helds_told, names_told}
 use Rattle.id_runner.specs.Alike.{ArePrintedAlike, PrintedAlike}
 use Rattle.id_runner.specs.Runs.{Ends, EndsAt, after, held_of}
 use Rattle.id_runner.specs.Runs.Ends.{fault, quiet, stopped}

@@ -1,6 +1,6 @@
 -- Why runs and rounds are refused, said in other words.
 use Rattle.std.proofs.Common.{◌≡◌, ◌≢◌, ◌<◌, ◌⊎◌, ℕ, List, inl, inr}
-use Rattle.id_meaning.specs.Sources.{Source, source}
+use Rattle.id_source.specs.Sources.{Source, source}
 use Rattle.id_compile.specs.declared.error.EngineError.{EngineError}
 use Rattle.id_compile.specs.declared.error.EngineError.TheVariants.{Compile, MissingInput, UnknownInput, RepeatedInput}
 use Rattle.id_compile.specs.declared.error.EngineError.TheVariants.{BadInput, BadElements, BadSteps, BadRounds}

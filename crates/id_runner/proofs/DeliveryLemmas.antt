@@ -10,7 +10,7 @@ use Rattle.std.proofs.lemmas.List.Elements.{filter_map-append}
 use Rattle.std.proofs.lemmas.Nat.{mod_below}
 use Rattle.std.proofs.Math.Nat.{div-mul-le_self, lt-div-mul-add}
 use Rattle.std.proofs.lemmas.Option.{slice_get-get_or}
-use Rattle.id_graph.specs.Graph.{Parts}
+use Rattle.id_instr.specs.Graph.{Parts}
 use Rattle.id_tag.specs.declared.Payload.{Payload}
 use Rattle.id_tag.specs.declared.Payload.TheVariants.{Token, Read, Write}
 use Rattle.id_tag.specs.declared.Context.{Context}
@@ -18,12 +18,12 @@ use Rattle.id_tag.specs.declared.Message.{Message}
 use Rattle.id_tag.specs.declared.Tag.{Tag}
 use Rattle.id_tag.specs.declared.Structure.{Structure}
 use Rattle.id_tag.specs.Routes.{offset_of, route_of}
-use Rattle.id_meaning.specs.declared.Path.{Path}
-use Rattle.id_meaning.specs.declared.Site.{Site}
-use Rattle.id_meaning.specs.declared.SourceFault.{SourceFault}
-use Rattle.id_record.specs.declared.step.Step.{Step}
-use Rattle.id_record.specs.declared.step.Step.TheVariants.{Went, Fault, Stuck}
-use Rattle.id_record.specs.declared.step.Fault.TheVariants.{Operator, SecondStore}
+use Rattle.id_source.specs.declared.Path.{Path}
+use Rattle.id_source.specs.declared.Site.{Site}
+use Rattle.id_source.specs.declared.SourceFault.{SourceFault}
+use Rattle.id_line.specs.declared.step.Step.{Step}
+use Rattle.id_line.specs.declared.step.Step.TheVariants.{Went, Fault, Stuck}
+use Rattle.id_line.specs.declared.step.Fault.TheVariants.{Operator, SecondStore}
 use Rattle.id_core.specs.Events.{EventView}
 use Rattle.id_core.specs.Steps.{State, event_of, fresh, is_ended, outputs_of, state_after}
 use Rattle.id_core.specs.Machines.{World, MachineView, came_of, delivered, event_at, event_of_given, event_of_routed}

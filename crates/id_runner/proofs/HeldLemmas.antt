@@ -1,23 +1,23 @@
 -- The structures and cells of a report of a sound run, and its fetches that wait (specs/Reports.antt).
 use Rattle.std.proofs.Common.{◌≡◌, ◌⊎◌, inl, inr, ℕ, ℤ, List, [], ◌∷◌, ◌++◌, map, refl, sym, ap, subst}
-use Rattle.id_graph.specs.Graph.{Parts}
-use Rattle.id_meaning.specs.declared.Ask.{Ask}
-use Rattle.id_meaning.specs.declared.Put.{Put}
-use Rattle.id_meaning.specs.declared.Shape.{Shape}
-use Rattle.id_meaning.specs.declared.Site.{Site}
-use Rattle.id_meaning.specs.declared.Fact.TheVariants as fact
-use Rattle.id_meaning.specs.Rounds.{Holds}
+use Rattle.id_instr.specs.Graph.{Parts}
+use Rattle.id_source.specs.declared.Ask.{Ask}
+use Rattle.id_source.specs.declared.Put.{Put}
+use Rattle.id_source.specs.declared.Shape.{Shape}
+use Rattle.id_source.specs.declared.Site.{Site}
+use Rattle.id_source.specs.declared.Fact.TheVariants as fact
+use Rattle.id_source.specs.Rounds.{Holds}
 use Rattle.id_list.specs.List.{Among, AllDiffer}
-use Rattle.id_meaning.specs.Sources.{Source}
-use Rattle.id_meaning.specs.Names.{AreWaiting}
-use Rattle.id_meaning.specs.Orders.{AskBefore, Rises}
+use Rattle.id_source.specs.Sources.{Source}
+use Rattle.id_source.specs.Names.{AreWaiting}
+use Rattle.id_source.specs.Orders.{AskBefore, Rises}
 use Rattle.id_core.specs.Machines.{World}
 use Rattle.id_core.specs.Observed as shown
 use Rattle.id_core.specs.Observed.{CellValue}
 use Rattle.id_laws.specs.Laws.{IsSound, IsComplete}
-use Rattle.id_print.specs.declared.report.Held.{Held}
-use Rattle.id_print.specs.declared.report.Held.TheVariants.{Array, Cell}
-use Rattle.id_print.specs.Names.{AreApartBy, AreHeld, AreSomeHeld, HeldBefore, IsOrderOf, IsPut, OfOneFetch, OfOneThing, WaitBefore, held_lines}
+use Rattle.id_names.specs.declared.helds.Held.{Held}
+use Rattle.id_names.specs.declared.helds.Held.TheVariants.{Array, Cell}
+use Rattle.id_names.specs.Names.{AreApartBy, AreHeld, AreSomeHeld, HeldBefore, IsOrderOf, IsPut, OfOneFetch, OfOneThing, WaitBefore, held_lines}
 use Rattle.id_runner.proofs.NamesLemmas.{among_map, among_permuted, among_sorted, differ_by, one_by}
 
 -- what is among two lists is among one of them

@@ -2,18 +2,18 @@
 use Rattle.std.proofs.Common.{◌≡◌, inl, inr, ℕ, List, [], ◌∷◌, map, sym, ap, subst, ◌∙◌}
 use Rattle.std.specs.Prelude.{IsPermutation}
 use Rattle.std.proofs.lemmas.List.Sorted.{All-permutation, IsPermutation-sym}
-use Rattle.id_graph.specs.Graph.{Parts}
-use Rattle.id_meaning.specs.declared.NameValue.{NameValue}
+use Rattle.id_instr.specs.Graph.{Parts}
+use Rattle.id_source.specs.declared.NameValue.{NameValue}
 use Rattle.id_list.specs.List.{Among, AllDiffer}
-use Rattle.id_meaning.specs.Sources.{Source}
-use Rattle.id_meaning.specs.Names.{AreNames, AreSomeNames}
-use Rattle.id_meaning.specs.Orders.{NamesRise}
-use Rattle.id_meaning.specs.Facts.{site}
+use Rattle.id_source.specs.Sources.{Source}
+use Rattle.id_source.specs.Names.{AreNames, AreSomeNames}
+use Rattle.id_source.specs.Orders.{NamesRise}
+use Rattle.id_source.specs.Facts.{site}
 use Rattle.id_core.specs.Machines.{World}
 use Rattle.id_core.specs.Observed as shown
 use Rattle.id_laws.specs.Laws.{IsSound, IsComplete}
 use Rattle.id_laws.proofs.ValidCounts.{all_among}
-use Rattle.id_print.specs.Names.{IsSortedOf, AreApart}
+use Rattle.id_names.specs.Names.{IsSortedOf, AreApart}
 use Rattle.id_compile.proofs.InsideLemmas.{among_all}
 
 -- what is among a list is among those in another order

@@ -4,59 +4,60 @@ use Rattle.std.proofs.Common.{Option, Some, None, refl, sym, ap, subst, ◌∙�
 use Rattle.std.specs.Prelude.{get_or, slice_get, IfSome}
 use Rattle.std.proofs.lemmas.Option.{slice_get-get_or}
 use Rattle.id_list.proofs.AmongLemmas.{Among-from_at}
-use Rattle.id_parts.specs.declared.row.Node.{Node}
-use Rattle.id_parts.specs.declared.row.Node.TheVariants.{Head, Param, Literal, Name, Unary, Binary, Split, If, Enter, Arg, Call, Block, Binding, Def, Program}
-use Rattle.id_parts.specs.declared.row.Node.TheVariants.{Start, LoopHead, Variable, Entries, Switches, Turn, NextUse, Next, Body, Reset, Loop}
-use Rattle.id_parts.specs.declared.row.Node.TheVariants.{Array as ArrayRow, Fetch, Address, Store}
-use Rattle.id_parts.specs.Stores.{IsStoreOf}
-use Rattle.id_parts.specs.Tables.{is_thing, is_variable}
-use Rattle.id_parts.specs.Calls.{IsArgIn, IsCallOf}
-use Rattle.id_parts.specs.Loops.{IsLoopOf}
-use Rattle.id_parts.specs.Regions.{IsIfOf}
-use Rattle.id_parts.specs.Turns.{IsDefOf}
+use Rattle.id_table.specs.declared.row.Node.{Node}
+use Rattle.id_table.specs.declared.row.Node.TheVariants.{Head, Param, Literal, Name, Unary, Binary, Split, If, Enter, Arg, Call, Block, Binding, Def, Program}
+use Rattle.id_table.specs.declared.row.Node.TheVariants.{Start, LoopHead, Variable, Entries, Switches, Turn, NextUse, Next, Body, Reset, Loop}
+use Rattle.id_table.specs.declared.row.Node.TheVariants.{Array as ArrayRow, Fetch, Address, Store}
+use Rattle.id_table.specs.Stores.{IsStoreOf}
+use Rattle.id_table.specs.Tables.{is_thing, is_variable}
+use Rattle.id_table.specs.Calls.{IsArgIn, IsCallOf}
+use Rattle.id_table.specs.Loops.{IsLoopOf}
+use Rattle.id_table.specs.Regions.{IsIfOf}
+use Rattle.id_table.specs.Turns.{IsDefOf}
 use Rattle.id_check.specs.declared.checked.Checked.{Checked}
 use Rattle.id_scope.specs.Causes.{defines_main}
 use Rattle.id_check.specs.Programs.{place, rows}
-use Rattle.id_graph.specs.Graph.{Parts}
-use Rattle.id_graph.specs.declared.instr.Instr.{Instr}
-use Rattle.id_graph.specs.declared.instr.Op.{Op}
-use Rattle.id_graph.specs.declared.instr.Op.TheVariants.{Merge, Next as NextOp, Switch}
-use Rattle.id_graph.specs.declared.instr.PortKind.{PortKind}
-use Rattle.id_meaning.specs.declared.Path.{Path}
-use Rattle.id_meaning.specs.declared.Fact.{Fact}
-use Rattle.id_meaning.specs.declared.Fact.TheVariants.{On, Has}
-use Rattle.id_meaning.specs.declared.Fact.TheVariants as fact
-use Rattle.id_meaning.specs.declared.Put.{Put}
-use Rattle.id_meaning.specs.declared.Ask.{Ask}
-use Rattle.id_meaning.specs.declared.Site.{Site}
-use Rattle.id_meaning.specs.declared.SourceValue.{SourceValue}
-use Rattle.id_meaning.specs.declared.SourceValue.TheVariants.{Int, Bool as SourceBool, Name as SiteName}
-use Rattle.id_meaning.specs.declared.SourceFault.TheVariants.{Operator, SecondStore}
-use Rattle.id_meaning.specs.Facts.{outermost}
+use Rattle.id_instr.specs.Graph.{Parts}
+use Rattle.id_instr.specs.declared.instr.Instr.{Instr}
+use Rattle.id_instr.specs.declared.instr.Op.{Op}
+use Rattle.id_instr.specs.declared.instr.Op.TheVariants.{Merge, Next as NextOp, Switch}
+use Rattle.id_instr.specs.declared.instr.PortKind.{PortKind}
+use Rattle.id_source.specs.declared.Path.{Path}
+use Rattle.id_source.specs.declared.Fact.{Fact}
+use Rattle.id_source.specs.declared.Fact.TheVariants.{On, Has}
+use Rattle.id_source.specs.declared.Fact.TheVariants as fact
+use Rattle.id_source.specs.declared.Put.{Put}
+use Rattle.id_source.specs.declared.Ask.{Ask}
+use Rattle.id_source.specs.declared.Site.{Site}
+use Rattle.id_source.specs.declared.SourceValue.{SourceValue}
+use Rattle.id_source.specs.declared.SourceValue.TheVariants.{Int, Bool as SourceBool, Name as SiteName}
+use Rattle.id_source.specs.declared.SourceFault.TheVariants.{Operator, SecondStore}
+use Rattle.id_source.specs.Facts.{outermost}
 use Rattle.id_list.specs.List.{Among}
-use Rattle.id_meaning.specs.declared.NameValue.{NameValue}
-use Rattle.id_meaning.specs.declared.SourceFault.{SourceFault}
-use Rattle.id_meaning.specs.Sources.{Source, main_body}
-use Rattle.id_meaning.specs.Rounds.{Answers, Holds, Faulty}
-use Rattle.id_meaning.specs.Names.{AreSomeNames}
-use Rattle.id_meaning.specs.Computed.{AreFacts}
-use Rattle.id_meaning.proofs.CheckedLemmas.{placed_of}
-use Rattle.id_meaning.proofs.PlacedLemmas.{IsPoint, IsSite, Placed, PlacedFault, PlacedValue, round_placed, holds_placed, fault_placed}
-use Rattle.id_build.specs.declared.arc.Form.{Form}
-use Rattle.id_build.specs.declared.arc.Piece.{Piece}
+use Rattle.id_source.specs.declared.NameValue.{NameValue}
+use Rattle.id_source.specs.declared.SourceFault.{SourceFault}
+use Rattle.id_source.specs.Sources.{Source, main_body}
+use Rattle.id_source.specs.Rounds.{Answers, Holds, Faulty}
+use Rattle.id_source.specs.Names.{AreSomeNames}
+use Rattle.id_source.specs.Computed.{AreFacts}
+use Rattle.id_source.proofs.CheckedLemmas.{placed_of}
+use Rattle.id_source.proofs.PlacedLemmas.{IsPoint, IsSite, Placed, PlacedFault, PlacedValue, round_placed, holds_placed, fault_placed}
+use Rattle.id_pieces.specs.declared.arc.Form.{Form}
+use Rattle.id_pieces.specs.declared.arc.Piece.{Piece}
 use Rattle.id_desugar.specs.Regions.{imports_of}
-use Rattle.id_build.specs.Rows.{Entry, block, for_each, loop_entries, made_of, node, piece, send_to}
-use Rattle.id_build.specs.Schemas.{Makes, Schemas}
+use Rattle.id_pieces.specs.Rows.{Entry, block, for_each, loop_entries, made_of, node, piece, send_to}
+use Rattle.id_pieces.specs.Schemas.{Makes, Schemas}
 use Rattle.id_check.proofs.ProgramsLemmas.{table_of}
-use Rattle.id_print.specs.declared.report.Ending.{Ending}
-use Rattle.id_print.specs.declared.report.Ending.TheVariants.{Quiet, Stopped, Fault}
+use Rattle.id_names.specs.declared.within.Ending.{Ending}
+use Rattle.id_names.specs.declared.within.Ending.TheVariants.{Quiet, Stopped, Fault}
 use Rattle.id_print.specs.declared.report.Report.{Report}
-use Rattle.id_print.specs.declared.report.Held.{Held}
-use Rattle.id_print.specs.declared.report.Held.TheVariants.{Array, Cell}
-use Rattle.id_print.specs.Names.{AreSomeHeld}
+use Rattle.id_names.specs.declared.helds.Held.{Held}
+use Rattle.id_names.specs.declared.helds.Held.TheVariants.{Array, Cell}
+use Rattle.id_names.specs.Names.{AreSomeHeld}
 use Rattle.id_sink.specs.Within.{PointWithin, SiteWithin, ValueWithin}
-use Rattle.id_print.specs.Within.{AnswerWithin, AsksWithin, FaultWithin, EndingWithin, HeldWithin, HeldsWithin}
-use Rattle.id_print.specs.Within.{NameWithin, NamesWithin, ReportWithin, FactWithin, FactsWithin}
+use Rattle.id_names.specs.Within.{AnswerWithin, AsksWithin, FaultWithin, EndingWithin, HeldWithin, HeldsWithin}
+use Rattle.id_names.specs.Within.{NameWithin, NamesWithin, FactWithin, FactsWithin}
+use Rattle.id_print.specs.Reports.{ReportWithin}
 use Rattle.id_compile.specs.Programs.{IsPlacedWithin}
 use Rattle.id_runner.specs.Reports.{SaysTruly, IsTrueOf}
 

@@ -3,9 +3,9 @@ use Rattle.std.proofs.Common.{◌≡◌, ◌++◌, ℕ, Bool, List, Option, Resu
 use Rattle.std.specs.Prelude.{IsErrAnd}
 use Rattle.id_check.specs.declared.checked.Checked.{Checked}
 use Rattle.id_value.specs.declared.Constant.{Constant}
-use Rattle.id_meaning.specs.Sources.{AreInputs, source}
-use Rattle.id_build.specs.Schemas.{Schemas}
-use Rattle.id_graph.specs.Graph.{Parts}
+use Rattle.id_source.specs.Sources.{AreInputs, source}
+use Rattle.id_pieces.specs.Schemas.{Schemas}
+use Rattle.id_instr.specs.Graph.{Parts}
 use Rattle.id_core.specs.Events.{EventView}
 use Rattle.id_core.specs.Machines.{World, MachineView, start}
 use Rattle.id_laws.specs.Laws.{NeverStuck, QuietIsComplete, Soundness}

@@ -1,26 +1,26 @@
 -- Lemmas on runs of machines, and on what their reports say (specs/Reports.antt).
 use Rattle.std.proofs.Common.{◌≡◌, ℕ, Bool, true, false, List, [], ◌∷◌, ◌++◌, Option, Some, None, refl, sym, ap, subst, ◌∙◌}
 use Rattle.std.specs.Prelude.{◌≤◌, All, length, IfSome, slice_get}
-use Rattle.id_graph.specs.Graph.{Parts}
+use Rattle.id_instr.specs.Graph.{Parts}
 use Rattle.id_value.specs.declared.Constant.{Constant}
-use Rattle.id_meaning.specs.declared.SourceValue.{SourceValue}
-use Rattle.id_meaning.specs.declared.SourceFault.{SourceFault}
-use Rattle.id_meaning.specs.Sources.{Source, AreInputs}
-use Rattle.id_meaning.specs.Names.{AreSomeNames}
-use Rattle.id_meaning.specs.Rounds.{Answers, IsAnswer, Faulty}
-use Rattle.id_build.specs.Schemas.{Schemas}
+use Rattle.id_source.specs.declared.SourceValue.{SourceValue}
+use Rattle.id_source.specs.declared.SourceFault.{SourceFault}
+use Rattle.id_source.specs.Sources.{Source, AreInputs}
+use Rattle.id_source.specs.Names.{AreSomeNames}
+use Rattle.id_source.specs.Rounds.{Answers, IsAnswer, Faulty}
+use Rattle.id_pieces.specs.Schemas.{Schemas}
 use Rattle.id_core.specs.Machines.{World, MachineView, IsQuiet, start, delivered, run}
 use Rattle.id_core.specs.Observed.{faults}
 use Rattle.id_core.specs.Observed as shown
 use Rattle.id_laws.specs.Laws.{Soundness, QuietIsComplete, IsSound, IsComplete}
 use Rattle.id_list.proofs.AmongLemmas.{Among-from_at}
-use Rattle.id_print.specs.declared.report.Ending.{Ending}
-use Rattle.id_print.specs.declared.report.Ending.TheVariants.{Quiet, Stopped, Fault}
+use Rattle.id_names.specs.declared.within.Ending.{Ending}
+use Rattle.id_names.specs.declared.within.Ending.TheVariants.{Quiet, Stopped, Fault}
 use Rattle.id_print.specs.declared.report.Report.{Report}
-use Rattle.id_observe.proofs.FirstsLemmas.{first_is_shown}
+use Rattle.id_observed.proofs.FirstsLemmas.{first_is_shown}
 use Rattle.id_print.specs.Endings.{EndsSo}
-use Rattle.id_print.specs.Names.{WaitBefore}
-use Rattle.id_meaning.specs.Orders.{Rises}
+use Rattle.id_names.specs.Names.{WaitBefore}
+use Rattle.id_source.specs.Orders.{Rises}
 use Rattle.id_runner.specs.Runs.{after}
 use Rattle.id_runner.specs.Reports.{HasRun, IsReportFrom, IsReportOfRun, IsTrueOf, SaysSome, SaysTruly}
 use Rattle.id_runner.proofs.HeldLemmas.{AreApartBy-held, AreApartBy-waiting, AreHeld-complete, AreSomeHeld-sound, AreWaiting-complete}

@@ -1,11 +1,11 @@
 -- Lemmas on specs/Commands.antt: from a report that is so to what is printed.
 use Rattle.std.proofs.Common.{◌≡◌, ◌≢◌, ◌≤◌, ℕ, zero, suc, Bool, true, false, IsTrue, List, [], ◌∷◌, ◌++◌, Option}
 use Rattle.std.proofs.Common.{Some, Result, Ok, Err, IfOk, IfErr, OnOk, slice_get, codes, refl, sym, ap, ◌∙◌, subst}
-use Rattle.id_observe.proofs.FirstsLemmas.{first_is_shown}
+use Rattle.id_observed.proofs.FirstsLemmas.{first_is_shown}
 use Rattle.id_check.specs.declared.checked.Checked.{Checked}
 use Rattle.id_sink.specs.declared.sink.PrintError.{PrintError}
-use Rattle.id_print.specs.declared.report.Ending.{Ending}
-use Rattle.id_print.specs.declared.report.Ending.TheVariants.{Quiet, Stopped, Fault}
+use Rattle.id_names.specs.declared.within.Ending.{Ending}
+use Rattle.id_names.specs.declared.within.Ending.TheVariants.{Quiet, Stopped, Fault}
 use Rattle.id_print.specs.declared.report.Report.{Report}
 use Rattle.id_sink.specs.Told.{Told, Prints}
 use Rattle.id_print.specs.Reports.{asked, ending_text, report_text}
@@ -20,26 +20,26 @@ use Rattle.id_compile.specs.Refusals.IsRefusedRun.{by_source, by_write}
 use Rattle.id_compile.specs.Refusals.IsRefusedSource.{by_memory}
 use Rattle.id_graph.specs.Dot.{dot_text}
 use Rattle.id_graph.specs.Listing.{listing}
-use Rattle.id_meaning.specs.declared.Fact.{Fact}
+use Rattle.id_source.specs.declared.Fact.{Fact}
 use Rattle.id_value.specs.declared.Constant.{Constant}
-use Rattle.id_meaning.specs.declared.SourceValue.{SourceValue}
-use Rattle.id_meaning.specs.Sources.{source}
-use Rattle.id_meaning.specs.Inputs.{AreInputsOf}
+use Rattle.id_source.specs.declared.SourceValue.{SourceValue}
+use Rattle.id_source.specs.Sources.{source}
+use Rattle.id_inputs.specs.Inputs.{AreInputsOf}
 use Rattle.id_print.specs.Texts.{facts_text}
-use Rattle.id_graph.specs.Graph.{Parts}
-use Rattle.id_meaning.specs.declared.SourceFault.{SourceFault}
+use Rattle.id_instr.specs.Graph.{Parts}
+use Rattle.id_source.specs.declared.SourceFault.{SourceFault}
 use Rattle.id_core.specs.Machines.{start}
 use Rattle.id_core.specs.Observed.{answer, names, waiting}
 use Rattle.id_print.specs.Endings.{EndsSo}
-use Rattle.id_print.specs.Names.{HeldBefore, IsOrderOf, IsSortedOf, WaitBefore}
+use Rattle.id_names.specs.Names.{HeldBefore, IsOrderOf, IsSortedOf, WaitBefore}
 use Rattle.id_print.specs.Texts.{fault_text, quiet_text, stopped_text}
 use Rattle.id_runner.specs.Reports.{HasEnded, at_fault, at_rest, HasPrinted, IsReportOfRun, IsTrueOf, RunsSo, SaysTruly, ran, unallowed, status_of}
 use Rattle.id_runner.specs.Reports.PrintsRun.{whole, cut, unprinted}
 use Rattle.id_runner.specs.Runs.{Ends, IsTraceOf, Ran, after, held_of}
 use Rattle.id_runner.proofs.AnsweredLemmas.{late_unallowed, refused_unallowed}
 use Rattle.id_core.specs.Events.{EventView}
-use Rattle.id_build.specs.Schemas.{Schemas}
-use Rattle.id_build.specs.Rows.{size}
+use Rattle.id_pieces.specs.Schemas.{Schemas}
+use Rattle.id_pieces.specs.Rows.{size}
 use Rattle.id_trace.specs.Traces.{trace_text}
 use Rattle.id_runner.specs.Runs.Ends.{quiet as ends_quiet, fault as ends_fault, stopped as ends_stopped}
 

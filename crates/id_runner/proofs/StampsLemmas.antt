@@ -2,8 +2,8 @@
 use Rattle.std.proofs.Common.{◌≡◌, ℕ, zero, suc, ◌+◌, ◌≤◌, ◌⊎◌, inl, inr, List, [], ◌∷◌, replicate, filter, Some, slice_get, refl, sym, ap, subst, arith}
 use Rattle.std.specs.List.{remove}
 use Rattle.std.proofs.Math.Nat.{max-le}
-use Rattle.id_graph.specs.Graph.{Parts}
-use Rattle.id_graph.specs.declared.instr.Block.{Block}
+use Rattle.id_instr.specs.Graph.{Parts}
+use Rattle.id_instr.specs.declared.instr.Block.{Block}
 use Rattle.id_tag.specs.declared.Payload.{Payload}
 use Rattle.id_tag.specs.declared.Message.{Message}
 use Rattle.id_valid.specs.Roles.{has_main_place}

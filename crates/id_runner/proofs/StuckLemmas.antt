@@ -1,27 +1,27 @@
 -- No delivery to a machine that runs a schemas' graph is stuck.
 use Rattle.std.proofs.Common.{◌≡◌, ◌≢◌, ℕ, List, [], ◌∷◌, ◌++◌, ◌<◌, ◌≤◌, Bool, true, false, cond, Option, Some, None, inl, refl, sym, ap, subst, ◌∙◌}
 use Rattle.std.specs.Prelude.{slice_get}
-use Rattle.id_graph.specs.Graph.{Parts}
+use Rattle.id_instr.specs.Graph.{Parts}
 use Rattle.id_tag.specs.declared.Message.{Message}
 use Rattle.id_tag.specs.declared.Structure.{Structure}
 use Rattle.id_tag.specs.declared.Tag.{Tag}
 use Rattle.id_tag.specs.Routes.{route_of}
 use Rattle.id_list.specs.List.{Among}
-use Rattle.id_meaning.specs.Sources.{Source, AreInputs}
-use Rattle.id_record.specs.declared.step.Step.{Step}
-use Rattle.id_record.specs.declared.step.Step.TheVariants.{Went, Fault, Stuck}
-use Rattle.id_record.specs.declared.step.Fault.TheVariants.{Operator, SecondStore}
-use Rattle.id_meaning.specs.declared.Path.{Path}
-use Rattle.id_meaning.specs.declared.Site.{Site}
-use Rattle.id_meaning.specs.declared.SourceFault.{SourceFault}
+use Rattle.id_source.specs.Sources.{Source, AreInputs}
+use Rattle.id_line.specs.declared.step.Step.{Step}
+use Rattle.id_line.specs.declared.step.Step.TheVariants.{Went, Fault, Stuck}
+use Rattle.id_line.specs.declared.step.Fault.TheVariants.{Operator, SecondStore}
+use Rattle.id_source.specs.declared.Path.{Path}
+use Rattle.id_source.specs.declared.Site.{Site}
+use Rattle.id_source.specs.declared.SourceFault.{SourceFault}
 use Rattle.id_core.specs.Events.{EventView}
 use Rattle.id_core.specs.Steps.{State, event_of, is_ended, state_after}
 use Rattle.id_core.specs.Machines.{World, MachineView, IsQuiet, delivered, event_at, event_of_given, event_of_routed}
 use Rattle.id_core.specs.Machines.{given_to, routed_to, run, start, taken_from}
 use Rattle.id_core.specs.Observed.{events_of, fault_of, faults, faults_of, path_in, structure_in}
-use Rattle.id_build.specs.Schemas.{Schemas}
-use Rattle.id_print.specs.declared.report.Ending.{Ending}
-use Rattle.id_print.specs.declared.report.Ending.TheVariants.{Stopped}
+use Rattle.id_pieces.specs.Schemas.{Schemas}
+use Rattle.id_names.specs.declared.within.Ending.{Ending}
+use Rattle.id_names.specs.declared.within.Ending.TheVariants.{Stopped}
 use Rattle.id_print.specs.Endings.{EndsSo}
 use Rattle.id_laws.specs.Laws.{NeverStuck}
 use Rattle.id_list.proofs.AmongLemmas.{Among-right}

@@ -4,7 +4,7 @@ use Rattle.std.proofs.lemmas.Bool.{cases_eq}
 use Rattle.id_tag.specs.declared.Context.{Context}
 use Rattle.id_tag.specs.declared.Message.{Message}
 use Rattle.id_flight.specs.Queues.{context_at}
-use Rattle.id_core.specs.Flights.{AreOthers, IsFirstOf}
+use Rattle.id_gap.specs.Flights.{AreOthers, IsFirstOf}
 use Rattle.id_runner.specs.declared.run.Hand.{Hand}
 use Rattle.id_runner.specs.Runs.{in_front, behind, last, IsBehindOthers}
 use Rattle.id_runner.specs.Reports.{IsHand, IsLastHand, IsNextHand}

@@ -1,6 +1,6 @@
 -- What runs of one source print (docs/PROMISES.md, "The run").
 use Rattle.std.specs.Prelude.{◌≡◌, ℕ, Bool, List}
-use Rattle.id_meaning.specs.Sources.{Source, AreInputs}
+use Rattle.id_source.specs.Sources.{Source, AreInputs}
 use Rattle.id_laws.specs.Determinate.{RunOf}
 use Rattle.id_runner.specs.Runs.{Ends}
 

@@ -2,27 +2,27 @@
 use Rattle.std.specs.Prelude.{◌≡◌, ℕ, Bool, true, false, IsTrue, List, ◌++◌, codes, Option, Result, Ok, Err, IfSome}
 use Rattle.id_check.specs.declared.checked.Checked.{Checked}
 use Rattle.id_value.specs.declared.Constant.{Constant}
-use Rattle.id_meaning.specs.declared.Ask.{Ask}
-use Rattle.id_meaning.specs.declared.SourceValue.{SourceValue}
-use Rattle.id_meaning.specs.declared.SourceFault.{SourceFault}
-use Rattle.id_meaning.specs.declared.NameValue.{NameValue}
-use Rattle.id_meaning.specs.declared.Fact.{Fact}
-use Rattle.id_meaning.specs.Sources.{source}
-use Rattle.id_meaning.specs.Inputs.{AreInputsOf}
-use Rattle.id_meaning.specs.Rounds.{Answers, IsAnswer, Faulty, FaultFree}
-use Rattle.id_meaning.specs.Names.{AreNames, AreSomeNames, AreWaiting}
-use Rattle.id_meaning.specs.Computed.{AreFacts}
-use Rattle.id_graph.specs.Graph.{Parts}
+use Rattle.id_source.specs.declared.Ask.{Ask}
+use Rattle.id_source.specs.declared.SourceValue.{SourceValue}
+use Rattle.id_source.specs.declared.SourceFault.{SourceFault}
+use Rattle.id_source.specs.declared.NameValue.{NameValue}
+use Rattle.id_source.specs.declared.Fact.{Fact}
+use Rattle.id_source.specs.Sources.{source}
+use Rattle.id_inputs.specs.Inputs.{AreInputsOf}
+use Rattle.id_source.specs.Rounds.{Answers, IsAnswer, Faulty, FaultFree}
+use Rattle.id_source.specs.Names.{AreNames, AreSomeNames, AreWaiting}
+use Rattle.id_source.specs.Computed.{AreFacts}
+use Rattle.id_instr.specs.Graph.{Parts}
 use Rattle.id_graph.specs.Dot.{dot_text}
 use Rattle.id_graph.specs.Listing.{listing}
-use Rattle.id_build.specs.Schemas.{Schemas}
+use Rattle.id_pieces.specs.Schemas.{Schemas}
 use Rattle.id_core.specs.Events.{EventView}
 use Rattle.id_core.specs.Firsts.{AreMergedOf}
 use Rattle.id_core.specs.Machines.{run, start}
 use Rattle.id_sink.specs.declared.sink.PrintError.{PrintError}
 use Rattle.id_sink.specs.Told.{Told, Prints}
-use Rattle.id_print.specs.declared.report.Held.{Held}
-use Rattle.id_print.specs.Names.{AreHeld, AreSomeHeld}
+use Rattle.id_names.specs.declared.helds.Held.{Held}
+use Rattle.id_names.specs.Names.{AreHeld, AreSomeHeld}
 use Rattle.id_print.specs.Texts.{quiet_text, stopped_text, fault_text, facts_text}
 use Rattle.id_print.specs.Reports.{asked}
 use Rattle.id_trace.specs.Traces.{trace_text}

@@ -3,36 +3,36 @@ use Rattle.std.specs.Prelude.{◌≡◌, ◌≢◌, ◌≤◌, ◌<◌, ◌+◌,
 use Rattle.std.specs.Prelude.{Option, Some, IfSome, Result, Ok, Err, slice_get}
 use Rattle.id_check.specs.declared.checked.Checked.{Checked}
 use Rattle.id_value.specs.declared.Constant.{Constant}
-use Rattle.id_meaning.specs.declared.SourceFault.{SourceFault}
-use Rattle.id_meaning.specs.Sources.{Source, AreInputs, source}
+use Rattle.id_source.specs.declared.SourceFault.{SourceFault}
+use Rattle.id_source.specs.Sources.{Source, AreInputs, source}
 use Rattle.id_list.specs.List.{Among}
-use Rattle.id_meaning.specs.declared.Ask.{Ask}
-use Rattle.id_meaning.specs.declared.Fact.TheVariants as fact
-use Rattle.id_meaning.specs.Rounds.{Answers, Holds, IsAnswer, Faulty, FaultFree}
-use Rattle.id_meaning.specs.Names.{AreNames, AreSomeNames, AreWaiting}
-use Rattle.id_meaning.specs.Orders.{NamesRise, Rises}
-use Rattle.id_build.specs.Schemas.{Schemas}
-use Rattle.id_build.specs.Rows.{size}
-use Rattle.id_graph.specs.Graph.{Parts}
+use Rattle.id_source.specs.declared.Ask.{Ask}
+use Rattle.id_source.specs.declared.Fact.TheVariants as fact
+use Rattle.id_source.specs.Rounds.{Answers, Holds, IsAnswer, Faulty, FaultFree}
+use Rattle.id_source.specs.Names.{AreNames, AreSomeNames, AreWaiting}
+use Rattle.id_source.specs.Orders.{NamesRise, Rises}
+use Rattle.id_pieces.specs.Schemas.{Schemas}
+use Rattle.id_pieces.specs.Rows.{size}
+use Rattle.id_instr.specs.Graph.{Parts}
 use Rattle.id_tag.specs.declared.Message.{Message}
 use Rattle.id_flight.specs.Queues.{context_at}
-use Rattle.id_record.specs.declared.step.Step.{Step}
-use Rattle.id_record.specs.declared.step.Step.TheVariants.{Went, Stuck}
+use Rattle.id_line.specs.declared.step.Step.{Step}
+use Rattle.id_line.specs.declared.step.Step.TheVariants.{Went, Stuck}
 use Rattle.id_core.specs.Events.{EventView}
 use Rattle.id_core.specs.Machines.{World, MachineView, delivered, event_at, run, start}
 use Rattle.id_core.specs.Observed.{answer, faults, names, waiting}
-use Rattle.id_print.specs.declared.report.Ending.{Ending}
-use Rattle.id_print.specs.declared.report.Ending.TheVariants.{Quiet, Stopped, Fault}
+use Rattle.id_names.specs.declared.within.Ending.{Ending}
+use Rattle.id_names.specs.declared.within.Ending.TheVariants.{Quiet, Stopped, Fault}
 use Rattle.id_print.specs.declared.report.Report.{Report}
 use Rattle.id_sink.specs.declared.sink.PrintError.{PrintError}
 use Rattle.id_sink.specs.Told.{Told, Prints}
 use Rattle.id_print.specs.Endings.{EndsSo}
-use Rattle.id_print.specs.Within.{ReportWithin}
+use Rattle.id_print.specs.Reports.{ReportWithin}
 use Rattle.id_print.specs.Reports.{report_text}
 use Rattle.id_trace.specs.Traces.{trace_text}
-use Rattle.id_print.specs.Names.{IsOrderOf, IsSortedOf, AreApart, AreApartBy, HeldBefore, WaitBefore}
-use Rattle.id_print.specs.Names.{OfOneThing, OfOneFetch, AreHeld, AreSomeHeld, held_lines}
-use Rattle.id_meaning.specs.Computed.{HasMoreFacts}
+use Rattle.id_names.specs.Names.{IsOrderOf, IsSortedOf, AreApart, AreApartBy, HeldBefore, WaitBefore}
+use Rattle.id_names.specs.Names.{OfOneThing, OfOneFetch, AreHeld, AreSomeHeld, held_lines}
+use Rattle.id_source.specs.Computed.{HasMoreFacts}
 use Rattle.id_compile.specs.declared.error.EngineError.{EngineError}
 use Rattle.id_compile.specs.declared.error.EngineError.TheVariants.{BadElements, BadSteps, BadRounds, TooManyFacts}
 use Rattle.id_compile.specs.declared.error.EngineError.TheVariants.{Memory, Write}

@@ -3,26 +3,26 @@ use Rattle.std.specs.Prelude.{◌≡◌, ◌≢◌, ◌<◌, ◌≤◌, ◌+◌,
 use Rattle.std.specs.Prelude.{All, length}
 use Rattle.std.specs.Prelude.{slice_get, Option, Some, Ok}
 use Rattle.id_check.specs.declared.checked.Checked.{Checked}
-use Rattle.id_graph.specs.Graph.{Parts}
+use Rattle.id_instr.specs.Graph.{Parts}
 use Rattle.id_tag.specs.declared.Context.{Context}
 use Rattle.id_tag.specs.declared.Message.{Message}
 use Rattle.id_tag.specs.Routes.{route_of}
 use Rattle.id_flight.specs.Queues.{context_at}
 use Rattle.id_value.specs.declared.Constant.{Constant}
-use Rattle.id_meaning.specs.declared.Ask.{Ask}
-use Rattle.id_meaning.specs.declared.SourceFault.{SourceFault}
-use Rattle.id_meaning.specs.declared.NameValue.{NameValue}
-use Rattle.id_meaning.specs.Inputs.{AreInputsOf}
-use Rattle.id_build.specs.Schemas.{Schemas}
+use Rattle.id_source.specs.declared.Ask.{Ask}
+use Rattle.id_source.specs.declared.SourceFault.{SourceFault}
+use Rattle.id_source.specs.declared.NameValue.{NameValue}
+use Rattle.id_inputs.specs.Inputs.{AreInputsOf}
+use Rattle.id_pieces.specs.Schemas.{Schemas}
 use Rattle.id_core.specs.Steps.{State, is_ended}
 use Rattle.id_core.specs.Events.{EventView}
 use Rattle.id_core.specs.Firsts.{AreMergedOf}
-use Rattle.id_core.specs.Flights.{AreOthers}
+use Rattle.id_gap.specs.Flights.{AreOthers}
 use Rattle.id_core.specs.Machines.{World, IsQuiet, delivered, run, start}
 use Rattle.id_core.specs.Observed.{answer, faults, names, waiting}
 use Rattle.id_sink.specs.Told.{Told, Prints}
-use Rattle.id_print.specs.declared.report.Held.{Held}
-use Rattle.id_print.specs.Names.{IsOrderOf, IsSortedOf, HeldBefore, WaitBefore, held_lines}
+use Rattle.id_names.specs.declared.helds.Held.{Held}
+use Rattle.id_names.specs.Names.{IsOrderOf, IsSortedOf, HeldBefore, WaitBefore, held_lines}
 use Rattle.id_print.specs.Texts.{quiet_text, stopped_text, fault_text}
 use Rattle.id_print.specs.Reports.{asked}
 use Rattle.id_trace.specs.Traces.{trace_text}

@@ -1,7 +1,7 @@
 -- How far a run has come before it ends (specs/Runs.antt).
 use Rattle.std.specs.Prelude.{◌≡◌, ℕ, ◌+◌, ◌/◌, ◌≤◌, List, [], ◌∷◌, length, Some, slice_get}
 use Rattle.id_list.specs.List.{Among}
-use Rattle.id_graph.specs.Graph.{Parts}
+use Rattle.id_instr.specs.Graph.{Parts}
 use Rattle.id_tag.specs.declared.Message.{Message}
 use Rattle.id_core.specs.Machines.{World, MachineView, delivered, run}
 use Rattle.id_core.specs.Observed.{events_of, faults}

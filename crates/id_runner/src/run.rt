@@ -2,14 +2,14 @@
 
 ghost use Rattle.std.specs.Prelude.{◌≡◌, ◌≢◌, ◌<◌, ◌≤◌, ◌+◌, ◌-◌, ◌/◌, ◌++◌, ◌↔◌, ◌⊎◌, length, map, slice_get};
 ghost use Rattle.std.specs.Prelude.{IfErr, IfOk, IsFalse, IsTrue, OnOk, Some};
-ghost use Rattle.id_build.specs.Schemas.{Schemas};
+ghost use Rattle.id_pieces.specs.Schemas.{Schemas};
 ghost use Rattle.id_core.specs.Machines.{TakesInputs, start};
 ghost use Rattle.id_core.specs.Steps.{is_ended};
-ghost use Rattle.id_meaning.specs.Sources.{AreInputs};
+ghost use Rattle.id_source.specs.Sources.{AreInputs};
 ghost use Rattle.id_print.specs.Reports.{report_text};
 ghost use Rattle.id_sink.specs.Told.{Prints};
 ghost use Rattle.id_trace.specs.Traces.{trace_text};
-ghost use Rattle.id_print.specs.Within.{ReportWithin};
+ghost use Rattle.id_print.specs.Reports.{ReportWithin};
 ghost use Rattle.id_runner.specs.Alike.{PrintedAlike};
 ghost use Rattle.id_runner.specs.Commands.{Run, ShowsAll, ShowsFront};
 ghost use Rattle.id_compile.specs.Programs.{IsPlacedWithin};

@@ -1,14 +1,14 @@
 -- Of a run in which nothing is in flight, each read of a written cell was answered with what was put into it.
 use Rattle.std.proofs.Common.{◌≡◌, inl, inr, ℕ, List, [], refl}
-use Rattle.id_graph.specs.declared.dests.Port.TheVariants.{Zero}
-use Rattle.id_graph.specs.Graph.{Parts}
+use Rattle.id_instr.specs.declared.dests.Port.TheVariants.{Zero}
+use Rattle.id_instr.specs.Graph.{Parts}
 use Rattle.id_tag.specs.declared.Tag.{Tag}
 use Rattle.id_tag.specs.declared.Cell.{Cell}
 use Rattle.id_tag.specs.declared.Value.{Value}
 use Rattle.id_tag.specs.declared.Payload.TheVariants.{Token}
-use Rattle.id_bank.specs.declared.ReadAnswer.{ReadAnswer}
-use Rattle.id_bank.specs.declared.WriteAnswer.{WriteAnswer}
-use Rattle.id_bank.specs.declared.WriteAnswer.TheVariants.{Second}
+use Rattle.id_slot.specs.declared.ReadAnswer.{ReadAnswer}
+use Rattle.id_slot.specs.declared.WriteAnswer.{WriteAnswer}
+use Rattle.id_slot.specs.declared.WriteAnswer.TheVariants.{Second}
 use Rattle.id_core.specs.Machines.{World}
 use Rattle.id_value.specs.declared.Constant.{Constant}
 use Rattle.id_list.specs.List.{Among}

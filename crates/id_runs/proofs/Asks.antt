@@ -1,7 +1,7 @@
 -- Only a `fetch` asks for a cell, and only a `store` stores into one.
 use Rattle.std.proofs.Common.{◌≡◌, ℕ, ℤ, sym, ap, subst}
-use Rattle.id_graph.specs.declared.instr.Op.{Op}
-use Rattle.id_graph.specs.declared.instr.Op.TheVariants as op
+use Rattle.id_instr.specs.declared.instr.Op.{Op}
+use Rattle.id_instr.specs.declared.instr.Op.TheVariants as op
 use Rattle.id_tag.specs.declared.Cell.{Cell}
 use Rattle.id_tag.specs.declared.Tag.{Tag}
 use Rattle.id_tag.specs.declared.Value.{Value}

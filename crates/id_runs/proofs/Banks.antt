@@ -9,8 +9,8 @@ use Rattle.std.specs.FinMap.Entries.{below_all}
 use Rattle.std.specs.Ordering.{eq_by_cmp, is_eq, is_lt}
 use Rattle.std.specs.declared.cmp.Ordering.{Ordering}
 use Rattle.std.specs.declared.cmp.Ordering.TheVariants.{Less, Equal, Greater}
-use Rattle.id_graph.specs.declared.dests.Port.TheVariants.{Zero}
-use Rattle.id_graph.specs.Graph.{Parts}
+use Rattle.id_instr.specs.declared.dests.Port.TheVariants.{Zero}
+use Rattle.id_instr.specs.Graph.{Parts}
 use Rattle.id_tag.specs.declared.Tag.{Tag}
 use Rattle.id_tag.specs.declared.Cell.{Cell}
 use Rattle.id_tag.specs.declared.Value.{Value}
@@ -18,10 +18,10 @@ use Rattle.id_tag.specs.declared.Value.TheVariants.{Signal}
 use Rattle.id_tag.specs.declared.Payload.TheVariants.{Token}
 use Rattle.id_tag.specs.Tags.{cell_cmp}
 use Rattle.id_tag.specs.Routes.{cell_route}
-use Rattle.id_bank.specs.declared.Filled.{Filled}
-use Rattle.id_bank.specs.declared.Reader.{Reader}
-use Rattle.id_bank.specs.Cells.{Cells, CellState, Present, Deferred, filled_at, readers_at, cells_of, deferred_of}
-use Rattle.id_element.specs.Steps.{State}
+use Rattle.id_slot.specs.declared.Filled.{Filled}
+use Rattle.id_slot.specs.declared.Reader.{Reader}
+use Rattle.id_slot.specs.Cells.{Cells, CellState, Present, Deferred, filled_at, readers_at, cells_of, deferred_of}
+use Rattle.id_firing.specs.Steps.{State}
 use Rattle.id_core.specs.Machines.{World}
 use Rattle.id_value.specs.declared.Constant.{Constant}
 use Rattle.id_list.specs.List.{Among, AllDiffer}

@@ -3,11 +3,11 @@ use Rattle.std.proofs.Common.{◌≡◌, ◌⊎◌, inl, inr, ℕ, zero, suc, �
 use Rattle.std.proofs.Common.{length, length-append, map, slice_get, refl, sym, ◌∙◌, ap, subst, arith}
 use Rattle.std.specs.Option.{option_map}
 use Rattle.std.proofs.lemmas.List.{append_assoc, length-map}
-use Rattle.id_graph.specs.declared.dests.Dest.{Dest}
-use Rattle.id_graph.specs.declared.instr.Instr.{Instr}
-use Rattle.id_graph.specs.declared.instr.Op.{Op}
-use Rattle.id_graph.specs.declared.instr.Op.TheVariants as op
-use Rattle.id_graph.specs.Graph.{Parts}
+use Rattle.id_instr.specs.declared.dests.Dest.{Dest}
+use Rattle.id_instr.specs.declared.instr.Instr.{Instr}
+use Rattle.id_instr.specs.declared.instr.Op.{Op}
+use Rattle.id_instr.specs.declared.instr.Op.TheVariants as op
+use Rattle.id_instr.specs.Graph.{Parts}
 use Rattle.id_valid.specs.Roles.{op_at}
 use Rattle.id_tag.specs.declared.Context.{Context}
 use Rattle.id_tag.specs.declared.Tag.{Tag}
@@ -15,7 +15,7 @@ use Rattle.id_tag.specs.declared.Value.TheVariants as value
 use Rattle.id_tag.specs.declared.Payload.{Payload}
 use Rattle.id_tag.specs.declared.Payload.TheVariants.{Token}
 use Rattle.id_tag.specs.declared.Value.{Value}
-use Rattle.id_graph.specs.declared.dests.Port.{Port}
+use Rattle.id_instr.specs.declared.dests.Port.{Port}
 use Rattle.id_tag.specs.declared.Message.{Message}
 use Rattle.id_tag.specs.Tags.{same_context}
 use Rattle.id_tag.proofs.TagsLemmas.{one_from_same_tag, same_tag_laws}

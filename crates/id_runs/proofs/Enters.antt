@@ -6,9 +6,9 @@ use Rattle.id_value.specs.declared.Outcome.{Outcome}
 use Rattle.id_value.specs.declared.Outcome.TheVariants.{Gives, Fails, Lacks}
 use Rattle.id_value.specs.declared.Constant.TheVariants as constants
 use Rattle.id_value.specs.Results.{result_of_unary, calculated}
-use Rattle.id_graph.specs.declared.instr.Dyadic.TheVariants as class
-use Rattle.id_graph.specs.declared.instr.Op.{Op}
-use Rattle.id_graph.specs.declared.instr.Op.TheVariants as op
+use Rattle.id_instr.specs.declared.instr.Dyadic.TheVariants as class
+use Rattle.id_instr.specs.declared.instr.Op.{Op}
+use Rattle.id_instr.specs.declared.instr.Op.TheVariants as op
 use Rattle.id_tag.specs.Kinds.{kind_of, same_kind}
 use Rattle.id_tag.specs.declared.Context.{Context}
 use Rattle.id_tag.specs.declared.Tag.{Tag}

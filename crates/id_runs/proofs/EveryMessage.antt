@@ -1,7 +1,7 @@
 -- What holds of the messages at the start, and of what each event sends where it holds of what was handled, holds of every message of a run.
 use Rattle.std.proofs.Common.{inl, inr, ℕ, List, ◌∷◌, refl, sym, subst}
 use Rattle.std.specs.List.{remove}
-use Rattle.id_graph.specs.Graph.{Parts}
+use Rattle.id_instr.specs.Graph.{Parts}
 use Rattle.id_tag.specs.declared.Payload.{Payload}
 use Rattle.id_tag.specs.Routes.{route_of}
 use Rattle.id_core.specs.Machines.{World}

@@ -2,9 +2,9 @@
 use Rattle.std.proofs.Common.{◌≡◌, ◌≢◌, ◌⊎◌, inl, inr, pos, Bool, true, false, ◌&&◌, cond, Option, Some, None, List, [], ◌∷◌, ℕ, refl, sym, ◌∙◌, ap, subst}
 use Rattle.std.specs.Ordering.{int_eq}
 use Rattle.std.specs.Option.{option_or}
-use Rattle.id_graph.specs.declared.instr.Op.{Op}
-use Rattle.id_graph.specs.declared.instr.Op.TheVariants as op
-use Rattle.id_graph.specs.Graph.{Parts}
+use Rattle.id_instr.specs.declared.instr.Op.{Op}
+use Rattle.id_instr.specs.declared.instr.Op.TheVariants as op
+use Rattle.id_instr.specs.Graph.{Parts}
 use Rattle.id_valid.specs.Roles.{op_at}
 use Rattle.id_tag.specs.declared.Tag.{Tag}
 use Rattle.id_tag.specs.declared.Structure.{Structure}
@@ -12,7 +12,7 @@ use Rattle.id_tag.specs.declared.Value.TheVariants as value
 use Rattle.id_tag.specs.Tags.{same_structure}
 use Rattle.id_ops.specs.declared.Fired.{Fired}
 use Rattle.id_ops.specs.declared.Fired.TheVariants as fires
-use Rattle.id_bank.specs.declared.ReadAnswer.TheVariants.{Now, Deferred}
+use Rattle.id_slot.specs.declared.ReadAnswer.TheVariants.{Now, Deferred}
 use Rattle.id_core.specs.Events.{EventView, tag_of}
 use Rattle.id_core.specs.Machines.{World}
 use Rattle.id_core.specs.Observed.{events_of}

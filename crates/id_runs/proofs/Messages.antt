@@ -2,13 +2,13 @@
 use Rattle.std.proofs.Common.{◌≡◌, inl, inr, ℕ, ◌+◌, length, Some, List, [], ◌∷◌, ◌++◌, map, slice_get, refl, sym, ◌∙◌, ap, subst}
 use Rattle.std.proofs.lemmas.List.{map-append}
 use Rattle.std.specs.List.{remove}
-use Rattle.id_graph.specs.Graph.{Parts}
-use Rattle.id_graph.specs.declared.dests.Port.TheVariants.{Zero}
+use Rattle.id_instr.specs.Graph.{Parts}
+use Rattle.id_instr.specs.declared.dests.Port.TheVariants.{Zero}
 use Rattle.id_tag.specs.declared.Payload.{Payload}
 use Rattle.id_tag.specs.declared.Payload.TheVariants.{Token}
 use Rattle.id_tag.specs.declared.Value.{Value}
-use Rattle.id_bank.specs.declared.ReadAnswer.TheVariants.{Now, Deferred}
-use Rattle.id_bank.specs.declared.WriteAnswer.TheVariants.{Readers, Second}
+use Rattle.id_slot.specs.declared.ReadAnswer.TheVariants.{Now, Deferred}
+use Rattle.id_slot.specs.declared.WriteAnswer.TheVariants.{Readers, Second}
 use Rattle.id_tag.specs.declared.Tag.{Tag}
 use Rattle.id_tag.specs.declared.Message.{Message}
 use Rattle.id_tag.specs.Routes.{route_of}

@@ -1,15 +1,15 @@
 -- At most one message in flight or handled has a key, in a graph where one event alone sends for each.
 use Rattle.std.proofs.Common.{◌≡◌, ◌⊎◌, inl, inr, ℕ, zero, suc, ◌+◌, ◌≤◌, Some, List, ◌∷◌, slice_get, refl, sym, ◌∙◌, ap, arith}
 use Rattle.std.specs.List.{remove}
-use Rattle.id_graph.specs.declared.dests.Port.{Port}
-use Rattle.id_graph.specs.declared.dests.Port.TheVariants.{Zero, One}
-use Rattle.id_graph.specs.Graph.{Parts}
-use Rattle.id_graph.specs.Ports.{two_ports}
+use Rattle.id_instr.specs.declared.dests.Port.{Port}
+use Rattle.id_instr.specs.declared.dests.Port.TheVariants.{Zero, One}
+use Rattle.id_instr.specs.Graph.{Parts}
+use Rattle.id_instr.specs.Ports.{two_ports}
 use Rattle.id_tag.specs.declared.Value.{Value}
 use Rattle.id_tag.specs.declared.Payload.{Payload}
 use Rattle.id_tag.specs.declared.Message.{Message}
 use Rattle.id_tag.specs.Routes.{route_of}
-use Rattle.id_match.specs.Ports.{other_port}
+use Rattle.id_front.specs.Ports.{other_port}
 use Rattle.id_ops.specs.declared.Fired.{Fired}
 use Rattle.id_core.specs.Steps.{State}
 use Rattle.id_core.specs.Machines.{World, taken_from}

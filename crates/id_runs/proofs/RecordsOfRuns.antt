@@ -4,11 +4,11 @@ use Rattle.std.proofs.Common.{set, replicate, slice_get, refl, sym, ◌∙◌, a
 use Rattle.std.specs.List.{All, filter_map, cons_option}
 use Rattle.std.proofs.lemmas.Bool.{cases_eq}
 use Rattle.std.proofs.lemmas.List.{map-append}
-use Rattle.id_graph.specs.Graph.{Parts}
+use Rattle.id_instr.specs.Graph.{Parts}
 use Rattle.id_tag.specs.declared.Payload.{Payload}
 use Rattle.id_tag.specs.declared.Message.{Message}
 use Rattle.id_tag.specs.Routes.{route_of}
-use Rattle.id_record.specs.declared.step.Step.TheVariants.{Went}
+use Rattle.id_line.specs.declared.step.Step.TheVariants.{Went}
 use Rattle.id_core.specs.Events.{EventView}
 use Rattle.id_core.specs.Steps.{State, fresh, event_of, state_after}
 use Rattle.id_core.specs.Machines.{World, IsQuiet}

@@ -1,6 +1,6 @@
 -- Every run is made of events.
 use Rattle.std.proofs.Common.{◌≡◌, ℕ, Bool, true, false, cond, Option, Some, None, List, [], ◌∷◌, slice_get, refl}
-use Rattle.id_graph.specs.Graph.{Parts}
+use Rattle.id_instr.specs.Graph.{Parts}
 use Rattle.id_tag.specs.declared.Message.{Message}
 use Rattle.id_tag.specs.Routes.{route_of}
 use Rattle.id_core.specs.Steps.{State, is_ended}

@@ -3,11 +3,11 @@ use Rattle.std.proofs.Common.{◌≡◌, inl, inr, ℕ, ℤ, ◌+◌, ◌≤◌,
 use Rattle.std.proofs.Common.{slice_get, refl, sym, ◌∙◌, ap, subst, arith}
 use Rattle.std.specs.Prelude.{option_map}
 use Rattle.std.proofs.lemmas.Bool.{cases_eq}
-use Rattle.id_graph.specs.declared.dests.Port.{Port}
-use Rattle.id_graph.specs.declared.instr.Op.{Op}
-use Rattle.id_graph.specs.declared.instr.Op.TheVariants.{Alloc}
-use Rattle.id_graph.specs.declared.instr.Instr.{Instr}
-use Rattle.id_graph.specs.Graph.{Parts}
+use Rattle.id_instr.specs.declared.dests.Port.{Port}
+use Rattle.id_instr.specs.declared.instr.Op.{Op}
+use Rattle.id_instr.specs.declared.instr.Op.TheVariants.{Alloc}
+use Rattle.id_instr.specs.declared.instr.Instr.{Instr}
+use Rattle.id_instr.specs.Graph.{Parts}
 use Rattle.id_value.specs.declared.FaultKind.TheVariants.{BadBounds}
 use Rattle.id_value.specs.Bounds.{are_good}
 use Rattle.id_valid.specs.Roles.{op_at}
@@ -25,11 +25,11 @@ use Rattle.id_ops.specs.declared.Operands.{Operands}
 use Rattle.id_ops.specs.declared.Operands.TheVariants as operands
 use Rattle.id_ops.specs.declared.Fired.TheVariants as fires
 use Rattle.id_ops.specs.Operators.{fired, fired_enter, fired_alloc, structure_in}
-use Rattle.id_match.specs.Waiting.{Store, offer_answer}
-use Rattle.id_match.specs.declared.Offered.{Offered}
-use Rattle.id_match.specs.declared.Offered.TheVariants.{Kept, Pair, Taken}
-use Rattle.id_graph.specs.Ports.{two_ports}
-use Rattle.id_element.specs.Steps.{State, made_by, next_numbers, state_after}
+use Rattle.id_front.specs.Waiting.{Store, offer_answer}
+use Rattle.id_front.specs.declared.Offered.{Offered}
+use Rattle.id_front.specs.declared.Offered.TheVariants.{Kept, Pair, Taken}
+use Rattle.id_instr.specs.Ports.{two_ports}
+use Rattle.id_firing.specs.Steps.{State, made_by, next_numbers, state_after}
 use Rattle.id_core.specs.Machines.{World, taken_from}
 use Rattle.id_value.specs.declared.Constant.{Constant}
 use Rattle.id_list.specs.List.{Among}

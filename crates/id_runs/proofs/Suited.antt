@@ -2,20 +2,20 @@
 use Rattle.std.proofs.Common.{◌≡◌, inr, ℕ, ◌+◌, ◌<◌, false, max, Option, Some, None, List, ◌∷◌, [], slice_get, refl, sym, ◌∙◌, ap, subst, arith}
 use Rattle.std.specs.Prelude.{All, is_some, option_map}
 use Rattle.std.specs.Option.{option_map_or}
-use Rattle.id_graph.specs.declared.instr.Instr.{Instr}
-use Rattle.id_graph.specs.declared.dests.Port.{Port}
-use Rattle.id_graph.specs.declared.dests.Port.TheVariants.{Zero, One}
-use Rattle.id_graph.specs.Graph.{Parts, arcs_on}
-use Rattle.id_graph.specs.Ports.{port_kind, two_ports}
+use Rattle.id_instr.specs.declared.instr.Instr.{Instr}
+use Rattle.id_instr.specs.declared.dests.Port.{Port}
+use Rattle.id_instr.specs.declared.dests.Port.TheVariants.{Zero, One}
+use Rattle.id_instr.specs.Graph.{Parts, arcs_on}
+use Rattle.id_instr.specs.Ports.{port_kind, two_ports}
 use Rattle.id_tag.specs.declared.Tag.{Tag}
 use Rattle.id_tag.specs.declared.Value.{Value}
 use Rattle.id_tag.specs.declared.Payload.{Payload}
 use Rattle.id_tag.specs.declared.Payload.TheVariants.{Token, Read, Write}
 use Rattle.id_tag.specs.declared.Cell.{Cell}
 use Rattle.id_tag.specs.declared.Value.TheVariants as value
-use Rattle.id_graph.specs.declared.instr.Op.TheVariants.{Merge}
-use Rattle.id_graph.specs.declared.instr.PortKind.TheVariants.{Int}
-use Rattle.id_bank.specs.declared.WriteAnswer.TheVariants.{Readers}
+use Rattle.id_instr.specs.declared.instr.Op.TheVariants.{Merge}
+use Rattle.id_instr.specs.declared.instr.PortKind.TheVariants.{Int}
+use Rattle.id_slot.specs.declared.WriteAnswer.TheVariants.{Readers}
 use Rattle.id_record.specs.Records.{sent_by}
 use Rattle.id_tag.specs.declared.Message.{Message}
 use Rattle.id_tag.specs.Kinds.{kind_of}
@@ -26,10 +26,10 @@ use Rattle.id_ops.specs.declared.Fired.{Fired}
 use Rattle.id_ops.specs.Operators.{fired, side_of}
 use Rattle.id_ops.specs.Operands.{Suits}
 use Rattle.id_ops.proofs.OperandsLemmas.{fires-from_Suits}
-use Rattle.id_element.specs.Fits.{Fits, PayloadFits, TokenFits, ContinuationFits, AddressFits}
-use Rattle.id_element.proofs.FitsLemmas.{TokenFits-later}
-use Rattle.id_element.proofs.OutcomeLemmas.{one_port}
-use Rattle.id_element.proofs.SentLemmas.{OperandsFit, fired_fits, kind_at_op, sent_fits}
+use Rattle.id_firing.specs.Fits.{Fits, PayloadFits, TokenFits, ContinuationFits, AddressFits}
+use Rattle.id_desk.proofs.FitsLemmas.{TokenFits-later}
+use Rattle.id_desk.proofs.OutcomeLemmas.{one_port}
+use Rattle.id_desk.proofs.SentLemmas.{OperandsFit, fired_fits, kind_at_op, sent_fits}
 use Rattle.id_core.specs.Steps.{sent}
 use Rattle.id_core.specs.Machines.{World, TakesInputs, block_messages, run, start}
 use Rattle.id_core.proofs.MachinesLemmas.{start_fits}

@@ -7,7 +7,7 @@ use Rattle.std.specs.Cmp.{eq_by_cmp_equiv}
 use Rattle.std.specs.Ordering.{eq_by_cmp, is_eq}
 use Rattle.std.specs.declared.cmp.Ordering.{Ordering}
 use Rattle.std.specs.declared.cmp.Ordering.TheVariants.{Less, Equal, Greater}
-use Rattle.id_graph.specs.Graph.{Parts}
+use Rattle.id_instr.specs.Graph.{Parts}
 use Rattle.id_tag.specs.declared.Tag.{Tag}
 use Rattle.id_tag.specs.declared.Cell.{Cell}
 use Rattle.id_tag.specs.declared.Value.{Value}
@@ -17,10 +17,10 @@ use Rattle.id_tag.specs.declared.Message.{Message}
 use Rattle.id_tag.specs.Tags.{cell_cmp}
 use Rattle.id_tag.specs.Routes.{cell_route, route_of}
 use Rattle.id_tag.proofs.TagsLemmas.{cells_total, exact_cells}
-use Rattle.id_bank.specs.declared.ReadAnswer.{ReadAnswer}
-use Rattle.id_bank.specs.declared.WriteAnswer.{WriteAnswer}
-use Rattle.id_bank.specs.Cells.{CellState, Cells, read_answer, state_read, write_answer, state_written}
-use Rattle.id_element.specs.Steps.{State, fresh, state_after}
+use Rattle.id_slot.specs.declared.ReadAnswer.{ReadAnswer}
+use Rattle.id_slot.specs.declared.WriteAnswer.{WriteAnswer}
+use Rattle.id_slot.specs.Cells.{CellState, Cells, read_answer, state_read, write_answer, state_written}
+use Rattle.id_firing.specs.Steps.{State, fresh, state_after}
 use Rattle.id_core.specs.Machines.{World, start, taken_from}
 use Rattle.id_value.specs.declared.Constant.{Constant}
 use Rattle.id_list.proofs.PlacesLemmas.{slice_get-set, set-here, set-elsewhere}

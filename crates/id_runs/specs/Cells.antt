@@ -1,17 +1,17 @@
 -- The history of a cell: by what the cell holds, what every event on it came to (docs/MACHINE.md, "The bank").
 use Rattle.std.specs.Prelude.{◌≡◌, ◌⊎◌, ℕ, if◌then◌else◌, Option, Some, None, List, [], ◌∷◌, ◌++◌, slice_get}
 use Rattle.std.specs.FinMap.{get}
-use Rattle.id_graph.specs.Graph.{Parts}
+use Rattle.id_instr.specs.Graph.{Parts}
 use Rattle.id_tag.specs.declared.Tag.{Tag}
 use Rattle.id_tag.specs.declared.Cell.{Cell}
 use Rattle.id_tag.specs.declared.Value.{Value}
 use Rattle.id_tag.specs.Tags.{same_cell}
 use Rattle.id_tag.specs.Routes.{cell_route}
-use Rattle.id_bank.specs.declared.ReadAnswer.{ReadAnswer}
-use Rattle.id_bank.specs.declared.ReadAnswer.TheVariants.{Now, Deferred}
-use Rattle.id_bank.specs.declared.WriteAnswer.{WriteAnswer}
-use Rattle.id_bank.specs.declared.WriteAnswer.TheVariants.{Readers, Second}
-use Rattle.id_bank.specs.Cells.{CellState, Present, Deferred as Waiting}
+use Rattle.id_slot.specs.declared.ReadAnswer.{ReadAnswer}
+use Rattle.id_slot.specs.declared.ReadAnswer.TheVariants.{Now, Deferred}
+use Rattle.id_slot.specs.declared.WriteAnswer.{WriteAnswer}
+use Rattle.id_slot.specs.declared.WriteAnswer.TheVariants.{Readers, Second}
+use Rattle.id_slot.specs.Cells.{CellState, Present, Deferred as Waiting}
 use Rattle.id_core.specs.Steps.{State}
 use Rattle.id_core.specs.Machines.{World}
 use Rattle.id_value.specs.declared.Constant.{Constant}

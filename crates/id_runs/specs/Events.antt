@@ -1,10 +1,10 @@
 -- The events of a run: which element handled which message, and what came of it (docs/MACHINE.md, "Element step").
 use Rattle.std.specs.Prelude.{◌≡◌, ℕ, Bool, true, Option, Some, List, []}
-use Rattle.id_graph.specs.declared.dests.Dest.{Dest}
-use Rattle.id_graph.specs.declared.dests.Port.{Port}
-use Rattle.id_graph.specs.declared.instr.Op.{Op}
-use Rattle.id_graph.specs.declared.instr.Op.TheVariants.{Alloc}
-use Rattle.id_graph.specs.Graph.{Parts}
+use Rattle.id_instr.specs.declared.dests.Dest.{Dest}
+use Rattle.id_instr.specs.declared.dests.Port.{Port}
+use Rattle.id_instr.specs.declared.instr.Op.{Op}
+use Rattle.id_instr.specs.declared.instr.Op.TheVariants.{Alloc}
+use Rattle.id_instr.specs.Graph.{Parts}
 use Rattle.id_tag.specs.declared.Tag.{Tag}
 use Rattle.id_tag.specs.declared.Context.{Context}
 use Rattle.id_tag.specs.declared.Structure.{Structure}
@@ -14,18 +14,18 @@ use Rattle.id_tag.specs.declared.Value.TheVariants as value
 use Rattle.id_valid.specs.Roles.{op_at}
 use Rattle.id_tag.specs.declared.Payload.{Payload}
 use Rattle.id_tag.specs.declared.Payload.TheVariants.{Token, Read, Write}
-use Rattle.id_bank.specs.declared.ReadAnswer.{ReadAnswer}
-use Rattle.id_bank.specs.declared.WriteAnswer.{WriteAnswer}
+use Rattle.id_slot.specs.declared.ReadAnswer.{ReadAnswer}
+use Rattle.id_slot.specs.declared.WriteAnswer.{WriteAnswer}
 use Rattle.id_ops.specs.declared.Operands.{Operands}
 use Rattle.id_ops.specs.declared.Fired.{Fired}
 use Rattle.id_ops.specs.declared.Fired.TheVariants.{Out, Side, Moved, Entered, Sent, Asked, Stored, Failed, Nothing}
 use Rattle.id_ops.specs.Operators.{side_of}
-use Rattle.id_record.specs.declared.step.Step.{Step}
-use Rattle.id_record.specs.declared.step.Step.TheVariants as steps
-use Rattle.id_record.specs.Events.{full_step}
+use Rattle.id_line.specs.declared.step.Step.{Step}
+use Rattle.id_line.specs.declared.step.Step.TheVariants as steps
+use Rattle.id_line.specs.Events.{full_step}
 use Rattle.id_record.specs.Records.{dests_at}
 use Rattle.id_core.specs.Steps.{sent, fired_step}
-use Rattle.id_element.specs.Steps.{answer_fired, answer_sends, fill_sends, fill_verdict}
+use Rattle.id_firing.specs.Steps.{answer_fired, answer_sends, fill_sends, fill_verdict}
 use Rattle.id_list.specs.List.{Among}
 
 -- what came of a token: it waits for its partner, its port was filled already, or its instruction fired

@@ -1,11 +1,11 @@
 -- What at most one message of a run is for (docs/MACHINE.md, "Element step").
 use Rattle.std.specs.Prelude.{Bool, false, ◌&&◌}
-use Rattle.id_graph.specs.declared.dests.Port.{Port}
+use Rattle.id_instr.specs.declared.dests.Port.{Port}
 use Rattle.id_tag.specs.declared.Tag.{Tag}
 use Rattle.id_tag.specs.declared.Payload.{Payload}
 use Rattle.id_tag.specs.declared.Payload.TheVariants.{Token, Read, Write}
 use Rattle.id_tag.specs.Tags.{same_tag}
-use Rattle.id_match.specs.Ports.{same_port}
+use Rattle.id_front.specs.Ports.{same_port}
 
 -- a key: a port under a tag, a fetch by the tag of its reply, a store by its tag
 pub data Key : Type 0 where

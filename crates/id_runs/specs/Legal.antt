@@ -1,7 +1,7 @@
 -- Legal lists of events: runs by their events alone, without positions in a list of messages (docs/MACHINE.md, "Runs").
 use Rattle.std.specs.Prelude.{◌≡◌, ℕ, Some, false, List, [], ◌∷◌, ◌++◌, slice_get, slice_set}
 use Rattle.std.specs.List.{cons_option}
-use Rattle.id_graph.specs.Graph.{Parts}
+use Rattle.id_instr.specs.Graph.{Parts}
 use Rattle.id_tag.specs.declared.Message.{Message}
 use Rattle.id_tag.specs.Routes.{route_of}
 use Rattle.id_value.specs.declared.Constant.{Constant}

@@ -1,20 +1,20 @@
 -- Runs, with the events of all elements in the order in which they came, the newest first (docs/MACHINE.md, "Runs").
 use Rattle.std.specs.Prelude.{◌≡◌, ◌⊎◌, ℕ, if◌then◌else◌, Option, Some, None, List, [], ◌∷◌, map, slice_get}
 use Rattle.std.specs.FinMap.{get}
-use Rattle.id_graph.specs.declared.dests.Port.{Port}
-use Rattle.id_graph.specs.declared.instr.Instr.{Instr}
-use Rattle.id_graph.specs.Graph.{Parts}
-use Rattle.id_graph.specs.Ports.{two_ports}
+use Rattle.id_instr.specs.declared.dests.Port.{Port}
+use Rattle.id_instr.specs.declared.instr.Instr.{Instr}
+use Rattle.id_instr.specs.Graph.{Parts}
+use Rattle.id_instr.specs.Ports.{two_ports}
 use Rattle.id_tag.specs.declared.Tag.{Tag}
 use Rattle.id_tag.specs.declared.Value.{Value}
 use Rattle.id_tag.specs.declared.Payload.{Payload}
 use Rattle.id_tag.specs.declared.Payload.TheVariants.{Token, Read, Write}
 use Rattle.id_tag.specs.declared.Message.{Message}
 use Rattle.id_tag.specs.Routes.{route_of}
-use Rattle.id_match.specs.declared.Offered.{Offered}
-use Rattle.id_match.specs.declared.Offered.TheVariants.{Kept, Pair, Taken}
-use Rattle.id_match.specs.Waiting.{Store, offer_answer}
-use Rattle.id_bank.specs.Cells.{read_answer, write_answer}
+use Rattle.id_front.specs.declared.Offered.{Offered}
+use Rattle.id_front.specs.declared.Offered.TheVariants.{Kept, Pair, Taken}
+use Rattle.id_front.specs.Waiting.{Store, offer_answer}
+use Rattle.id_slot.specs.Cells.{read_answer, write_answer}
 use Rattle.id_ops.specs.declared.Operands.{Operands}
 use Rattle.id_ops.specs.declared.Operands.TheVariants.{One, Two}
 use Rattle.id_ops.specs.declared.Fresh.{Fresh}

@@ -1,6 +1,6 @@
 -- No two events of a run make the same context, or the same structure (docs/MACHINE.md, "Element step").
 use Rattle.std.specs.Prelude.{◌≡◌, ℕ, List}
-use Rattle.id_graph.specs.Graph.{Parts}
+use Rattle.id_instr.specs.Graph.{Parts}
 use Rattle.id_tag.specs.declared.Context.{Context}
 use Rattle.id_tag.specs.declared.Structure.{Structure}
 use Rattle.id_core.specs.Machines.{World}

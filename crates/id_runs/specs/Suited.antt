@@ -1,7 +1,7 @@
 -- What fires in the runs of valid graphs (docs/MACHINE.md, "Firing").
 use Rattle.std.specs.Prelude.{◌≡◌, ◌≢◌, ℕ, Some, List, slice_get}
-use Rattle.id_graph.specs.declared.instr.Instr.{Instr}
-use Rattle.id_graph.specs.Graph.{Parts}
+use Rattle.id_instr.specs.declared.instr.Instr.{Instr}
+use Rattle.id_instr.specs.Graph.{Parts}
 use Rattle.id_tag.specs.declared.Tag.{Tag}
 use Rattle.id_valid.specs.Validator.{IsValid}
 use Rattle.id_ops.specs.declared.Operands.{Operands}

@@ -6,11 +6,11 @@ use Rattle.std.specs.Option.{option_or}
 use Rattle.std.proofs.lemmas.Bool.{cases_eq}
 use Rattle.std.proofs.lemmas.Bool.Decides.{nat_tests}
 use Rattle.std.proofs.lemmas.List.{get_or_default, get_or-set_same, get_or-set_other}
-use Rattle.id_parts.specs.declared.row.Row.{Row}
-use Rattle.id_parts.specs.declared.row.Node.{Node}
-use Rattle.id_parts.specs.declared.row.Node.TheVariants.{Name, Enter, Block, Def, Program, NextUse, Body, Loop}
-use Rattle.id_parts.specs.Rows.{at}
-use Rattle.id_parts.specs.Tables.{around}
+use Rattle.id_table.specs.declared.row.Row.{Row}
+use Rattle.id_table.specs.declared.row.Node.{Node}
+use Rattle.id_table.specs.declared.row.Node.TheVariants.{Name, Enter, Block, Def, Program, NextUse, Body, Loop}
+use Rattle.id_table.specs.Rows.{at}
+use Rattle.id_table.specs.Tables.{around}
 use Rattle.id_scope.specs.declared.scope.Bound.{Bound}
 use Rattle.id_scope.specs.Scopes.{held, is_free, is_name, looks, sees, sees_own, used_name}
 use Rattle.id_scope.specs.Causes.{repeated}

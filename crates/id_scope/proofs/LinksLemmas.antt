@@ -1,14 +1,14 @@
 -- A chain goes on to a row of the table.
 use Rattle.std.proofs.Common.{◌≡◌, ◌<◌, inl, inr, ℕ, List, Option, Some, None, length, refl, sym, subst, arith}
-use Rattle.id_parts.specs.declared.row.Row.{Row}
-use Rattle.id_parts.specs.declared.row.Node.{Node}
-use Rattle.id_parts.specs.declared.row.Node.TheVariants.{Head, Param, Literal, Name, Unary, Binary, Split, If, Enter, Arg, Call, Block, Binding, Def, Program}
-use Rattle.id_parts.specs.declared.row.Node.TheVariants.{Start, LoopHead, Variable, Entries, Switches, Turn, NextUse, Next, Body, Reset, Loop}
-use Rattle.id_parts.specs.declared.row.Node.TheVariants.{Fetch, Address, Store}
-use Rattle.id_parts.specs.declared.row.Node.TheVariants as node
+use Rattle.id_table.specs.declared.row.Row.{Row}
+use Rattle.id_table.specs.declared.row.Node.{Node}
+use Rattle.id_table.specs.declared.row.Node.TheVariants.{Head, Param, Literal, Name, Unary, Binary, Split, If, Enter, Arg, Call, Block, Binding, Def, Program}
+use Rattle.id_table.specs.declared.row.Node.TheVariants.{Start, LoopHead, Variable, Entries, Switches, Turn, NextUse, Next, Body, Reset, Loop}
+use Rattle.id_table.specs.declared.row.Node.TheVariants.{Fetch, Address, Store}
+use Rattle.id_table.specs.declared.row.Node.TheVariants as node
 use Rattle.id_value.specs.declared.Kind.TheVariants.{Int, Array}
-use Rattle.id_parts.specs.Rows.{at}
-use Rattle.id_parts.specs.Tables.{HasPart, IsFormed}
+use Rattle.id_table.specs.Rows.{at}
+use Rattle.id_table.specs.Tables.{HasPart, IsFormed}
 use Rattle.id_scope.specs.Causes.{callee, head_in}
 use Rattle.id_scope.specs.Scopes.{user_of}
 use Rattle.id_scope.specs.Kinds.{Fixed, To, Nowhere, link_at, link_of, link_of_name, constant_kind, unary_kind, binary_kind}

@@ -2,7 +2,7 @@
 use Rattle.std.proofs.Common.{◌≡◌, ◌<◌, ◌≤◌, ◌⊎◌, inl, inr, ℕ, List, Option, None, get_or, length, replicate, sym, ap, subst, ◌∙◌, arith}
 use Rattle.std.proofs.lemmas.Bool.{cases_lt}
 use Rattle.std.proofs.lemmas.List.{get_or-replicate, get_or_past, length-replicate}
-use Rattle.id_parts.specs.declared.row.Row.{Row}
+use Rattle.id_table.specs.declared.row.Row.{Row}
 use Rattle.id_scope.specs.Names.{AreBound, AreWaiting}
 use Rattle.id_scope.proofs.ScopesLemmas.{binder_at-none}
 

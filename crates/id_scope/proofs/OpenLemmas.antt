@@ -5,8 +5,8 @@ use Rattle.std.specs.Prelude.{◌||◌}
 use Rattle.std.proofs.lemmas.Bool.{cases_lt, false≢true}
 use Rattle.std.proofs.lemmas.List.{get_or-take, get_or_append_left, get_or_push, length_push}
 use Rattle.std.proofs.Common.{length-take-le}
-use Rattle.id_parts.specs.declared.row.Row.{Row}
-use Rattle.id_parts.specs.Rows.{at}
+use Rattle.id_table.specs.declared.row.Row.{Row}
+use Rattle.id_table.specs.Rows.{at}
 use Rattle.id_scope.specs.Scopes.{confines, held, is_scope, sees_own}
 use Rattle.id_scope.specs.Names.{AreHeld, IsOpen}
 use Rattle.id_scope.proofs.ScopesLemmas.{confines_none, keeps_no_scope, or_false}

@@ -5,12 +5,12 @@ use Rattle.std.specs.Prelude.{◌&&◌, ◌||◌, if◌then◌else◌}
 use Rattle.std.specs.Option.{option_or}
 use Rattle.std.proofs.lemmas.Bool.{false≢true}
 use Rattle.std.proofs.lemmas.Bool.Decides.{nat_tests}
-use Rattle.id_parts.specs.declared.row.Row.{Row}
-use Rattle.id_parts.specs.Rows.{at}
-use Rattle.id_parts.specs.Tables.{around, is_binding, is_def, is_next, is_param}
+use Rattle.id_table.specs.declared.row.Row.{Row}
+use Rattle.id_table.specs.Rows.{at}
+use Rattle.id_table.specs.Tables.{around, is_binding, is_def, is_next, is_param}
 use Rattle.id_scope.specs.declared.cause.CheckCause.{CheckCause}
-use Rattle.id_parts.specs.declared.row.Node.{Node}
-use Rattle.id_parts.specs.declared.row.Node.TheVariants.{Param, Block, Binding, Def, Program, NextUse, Next, Body, Loop}
+use Rattle.id_table.specs.declared.row.Node.{Node}
+use Rattle.id_table.specs.declared.row.Node.TheVariants.{Param, Block, Binding, Def, Program, NextUse, Next, Body, Loop}
 use Rattle.id_scope.specs.Names.{seen}
 use Rattle.id_scope.specs.Scopes.{closes, confines, is_next_use, keeps, looks, sees, sees_own, takes}
 use Rattle.id_scope.specs.Scopes.{binder_at, binder_by, binder_in, binder_of, binds, bound_name, first_of, held, is_name, is_scope, used_name}

@@ -6,8 +6,8 @@ use Rattle.std.specs.Option.{option_or}
 use Rattle.std.proofs.lemmas.Bool.{cases_eq, cases_lt}
 use Rattle.std.proofs.lemmas.Bool.Decides.{nat_tests}
 use Rattle.std.proofs.lemmas.List.{get_or_default, get_or_past, length-set}
-use Rattle.id_parts.specs.declared.row.Row.{Row}
-use Rattle.id_parts.specs.Rows.{at}
+use Rattle.id_table.specs.declared.row.Row.{Row}
+use Rattle.id_table.specs.Rows.{at}
 use Rattle.id_scope.specs.declared.scope.Bound.{Bound}
 use Rattle.id_scope.specs.Scopes.{binder_at, binder_in, binds, bound_name, confines, held, is_free, is_name, keeps, sees, sees_own, used_name}
 use Rattle.id_scope.specs.Causes.{repeated, second, seconds}

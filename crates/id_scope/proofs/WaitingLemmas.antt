@@ -6,9 +6,9 @@ use Rattle.std.specs.Option.{option_or}
 use Rattle.std.proofs.lemmas.Bool.{cases_eq, cases_lt, false≢true}
 use Rattle.std.proofs.lemmas.Bool.Decides.{nat_tests}
 use Rattle.std.proofs.lemmas.List.{length-set, get_or-set_same, get_or-set_other}
-use Rattle.id_parts.specs.declared.row.Row.{Row}
-use Rattle.id_parts.specs.Rows.{at}
-use Rattle.id_parts.specs.Tables.{around}
+use Rattle.id_table.specs.declared.row.Row.{Row}
+use Rattle.id_table.specs.Rows.{at}
+use Rattle.id_table.specs.Tables.{around}
 use Rattle.id_scope.specs.Scopes.{is_free, is_name}
 use Rattle.id_scope.specs.Names.{AreWaiting, IsBehind, given, is_in_sight, is_outside, is_waiting, key_of, last_of, limit, not_before, reach, use_before}
 

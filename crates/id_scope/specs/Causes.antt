@@ -6,16 +6,16 @@ use Rattle.id_value.specs.declared.Kind.TheVariants.{Int, Bool, Array}
 use Rattle.id_value.specs.declared.BinaryOp.{BinaryOp}
 use Rattle.id_value.specs.declared.BinaryOp.TheVariants as class
 use Rattle.id_value.specs.declared.Comparison.TheVariants.{Eq, Ne}
-use Rattle.id_parts.specs.declared.row.Row.{Row}
-use Rattle.id_parts.specs.declared.row.Node.{Node}
-use Rattle.id_parts.specs.declared.row.Node.TheVariants.{Param, Name, Unary, Binary, Split, If, Enter, Arg, Call, Def}
-use Rattle.id_parts.specs.declared.row.Node.TheVariants.{Switches, NextUse, Next, Fetch, Address, Store}
-use Rattle.id_parts.specs.declared.row.Node.TheVariants as node
+use Rattle.id_table.specs.declared.row.Row.{Row}
+use Rattle.id_table.specs.declared.row.Node.{Node}
+use Rattle.id_table.specs.declared.row.Node.TheVariants.{Param, Name, Unary, Binary, Split, If, Enter, Arg, Call, Def}
+use Rattle.id_table.specs.declared.row.Node.TheVariants.{Switches, NextUse, Next, Fetch, Address, Store}
+use Rattle.id_table.specs.declared.row.Node.TheVariants as node
 use Rattle.id_list.specs.List.{Among}
-use Rattle.id_tree.specs.Tree.{Tree}
+use Rattle.id_grammar.specs.Tree.{Tree}
 use Rattle.id_tree.specs.Distinct.{HasPlace}
-use Rattle.id_parts.specs.Rows.{at}
-use Rattle.id_parts.specs.Turns.{params_at}
+use Rattle.id_table.specs.Rows.{at}
+use Rattle.id_table.specs.Turns.{params_at}
 use Rattle.id_scope.specs.declared.cause.CheckCause.{CheckCause}
 use Rattle.id_scope.specs.declared.cause.CheckCause.TheVariants.{NoMain, MainKind, Duplicate, Unknown, WrongKind}
 use Rattle.id_scope.specs.declared.cause.CheckCause.TheVariants.{WrongCount, TooManyParams, Memory}

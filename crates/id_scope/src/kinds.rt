@@ -2,7 +2,7 @@
 
 ghost use Rattle.std.specs.Prelude.{◌≡◌, ◌<◌, ◌≤◌, ◌+◌, ◌^◌, ◌⊎◌, ℕ, [], not, get_or, length, IfOk, OnOk, Some, None};
 ghost use Rattle.id_list.specs.List.{Among};
-ghost use Rattle.id_parts.specs.Tables.{HasPart, IsFormed};
+ghost use Rattle.id_table.specs.Tables.{HasPart, IsFormed};
 ghost use Rattle.id_scope.specs.Kinds as kinds;
 ghost use Rattle.id_scope.specs.Kinds.{AreKinds, To, Nowhere};
 ghost use Rattle.id_scope.specs.Chains as chains;

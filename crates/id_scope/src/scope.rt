@@ -6,7 +6,7 @@
 ghost use Rattle.std.specs.Prelude.{◌≡◌, ◌<◌, ◌≤◌, ◌+◌, ◌^◌, ℕ, true, false, get_or, length, replicate, if◌then◌else◌};
 ghost use Rattle.std.specs.Prelude.{IfOk, OnOk, None, Some, set};
 ghost use Rattle.std.specs.Option.{option_or};
-ghost use Rattle.id_parts.specs.Rows.{at};
+ghost use Rattle.id_table.specs.Rows.{at};
 ghost use Rattle.id_scope.specs.Scopes as scopes;
 ghost use Rattle.id_scope.specs.Scopes.{AreBinders, is_name};
 ghost use Rattle.id_scope.specs.Causes.{duplicates, repeated, second, seconds};

@@ -7,8 +7,8 @@ use Rattle.std.proofs.lemmas.List.Concat.{flat_map-append}
 use Rattle.std.proofs.lemmas.Option.{slice_get_within, get_or_from_slice_get}
 use Rattle.id_sink.specs.declared.sink.PrintError.{PrintError}
 use Rattle.std.specs.Fmt.{signed_decimal}
-use Rattle.id_meaning.specs.declared.Site.{Site}
-use Rattle.id_meaning.specs.declared.SourceValue.{SourceValue}
+use Rattle.id_source.specs.declared.Site.{Site}
+use Rattle.id_source.specs.declared.SourceValue.{SourceValue}
 use Rattle.id_sink.specs.Texts.{cell_text, content_text, equal_text, filled_text, site_text}
 use Rattle.id_sink.specs.Told.{Told, Prints}
 use Rattle.id_sink.proofs.SinkLemmas.{Prints-stop, Prints-then}

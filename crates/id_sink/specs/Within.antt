@@ -1,11 +1,11 @@
 -- Things whose places lie within a text.
 use Rattle.std.specs.Prelude.{ℕ, ◌≤◌, List, All}
-use Rattle.id_meaning.specs.declared.PathStep.{PathStep}
-use Rattle.id_meaning.specs.declared.Path.{Path}
-use Rattle.id_meaning.specs.declared.Site.{Site}
-use Rattle.id_meaning.specs.declared.SourceValue.{SourceValue}
-use Rattle.id_meaning.specs.declared.SourceValue.TheVariants.{Int, Bool, Name}
-use Rattle.id_meaning.specs.declared.Ask.{Ask}
+use Rattle.id_source.specs.declared.PathStep.{PathStep}
+use Rattle.id_source.specs.declared.Path.{Path}
+use Rattle.id_source.specs.declared.Site.{Site}
+use Rattle.id_source.specs.declared.SourceValue.{SourceValue}
+use Rattle.id_source.specs.declared.SourceValue.TheVariants.{Int, Bool, Name}
+use Rattle.id_source.specs.declared.Ask.{Ask}
 
 -- the places of all these steps are at most so many bytes in
 abbrev pub StepsWithin : ℕ → List PathStep → Type 0

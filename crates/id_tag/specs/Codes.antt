@@ -2,8 +2,8 @@
 use Rattle.std.specs.Prelude.{◌≡◌, ℕ, ℤ, Bool, true, false, ◌⊎◌, refl}
 use Rattle.std.proofs.Common.{inl, inr}
 use Rattle.std.specs.Coded.{Coded, code_by, coded×, coded⊎, coded_ℕ, coded_ℤ, coded_bool}
-use Rattle.id_graph.specs.declared.dests.Port.{Port}
-use Rattle.id_graph.specs.declared.dests.Port.TheVariants.{Zero, One}
+use Rattle.id_instr.specs.declared.dests.Port.{Port}
+use Rattle.id_instr.specs.declared.dests.Port.TheVariants.{Zero, One}
 use Rattle.id_tag.specs.declared.Context.{Context}
 use Rattle.id_tag.specs.declared.Tag.{Tag}
 use Rattle.id_tag.specs.declared.Structure.{Structure}

@@ -1,8 +1,8 @@
 -- The kind of a value, and when two kinds are one (docs/MACHINE.md, "Messages").
 use Rattle.std.specs.Prelude.{Bool, true, false}
-use Rattle.id_graph.specs.declared.instr.PortKind.{PortKind}
-use Rattle.id_graph.specs.declared.instr.PortKind.TheVariants.{Signal, Int, Bool as Truth, Structure, Address, Context}
-use Rattle.id_graph.specs.declared.instr.PortKind.TheVariants.{Continuation}
+use Rattle.id_instr.specs.declared.instr.PortKind.{PortKind}
+use Rattle.id_instr.specs.declared.instr.PortKind.TheVariants.{Signal, Int, Bool as Truth, Structure, Address, Context}
+use Rattle.id_instr.specs.declared.instr.PortKind.TheVariants.{Continuation}
 use Rattle.id_tag.specs.declared.Value.{Value}
 use Rattle.id_tag.specs.declared.Value.TheVariants as value
 

@@ -5,27 +5,27 @@ use Rattle.id_text.specs.declared.token.Token.{Token}
 use Rattle.id_text.specs.declared.token.TokenKind.{TokenKind}
 use Rattle.id_text.specs.declared.token.TokenKind.TheVariants.{Sign}
 use Rattle.id_text.specs.declared.token.Symbol.TheVariants.{RightParen, LeftBracket, Comma}
-use Rattle.id_tree.specs.declared.parser.Level.{Level}
-use Rattle.id_tree.specs.declared.parser.Level.TheVariants as level
-use Rattle.id_tree.specs.declared.parser.Scope.{Scope}
-use Rattle.id_tree.specs.declared.tokens.Word.{Word}
-use Rattle.id_tree.specs.declared.tokens.Word.TheVariants as the
+use Rattle.id_grammar.specs.declared.phrase.Level.{Level}
+use Rattle.id_grammar.specs.declared.phrase.Level.TheVariants as level
+use Rattle.id_grammar.specs.declared.phrase.Scope.{Scope}
+use Rattle.id_grammar.specs.declared.tokens.Word.{Word}
+use Rattle.id_grammar.specs.declared.tokens.Word.TheVariants as the
 use Rattle.id_value.specs.declared.BinaryOp.{BinaryOp}
-use Rattle.id_tree.specs.Tree.{Tree, none, more}
-use Rattle.id_tree.specs.Grammar.{Phrase, Definition, Parameters, MoreParameters, Expression, Grouped, Negation}
-use Rattle.id_tree.specs.Grammar.{Unary, Postfix, Atom, Arguments, MoreArguments, Tail, arguments_of, Rest, part}
-use Rattle.id_tree.specs.Grammar.{Opens, by_conditional, denied, negated, number, by_true, by_false, parens, by_name}
-use Rattle.id_tree.specs.Grammar.{by_array, by_braces, last_argument, next_argument, operand, left_operand}
-use Rattle.id_tree.specs.Grammar.{operator_of, own_height, Derives, opened, unconditional, single, grouped, plain}
-use Rattle.id_tree.specs.Grammar.{bare, atomic, fetched, some_arguments, Follows, ended, taken, chosen, left_out}
-use Rattle.id_tree.specs.Grammar.{named, kinded, given, Program, empty, defined}
-use Rattle.id_tree.specs.Machine.{opening, is_word, room, Move, pick, ahead, ends, wants, Frame, Left, Right, Target}
-use Rattle.id_tree.specs.Machine.{Inside, Outer, again, State, Begin, Want, Have, Next, Accepted, Refused, run}
-use Rattle.id_tree.proofs.RowLemmas.{Quiet, Ends, Bars, Parts, valid, not_fetch, Quiet-atom, Quiet-fetch, Quiet-operator, Follows-height, arguments_parts}
-use Rattle.id_tree.proofs.RunLemmas.{First, Unopened, run-done, run-part, run-inside, run-outer, run-right, run-level}
-use Rattle.id_tree.proofs.RunLemmas.{run-left, run-unconditional, run-plain, run-bare, run-postfix, run-target}
-use Rattle.id_tree.proofs.RunLemmas.{run-fetch, run-word, run-chosen, run-left_out, run-arguments, run-name, run-kind}
-use Rattle.id_tree.proofs.RunLemmas.{run-opens, run-operator}
+use Rattle.id_grammar.specs.Tree.{Tree, none, more}
+use Rattle.id_grammar.specs.Grammar.{Phrase, Definition, Parameters, MoreParameters, Expression, Grouped, Negation}
+use Rattle.id_grammar.specs.Grammar.{Unary, Postfix, Atom, Arguments, MoreArguments, Tail, arguments_of, Rest, part}
+use Rattle.id_grammar.specs.Grammar.{Opens, by_conditional, denied, negated, number, by_true, by_false, parens, by_name}
+use Rattle.id_grammar.specs.Grammar.{by_array, by_braces, last_argument, next_argument, operand, left_operand}
+use Rattle.id_grammar.specs.Grammar.{operator_of, own_height, Derives, opened, unconditional, single, grouped, plain}
+use Rattle.id_grammar.specs.Grammar.{bare, atomic, fetched, some_arguments, Follows, ended, taken, chosen, left_out}
+use Rattle.id_grammar.specs.Grammar.{named, kinded, given, Program, empty, defined}
+use Rattle.id_grammar.specs.Machine.{opening, is_word, room, Move, pick, ahead, ends, wants, Frame, Left, Right, Target}
+use Rattle.id_grammar.specs.Machine.{Inside, Outer, again, State, Begin, Want, Have, Next, Accepted, Refused, run}
+use Rattle.id_grammar.proofs.RowLemmas.{Quiet, Ends, Bars, Parts, valid, not_fetch, Quiet-atom, Quiet-fetch, Quiet-operator, Follows-height, arguments_parts}
+use Rattle.id_grammar.proofs.RunLemmas.{First, Unopened, run-done, run-part, run-inside, run-outer, run-right, run-level}
+use Rattle.id_grammar.proofs.RunLemmas.{run-left, run-unconditional, run-plain, run-bare, run-postfix, run-target}
+use Rattle.id_grammar.proofs.RunLemmas.{run-fetch, run-word, run-chosen, run-left_out, run-arguments, run-name, run-kind}
+use Rattle.id_grammar.proofs.RunLemmas.{run-opens, run-operator}
 
 -- no operator of a level within the phrase begins the tokens
 abbrev Stops : Phrase → List Token → Type 0

@@ -7,20 +7,20 @@ use Rattle.id_text.specs.declared.token.TokenKind.TheVariants.{Name, Number, Key
 use Rattle.id_text.specs.declared.token.Keyword.{Keyword}
 use Rattle.id_text.specs.declared.token.Keyword.TheVariants.{Def, Finally, In, Int}
 use Rattle.id_text.specs.declared.token.Symbol.TheVariants.{LeftParen, RightParen, RightBrace, Colon, Becomes, Semicolon}
-use Rattle.id_tree.specs.declared.parser.Level.TheVariants as level
-use Rattle.id_tree.specs.declared.parser.Scope.{Scope}
-use Rattle.id_tree.specs.declared.parser.Scope.TheVariants as scope
+use Rattle.id_grammar.specs.declared.phrase.Level.TheVariants as level
+use Rattle.id_grammar.specs.declared.phrase.Scope.{Scope}
+use Rattle.id_grammar.specs.declared.phrase.Scope.TheVariants as scope
 use Rattle.id_value.specs.declared.Kind.TheVariants as kind
-use Rattle.id_tree.specs.Tree.{Tree, none, more}
-use Rattle.id_tree.specs.Grammar.{Phrase, Definition, Parameters, MoreParameters, Expression, Grouped, Negation}
-use Rattle.id_tree.specs.Grammar.{Unary, Postfix, Atom, Arguments, MoreArguments, Tail, kind_of, Rest, done, word}
-use Rattle.id_tree.specs.Grammar.{either, name, of_kind, part, last_of, Opens, definition, no_parameters}
-use Rattle.id_tree.specs.Grammar.{last_parameter, number, no_arguments, last_argument, by_body, by_last, own_height}
-use Rattle.id_tree.specs.Grammar.{Derives, opened, unconditional, single, grouped, plain, bare, atomic, Follows}
-use Rattle.id_tree.specs.Grammar.{ended, taken, left_out, named, kinded, given, Program, empty, defined}
-use Rattle.id_tree.specs.Machine.{least_height, Frame, State}
-use Rattle.id_tree.specs.Standing.{Roomy, Around, outermost, unconditionally, left, right, plainly, barely, target}
-use Rattle.id_tree.specs.Standing.{atomically, inside, Stands, begun, wanting, having, within, finished}
+use Rattle.id_grammar.specs.Tree.{Tree, none, more}
+use Rattle.id_grammar.specs.Grammar.{Phrase, Definition, Parameters, MoreParameters, Expression, Grouped, Negation}
+use Rattle.id_grammar.specs.Grammar.{Unary, Postfix, Atom, Arguments, MoreArguments, Tail, kind_of, Rest, done, word}
+use Rattle.id_grammar.specs.Grammar.{either, name, of_kind, part, last_of, Opens, definition, no_parameters}
+use Rattle.id_grammar.specs.Grammar.{last_parameter, number, no_arguments, last_argument, by_body, by_last, own_height}
+use Rattle.id_grammar.specs.Grammar.{Derives, opened, unconditional, single, grouped, plain, bare, atomic, Follows}
+use Rattle.id_grammar.specs.Grammar.{ended, taken, left_out, named, kinded, given, Program, empty, defined}
+use Rattle.id_grammar.specs.Machine.{least_height, Frame, State}
+use Rattle.id_grammar.specs.Standing.{Roomy, Around, outermost, unconditionally, left, right, plainly, barely, target}
+use Rattle.id_grammar.specs.Standing.{atomically, inside, Stands, begun, wanting, having, within, finished}
 
 -- the starts rise from the first number on and stay below the second
 abbrev pub Laid : ℕ → List Token → ℕ → Type 0

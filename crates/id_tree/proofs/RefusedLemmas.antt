@@ -4,16 +4,16 @@ use Rattle.std.proofs.Common.{◌++◌, refl, sym, ap, ◌∙◌, subst, append_
 use Rattle.std.proofs.Common.{zero-le}
 use Rattle.id_text.specs.Tokens.{Rises}
 use Rattle.id_text.specs.declared.token.Token.{Token}
-use Rattle.id_tree.specs.Tree.{Tree}
-use Rattle.id_tree.specs.declared.tree.TreeError.{TreeError}
-use Rattle.id_tree.specs.declared.tree.TreeError.TheVariants.{Unexpected, TooDeep, Memory}
-use Rattle.id_tree.specs.Readers.{EndsBy}
-use Rattle.id_tree.specs.Grammar.{Phrase, Rest, done, word, either, name, of_kind, part, own_height, Program}
+use Rattle.id_grammar.specs.Tree.{Tree}
+use Rattle.id_grammar.specs.declared.tree.TreeError.{TreeError}
+use Rattle.id_grammar.specs.declared.tree.TreeError.TheVariants.{Unexpected, TooDeep, Memory}
+use Rattle.id_grammar.specs.Readers.{EndsBy}
+use Rattle.id_grammar.specs.Grammar.{Phrase, Rest, done, word, either, name, of_kind, part, own_height, Program}
 use Rattle.id_tree.specs.Accepted.{Accepts, GoesOn, GoesOnDeeper, StopsAt, RefusedBy, IsMemory}
-use Rattle.id_tree.specs.Machine.{Move, pick, takes, Frame, State, Begin, Want, Have, Next, Finished, Accepted, Refused, run}
-use Rattle.id_tree.specs.Standing.{Around, outermost, unconditionally, left, right, plainly, barely, target}
-use Rattle.id_tree.specs.Standing.{atomically, inside, Stands, begun, wanting, having, within, finished, Roomy}
-use Rattle.id_tree.proofs.RunLemmas.{run-step, run-none, run-deep}
+use Rattle.id_grammar.specs.Machine.{Move, pick, takes, Frame, State, Begin, Want, Have, Next, Finished, Accepted, Refused, run}
+use Rattle.id_grammar.specs.Standing.{Around, outermost, unconditionally, left, right, plainly, barely, target}
+use Rattle.id_grammar.specs.Standing.{atomically, inside, Stands, begun, wanting, having, within, finished, Roomy}
+use Rattle.id_grammar.proofs.RunLemmas.{run-step, run-none, run-deep}
 use Rattle.id_tree.proofs.CompleteLemmas.{run-program}
 use Rattle.id_tree.proofs.SoundLemmas.{Moves, Moves-takes, Defined-none}
 use Rattle.id_tree.proofs.FinishLemmas.{Laid-append, Laid-front, Rises-laid, Laid-rises, Stands-completed}

@@ -5,24 +5,24 @@ use Rattle.id_text.specs.declared.token.Token.{Token}
 use Rattle.id_text.specs.declared.token.TokenKind.{TokenKind}
 use Rattle.id_text.specs.declared.token.TokenKind.TheVariants.{Name, End}
 use Rattle.id_text.specs.declared.token.Symbol.TheVariants.{LeftBracket}
-use Rattle.id_tree.specs.declared.tokens.Word.TheVariants as the
-use Rattle.id_tree.specs.declared.parser.Level.{Level}
-use Rattle.id_tree.specs.declared.parser.Level.TheVariants as level
-use Rattle.id_tree.specs.Tree.{Tree, binary, none, more}
-use Rattle.id_tree.specs.Grammar.{Phrase, Definition, Parameters, MoreParameters, Expression, Grouped, Negation}
-use Rattle.id_tree.specs.Grammar.{Unary, Postfix, Atom, Arguments, MoreArguments, Tail, argument_of, Rest, done, word}
-use Rattle.id_tree.specs.Grammar.{either, name, of_kind, part, kind_named, operand, left_operand, operator_of}
-use Rattle.id_tree.specs.Grammar.{own_height, Derives, opened, unconditional, single, grouped, plain, bare, atomic}
-use Rattle.id_tree.specs.Grammar.{fetched, some_arguments, ended, taken, chosen, left_out, named, kinded, given}
-use Rattle.id_tree.specs.Grammar.{Program, empty, defined}
-use Rattle.id_tree.specs.Machine.{opening, Move, pick, is_word, name_in, ahead, ends, defines, enters, points}
-use Rattle.id_tree.specs.Machine.{multiplies, sums, negates, expresses, wants, operates, repeats, indexes, nexts}
-use Rattle.id_tree.specs.Machine.{closes, takes, Frame, Left, Inside, Outer, State}
-use Rattle.id_tree.specs.Standing.{Begins, Defined, Roomy, Around, outermost, unconditionally, left, right, plainly}
-use Rattle.id_tree.specs.Standing.{barely, target, atomically, inside, Stands, begun, wanting, having, within}
-use Rattle.id_tree.specs.Standing.{finished}
-use Rattle.id_tree.proofs.RowLemmas.{valid, least-most, left_operand-least, Derives-height}
-use Rattle.id_tree.proofs.RowLemmas.{same-is_word}
+use Rattle.id_grammar.specs.declared.tokens.Word.TheVariants as the
+use Rattle.id_grammar.specs.declared.phrase.Level.{Level}
+use Rattle.id_grammar.specs.declared.phrase.Level.TheVariants as level
+use Rattle.id_grammar.specs.Tree.{Tree, binary, none, more}
+use Rattle.id_grammar.specs.Grammar.{Phrase, Definition, Parameters, MoreParameters, Expression, Grouped, Negation}
+use Rattle.id_grammar.specs.Grammar.{Unary, Postfix, Atom, Arguments, MoreArguments, Tail, argument_of, Rest, done, word}
+use Rattle.id_grammar.specs.Grammar.{either, name, of_kind, part, kind_named, operand, left_operand, operator_of}
+use Rattle.id_grammar.specs.Grammar.{own_height, Derives, opened, unconditional, single, grouped, plain, bare, atomic}
+use Rattle.id_grammar.specs.Grammar.{fetched, some_arguments, ended, taken, chosen, left_out, named, kinded, given}
+use Rattle.id_grammar.specs.Grammar.{Program, empty, defined}
+use Rattle.id_grammar.specs.Machine.{opening, Move, pick, is_word, name_in, ahead, ends, defines, enters, points}
+use Rattle.id_grammar.specs.Machine.{multiplies, sums, negates, expresses, wants, operates, repeats, indexes, nexts}
+use Rattle.id_grammar.specs.Machine.{closes, takes, Frame, Left, Inside, Outer, State}
+use Rattle.id_grammar.specs.Standing.{Begins, Defined, Roomy, Around, outermost, unconditionally, left, right, plainly}
+use Rattle.id_grammar.specs.Standing.{barely, target, atomically, inside, Stands, begun, wanting, having, within}
+use Rattle.id_grammar.specs.Standing.{finished}
+use Rattle.id_grammar.proofs.RowLemmas.{valid, least-most, left_operand-least, Derives-height}
+use Rattle.id_grammar.proofs.RowLemmas.{same-is_word}
 use Rattle.id_tree.proofs.CompleteLemmas.{ahead-append}
 
 -- a move within n leads on

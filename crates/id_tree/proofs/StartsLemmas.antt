@@ -5,15 +5,15 @@ use Rattle.id_text.specs.Tokens.{IsWithin}
 use Rattle.id_text.specs.declared.token.Token.{Token}
 use Rattle.id_text.specs.declared.token.TokenKind.{TokenKind}
 use Rattle.id_value.specs.declared.Kind.{Kind}
-use Rattle.id_tree.specs.Tree as tree
-use Rattle.id_tree.specs.Tree.{Tree, binding, next, store, param, none, more}
-use Rattle.id_tree.specs.Grammar.{Phrase, Rest, done, word, either, name, of_kind, part, with_statement, with_tail}
-use Rattle.id_tree.specs.Grammar.{loop_with_tail, Opens, definition, no_parameters, first_parameter, last_parameter}
-use Rattle.id_tree.specs.Grammar.{next_parameter, by_conditional, denied, negated, number, by_true, by_false, parens}
-use Rattle.id_tree.specs.Grammar.{by_name, by_array, by_braces, no_arguments, last_argument, next_argument}
-use Rattle.id_tree.specs.Grammar.{by_statement, by_next, by_body, by_last, Derives, opened, unconditional, single}
-use Rattle.id_tree.specs.Grammar.{grouped, plain, bare, atomic, fetched, some_arguments, Follows, ended, taken}
-use Rattle.id_tree.specs.Grammar.{chosen, left_out, named, kinded, given, Program, empty, defined}
+use Rattle.id_grammar.specs.Tree as tree
+use Rattle.id_grammar.specs.Tree.{Tree, binding, next, store, param, none, more}
+use Rattle.id_grammar.specs.Grammar.{Phrase, Rest, done, word, either, name, of_kind, part, with_statement, with_tail}
+use Rattle.id_grammar.specs.Grammar.{loop_with_tail, Opens, definition, no_parameters, first_parameter, last_parameter}
+use Rattle.id_grammar.specs.Grammar.{next_parameter, by_conditional, denied, negated, number, by_true, by_false, parens}
+use Rattle.id_grammar.specs.Grammar.{by_name, by_array, by_braces, no_arguments, last_argument, next_argument}
+use Rattle.id_grammar.specs.Grammar.{by_statement, by_next, by_body, by_last, Derives, opened, unconditional, single}
+use Rattle.id_grammar.specs.Grammar.{grouped, plain, bare, atomic, fetched, some_arguments, Follows, ended, taken}
+use Rattle.id_grammar.specs.Grammar.{chosen, left_out, named, kinded, given, Program, empty, defined}
 use Rattle.id_tree.specs.Distinct.{HasPlace}
 use Rattle.id_tree.specs.Starts.{StartsAt, PlacesAreStarts}
 

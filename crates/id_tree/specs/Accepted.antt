@@ -2,10 +2,10 @@
 use Rattle.std.specs.Prelude.{◌≡◌, ◌≤◌, ℕ, List, [], ◌∷◌, ◌++◌}
 use Rattle.id_text.specs.declared.token.Token.{Token}
 use Rattle.id_text.specs.Tokens.{Rises}
-use Rattle.id_tree.specs.declared.tree.TreeError.{TreeError}
-use Rattle.id_tree.specs.declared.tree.TreeError.TheVariants.{Unexpected, TooDeep, Memory}
-use Rattle.id_tree.specs.Tree.{Tree}
-use Rattle.id_tree.specs.Grammar.{Program}
+use Rattle.id_grammar.specs.declared.tree.TreeError.{TreeError}
+use Rattle.id_grammar.specs.declared.tree.TreeError.TheVariants.{Unexpected, TooDeep, Memory}
+use Rattle.id_grammar.specs.Tree.{Tree}
+use Rattle.id_grammar.specs.Grammar.{Program}
 
 -- the tokens are a program with this tree and with nesting at most 200
 pub record Accepts (ts : List Token) (e : Tree) : Type 0 where

@@ -1,7 +1,7 @@
 -- Places of things: no two things of a tree have one (docs/LANGUAGE.md, "Place").
 use Rattle.std.specs.Prelude.{◌≡◌, ◌⊎◌, ℕ}
-use Rattle.id_tree.specs.Tree.{Tree, literal, unary, binary, name, conditional, call, block, loop, array, fetch}
-use Rattle.id_tree.specs.Tree.{binding, next, store, param, define, none, more}
+use Rattle.id_grammar.specs.Tree.{Tree, literal, unary, binary, name, conditional, call, block, loop, array, fetch}
+use Rattle.id_grammar.specs.Tree.{binding, next, store, param, define, none, more}
 
 -- a thing of the tree has this place
 abbrev pub HasPlace : Tree → ℕ → Type 0

@@ -1,7 +1,7 @@
 -- Where the things of a tree stand: at starts of tokens (docs/LANGUAGE.md, "Place").
 use Rattle.std.specs.Prelude.{◌≡◌, ◌⊎◌, ℕ, List, [], ◌∷◌}
 use Rattle.id_text.specs.declared.token.Token.{Token}
-use Rattle.id_tree.specs.Tree.{Tree}
+use Rattle.id_grammar.specs.Tree.{Tree}
 use Rattle.id_tree.specs.Distinct.{HasPlace}
 
 -- some token of the list starts there

@@ -1,11 +1,12 @@
-//! The tree of a program, and the parser that reads it off the tokens.
+//! The program that tokens are, read off them definition by definition.
 //!
 //! Keeps: nothing beyond its values; that the places of a program differ, and are starts of tokens,
 //! are clauses of `parse`.
 //! Errors: `TreeError`, the refusals 5 and 6 or want of memory.
-//! Read first: docs/LANGUAGE.md ("Grammar", "Nesting", "Place"), `specs/Grammar.antt`,
+//! Read first: docs/LANGUAGE.md ("Grammar", "Nesting", "Place"), `specs/Grammar.antt` (`id_grammar`),
 //! `specs/Accepted.antt`, then `parse`.
-//! Not here: tokens (`id_text`), operators (`id_value`), names and kinds (`id_check`).
+//! Not here: trees and the grammar (`id_grammar`), expressions and statements (`id_parser`), names and
+//! kinds (`id_check`).
 #![tactic(auto)]
 
 /// What is found, unless it is an error, which is the answer then.
@@ -18,15 +19,10 @@ macro_rules! found {
     };
 }
 
-mod operators;
-mod parser;
-mod part;
 mod program;
-mod tokens;
-mod tree;
 
-pub use id_value::{BinaryOp, Constant, Kind, UnaryOp};
-pub use program::parse;
-pub use tree::{
+pub use id_grammar::{
     Block, Call, Def, Expr, Loop, MAX_NESTING, Pair, Param, Program, Stmt, TreeError, Triple,
 };
+pub use id_value::{BinaryOp, Constant, Kind, UnaryOp};
+pub use program::parse;

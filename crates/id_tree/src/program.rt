@@ -5,24 +5,22 @@
 ghost use Rattle.std.specs.Prelude.{◌≡◌, [], ◌∷◌, ◌++◌, IfOk, IfErr, MatchResult};
 ghost use Rattle.id_text.specs.Tokens.{EndsOnce, Rises};
 ghost use Rattle.id_text.specs.declared.token.TokenKind.TheVariants.{Key};
-ghost use Rattle.id_tree.specs.Tree.{Tree, define, tree_of, params_tree, def_tree, program_tree};
-ghost use Rattle.id_tree.specs.declared.tree.Param.{Param};
+ghost use Rattle.id_grammar.specs.Tree.{Tree, define, tree_of, params_tree, def_tree, program_tree};
+ghost use Rattle.id_grammar.specs.declared.tree.Param.{Param};
 ghost use Rattle.id_tree.specs.Accepted.{Accepts, RefusedBy, IsMemory};
 ghost use Rattle.id_tree.specs.Distinct.{Distinct};
 ghost use Rattle.id_tree.specs.Starts.{PlacesAreStarts};
-ghost use Rattle.id_tree.specs.Grammar.{Definition, Parameters};
-ghost use Rattle.id_tree.specs.Machine.{run, Begin, Accepted};
-ghost use Rattle.id_tree.specs.Readers.{first_kind, EndsBy, IsBehind, Leads, Defines, Fails};
-ghost use Rattle.id_tree.specs.Readers.{Declares, Undeclares, Heads};
-ghost use Rattle.id_tree.specs.Readers.{Beheads};
+ghost use Rattle.id_grammar.specs.Grammar.{Definition, Parameters};
+ghost use Rattle.id_grammar.specs.Machine.{run, Begin, Accepted};
+ghost use Rattle.id_grammar.specs.Readers.{first_kind, EndsBy, IsBehind, Leads, Defines, Fails};
+ghost use Rattle.id_grammar.specs.Readers.{Declares, Undeclares, Heads};
+ghost use Rattle.id_grammar.specs.Readers.{Beheads};
 
-use crate::parser::parse_enclosed;
-use crate::part::{Part, fitted};
-use crate::tokens::{
-    Word, begins_with, begins_with_sign, expect_end, expect_kind, expect_name, expect_word,
-    is_sign, split, unexpected,
+use id_grammar::{
+    Def, Param, Part, Program, TreeError, Word, begins_with, begins_with_sign, expect_end,
+    expect_kind, expect_name, expect_word, fitted, is_sign, split, unexpected,
 };
-use crate::tree::{Def, Param, Program, TreeError};
+use id_parser::parse_enclosed;
 use id_text::{Identifier, Keyword, Sequence, Symbol, Token};
 use id_value::Kind;
 use std::alloc::Global;

@@ -3,7 +3,7 @@ use Rattle.std.proofs.Common.{false, ◌≡◌, ℕ, ◌+◌, ◌<◌, Bool, tru
 use Rattle.std.proofs.Common.{filter, arith, ap, sym, ◌∙◌, length-append, refl, ◌==◌}
 use Rattle.std.specs.List.{list_any}
 use Rattle.std.proofs.lemmas.Bool.Decides.{nat_tests}
-use Rattle.id_graph.specs.declared.instr.Block.{Block}
+use Rattle.id_instr.specs.declared.instr.Block.{Block}
 use Rattle.std.proofs.lemmas.List.{take-append-drop}
 use Rattle.std.proofs.lemmas.List.Elements.{filter-append}
 use Rattle.std.proofs.lemmas.List.Filters.{length-filter_more}

@@ -1,9 +1,9 @@
 -- Lemmas on specs/Survey.antt, in the order of its definitions.
 use Rattle.std.proofs.Common.{◌≡◌, ℕ, ◌+◌, Bool, true, List, min, slice_index, cond, count_by, arith, subst, sym, ◌∙◌}
 use Rattle.std.proofs.lemmas.List.Sums.{sum_by-append}
-use Rattle.id_graph.specs.declared.instr.Instr.{Instr}
-use Rattle.id_graph.specs.declared.dests.Dest.{Dest}
-use Rattle.id_graph.specs.Graph.{arcs_on, false_arcs, arcs}
+use Rattle.id_instr.specs.declared.instr.Instr.{Instr}
+use Rattle.id_instr.specs.declared.dests.Dest.{Dest}
+use Rattle.id_instr.specs.Graph.{arcs_on, false_arcs, arcs}
 use Rattle.id_valid.specs.Survey.{Adds}
 
 -- what is added in two turns is added in one

@@ -2,16 +2,16 @@
 use Rattle.std.specs.Prelude.{◌≡◌, ℕ, ◌+◌, ◌==◌, ◌&&◌, ◌||◌, Bool, true, false, Option, Some, None, [], ◌∷◌, filter}
 use Rattle.std.specs.Prelude.{slice_get, option_map, option_and_then, sum_by, count_by}
 use Rattle.std.specs.List.{list_any}
-use Rattle.id_graph.specs.declared.instr.Block.{Block}
-use Rattle.id_graph.specs.declared.instr.Instr.{Instr}
-use Rattle.id_graph.specs.declared.instr.Op.{Op}
-use Rattle.id_graph.specs.declared.instr.Op.TheVariants.{Const, Unary, Binary, Merge, Switch, Back, Enter, Send, Next}
-use Rattle.id_graph.specs.declared.instr.Op.TheVariants.{Reset, Alloc, Address, Fetch, Store}
-use Rattle.id_graph.specs.declared.instr.PortKind.{PortKind}
-use Rattle.id_graph.specs.declared.dests.Dest.{Dest}
-use Rattle.id_graph.specs.declared.dests.Port.{Port}
-use Rattle.id_graph.specs.declared.dests.Port.TheVariants.{Zero, One}
-use Rattle.id_graph.specs.Graph.{Parts, arcs}
+use Rattle.id_instr.specs.declared.instr.Block.{Block}
+use Rattle.id_instr.specs.declared.instr.Instr.{Instr}
+use Rattle.id_instr.specs.declared.instr.Op.{Op}
+use Rattle.id_instr.specs.declared.instr.Op.TheVariants.{Const, Unary, Binary, Merge, Switch, Back, Enter, Send, Next}
+use Rattle.id_instr.specs.declared.instr.Op.TheVariants.{Reset, Alloc, Address, Fetch, Store}
+use Rattle.id_instr.specs.declared.instr.PortKind.{PortKind}
+use Rattle.id_instr.specs.declared.dests.Dest.{Dest}
+use Rattle.id_instr.specs.declared.dests.Port.{Port}
+use Rattle.id_instr.specs.declared.dests.Port.TheVariants.{Zero, One}
+use Rattle.id_instr.specs.Graph.{Parts, arcs}
 
 -- what the instruction of this number does, if there is one
 abbrev pub op_at : Parts → ℕ → Option Op

@@ -3,20 +3,20 @@ use Rattle.std.specs.Prelude.{MatchOption, ◌+◌, ◌≡◌, ℕ, ◌<◌, Boo
 use Rattle.std.specs.Prelude.{IsSomeAnd, All, slice_get, option_and_then}
 use Rattle.std.specs.Bool.{IsFalse}
 use Rattle.std.specs.Option.{ForSome}
-use Rattle.id_graph.specs.declared.instr.Block.{Block}
-use Rattle.id_graph.specs.declared.instr.Instr.{Instr}
-use Rattle.id_graph.specs.declared.instr.Op.{Op}
-use Rattle.id_graph.specs.declared.instr.Op.TheVariants.{Const, Unary, Binary, Merge, Switch, Back, Enter, Send, Next}
-use Rattle.id_graph.specs.declared.instr.Op.TheVariants.{Reset, Alloc, Address as AddressOp, Fetch, Store}
-use Rattle.id_graph.specs.declared.instr.PortKind.{PortKind}
-use Rattle.id_graph.specs.declared.instr.PortKind.TheVariants.{Signal, Int, Bool as BoolKind, Structure, Address}
-use Rattle.id_graph.specs.declared.instr.PortKind.TheVariants.{Context, Continuation}
-use Rattle.id_graph.specs.declared.dests.Dest.{Dest}
-use Rattle.id_graph.specs.declared.dests.Port.{Port}
+use Rattle.id_instr.specs.declared.instr.Block.{Block}
+use Rattle.id_instr.specs.declared.instr.Instr.{Instr}
+use Rattle.id_instr.specs.declared.instr.Op.{Op}
+use Rattle.id_instr.specs.declared.instr.Op.TheVariants.{Const, Unary, Binary, Merge, Switch, Back, Enter, Send, Next}
+use Rattle.id_instr.specs.declared.instr.Op.TheVariants.{Reset, Alloc, Address as AddressOp, Fetch, Store}
+use Rattle.id_instr.specs.declared.instr.PortKind.{PortKind}
+use Rattle.id_instr.specs.declared.instr.PortKind.TheVariants.{Signal, Int, Bool as BoolKind, Structure, Address}
+use Rattle.id_instr.specs.declared.instr.PortKind.TheVariants.{Context, Continuation}
+use Rattle.id_instr.specs.declared.dests.Dest.{Dest}
+use Rattle.id_instr.specs.declared.dests.Port.{Port}
 use Rattle.id_valid.specs.declared.valid.InvalidCause.{InvalidCause}
 use Rattle.id_valid.specs.declared.valid.InvalidCause.TheVariants.{Faulty, Memory}
-use Rattle.id_graph.specs.Ports.{port_kind, sends}
-use Rattle.id_graph.specs.Graph.{Parts, arcs, kind_at}
+use Rattle.id_instr.specs.Ports.{port_kind, sends}
+use Rattle.id_instr.specs.Graph.{Parts, arcs, kind_at}
 use Rattle.id_valid.specs.Roles.{op_at, merge_kind, back_kind, result_kind, is_first, is_second, is_entry, IsMain}
 use Rattle.id_valid.specs.Roles.{arcs_into, needs_no_arc}
 

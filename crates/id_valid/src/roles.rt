@@ -1,7 +1,7 @@
 //! What blocks make of the instructions of a graph (docs/GRAPH.md, "Validator").
 
 ghost use Rattle.std.specs.Prelude.{◌≡◌, MatchOption};
-ghost use Rattle.id_graph.specs.declared.instr.Block.{Block};
+ghost use Rattle.id_instr.specs.declared.instr.Block.{Block};
 ghost use Rattle.id_valid.specs.Roles.{back_kind, merge_kind, op_at, result_kind, has_main_place, IsMain};
 
 use id_graph::{Block, Graph, Instr, Op, PortKind};

@@ -1,8 +1,8 @@
 //! The rules of the validator, a function for each (docs/GRAPH.md, "Validator").
 
 ghost use Rattle.std.specs.Prelude.{◌≡◌, ◌<◌, ◌↔◌, length, Some, All, IsTrue, IsSome};
-ghost use Rattle.id_graph.specs.Graph.{arcs};
-ghost use Rattle.id_graph.specs.Ports.{port_kind};
+ghost use Rattle.id_instr.specs.Graph.{arcs};
+ghost use Rattle.id_instr.specs.Ports.{port_kind};
 ghost use Rattle.id_valid.specs.Roles.{needs_no_arc, op_at};
 ghost use Rattle.id_valid.specs.Validator.{is_value, AreFed, AreNamed, FillsRoles, IsAnswer, IsEntered, IsFed};
 ghost use Rattle.id_valid.specs.Validator.{IsSentTo, IsSound, IsTaken};

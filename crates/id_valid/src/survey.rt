@@ -2,7 +2,7 @@
 
 ghost use Rattle.std.specs.Prelude.{◌≡◌, ◌<◌, ◌==◌, length, min, All, IfOk, cond, count_by};
 ghost use Rattle.std.specs.List.{list_any};
-ghost use Rattle.id_graph.specs.Graph.{arcs};
+ghost use Rattle.id_instr.specs.Graph.{arcs};
 ghost use Rattle.id_valid.specs.Roles.{arcs_into, is_dest, is_entry, is_first, is_reply, is_second, replies_to};
 ghost use Rattle.id_valid.specs.Survey.{Adds, Counts, Marks, Notes};
 
@@ -24,7 +24,7 @@ pub struct Survey<'a> {
 }
 
 impl<'a> Model for Survey<'a> {
-    ghost use Rattle.id_graph.specs.Graph.{Parts};
+    ghost use Rattle.id_instr.specs.Graph.{Parts};
 
     ghost Value = { Parts };
 

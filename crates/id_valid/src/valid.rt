@@ -77,7 +77,7 @@ pub struct Valid {
 }
 
 impl Model for Valid {
-    ghost use Rattle.id_graph.specs.Graph.{Parts};
+    ghost use Rattle.id_instr.specs.Graph.{Parts};
     ghost use Rattle.id_valid.specs.Validator.{IsValid};
 
     ghost Value = { Parts };

@@ -1,5 +1,5 @@
 -- What a source Has at a path and a place, it Has there alone.
-use Rattle.id_meaning.proofs.Coherence.{coherence}
+use Rattle.id_source.proofs.Coherence.{coherence}
 use Rattle.id_laws.proofs.coherent.Goals as goal
 
 pub returns : goal.returns

@@ -1,9 +1,9 @@
 -- The pieces of the row are its own, since there were none.
 use Rattle.std.proofs.Common.{◌∙◌, ◌++◌, List, [], ap, subst, sym}
 use Rattle.std.specs.Prelude.{All}
-use Rattle.id_build.specs.declared.arc.Piece.{Piece}
-use Rattle.id_build.specs.Made.{Fits, instrs_from}
-use Rattle.id_build.specs.Rows.{made}
+use Rattle.id_pieces.specs.declared.arc.Piece.{Piece}
+use Rattle.id_pieces.specs.Made.{Fits, instrs_from}
+use Rattle.id_pieces.specs.Rows.{made}
 use Rattle.id_build.proofs.program.add_bare.Goals as goal
 
 pub push_bare-requires : goal.push_bare-requires

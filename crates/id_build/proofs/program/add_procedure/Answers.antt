@@ -1,8 +1,8 @@
 -- The block of a procedure.
 use Rattle.std.proofs.Common.{◌∙◌, ◌++◌, ◌∷◌, [], ap}
 use Rattle.std.proofs.lemmas.Result.{on_ok_weaker}
-use Rattle.id_build.specs.Made.{number_by}
-use Rattle.id_build.proofs.ResultLemmas.{if_err, if_ok}
+use Rattle.id_pieces.specs.Made.{number_by}
+use Rattle.id_pieces.proofs.ResultLemmas.{if_err, if_ok}
 use Rattle.id_build.proofs.program.add_procedure.Goals as goal
 
 pub returns-clause-blocks : goal.returns-clause-blocks

@@ -1,14 +1,14 @@
 -- Each row in order is one of the table, and its pieces have numbers that an instruction can have.
 use Rattle.std.proofs.Common.{◌∙◌, ◌++◌, ℕ, ◌<◌, List, [], ap, arith, get_or, length, sym, take, take_all}
 use Rattle.id_check.specs.Programs.{rows}
-use Rattle.id_graph.specs.declared.instr.Instr.{Instr}
-use Rattle.id_build.specs.declared.arc.Piece.{Piece}
-use Rattle.id_build.specs.Made.{instrs_from, pieces_in}
-use Rattle.id_build.specs.Rows.{made}
-use Rattle.id_build.proofs.BuildableLemmas.{is_order}
+use Rattle.id_instr.specs.declared.instr.Instr.{Instr}
+use Rattle.id_pieces.specs.declared.arc.Piece.{Piece}
+use Rattle.id_pieces.specs.Made.{instrs_from, pieces_in}
+use Rattle.id_pieces.specs.Rows.{made}
+use Rattle.id_arcs.proofs.BuildableLemmas.{is_order}
 use Rattle.id_build.proofs.FillLemmas.{Among-get_or, pieces_in-next}
 use Rattle.id_build.proofs.FitsLemmas.{row_fits}
-use Rattle.id_build.proofs.JoinedLemmas.{bare-append}
+use Rattle.id_arcs.proofs.JoinedLemmas.{bare-append}
 use Rattle.id_build.proofs.program.bare_instrs.Goals as goal
 
 pub add_bare-requires-clause-within : goal.add_bare-requires-clause-within

@@ -2,10 +2,10 @@
 use Rattle.std.proofs.Common.{◌≡◌, ◌∙◌, ◌++◌, ap, arith, length, map, sym}
 use Rattle.std.proofs.lemmas.List.{map-append}
 use Rattle.id_check.specs.Programs.{rows}
-use Rattle.id_parts.specs.Turns.{heads_below}
-use Rattle.id_build.specs.Made.{number_by}
-use Rattle.id_build.specs.Schemas.{block_of, loop_heads_below}
-use Rattle.id_build.proofs.ResultLemmas.{if_err, if_ok}
+use Rattle.id_table.specs.Turns.{heads_below}
+use Rattle.id_pieces.specs.Made.{number_by}
+use Rattle.id_pieces.specs.Schemas.{block_of, loop_heads_below}
+use Rattle.id_pieces.proofs.ResultLemmas.{if_err, if_ok}
 use Rattle.id_build.proofs.program.blocks.Goals as goal
 
 pub returns-clause-blocks : goal.returns-clause-blocks

@@ -1,5 +1,5 @@
 -- The destinations of a graph that the schemas give are ports.
-use Rattle.id_graph.specs.Graph.{parts}
+use Rattle.id_instr.specs.Graph.{parts}
 use Rattle.id_build.proofs.SchemasLemmas.{PortsExist-schemas}
 use Rattle.id_build.proofs.program.build.Goals as goal
 

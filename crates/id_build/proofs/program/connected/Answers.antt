@@ -1,6 +1,6 @@
 -- The bare instructions are those of the rows in order.
 use Rattle.std.proofs.Common.{◌∙◌, ℕ, List, [], ap, sym, subst}
-use Rattle.id_build.specs.Made.{AreFirsts, instrs_from, pieces_in}
+use Rattle.id_pieces.specs.Made.{AreFirsts, instrs_from, pieces_in}
 use Rattle.id_build.proofs.program.connected.Goals as goal
 
 pub bare_instrs-requires-clause-firsts : goal.bare_instrs-requires-clause-firsts

@@ -2,10 +2,10 @@
 use Rattle.std.proofs.Common.{◌∙◌, ◌+◌, ◌^◌, ◌≤◌, ◌++◌, List, ℕ, ap, length, map, sym, subst}
 use Rattle.std.proofs.lemmas.List.{map-append}
 use Rattle.id_desugar.specs.Regions.{imports_of, nexts_of}
-use Rattle.id_build.specs.Made.{number_by}
-use Rattle.id_build.specs.Rows.{Entry, entries_by, entries_row, import_entries, node, variable_entries}
-use Rattle.id_build.proofs.LoopsLemmas.{loop_head_is}
-use Rattle.id_build.proofs.ResultLemmas.{if_err, if_ok}
+use Rattle.id_pieces.specs.Made.{number_by}
+use Rattle.id_pieces.specs.Rows.{Entry, entries_by, entries_row, import_entries, node, variable_entries}
+use Rattle.id_pieces.proofs.LoopsLemmas.{loop_head_is}
+use Rattle.id_pieces.proofs.ResultLemmas.{if_err, if_ok}
 use Rattle.id_build.proofs.program.loop_entries.Goals as goal
 
 pub push_imported-requires-clause-fit : goal.push_imported-requires-clause-fit

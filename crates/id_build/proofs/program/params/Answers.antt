@@ -1,11 +1,11 @@
 -- The entries are the parameters, which stand right behind the head.
 use Rattle.std.proofs.Common.{◌≡◌, ◌∙◌, ◌<◌, true, ap, sym, map, arith}
-use Rattle.id_parts.specs.declared.row.Row.{Row}
-use Rattle.id_parts.specs.Tables.{is_param}
+use Rattle.id_table.specs.declared.row.Row.{Row}
+use Rattle.id_table.specs.Tables.{is_param}
 use Rattle.id_check.specs.Programs.{rows}
-use Rattle.id_parts.specs.Turns.{params_at, params_below}
-use Rattle.id_build.specs.Made.{number_by}
-use Rattle.id_build.specs.Rows.{node}
+use Rattle.id_table.specs.Turns.{params_at, params_below}
+use Rattle.id_pieces.specs.Made.{number_by}
+use Rattle.id_pieces.specs.Rows.{node}
 use Rattle.id_desugar.specs.Ends.{end_of}
 use Rattle.id_build.proofs.BlocksLemmas.{end_behind, entries_next, is_taken, params_between, params_entries, params_start, params_stop}
 use Rattle.id_build.proofs.program.params.Goals as goal

@@ -1,11 +1,11 @@
 -- The graph made is one that the schemas give the program.
 use Rattle.std.proofs.Common.{◌≡◌, ◌≤◌, ◌∙◌, List, ap, arith, length, map, sym, subst}
-use Rattle.id_graph.specs.declared.instr.Block.{Block}
-use Rattle.id_graph.specs.declared.instr.Instr.{Instr}
-use Rattle.id_graph.specs.Graph.{parts}
-use Rattle.id_build.specs.Made.{EntriesFit, graph_by, number_by}
-use Rattle.id_build.specs.Schemas.{Schemas, all_heads, block_of}
-use Rattle.id_build.proofs.BuildableLemmas.{IsBuildable-checked, is_order}
+use Rattle.id_instr.specs.declared.instr.Block.{Block}
+use Rattle.id_instr.specs.declared.instr.Instr.{Instr}
+use Rattle.id_instr.specs.Graph.{parts}
+use Rattle.id_pieces.specs.Made.{EntriesFit, graph_by, number_by}
+use Rattle.id_pieces.specs.Schemas.{Schemas, all_heads, block_of}
+use Rattle.id_arcs.proofs.BuildableLemmas.{IsBuildable-checked, is_order}
 use Rattle.id_build.proofs.FitsLemmas.{entries_fit}
 use Rattle.id_build.proofs.SchemasLemmas.{Schemas-graph_by, length-graph_by}
 use Rattle.id_build.proofs.program.parts_by.Goals as goal

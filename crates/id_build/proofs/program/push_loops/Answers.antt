@@ -1,10 +1,10 @@
 -- Each of the heads is one of a loop.
 use Rattle.std.proofs.Common.{◌∙◌, ◌++◌, ◌∷◌, [], List, ap, get_or, length, map, sym, take}
 use Rattle.std.proofs.lemmas.List.{append_assoc, map-append, take_more}
-use Rattle.id_graph.specs.declared.instr.Block.{Block}
-use Rattle.id_build.specs.Made.{number_by}
-use Rattle.id_build.specs.Schemas.{block_of}
-use Rattle.id_build.proofs.ResultLemmas.{if_err, if_ok}
+use Rattle.id_instr.specs.declared.instr.Block.{Block}
+use Rattle.id_pieces.specs.Made.{number_by}
+use Rattle.id_pieces.specs.Schemas.{block_of}
+use Rattle.id_pieces.proofs.ResultLemmas.{if_err, if_ok}
 use Rattle.id_check.specs.Programs.{rows}
 use Rattle.id_build.proofs.BlocksLemmas.{loop_head_at}
 use Rattle.id_build.proofs.program.push_loops.Goals as goal

@@ -1,11 +1,11 @@
 -- The variables of a loop stand one behind another, from the row behind its head up to those of its imports.
 use Rattle.std.proofs.Common.{◌≡◌, ◌∙◌, ◌+◌, ◌-◌, ◌<◌, ◌≤◌, ◌++◌, ◌∷◌, [], List, ℕ, ap, add-zero, arith, length, map, drop, refl, sym}
 use Rattle.id_desugar.specs.Regions.{nexts_of}
-use Rattle.id_build.specs.Made.{number_by}
-use Rattle.id_build.specs.Rows.{Entry, entries_row, variable_entries}
-use Rattle.id_build.proofs.FeedsLemmas.{rest_done}
-use Rattle.id_build.proofs.ResultLemmas.{is_err, on_ok}
-use Rattle.id_build.proofs.SendsLemmas.{variable_entries-next}
+use Rattle.id_pieces.specs.Made.{number_by}
+use Rattle.id_pieces.specs.Rows.{Entry, entries_row, variable_entries}
+use Rattle.id_pieces.proofs.FeedsLemmas.{rest_done}
+use Rattle.id_pieces.proofs.ResultLemmas.{is_err, on_ok}
+use Rattle.id_pieces.proofs.SendsLemmas.{variable_entries-next}
 use Rattle.id_build.proofs.program.push_variables.Goals as goal
 
 pub loop-variable-init : goal.loop-variable-init

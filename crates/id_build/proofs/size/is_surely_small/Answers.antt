@@ -1,7 +1,7 @@
 -- Rows make no more instructions together than are counted.
 use Rattle.std.proofs.Common.{◌≡◌, ◌≤◌, arith, length, subst}
 use Rattle.id_check.specs.Programs.{rows}
-use Rattle.id_build.specs.Rows.{size_below}
+use Rattle.id_pieces.specs.Rows.{size_below}
 use Rattle.id_build.proofs.SizeLemmas.{size_below-next}
 use Rattle.id_build.proofs.size.is_surely_small.Goals as goal
 

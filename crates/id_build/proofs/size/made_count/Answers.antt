@@ -1,11 +1,11 @@
 -- Switches, entries and what leads to them are as many as what is imported.
 use Rattle.std.proofs.Common.{◌≡◌, ◌∙◌, ap, sym, arith, length}
 use Rattle.id_check.specs.Programs.{place}
-use Rattle.id_parts.specs.declared.row.Row.{Row}
-use Rattle.id_parts.specs.declared.row.Node.TheVariants.{Entries, Split, Start, Switches, Turn}
+use Rattle.id_table.specs.declared.row.Row.{Row}
+use Rattle.id_table.specs.declared.row.Node.TheVariants.{Entries, Split, Start, Switches, Turn}
 use Rattle.id_desugar.specs.Regions.{imports_of, is_loop_head}
-use Rattle.id_build.specs.Rows.{made_of, node}
-use Rattle.id_build.proofs.LoopsLemmas.{start_head}
+use Rattle.id_pieces.specs.Rows.{made_of, node}
+use Rattle.id_pieces.proofs.LoopsLemmas.{start_head}
 use Rattle.id_build.proofs.SizeLemmas.{length-entries, length-split, length-start, length-switches, length-turn}
 use Rattle.id_build.proofs.size.made_count.Goals as goal
 

@@ -1,11 +1,11 @@
 -- Switches, entries and what leads to them are no more than rows stand in what is switched.
 use Rattle.std.proofs.Common.{◌≡◌, ◌∙◌, ◌-◌, ◌+◌, ◌<◌, ap, sym, subst, arith, length}
 use Rattle.id_check.specs.Programs.{rows}
-use Rattle.id_parts.specs.declared.row.Row.{Row}
-use Rattle.id_parts.specs.declared.row.Node.TheVariants.{Entries, Split, Start, Switches, Turn}
-use Rattle.id_parts.specs.Tables.{is_in_loop}
+use Rattle.id_table.specs.declared.row.Row.{Row}
+use Rattle.id_table.specs.declared.row.Node.TheVariants.{Entries, Split, Start, Switches, Turn}
+use Rattle.id_table.specs.Tables.{is_in_loop}
 use Rattle.id_desugar.specs.Ends.{end_of}
-use Rattle.id_build.specs.Rows.{block, node}
+use Rattle.id_pieces.specs.Rows.{block, node}
 use Rattle.id_build.proofs.BoundLemmas.{block_head, entries-most, split-most, start-most, switches-most, turn-most}
 use Rattle.id_build.proofs.size.most_made.Goals as goal
 

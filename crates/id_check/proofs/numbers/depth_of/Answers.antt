@@ -1,5 +1,5 @@
 use Rattle.std.proofs.Common.{◌≡◌, ◌<◌, ◌+◌, suc, get_or, sym, ◌∙◌, ap, add-one, arith}
-use Rattle.id_parts.specs.Loops.{depth}
+use Rattle.id_table.specs.Loops.{depth}
 use Rattle.id_check.proofs.DepthsLemmas.{depth_loop, depth_low, depth_none}
 use Rattle.id_check.proofs.numbers.depth_of.Goals as goal
 use Rattle.id_check.proofs.numbers.depth_of.Goals.{In-LoopHead}

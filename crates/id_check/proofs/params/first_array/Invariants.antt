@@ -1,5 +1,5 @@
 use Rattle.std.proofs.Common.{◌+◌, ◌<◌, ◌≤◌, length}
-use Rattle.id_parts.specs.Turns.{params_at}
+use Rattle.id_table.specs.Turns.{params_at}
 use Rattle.id_check.proofs.ParamsLemmas.{IsWithout}
 use Rattle.id_check.proofs.params.first_array.Given as goal
 

@@ -1,10 +1,10 @@
 use Rattle.std.proofs.Common.{refl}
 use Rattle.std.specs.Prelude.{◌≡◌}
-use Rattle.id_tree.specs.Tree.{program_tree}
+use Rattle.id_grammar.specs.Tree.{program_tree}
 use Rattle.id_tree.specs.Distinct.{Distinct}
-use Rattle.id_parts.specs.Rows.{parts_of, rows_of}
-use Rattle.id_parts.proofs.TableLemmas.{IsTable-rows_of}
-use Rattle.id_parts.proofs.TreeLemmas.{IsProgramTree-program_tree}
+use Rattle.id_table.specs.Rows.{parts_of, rows_of}
+use Rattle.id_table.proofs.TableLemmas.{IsTable-rows_of}
+use Rattle.id_table.proofs.TreeLemmas.{IsProgramTree-program_tree}
 use Rattle.id_check.proofs.NotedLemmas.{known_tree}
 use Rattle.id_check.proofs.StandingLemmas.{IsInside-refused}
 use Rattle.id_check.proofs.program.check.Goals as goal

@@ -1,6 +1,6 @@
 use Rattle.std.proofs.Common.{sym, subst}
-use Rattle.id_parts.specs.Turns.{IsTable}
-use Rattle.id_parts.proofs.TableLemmas.{IsTable-rows_of}
+use Rattle.id_table.specs.Turns.{IsTable}
+use Rattle.id_table.proofs.TableLemmas.{IsTable-rows_of}
 use Rattle.id_check.specs.Depths.{AreInBlocks}
 use Rattle.id_scope.specs.Causes.{IsRefusedFor}
 use Rattle.id_check.specs.Noted.{tree_in}

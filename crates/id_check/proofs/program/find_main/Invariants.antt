@@ -1,5 +1,5 @@
 use Rattle.std.proofs.Common.{◌≡◌, ◌<◌, ℕ, false}
-use Rattle.id_parts.specs.Rows.{at}
+use Rattle.id_table.specs.Rows.{at}
 use Rattle.id_scope.specs.Causes.{defines_main}
 use Rattle.id_check.proofs.program.find_main.Given as goal
 

@@ -1,6 +1,6 @@
 use Rattle.std.specs.Prelude.{◌≡◌}
 use Rattle.id_tree.specs.Distinct.{Distinct}
-use Rattle.id_parts.specs.Rows.{parts_of, rows_of}
+use Rattle.id_table.specs.Rows.{parts_of, rows_of}
 use Rattle.id_check.proofs.NotedLemmas.{known_tree}
 use Rattle.id_check.proofs.program.into_table.Goals as goal
 

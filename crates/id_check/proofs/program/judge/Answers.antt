@@ -1,10 +1,10 @@
 use Rattle.std.proofs.Common.{◌≡◌, ℕ, Some, length, sym, subst}
 use Rattle.std.specs.Prelude.{IfOk, None, IfErr}
-use Rattle.id_parts.specs.Tables.{IsFormed, name_of}
-use Rattle.id_parts.specs.Turns.{IsTable}
-use Rattle.id_parts.specs.declared.row.Node.{Node}
-use Rattle.id_parts.specs.declared.row.Node.TheVariants.{Param, Name, Enter, Binding, Def, NextUse, Next}
-use Rattle.id_parts.specs.Rows.{at}
+use Rattle.id_table.specs.Tables.{IsFormed, name_of}
+use Rattle.id_table.specs.Turns.{IsTable}
+use Rattle.id_table.specs.declared.row.Node.{Node}
+use Rattle.id_table.specs.declared.row.Node.TheVariants.{Param, Name, Enter, Binding, Def, NextUse, Next}
+use Rattle.id_table.specs.Rows.{at}
 use Rattle.id_check.specs.Judged.{IsJudged}
 use Rattle.id_scope.specs.Causes.{IsRefusedFor}
 use Rattle.id_scope.specs.Names.{AreNames}

@@ -1,7 +1,7 @@
 use Rattle.std.proofs.Common.{◌≡◌, ℕ, Bool as Truth, true, false, [], ◌∷◌, length, refl, ap, sym, ◌∙◌, subst, arith}
 use Rattle.std.specs.Prelude.{nat_eq, nat_lt, if◌then◌else◌}
 use Rattle.std.proofs.lemmas.Bool.Decides.{nat_tests}
-use Rattle.id_parts.specs.Turns.{params_at}
+use Rattle.id_table.specs.Turns.{params_at}
 use Rattle.id_scope.specs.declared.cause.CheckCause.TheVariants.{TooManyParams}
 use Rattle.id_scope.specs.Causes.{array_param}
 use Rattle.id_scope.specs.Firsts.{Notes}

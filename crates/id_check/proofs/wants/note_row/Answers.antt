@@ -1,11 +1,11 @@
 use Rattle.std.proofs.Common.{◌≡◌, ◌<◌, List, ℕ, Option, get_or, length, refl, ap, sym, ◌∙◌, inl, inr, subst}
 use Rattle.std.specs.Prelude.{None}
 use Rattle.id_value.specs.declared.Kind.{Kind}
-use Rattle.id_parts.specs.declared.row.Row.{Row}
-use Rattle.id_parts.specs.declared.row.Node.{Node}
-use Rattle.id_parts.specs.declared.row.Node.TheVariants.{Name, Enter, Arg, Call, NextUse, Def}
-use Rattle.id_parts.specs.Rows.{at}
-use Rattle.id_parts.specs.Turns.{params_at}
+use Rattle.id_table.specs.declared.row.Row.{Row}
+use Rattle.id_table.specs.declared.row.Node.{Node}
+use Rattle.id_table.specs.declared.row.Node.TheVariants.{Name, Enter, Arg, Call, NextUse, Def}
+use Rattle.id_table.specs.Rows.{at}
+use Rattle.id_table.specs.Turns.{params_at}
 use Rattle.id_scope.specs.declared.cause.CheckCause.{CheckCause}
 use Rattle.id_scope.specs.Causes.{callee, causes_in, count_at, wrong, wrong_argument, wrong_count, wrong_params}
 use Rattle.id_scope.specs.Firsts.{Notes}

@@ -1,7 +1,7 @@
 use Rattle.std.proofs.Common.{ℕ, Option, get_or, sym, subst, add-one}
 use Rattle.std.specs.Prelude.{None}
 use Rattle.id_value.specs.declared.Kind.{Kind}
-use Rattle.id_parts.specs.Rows.{at}
+use Rattle.id_table.specs.Rows.{at}
 use Rattle.id_scope.specs.Causes.{causes_below, causes_in}
 use Rattle.id_scope.specs.Firsts.{Notes}
 use Rattle.id_scope.specs.Scopes.{user_of}

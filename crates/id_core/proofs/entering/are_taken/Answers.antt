@@ -1,8 +1,8 @@
 -- One more entry takes its input; where one does not take its own, not all do.
 use Rattle.std.proofs.Common.{◌≡◌, ℕ, zero, suc, ◌+◌, ◌<◌, ◌≤◌, List, [], ◌∷◌, length, take, get_or, Some, refl, sym, ap, subst, ◌∙◌, arith}
 use Rattle.std.proofs.lemmas.List.{take_all}
-use Rattle.id_graph.specs.declared.instr.Op.TheVariants.{Merge}
-use Rattle.id_graph.specs.Graph.{Parts}
+use Rattle.id_instr.specs.declared.instr.Op.TheVariants.{Merge}
+use Rattle.id_instr.specs.Graph.{Parts}
 use Rattle.id_value.specs.declared.Constant.{Constant}
 use Rattle.id_ops.specs.Operators.{constant_value}
 use Rattle.id_tag.specs.Kinds.{kind_of}

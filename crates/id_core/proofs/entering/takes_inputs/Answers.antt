@@ -1,7 +1,7 @@
 -- There is one main block, and there are as many inputs as entries that take them.
 use Rattle.std.proofs.Common.{◌≡◌, ◌∷◌, List, [], length, sym, ap, subst, ◌∙◌}
 use Rattle.std.proofs.lemmas.Bool.{eqb-true}
-use Rattle.id_graph.specs.declared.instr.Block.{Block}
+use Rattle.id_instr.specs.declared.instr.Block.{Block}
 use Rattle.id_core.specs.Machines.{AreTaken}
 use Rattle.id_core.proofs.InputsLemmas.{length-taken}
 use Rattle.id_core.proofs.entering.takes_inputs.Goals as goal

@@ -1,6 +1,6 @@
 -- The variable is a row.
 use Rattle.std.proofs.Common.{ap, sym, ◌∙◌, arith}
-use Rattle.id_parts.specs.declared.row.Row.{Row}
+use Rattle.id_table.specs.declared.row.Row.{Row}
 use Rattle.id_desugar.proofs.EndsLemmas.{variable_within}
 use Rattle.id_desugar.proofs.ends.variable_at.Goals as goal
 

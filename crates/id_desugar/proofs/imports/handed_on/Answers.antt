@@ -2,7 +2,7 @@
 use Rattle.std.proofs.Common.{◌≡◌, [], true, ◌++◌, ap, sym, ◌∙◌, subst, arith}
 use Rattle.std.proofs.lemmas.List.{get_or_default}
 use Rattle.id_check.specs.Programs.{rows}
-use Rattle.id_parts.specs.Rows.{at}
+use Rattle.id_table.specs.Rows.{at}
 use Rattle.id_desugar.specs.Regions.{is_loop_head, nexts_of}
 use Rattle.id_desugar.proofs.FilledLemmas.{switches_hand}
 use Rattle.id_desugar.proofs.OwnLemmas.{switches_head}

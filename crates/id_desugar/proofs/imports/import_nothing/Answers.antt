@@ -1,7 +1,7 @@
 -- One more row imports nothing, and at last none does.
 use Rattle.std.proofs.Common.{◌≡◌, ◌∙◌, [], ap, sym, subst, arith, length, replicate}
 use Rattle.id_check.specs.Programs.{rows}
-use Rattle.id_parts.specs.declared.row.Row.{Row}
+use Rattle.id_table.specs.declared.row.Row.{Row}
 use Rattle.id_desugar.specs.Gathering.{may_import}
 use Rattle.id_desugar.specs.Regions.{imports_below}
 use Rattle.id_desugar.proofs.FilledLemmas.{imports_below-none}

@@ -1,9 +1,9 @@
 -- One more variable, or none.
 use Rattle.std.proofs.Common.{◌≡◌, ◌+◌, ◌-◌, ◌<◌, ◌∷◌, ◌++◌, true, false, [], length, ap, sym, ◌∙◌, arith, append_assoc, append-nil}
 use Rattle.id_check.specs.Programs.{rows}
-use Rattle.id_parts.specs.declared.row.Row.{Row}
-use Rattle.id_parts.specs.Rows.{at}
-use Rattle.id_parts.specs.Tables.{is_variable}
+use Rattle.id_table.specs.declared.row.Row.{Row}
+use Rattle.id_table.specs.Rows.{at}
+use Rattle.id_table.specs.Tables.{is_variable}
 use Rattle.id_desugar.specs.Ends.{next_of}
 use Rattle.id_desugar.specs.Regions.{nexts_from, nexts_of}
 use Rattle.id_desugar.proofs.EndsLemmas.{no_variable, nexts-next, nexts-none}

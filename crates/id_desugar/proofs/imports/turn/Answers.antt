@@ -1,9 +1,9 @@
 -- A row gets its imports.
 use Rattle.std.proofs.Common.{◌≡◌, ℕ, false, refl, ap, sym, ◌∙◌, arith}
-use Rattle.id_parts.specs.declared.row.Row.{Row}
-use Rattle.id_parts.specs.declared.row.Node.{Node}
-use Rattle.id_parts.specs.declared.row.Node.TheVariants.{LoopHead, Switches}
-use Rattle.id_parts.specs.Tables.{is_switches}
+use Rattle.id_table.specs.declared.row.Row.{Row}
+use Rattle.id_table.specs.declared.row.Node.{Node}
+use Rattle.id_table.specs.declared.row.Node.TheVariants.{LoopHead, Switches}
+use Rattle.id_table.specs.Tables.{is_switches}
 use Rattle.id_desugar.specs.Regions.{is_loop_head}
 use Rattle.id_desugar.proofs.FilledLemmas.{AreTurned-same, AreTurned-set, loop_imports}
 use Rattle.id_desugar.proofs.OwnLemmas.{switches_head}

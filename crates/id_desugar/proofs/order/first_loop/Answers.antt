@@ -1,6 +1,6 @@
 -- One more row is none where a loop's block begins.
 use Rattle.std.proofs.Common.{◌≡◌, ◌∙◌, [], ap, sym, subst, arith}
-use Rattle.id_parts.specs.declared.row.Row.{Row}
+use Rattle.id_table.specs.declared.row.Row.{Row}
 use Rattle.id_desugar.specs.Regions.{is_loop_head, loops_by}
 use Rattle.id_desugar.proofs.OrderLemmas.{loops-no}
 use Rattle.id_desugar.proofs.order.first_loop.Goals as goal

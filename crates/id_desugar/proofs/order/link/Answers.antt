@@ -1,6 +1,6 @@
 -- A row is put before the chain of its block.
 use Rattle.std.proofs.Common.{ap, arith}
-use Rattle.id_parts.specs.declared.row.Row.{Row}
+use Rattle.id_table.specs.declared.row.Row.{Row}
 use Rattle.id_desugar.proofs.OrderLemmas.{AreChains-next, block_low}
 use Rattle.id_desugar.proofs.order.link.Goals as goal
 

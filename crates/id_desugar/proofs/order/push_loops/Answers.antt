@@ -1,7 +1,7 @@
 -- One more block.
 use Rattle.std.proofs.Common.{◌≡◌, ◌+◌, ◌++◌, None, ap, arith, get_or, subst, sym, ◌∙◌, append-nil, append_assoc}
 use Rattle.id_desugar.specs.Gathering.{IsFirstFrom}
-use Rattle.id_parts.specs.declared.row.Row.{Row}
+use Rattle.id_table.specs.declared.row.Row.{Row}
 use Rattle.id_desugar.specs.Regions.{in_block, is_loop_head, loops_by, those}
 use Rattle.id_desugar.proofs.OrderLemmas.{loops-empty, loops-no, loops-yes, none_is}
 use Rattle.id_desugar.proofs.order.push_loops.Goals.{then-is_some+then-is_loop_head+in_ok-push_block, else-is_some}

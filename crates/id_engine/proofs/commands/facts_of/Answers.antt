@@ -1,7 +1,7 @@
 use Rattle.std.proofs.Common.{◌≤◌, length, map}
-use Rattle.id_meaning.specs.Computed.{AreFacts}
-use Rattle.id_meaning.specs.Sources.{Source, source}
-use Rattle.id_print.specs.Within.{FactsWithin}
+use Rattle.id_source.specs.Computed.{AreFacts}
+use Rattle.id_source.specs.Sources.{Source, source}
+use Rattle.id_names.specs.Within.{FactsWithin}
 use Rattle.id_runner.specs.Commands.{AreFactsOf}
 use Rattle.id_compile.specs.Programs.{HasInputs}
 use Rattle.id_compile.specs.Refusals.{AreRefusedFacts, AreTakenFacts}

@@ -2,7 +2,7 @@ use Rattle.std.proofs.Common.{List, map, sym, subst, refl}
 use Rattle.std.proofs.lemmas.Result.{IfOk-from_err}
 use Rattle.id_compile.specs.declared.error.EngineError.TheVariants.{Write}
 use Rattle.id_compile.proofs.AnsweredLemmas.{err_all, err_from, err_not, err_taken}
-use Rattle.id_meaning.specs.declared.Fact.{Fact}
+use Rattle.id_source.specs.declared.Fact.{Fact}
 use Rattle.id_runner.specs.Commands.{AreFactsOf}
 use Rattle.id_compile.specs.Refusals.AreRefusedFacts.{by_write}
 use Rattle.id_runner.proofs.ShownLemmas.{HasShown-facts}

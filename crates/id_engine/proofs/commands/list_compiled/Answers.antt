@@ -1,5 +1,5 @@
 use Rattle.std.proofs.Common.{◌≤◌, All, length, sym, ap, subst, ◌∙◌}
-use Rattle.id_graph.specs.Graph.{Parts}
+use Rattle.id_instr.specs.Graph.{Parts}
 use Rattle.id_graph.specs.Listing.{listing}
 use Rattle.id_runner.proofs.PlacedLemmas.{instrs_within}
 use Rattle.id_engine.proofs.commands.list_compiled.Goals as goal

@@ -1,6 +1,6 @@
 -- The message stands in the parcel that says what it says.
 use Rattle.std.proofs.Common.{Some, ap, ◌∙◌, sym}
-use Rattle.id_graph.specs.declared.dests.Port.TheVariants.{Zero}
+use Rattle.id_instr.specs.declared.dests.Port.TheVariants.{Zero}
 use Rattle.id_flight.proofs.ParcelsLemmas.{packed-if}
 use Rattle.id_flight.proofs.parcel.packed.Goals as goal
 

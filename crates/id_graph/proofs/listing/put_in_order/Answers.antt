@@ -1,6 +1,6 @@
 use Rattle.std.proofs.Common.{◌≡◌, List, IsPermutation, subst}
-use Rattle.id_graph.specs.declared.dests.Dest.{Dest}
-use Rattle.id_graph.specs.contracts.dests.DestOrd.TheImpl.Laws.{total-law}
+use Rattle.id_instr.specs.declared.dests.Dest.{Dest}
+use Rattle.id_instr.specs.contracts.dests.DestOrd.TheImpl.Laws.{total-law}
 use Rattle.id_graph.proofs.ListingLemmas.{in_order-from_sort, IsNonDecreasingBy-from_sorted, not_less, not_less_tie}
 use Rattle.id_graph.proofs.listing.put_in_order.Goals as goal
 

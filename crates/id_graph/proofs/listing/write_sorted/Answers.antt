@@ -1,6 +1,6 @@
 use Rattle.std.proofs.Common.{◌≡◌, List, ◌++◌, OnOk, string_bytes, sym, subst, arith}
 use Rattle.std.specs.List.{flat_map}
-use Rattle.id_graph.specs.declared.dests.Dest.{Dest}
+use Rattle.id_instr.specs.declared.dests.Dest.{Dest}
 use Rattle.id_graph.specs.Listing.{dest_text}
 use Rattle.id_graph.proofs.ListingLemmas.{in_order-short}
 use Rattle.id_graph.proofs.listing.write_sorted.Goals as goal

@@ -1,8 +1,8 @@
 -- The facts are those of round n, and the list is that of these.
 use Rattle.std.proofs.Common.{List, subst, arith}
 use Rattle.id_value.specs.declared.Constant.{Constant}
-use Rattle.id_meaning.specs.Sources.{source}
-use Rattle.id_meaning.specs.Listed.{IsRound}
+use Rattle.id_source.specs.Sources.{source}
+use Rattle.id_listing.specs.Listed.{IsRound}
 use Rattle.id_meaning.proofs.ListedLemmas.{AreFacts-from_rows, shown-count}
 use Rattle.id_meaning.proofs.round.rounds.Goals as goal
 

@@ -1,10 +1,10 @@
 -- The facts are those that follow from none.
 use Rattle.std.proofs.Common.{◌∙◌, ap, arith}
-use Rattle.id_meaning.specs.Sources.{source}
-use Rattle.id_meaning.specs.Cells.{all_learnt}
-use Rattle.id_meaning.specs.Effects.{first_facts}
+use Rattle.id_source.specs.Sources.{source}
+use Rattle.id_facts.specs.RowFacts.{all_learnt}
+use Rattle.id_facts.specs.Firsts.{first_facts}
 use Rattle.id_meaning.proofs.RunLemmas.{first-more, stop-memory}
-use Rattle.id_meaning.proofs.TurnsLemmas.{on_ok}
+use Rattle.id_links.proofs.TurnsLemmas.{on_ok}
 use Rattle.id_meaning.proofs.run.learn_first.Goals as goal
 
 pub returns-in_err-first-clause-first : goal.returns-in_err-first-clause-first

@@ -1,5 +1,5 @@
 -- The facts are those of the round so far, and from those of the one before all has been followed.
-use Rattle.id_meaning.specs.Sources.{source}
+use Rattle.id_source.specs.Sources.{source}
 use Rattle.id_meaning.proofs.RunLemmas.{Front}
 use Rattle.id_meaning.proofs.run.learn_rounds.Given as goal
 

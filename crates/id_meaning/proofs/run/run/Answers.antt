@@ -1,7 +1,8 @@
 -- The facts of a round, want of memory, and too many facts.
-use Rattle.id_meaning.specs.Sources.{source}
+use Rattle.id_source.specs.Sources.{source}
 use Rattle.id_meaning.proofs.RunLemmas.{stop-asked, stop-many}
-use Rattle.id_meaning.proofs.TurnsLemmas.{if_err, not_asked, not_too_many}
+use Rattle.id_links.proofs.TurnsLemmas.{if_err}
+use Rattle.id_meaning.proofs.RefusedLemmas.{not_asked, not_too_many}
 use Rattle.id_meaning.proofs.run.run.Goals as goal
 
 pub returns-in_err-facts-clause-facts : goal.returns-in_err-facts-clause-facts

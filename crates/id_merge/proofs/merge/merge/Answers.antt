@@ -1,7 +1,7 @@
 -- The list of places is a merge of the records, so there is an event at each place.
 use Rattle.std.proofs.Common.{List, subst}
 use Rattle.std.proofs.lemmas.List.Elements.{All-from_recursion}
-use Rattle.id_record.specs.Events.{EventView}
+use Rattle.id_line.specs.Events.{EventView}
 use Rattle.id_merge.specs.Merged.{IsMerge, IsPlace}
 use Rattle.id_merge.proofs.merge.merge.Goals as goal
 

@@ -5,9 +5,9 @@ use Rattle.std.proofs.lemmas.List.{map_push, take_more, take_all}
 use Rattle.std.proofs.lemmas.List.Elements.{All-push, recursion_from_All, All-same}
 use Rattle.std.proofs.lemmas.Map.Keys.{sorted_from_strictly_increasing}
 use Rattle.id_merge.specs.Merged.{AreRecords}
-use Rattle.id_element.specs.Replays.{Replays}
+use Rattle.id_desk.specs.Replays.{Replays}
 use Rattle.id_merge.proofs.RecordsLemmas.{AreRecords-from}
-use Rattle.id_element.proofs.ShortLemmas.{if_err}
+use Rattle.id_desk.proofs.ShortLemmas.{if_err}
 use Rattle.id_merge.proofs.merge.records_of.Goals as goal
 
 pub loop-element-preserved : goal.loop-element-preserved

@@ -1,9 +1,9 @@
 use Rattle.std.proofs.Common.{◌+◌, sym, ap, ◌∙◌, drop, length, arith}
 use Rattle.std.proofs.lemmas.List.{drop_all}
-use Rattle.id_tree.specs.declared.tree.Expr.TheFolds.{the_lemmas}
-use Rattle.id_tree.specs.Tree.{tree_of, stmt_tree}
-use Rattle.id_parts.specs.Rows.{add, add_arguments, add_nexts, begin_loop}
-use Rattle.id_parts.specs.Making.{add_body, exprs_tree, parts, stmts_tree}
+use Rattle.id_grammar.specs.declared.tree.Expr.TheFolds.{the_lemmas}
+use Rattle.id_grammar.specs.Tree.{tree_of, stmt_tree}
+use Rattle.id_table.specs.Rows.{add, add_arguments, add_nexts, begin_loop}
+use Rattle.id_maker.specs.Making.{add_body, exprs_tree, parts, stmts_tree}
 use Rattle.id_parts.proofs.MakingLemmas.{added_as, done_as, unary_row, pair_row, conditional_row, call_row, argument_row, block_row, binding_row, store_row}
 use Rattle.id_parts.proofs.MakingLemmas.{next_row, body_row, loop_row, statement_step, other_step, next_step}
 use Rattle.id_parts.proofs.MakingLemmas.{call_tree, block_tree, loop_tree, unary_tree, binary_tree, array_tree, fetch_tree, conditional_tree, store_tree}

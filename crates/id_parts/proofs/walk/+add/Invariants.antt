@@ -1,6 +1,6 @@
 use Rattle.std.proofs.Common.{◌≡◌, ◌≤◌, ◌+◌, ◌*◌, drop}
-use Rattle.id_parts.specs.Rows.{add, add_arguments, add_nexts}
-use Rattle.id_parts.specs.Making.{exprs_tree, parts, stmts_tree}
+use Rattle.id_table.specs.Rows.{add, add_arguments, add_nexts}
+use Rattle.id_maker.specs.Making.{exprs_tree, parts, stmts_tree}
 use Rattle.id_parts.proofs.walk.+add.Given as goal
 
 abbrev pub invariant-add_statements-loop-statement : goal.invariant-add_statements-loop-statement

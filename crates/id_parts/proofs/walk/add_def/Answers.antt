@@ -1,7 +1,7 @@
 use Rattle.std.proofs.Common.{ap, ◌∙◌}
-use Rattle.id_tree.specs.Tree.{params_tree, tree_of}
-use Rattle.id_parts.specs.Rows.{add}
-use Rattle.id_parts.specs.Making.{parts}
+use Rattle.id_grammar.specs.Tree.{params_tree, tree_of}
+use Rattle.id_table.specs.Rows.{add}
+use Rattle.id_maker.specs.Making.{parts}
 use Rattle.id_parts.proofs.MakingLemmas.{define_row, done_as}
 use Rattle.id_parts.proofs.walk.add_def.Goals as goal
 

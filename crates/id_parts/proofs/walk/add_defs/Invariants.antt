@@ -1,7 +1,7 @@
 use Rattle.std.proofs.Common.{◌≡◌, drop}
-use Rattle.id_tree.specs.Tree.{defs_tree}
-use Rattle.id_parts.specs.Rows.{add, in_top}
-use Rattle.id_parts.specs.Making.{parts}
+use Rattle.id_grammar.specs.Tree.{defs_tree}
+use Rattle.id_table.specs.Rows.{add, in_top}
+use Rattle.id_maker.specs.Making.{parts}
 use Rattle.id_parts.proofs.walk.add_defs.Given as goal
 
 abbrev pub invariant-loop-def : goal.invariant-loop-def

@@ -1,10 +1,10 @@
 use Rattle.std.proofs.Common.{◌≡◌, sym, ap, ◌∙◌, subst}
-use Rattle.id_tree.specs.Tree.{program_tree}
-use Rattle.id_parts.specs.Rows.{Parts, parts_of, rows_of}
-use Rattle.id_parts.specs.Tables.{AreNamed, IsFormed, IsNested}
-use Rattle.id_parts.proofs.NumbersLemmas.{AreNamed-parts_of}
-use Rattle.id_parts.proofs.TableLemmas.{IsTable-rows_of}
-use Rattle.id_parts.proofs.TreeLemmas.{IsProgramTree-program_tree}
+use Rattle.id_grammar.specs.Tree.{program_tree}
+use Rattle.id_table.specs.Rows.{Parts, parts_of, rows_of}
+use Rattle.id_table.specs.Tables.{AreNamed, IsFormed, IsNested}
+use Rattle.id_table.proofs.NumbersLemmas.{AreNamed-parts_of}
+use Rattle.id_table.proofs.TableLemmas.{IsTable-rows_of}
+use Rattle.id_table.proofs.TreeLemmas.{IsProgramTree-program_tree}
 use Rattle.id_parts.proofs.walk.table_from.Goals as goal
 
 pub invariant_of-result : goal.invariant_of-result

@@ -10,7 +10,7 @@ use Rattle.id_paths.specs.Paths.{answers, brought}
 use Rattle.id_paths.proofs.WalksLemmas.{filter_map-next, take-next}
 use Rattle.id_paths.proofs.PathsLemmas.{enter_in-more, enter_in-none, enter_in-one, maker_in-more, maker_in-none, maker_in-one}
 use Rattle.id_paths.proofs.SkippedLemmas.{element-at}
-use Rattle.id_element.proofs.ShortLemmas.{on_ok}
+use Rattle.id_desk.proofs.ShortLemmas.{on_ok}
 use Rattle.id_paths.proofs.paths.add_each.Goals as goal
 
 pub loop-position-init : goal.loop-position-init

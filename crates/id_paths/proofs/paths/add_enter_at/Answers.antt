@@ -5,7 +5,7 @@ use Rattle.std.specs.Option.{option_or}
 use Rattle.std.specs.HashMap.{get}
 use Rattle.id_tag.specs.Tags.{same_context}
 use Rattle.id_valid.specs.Roles.{op_at}
-use Rattle.id_record.specs.Events.{tag_of}
+use Rattle.id_line.specs.Events.{tag_of}
 use Rattle.id_paths.specs.Paths.{enter_of}
 use Rattle.id_paths.proofs.SkippedLemmas.{enter_of-none, one-at, part-is}
 use Rattle.id_paths.proofs.paths.add_enter_at.Goals as goal

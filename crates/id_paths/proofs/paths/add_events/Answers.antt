@@ -5,13 +5,13 @@ use Rattle.std.specs.Prelude.{slice_get}
 use Rattle.std.specs.Option.{option_or}
 use Rattle.std.specs.HashMap.{get}
 use Rattle.id_tag.specs.Tags.{same_context, same_structure}
-use Rattle.id_record.specs.Events.{tag_of}
+use Rattle.id_line.specs.Events.{tag_of}
 use Rattle.id_paths.specs.Paths.{enter_in, enter_of, events_at, maker_in, maker_of, making_of, makings_of}
 use Rattle.id_paths.specs.Paths.{answers, brought}
 use Rattle.id_paths.proofs.WalksLemmas.{element-from_part, filter_map-more}
 use Rattle.id_paths.proofs.PathsLemmas.{enter_in-more, enter_in-none, maker_in-more, maker_in-none, op_there}
 use Rattle.id_paths.proofs.TellingsLemmas.{events_at-next}
-use Rattle.id_element.proofs.ShortLemmas.{on_ok}
+use Rattle.id_desk.proofs.ShortLemmas.{on_ok}
 use Rattle.id_paths.proofs.paths.add_events.Goals as goal
 
 pub loop-position-init : goal.loop-position-init

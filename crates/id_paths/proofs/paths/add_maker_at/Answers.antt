@@ -6,7 +6,7 @@ use Rattle.std.specs.Option.{option_or}
 use Rattle.std.specs.HashMap.{get}
 use Rattle.id_tag.specs.Tags.{same_structure}
 use Rattle.id_valid.specs.Roles.{op_at}
-use Rattle.id_record.specs.Events.{tag_of}
+use Rattle.id_line.specs.Events.{tag_of}
 use Rattle.id_paths.specs.Paths.{if_made, is_alloc, made_by, maker_of, making_of}
 use Rattle.id_paths.proofs.SkippedLemmas.{maker_of-none, making_of-none, one-at, part-is}
 use Rattle.id_paths.proofs.paths.add_maker_at.Goals as goal

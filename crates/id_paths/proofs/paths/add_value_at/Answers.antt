@@ -2,7 +2,7 @@
 use Rattle.std.proofs.Common.{◌++◌, [], ap, append-nil, sym, ◌∙◌, arith}
 use Rattle.std.specs.Prelude.{slice_get}
 use Rattle.std.specs.List.{cons_option}
-use Rattle.id_record.specs.Events.{tag_of}
+use Rattle.id_line.specs.Events.{tag_of}
 use Rattle.id_paths.specs.Paths.{brought}
 use Rattle.id_paths.proofs.SkippedLemmas.{brought-elsewhere, part-is}
 use Rattle.id_paths.proofs.paths.add_value_at.Goals as goal

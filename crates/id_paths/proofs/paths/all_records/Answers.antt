@@ -9,7 +9,7 @@ use Rattle.id_paths.specs.Paths.{enter_in, maker_in, making_of, makings_of}
 use Rattle.id_paths.specs.Paths.{answers, brought, events_of}
 use Rattle.id_paths.proofs.WalksLemmas.{walk-next}
 use Rattle.id_paths.proofs.PathsLemmas.{enter_in-none, enters-next, maker_in-none, makers-next}
-use Rattle.id_element.proofs.ShortLemmas.{if_err}
+use Rattle.id_desk.proofs.ShortLemmas.{if_err}
 use Rattle.id_paths.proofs.paths.all_records.Goals as goal
 
 pub loop-element-init : goal.loop-element-init

@@ -3,7 +3,7 @@ use Rattle.std.specs.Prelude.{IfOk}
 use Rattle.std.proofs.lemmas.Result.{IfOk-weaker}
 use Rattle.id_core.specs.Machines.{MachineView}
 use Rattle.id_print.specs.declared.report.Report.{Report}
-use Rattle.id_print.specs.declared.report.Ending.{Ending}
+use Rattle.id_names.specs.declared.within.Ending.{Ending}
 use Rattle.id_print.specs.Endings.{EndsSo}
 use Rattle.id_print.proofs.report.run_report.Goals as goal
 

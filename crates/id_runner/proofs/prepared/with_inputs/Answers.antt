@@ -1,7 +1,7 @@
 use Rattle.std.proofs.Common.{map, subst}
 use Rattle.id_check.specs.declared.checked.Checked.{Checked}
-use Rattle.id_meaning.specs.Sources.{AreInputs}
-use Rattle.id_meaning.specs.Inputs.{AreInputsOf}
+use Rattle.id_source.specs.Sources.{AreInputs}
+use Rattle.id_inputs.specs.Inputs.{AreInputsOf}
 use Rattle.id_compile.specs.Refusals.{AreRefusedFor}
 use Rattle.id_runner.proofs.prepared.with_inputs.Goals as goal
 

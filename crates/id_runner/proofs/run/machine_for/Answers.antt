@@ -1,5 +1,5 @@
 use Rattle.std.proofs.Common.{◌≡◌, ap, sym, subst, ◌∙◌}
-use Rattle.id_graph.specs.Graph.{Parts}
+use Rattle.id_instr.specs.Graph.{Parts}
 use Rattle.id_core.specs.Machines.{MachineView, TakesInputs, start}
 use Rattle.id_compile.proofs.AnsweredLemmas.{if_ok}
 use Rattle.id_runner.proofs.run.machine_for.Goals as goal

@@ -1,5 +1,5 @@
 use Rattle.std.proofs.Common.{refl, ap}
-use Rattle.id_meaning.specs.Sources.{Source, source}
+use Rattle.id_source.specs.Sources.{Source, source}
 use Rattle.id_core.specs.Machines.{MachineView}
 use Rattle.id_runner.proofs.PlacedLemmas.{report_within}
 use Rattle.id_runner.proofs.PrintedLemmas.{IsTrueOf-ran, RunsSo-machine, RunsSo-memory}

@@ -1,6 +1,6 @@
 use Rattle.std.proofs.Common.{List, Some, length, subst}
 use Rattle.id_tag.specs.declared.Message.{Message}
-use Rattle.id_core.specs.Flights.{AreOthers, IsFirstOf}
+use Rattle.id_gap.specs.Flights.{AreOthers, IsFirstOf}
 use Rattle.id_runner.specs.Runs.{IsBehindOthers}
 use Rattle.id_runner.proofs.TurnLemmas.{IsNextHand-behind, IsNextHand-front, IsNextHand-last}
 use Rattle.id_runner.proofs.run.turn.Goals.{else-hand-via-then-hand+else-is_in_front, else-hand-via-else-hand}

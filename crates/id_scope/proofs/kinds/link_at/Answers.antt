@@ -1,6 +1,6 @@
 use Rattle.std.proofs.Common.{refl, arith, ◌<◌, ap, sym, ◌∙◌, get_or, length, subst}
 use Rattle.std.specs.Prelude.{None}
-use Rattle.id_parts.specs.Rows.{at}
+use Rattle.id_table.specs.Rows.{at}
 use Rattle.id_scope.specs.Kinds.{link_of}
 use Rattle.id_scope.specs.Scopes.{user_of}
 use Rattle.id_scope.proofs.LinksLemmas.{part_of, user_below}

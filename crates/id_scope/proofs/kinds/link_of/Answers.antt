@@ -1,6 +1,6 @@
 use Rattle.std.proofs.Common.{◌≡◌, ◌<◌, ◌^◌, ℕ, refl, sym, subst, arith}
-use Rattle.id_parts.specs.declared.row.Node.{Node}
-use Rattle.id_parts.specs.Tables.{HasPart}
+use Rattle.id_table.specs.declared.row.Node.{Node}
+use Rattle.id_table.specs.Tables.{HasPart}
 use Rattle.id_scope.proofs.kinds.link_of.Goals as goal
 
 -- a part of the node has a number of 32 bits

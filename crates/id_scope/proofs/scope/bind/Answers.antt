@@ -1,7 +1,7 @@
 use Rattle.std.proofs.Common.{◌≡◌, ◌<◌, ℕ, Option, Some, None, refl, get_or, length, sym, ◌∙◌, ap, subst, arith}
 use Rattle.std.specs.Option.{option_or}
 use Rattle.std.proofs.lemmas.List.{length-set}
-use Rattle.id_parts.specs.Rows.{at}
+use Rattle.id_table.specs.Rows.{at}
 use Rattle.id_scope.specs.Firsts.{Notes}
 use Rattle.id_scope.specs.Scopes.{bound_name}
 use Rattle.id_scope.specs.Names.{AreWaiting, again, in_scope, newly}

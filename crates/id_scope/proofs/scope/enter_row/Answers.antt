@@ -1,5 +1,5 @@
 use Rattle.std.proofs.Common.{◌≡◌, ◌<◌, false, length, refl, sym, ◌∙◌, subst, add-one, arith}
-use Rattle.id_parts.specs.Rows.{at}
+use Rattle.id_table.specs.Rows.{at}
 use Rattle.id_scope.specs.Scopes.{bound_name, held}
 use Rattle.id_scope.specs.Firsts.{Notes}
 use Rattle.id_scope.specs.Names.{IsTaking}

@@ -1,6 +1,6 @@
 use Rattle.std.proofs.Common.{◌<◌, length, ◌+◌, ◌∙◌, sym, subst, arith}
 use Rattle.std.proofs.lemmas.Result.{IfOk-from_err}
-use Rattle.id_parts.specs.Rows.{at}
+use Rattle.id_table.specs.Rows.{at}
 use Rattle.id_scope.specs.Names.{AreBound, AreWaiting, IsOpen}
 use Rattle.id_scope.proofs.BindLemmas.{key_below}
 use Rattle.id_scope.proofs.OpenLemmas.{open_more, open_same}

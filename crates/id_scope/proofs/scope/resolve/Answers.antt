@@ -1,6 +1,6 @@
 use Rattle.std.proofs.Common.{◌≡◌, ◌<◌, ◌≤◌, ℕ, Some, None, get_or, length, refl, sym, ◌∙◌, ap, subst, arith}
 use Rattle.std.specs.Prelude.{Option}
-use Rattle.id_parts.specs.Rows.{at}
+use Rattle.id_table.specs.Rows.{at}
 use Rattle.id_scope.specs.Names.{AreWaiting, IsBehind, is_waiting, last_of, limit, not_before, reach, use_before}
 use Rattle.id_scope.proofs.WaitingLemmas.{ArePassed, IsGiven, IsNextUse, given_all, given_set, next_last, next_use}
 use Rattle.id_scope.proofs.WaitingLemmas.{not_before-some, passed_on, passed_out, reach-less, reach_out, waiting_out}

@@ -1,6 +1,6 @@
 -- Each parameter takes a token at least.
 use Rattle.std.proofs.Common.{length}
-use Rattle.id_tree.specs.Readers.{IsBehind, Counts}
+use Rattle.id_grammar.specs.Readers.{IsBehind, Counts}
 use Rattle.id_tree.proofs.program.add_params.Given as goal
 
 -- parameters have come, and more may

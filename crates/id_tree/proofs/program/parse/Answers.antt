@@ -1,12 +1,12 @@
 -- What the run's end settles (proofs/RefusedLemmas.antt).
 use Rattle.std.proofs.Common.{◌≡◌, []}
 use Rattle.std.proofs.lemmas.Result.{IfOk-weaker, IfErr-weaker, MatchResult-weaker, MatchResult-from_both}
-use Rattle.id_tree.specs.Tree.{program_tree}
+use Rattle.id_grammar.specs.Tree.{program_tree}
 use Rattle.id_tree.specs.Accepted.{Accepts, RefusedBy}
 use Rattle.id_tree.specs.Distinct.{Distinct}
 use Rattle.id_tree.specs.Starts.{PlacesAreStarts}
-use Rattle.id_tree.specs.Machine.{run, Begin, Accepted}
-use Rattle.id_tree.specs.Readers.{EndsBy}
+use Rattle.id_grammar.specs.Machine.{run, Begin, Accepted}
+use Rattle.id_grammar.specs.Readers.{EndsBy}
 use Rattle.id_tree.proofs.FinishLemmas.{Laid-rises}
 use Rattle.id_tree.proofs.RefusedLemmas.{Accepts-from_run, RefusedBy-from_run, Same-from_run, IsMemory-from_run}
 use Rattle.id_tree.proofs.DistinctLemmas.{Program-distinct}

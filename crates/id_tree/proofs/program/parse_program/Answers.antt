@@ -2,10 +2,10 @@
 use Rattle.std.proofs.Common.{◌≡◌, sym, ap, ◌∙◌, rules}
 use Rattle.id_text.specs.declared.token.TokenKind.TheVariants.{Key}
 use Rattle.id_text.specs.declared.token.Keyword.TheVariants.{Def}
-use Rattle.id_tree.specs.Readers.{first_kind}
-use Rattle.id_tree.specs.Tree.{defs_tree}
-use Rattle.id_tree.specs.Machine.{Accepted}
-use Rattle.id_tree.proofs.ReaderLemmas.{Amasses-none, Amasses-add, Amasses-fails, Amasses-stops, Amasses-accepts}
+use Rattle.id_grammar.specs.Readers.{first_kind}
+use Rattle.id_grammar.specs.Tree.{defs_tree}
+use Rattle.id_grammar.specs.Machine.{Accepted}
+use Rattle.id_grammar.proofs.ReaderLemmas.{Amasses-none, Amasses-add, Amasses-fails, Amasses-stops, Amasses-accepts}
 use Rattle.id_tree.proofs.program.parse_program.Goals as goal
 
 pub defs-init : goal.defs-init

@@ -1,6 +1,6 @@
 -- Each definition takes a token at least.
 use Rattle.std.proofs.Common.{length}
-use Rattle.id_tree.specs.Readers.{Amasses}
+use Rattle.id_grammar.specs.Readers.{Amasses}
 use Rattle.id_tree.proofs.program.parse_program.Given as goal
 
 -- definitions have come, and more may

@@ -1,7 +1,7 @@
 use Rattle.std.specs.Prelude.{IsSome}
-use Rattle.id_graph.specs.declared.dests.Port.{Port}
-use Rattle.id_graph.specs.declared.dests.Port.TheVariants.{Zero, One}
-use Rattle.id_graph.specs.Ports.{port_kind}
+use Rattle.id_instr.specs.declared.dests.Port.{Port}
+use Rattle.id_instr.specs.declared.dests.Port.TheVariants.{Zero, One}
+use Rattle.id_instr.specs.Ports.{port_kind}
 use Rattle.id_valid.specs.Validator.{IsFed}
 use Rattle.id_valid.proofs.rules.are_fed.Goals as goal
 

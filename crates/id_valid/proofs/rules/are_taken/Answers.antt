@@ -1,6 +1,6 @@
 use Rattle.std.proofs.Common.{subst, sym, All, List}
-use Rattle.id_graph.specs.declared.dests.Dest.{Dest}
-use Rattle.id_graph.proofs.GraphLemmas.{All-arcs, All-true_arcs, All-false_arcs}
+use Rattle.id_instr.specs.declared.dests.Dest.{Dest}
+use Rattle.id_instr.proofs.GraphLemmas.{All-arcs, All-true_arcs, All-false_arcs}
 use Rattle.id_valid.specs.Validator.{IsTaken}
 use Rattle.id_valid.proofs.rules.are_taken.Goals as goal
 

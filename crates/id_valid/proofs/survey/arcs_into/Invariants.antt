@@ -1,5 +1,5 @@
 use Rattle.std.proofs.Common.{count_by, sum_by, take}
-use Rattle.id_graph.specs.Graph.{arcs}
+use Rattle.id_instr.specs.Graph.{arcs}
 use Rattle.id_valid.specs.Roles.{is_dest}
 use Rattle.id_valid.specs.Survey.{Adds}
 use Rattle.id_valid.proofs.survey.arcs_into.Given as goal

@@ -1,7 +1,7 @@
 use Rattle.std.proofs.Common.{ℕ, ◌<◌, length, All, count_by, subst, sym}
-use Rattle.id_graph.specs.declared.dests.Dest.{Dest}
-use Rattle.id_graph.specs.Graph.{false_arcs}
-use Rattle.id_graph.proofs.GraphLemmas.{All-true_arcs, All-false_arcs}
+use Rattle.id_instr.specs.declared.dests.Dest.{Dest}
+use Rattle.id_instr.specs.Graph.{false_arcs}
+use Rattle.id_instr.proofs.GraphLemmas.{All-true_arcs, All-false_arcs}
 use Rattle.id_valid.specs.Roles.{is_dest}
 use Rattle.id_valid.specs.Survey.{Adds}
 use Rattle.id_valid.proofs.SurveyLemmas.{Adds-arcs}

@@ -1,6 +1,6 @@
 use Rattle.std.proofs.Common.{refl, subst}
 use borrow.Author.Count.{below_more}
-use Rattle.id_graph.specs.Graph.{Parts}
+use Rattle.id_instr.specs.Graph.{Parts}
 use Rattle.id_valid.specs.Validator.{IsSound}
 use Rattle.id_valid.proofs.ValidatorLemmas.{FirstFaulty-past}
 use Rattle.id_valid.proofs.valid.first_faulty.Goals as goal

@@ -1,10 +1,10 @@
 -- What is delivered in short is told as it is in full.
 use Rattle.std.proofs.Common.{◌≡◌, ◌<◌, ◌∙◌, Err, None, Ok, Some, ap, length, subst, sym}
 use Rattle.std.specs.Prelude.{IfOk, OnErr, OnOk, option_map, slice_get, ◌↔◌}
-use Rattle.id_element.specs.declared.step.TakeError.TheVariants.{StampEnd}
-use Rattle.id_element.proofs.ShortLemmas.{if_err, on_err, on_ok}
+use Rattle.id_firing.specs.declared.step.TakeError.TheVariants.{StampEnd}
+use Rattle.id_desk.proofs.ShortLemmas.{if_err, on_err, on_ok}
 use Rattle.id_core.specs.Machines.{MachineView, came_of, delivered, event_at}
-use Rattle.id_core.proofs.FlightLemmas.{gives_end, ok_end}
+use Rattle.id_gap.proofs.FlightLemmas.{gives_end, ok_end}
 use Rattle.id_core.proofs.MachinesLemmas.{came_from}
 use Rattle.id_core.proofs.machine.Machine.advance_any.Goals as goal
 

@@ -2,12 +2,12 @@
 use Rattle.std.proofs.Common.{◌≡◌, ◌<◌, ◌∙◌, Err, None, Some, ap, length, subst, sym}
 use Rattle.std.specs.Prelude.{IfOk, OnErr, OnOk, option_map, slice_get, ◌↔◌}
 use Rattle.id_tag.specs.Plains.{tag_in}
-use Rattle.id_element.specs.Shorts.{IsHandled, step_in}
-use Rattle.id_element.specs.declared.step.Short.TheVariants.{Failed}
-use Rattle.id_element.specs.declared.step.TakeError.TheVariants.{StampEnd}
-use Rattle.id_element.proofs.ShortLemmas.{if_err, on_err, on_ok}
+use Rattle.id_firing.specs.Shorts.{IsHandled, step_in}
+use Rattle.id_firing.specs.declared.step.Short.TheVariants.{Failed}
+use Rattle.id_firing.specs.declared.step.TakeError.TheVariants.{StampEnd}
+use Rattle.id_desk.proofs.ShortLemmas.{if_err, on_err, on_ok}
 use Rattle.id_core.specs.Machines.{MachineView, delivered, event_at}
-use Rattle.id_core.proofs.FlightLemmas.{gives_end, ok_end}
+use Rattle.id_gap.proofs.FlightLemmas.{gives_end, ok_end}
 use Rattle.id_core.proofs.machine.Machine.deliver.Goals as goal
 
 pub deliver_plain-requires : goal.deliver_plain-requires

@@ -4,7 +4,7 @@ use Rattle.std.specs.Prelude.{slice_get}
 use Rattle.std.proofs.lemmas.Option.{slice_get_read}
 use Rattle.id_flight.specs.Demands.{demanded}
 use Rattle.id_tag.specs.Routes.{route_of}
-use Rattle.id_record.specs.declared.step.Step.TheVariants.{Went}
+use Rattle.id_line.specs.declared.step.Step.TheVariants.{Went}
 use Rattle.id_core.proofs.MachinesLemmas.{IsGiven, IsGiving, IsMachine-given, either_way, if_yes, is_for, told-given, yes_if}
 use Rattle.id_core.proofs.machine.Machine.deliver_demand.Goals as goal
 use Rattle.id_core.proofs.machine.Machine.deliver_demand.Goals.{After-index_mut}

@@ -4,9 +4,9 @@ use Rattle.std.specs.Prelude.{slice_get}
 use Rattle.std.proofs.lemmas.Option.{slice_get_read}
 use Rattle.id_tag.specs.Plains.{message_of, tag_in}
 use Rattle.id_tag.specs.Routes.{tag_route}
-use Rattle.id_element.specs.Shorts.{IsHandled, step_in}
-use Rattle.id_element.specs.declared.step.Short.{Short}
-use Rattle.id_element.specs.declared.step.Short.TheVariants.{Apart}
+use Rattle.id_firing.specs.Shorts.{IsHandled, step_in}
+use Rattle.id_firing.specs.declared.step.Short.{Short}
+use Rattle.id_firing.specs.declared.step.Short.TheVariants.{Apart}
 use Rattle.id_core.proofs.MachinesLemmas.{IsGiven, IsGiving, IsMachine-given, handled_or_apart, is_for, told-given}
 use Rattle.id_core.proofs.machine.Machine.deliver_plain.Goals as goal
 use Rattle.id_core.proofs.machine.Machine.deliver_plain.Goals.{After-index_mut}

@@ -1,11 +1,11 @@
 -- The event at a position is that of its line.
 use Rattle.std.proofs.Common.{◌≡◌, ◌<◌, ◌+◌, Some, length, sym, ap, ◌∙◌, arith}
-use Rattle.id_record.specs.Lines.{AreThere}
+use Rattle.id_line.specs.Lines.{AreThere}
 use Rattle.id_record.specs.Records.{event_of_handled}
 use Rattle.std.proofs.Common.{subst}
 use Rattle.id_valid.specs.Validator.{IsValid}
 use Rattle.id_record.proofs.SendsLemmas.{HasSecond-valid}
-use Rattle.id_record.proofs.LinesLemmas.{length-events_from, events_from-get, line_kept}
+use Rattle.id_record.proofs.RecordsLemmas.{length-events_from, events_from-get, line_kept}
 use Rattle.id_record.proofs.history.Record.event.Goals as goal
 
 pub line-line-requires : goal.line-line-requires

@@ -1,7 +1,7 @@
 -- There are as many events as lines.
 use Rattle.std.proofs.Common.{◌≡◌, length, sym, ap, ◌∙◌, arith}
 use Rattle.std.proofs.lemmas.Grind.{common_steps}
-use Rattle.id_record.proofs.LinesLemmas.{length-events_from}
+use Rattle.id_record.proofs.RecordsLemmas.{length-events_from}
 use Rattle.id_record.proofs.history.Record.len.Goals as goal
 
 pub returns : goal.returns

@@ -1,10 +1,10 @@
 -- The record goes on by one event, which stands aside.
 use Rattle.std.proofs.Common.{◌≡◌, ◌++◌, ◌∷◌, [], List, ap, subst, sym, ◌∙◌}
 use Rattle.id_tag.specs.declared.Tag.{Tag}
-use Rattle.id_record.specs.declared.line.Handled.{Handled}
-use Rattle.id_record.specs.Lines.{AreThere, beside}
+use Rattle.id_line.specs.declared.line.Handled.{Handled}
+use Rattle.id_line.specs.Lines.{AreThere, beside}
 use Rattle.id_record.specs.Records.{RecordView}
-use Rattle.id_record.proofs.LinesLemmas.{pushed_aside, kept_aside}
+use Rattle.id_record.proofs.RecordsLemmas.{pushed_aside, kept_aside}
 use Rattle.id_record.proofs.TellingsLemmas.{AreKept-push}
 use Rattle.id_record.proofs.history.Record.push_aside.Goals as goal
 

@@ -1,8 +1,8 @@
 -- The record goes on by one event, in a line of its own.
 use Rattle.std.proofs.lemmas.Grind.{common_steps}
 use Rattle.std.proofs.Common.{ap, arith, refl}
-use Rattle.id_record.specs.Shootings.{shooting}
-use Rattle.id_record.proofs.LinesLemmas.{pushed_line, kept_line}
+use Rattle.id_shots.specs.Shootings.{shooting}
+use Rattle.id_record.proofs.RecordsLemmas.{pushed_line, kept_line}
 use Rattle.id_record.proofs.TellingsLemmas.{AreKept-push, tells-shooting}
 use Rattle.id_record.proofs.history.Record.push_shot.Goals as goal
 

@@ -1,6 +1,6 @@
 use Rattle.std.proofs.Common.{refl, subst}
 use Rattle.id_valid.specs.Validator.{IsAnswer, IsMainBlock}
-use Rattle.id_graph.specs.Graph.{Parts}
+use Rattle.id_instr.specs.Graph.{Parts}
 use Rattle.id_valid.proofs.ValidatorLemmas.{IsMainBlock-valid}
 use Rattle.id_valid.proofs.valid.Valid.main_block.Goals as goal
 

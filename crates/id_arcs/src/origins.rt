@@ -1,0 +1,119 @@
+//! Where values come from (docs/GRAPH.md, "Sources").
+
+ghost use Rattle.std.specs.Prelude.{◌≡◌, ◌<◌, ◌^◌};
+ghost use Rattle.id_pieces.specs.Rows.{handed_by, name_in, named_in, node, origin, origin_of, output, reply};
+ghost use Rattle.id_pieces.specs.Rows.{same_region, trigger_of};
+ghost use Rattle.id_pieces.specs.Slots.{AreSlots};
+
+use id_check::Checked;
+use id_desugar::{binder_at, row_at};
+use id_parts::{Node, Region};
+use id_pieces::{Origin, Slots, entries_row, label, slot_of};
+
+/// What the first instruction of a row gives.
+pub fn output(row: usize) -> Origin
+    ensures { result ≡ output row }
+{
+    Origin {
+        row,
+        part: 0,
+        side: true,
+    }
+}
+
+/// What a fetch at a row gives.
+fn reply(row: usize) -> Origin
+    ensures { result ≡ reply row }
+{
+    Origin {
+        row,
+        part: 2,
+        side: true,
+    }
+}
+
+/// What turns a region on.
+pub fn trigger_of(region: Region) -> Origin
+    ensures { result ≡ trigger_of region }
+{
+    Origin {
+        row: region.head as usize,
+        part: 0,
+        side: region.side,
+    }
+}
+
+/// Where the value of the expression at a row comes from.
+pub fn origin(checked: &Checked, slots: &Slots<'_>, expr: usize) -> Origin
+    requires slots { AreSlots checked.now slots.now }
+    ensures origin { result ≡ origin checked.now expr }
+    ensures few { result.part < 2 ^ 62 }
+{
+    let value = row_at(checked, expr).value as usize;
+    let row = row_at(checked, value);
+    match row.node {
+        Node::Name { .. } => named_in(checked, slots, row.region, value, binder_at(checked, value)),
+        Node::Fetch { .. } => reply(value),
+        _ => output(value),
+    }
+}
+
+/// Where the value of the name at a row comes from, in its region, which has this binder.
+fn named_in(
+    checked: &Checked,
+    slots: &Slots<'_>,
+    region: Region,
+    name: usize,
+    binder: Option<usize>,
+) -> Origin
+    requires slots { AreSlots checked.now slots.now }
+    ensures origin { result ≡ named_in checked.now region name binder }
+    ensures few { result.part < 2 ^ 62 }
+{
+    match binder {
+        Some(binder) => name_in(checked, slots, region, binder),
+        None => output(name),
+    }
+}
+
+/// Where the value of a binder comes from in a region.
+#[inline(always)]
+pub fn name_in(checked: &Checked, slots: &Slots<'_>, region: Region, binder: usize) -> Origin
+    requires slots { AreSlots checked.now slots.now }
+    ensures origin { result ≡ name_in checked.now region binder }
+    ensures few { result.part < 2 ^ 62 }
+{
+    let label = label(checked, binder);
+    if same_region(row_at(checked, label).region, region) {
+        output(label)
+    } else {
+        handed(checked, slots, region, binder)
+    }
+}
+
+/// Where the head of a region hands in the value of a binder.
+fn handed(checked: &Checked, slots: &Slots<'_>, region: Region, binder: usize) -> Origin
+    requires slots { AreSlots checked.now slots.now }
+    ensures origin { result ≡ handed_by checked.now region binder (node checked.now region.head) }
+    ensures few { result.part < 2 ^ 62 }
+{
+    let slot = slot_of(checked, slots, region.head as usize, binder);
+    match row_at(checked, region.head as usize).node {
+        Node::LoopHead { .. } => Origin {
+            row: entries_row(checked, slots.columns, region.head as usize),
+            part: slot,
+            side: true,
+        },
+        _ => Origin {
+            row: region.head as usize,
+            part: slot + 1,
+            side: region.side,
+        },
+    }
+}
+
+fn same_region(left: Region, right: Region) -> bool
+    ensures { result ≡ same_region left right }
+{
+    left.head == right.head && left.side == right.side
+}

@@ -1,0 +1,5 @@
+pub mod ToldLemmas
+pub mod ChainsLemmas
+pub mod LookupLemmas
+pub mod QueuesLemmas
+pub mod WaitsLemmas

@@ -1,0 +1,6 @@
+pub mod EventsLemmas
+pub mod FitsLemmas
+pub mod OutcomeLemmas
+pub mod ReplaysLemmas
+pub mod SentLemmas
+pub mod ShortLemmas

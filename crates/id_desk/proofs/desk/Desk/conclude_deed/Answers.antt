@@ -1,0 +1,22 @@
+-- What is recorded is what was sent: the event is at the instruction.
+use Rattle.std.proofs.Common.{◌∷◌, ◌++◌, [], length, refl, ap, ◌∙◌}
+use Rattle.id_line.specs.declared.line.Handled.{Handled}
+use Rattle.id_line.specs.declared.step.Verdict.TheVariants.{Went}
+use Rattle.id_tag.specs.Plains.{message_of, tag_in}
+use Rattle.id_ops.specs.Deeds.{fired_by_deed}
+use Rattle.id_line.specs.Lines.{no_replies}
+use Rattle.id_record.proofs.RecordsLemmas.{event_at_instr}
+use Rattle.id_desk.proofs.desk.Desk.conclude_deed.Goals as goal
+
+pub returns-clause-events : goal.returns-clause-events
+returns-clause-events c =
+    let log = c.args.self.now.log in
+    let t = tag_in c.args.token.now in
+    let event : Handled = record {
+      message = message_of c.args.token.now;
+      stamp = c.args.stamp;
+      reaction = record { fired = fired_by_deed t c.args.deed; verdict = Went };
+      replies = no_replies;
+    } in
+    c.push_deed.ensures.events ∙ ap (λ e. log.events ++ e ∷ [])
+    (event_at_instr log.graph log.element log.replies (length log.events) event c.args.instr.now t refl c.requires.own refl)

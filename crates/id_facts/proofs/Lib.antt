@@ -1,0 +1,5 @@
+pub mod FactsLemmas
+pub mod OneLemmas
+pub mod SameLemmas
+pub mod MembersLemmas
+pub mod LearntLemmas

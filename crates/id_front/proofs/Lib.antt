@@ -1,0 +1,4 @@
+pub mod BehindLemmas
+pub mod CallLemmas
+pub mod FrontLemmas
+pub mod WaitingLemmas

@@ -1,0 +1,5 @@
+pub mod ParamLemmas
+pub mod ReaderLemmas
+pub mod RowLemmas
+pub mod RunLemmas
+pub mod StatementLemmas

@@ -1,0 +1,344 @@
+//! Parts that were read, and how the expressions round them are made of them.
+
+ghost use Rattle.std.specs.Prelude.{Ok, Err, ◌≡◌, ◌+◌, ◌<◌, ◌^◌, [], ◌∷◌, ◌++◌};
+ghost use Rattle.std.specs.Prelude.{IfOk, IfErr, MatchResult, max};
+ghost use Rattle.id_grammar.specs.declared.tree.TreeError.TheVariants.{Memory};
+ghost use Rattle.id_value.specs.declared.Constant.TheVariants as constant;
+ghost use Rattle.id_grammar.specs.Tree.{tree_of, stmt_tree, none};
+ghost use Rattle.id_grammar.specs.Tree as tree;
+ghost use Rattle.id_grammar.specs.Readers.{onto, passed};
+
+use crate::tree::{Block, Call, Expr, Loop, Pair, Stmt, TreeError, Triple};
+use id_text::{Identifier, Token};
+use id_value::{BinaryOp, Constant, UnaryOp};
+use std::alloc::Global;
+
+/// An expression that was read, and its height.
+pub struct Part {
+    pub expr: Expr,
+    pub height: usize,
+}
+
+/// A drop of its own, so that a reader which gives up lets each part go by one call.
+impl Drop for Part {
+    fn drop(self) {
+        let Part { expr: _, height: _ } = self;
+    }
+}
+
+impl Part {
+    /// The expression alone.
+    pub fn into_expr(self) -> Expr
+        ensures { result ≡ self.expr }
+    {
+        let Part { expr, height: _ } = self;
+        expr
+    }
+}
+
+/// The number as an expression.
+pub fn number(value: &i64, place: u32) -> Part
+    ensures height { result.height ≡ 1 }
+    ensures tree { tree_of result.expr ≡ tree.literal (constant.Int value.now) place }
+{
+    let value = Constant::Int(*value);
+    let expr = Expr::Literal { place, value };
+    Part { expr, height: 1 }
+}
+
+/// The truth value as an expression.
+pub fn truth(value: bool, place: u32) -> Part
+    ensures height { result.height ≡ 1 }
+    ensures tree { tree_of result.expr ≡ tree.literal (constant.Bool value) place }
+{
+    let value = Constant::Bool(value);
+    let expr = Expr::Literal { place, value };
+    Part { expr, height: 1 }
+}
+
+/// The name as an expression.
+pub fn name(name: Identifier, place: u32) -> Part
+    ensures height { result.height ≡ 1 }
+    ensures tree { tree_of result.expr ≡ tree.name name place }
+{
+    let expr = Expr::Name { place, name };
+    Part { expr, height: 1 }
+}
+
+/// The procedure's name with the arguments, which have at most this height.
+pub fn call(
+    alloc: Global,
+    name: Identifier,
+    args: Vec<Expr>,
+    height: usize,
+    place: u32,
+) -> Result<Part, TreeError>
+    requires { height < 2 ^ 63 }
+    ensures { MatchResult result
+        (λ p. (p.height ≡ height + 1)
+        × (tree_of p.expr ≡ tree.call name (passed args.items none) place))
+        (λ e. e ≡ Memory) }
+{
+    let height = height + 1;
+    let inside = Box::new(alloc, Call { name, args })?;
+    let expr = Expr::Call { place, inside };
+    Ok(Part { expr, height })
+}
+
+/// The operand behind an operator.
+pub fn unary(alloc: Global, op: UnaryOp, operand: Part, place: u32) -> Result<Part, TreeError>
+    requires { operand.height < 2 ^ 63 }
+    ensures { MatchResult result
+        (λ p. (p.height ≡ operand.height + 1)
+        × (tree_of p.expr ≡ tree.unary op (tree_of operand.expr) place))
+        (λ e. e ≡ Memory) }
+{
+    let height = operand.height + 1;
+    let operand = Box::new(alloc, operand.into_expr())?;
+    let expr = Expr::Unary { op, place, operand };
+    Ok(Part { expr, height })
+}
+
+/// Two parts in a box.
+fn pair(alloc: Global, first: Part, second: Part) -> Result<Box<Pair>, TreeError>
+    ensures first { IfOk result (λ b. b.value.first ≡ first.expr) }
+    ensures second { IfOk result (λ b. b.value.second ≡ second.expr) }
+    ensures err { IfErr result (λ e. e ≡ Memory) }
+{
+    let first = first.into_expr();
+    let second = second.into_expr();
+    let both = Box::new(alloc, Pair { first, second })?;
+    Ok(both)
+}
+
+/// Three parts in a box.
+fn triple(alloc: Global, first: Part, second: Part, third: Part) -> Result<Box<Triple>, TreeError>
+    ensures first { IfOk result (λ b. b.value.first ≡ first.expr) }
+    ensures second { IfOk result (λ b. b.value.second ≡ second.expr) }
+    ensures third { IfOk result (λ b. b.value.third ≡ third.expr) }
+    ensures err { IfErr result (λ e. e ≡ Memory) }
+{
+    let first = first.into_expr();
+    let second = second.into_expr();
+    let third = third.into_expr();
+    let all = Box::new(
+        alloc,
+        Triple {
+            first,
+            second,
+            third,
+        },
+    )?;
+    Ok(all)
+}
+
+/// The operands on both sides of an operator.
+pub fn binary(
+    alloc: Global,
+    op: BinaryOp,
+    left: Part,
+    right: Part,
+    place: u32,
+) -> Result<Part, TreeError>
+    requires low { left.height < 2 ^ 63 }
+    requires high { right.height < 2 ^ 63 }
+    ensures { MatchResult result
+        (λ p. (p.height ≡ max left.height right.height + 1)
+        × (tree_of p.expr ≡ tree.binary op (tree_of left.expr) (tree_of right.expr) place))
+        (λ e. e ≡ Memory) }
+{
+    let height = left.height.max(right.height) + 1;
+    let inside = found!(pair(alloc, left, right));
+    let expr = Expr::Binary { op, place, inside };
+    Ok(Part { expr, height })
+}
+
+/// The predicate and the arms of an `if`.
+pub fn conditional(
+    alloc: Global,
+    test: Part,
+    then: Part,
+    otherwise: Part,
+    place: u32,
+) -> Result<Part, TreeError>
+    requires low { test.height < 2 ^ 63 }
+    requires middle { then.height < 2 ^ 63 }
+    requires high { otherwise.height < 2 ^ 63 }
+    ensures { MatchResult result
+        (λ p. (p.height ≡ max (max test.height then.height) otherwise.height + 1)
+        × (tree_of p.expr ≡ tree.conditional (tree_of test.expr) (tree_of then.expr) (tree_of otherwise.expr) place))
+        (λ e. e ≡ Memory) }
+{
+    let height = test.height.max(then.height).max(otherwise.height) + 1;
+    let inside = found!(triple(alloc, test, then, otherwise));
+    let expr = Expr::If { place, inside };
+    Ok(Part { expr, height })
+}
+
+/// The bounds of a new structure.
+pub fn array(alloc: Global, low: Part, high: Part, place: u32) -> Result<Part, TreeError>
+    requires low { low.height < 2 ^ 63 }
+    requires high { high.height < 2 ^ 63 }
+    ensures { MatchResult result
+        (λ p. (p.height ≡ max low.height high.height + 1)
+        × (tree_of p.expr ≡ tree.array (tree_of low.expr) (tree_of high.expr) place))
+        (λ e. e ≡ Memory) }
+{
+    let height = low.height.max(high.height) + 1;
+    let inside = found!(pair(alloc, low, high));
+    let expr = Expr::Array { place, inside };
+    Ok(Part { expr, height })
+}
+
+/// The structure and the index of an element.
+pub fn fetch(alloc: Global, target: Part, index: Part, place: u32) -> Result<Part, TreeError>
+    requires low { target.height < 2 ^ 63 }
+    requires high { index.height < 2 ^ 63 }
+    ensures { MatchResult result
+        (λ p. (p.height ≡ max target.height index.height + 1)
+        × (tree_of p.expr ≡ tree.fetch (tree_of target.expr) (tree_of index.expr) place))
+        (λ e. e ≡ Memory) }
+{
+    let height = target.height.max(index.height) + 1;
+    let inside = found!(pair(alloc, target, index));
+    let expr = Expr::Fetch { place, inside };
+    Ok(Part { expr, height })
+}
+
+/// The part, if it was made, with the tokens behind it.
+#[inline(always)]
+pub fn with_rest(
+    whole: Result<Part, TreeError>,
+    rest: &[Token],
+) -> Result<(Part, &[Token]), TreeError>
+    ensures { MatchResult result
+        (λ x. (whole ≡ Ok x.0) × (x.1.now ≡ rest.now))
+        (λ e. whole ≡ Err e) }
+{
+    let whole = found!(whole);
+    Ok((whole, rest))
+}
+
+/// The name for the value of an expression.
+pub fn binding(name: Identifier, value: Part, place: u32) -> Stmt
+    ensures { stmt_tree result ≡ tree.binding name (tree_of value.expr) place }
+{
+    let value = value.into_expr();
+    Stmt::Binding { place, name, value }
+}
+
+/// The next value of a loop's variable.
+pub fn next(name: Identifier, value: Part, place: u32) -> Stmt
+    ensures { stmt_tree result ≡ tree.next name (tree_of value.expr) place }
+{
+    let value = value.into_expr();
+    Stmt::Next { place, name, value }
+}
+
+/// The value of a structure's element.
+pub fn store(
+    alloc: Global,
+    target: Part,
+    index: Part,
+    value: Part,
+    place: u32,
+) -> Result<Stmt, TreeError>
+    ensures { MatchResult result
+        (λ s. stmt_tree s
+        ≡ tree.store (tree_of target.expr) (tree_of index.expr) (tree_of value.expr) place)
+        (λ e. e ≡ Memory) }
+{
+    let inside = found!(triple(alloc, target, index, value));
+    Ok(Stmt::Store { place, inside })
+}
+
+/// Adds the argument behind those before it, and gives its height.
+#[inline(always)]
+pub fn add_argument(args: &mut Vec<Expr>, arg: Part) -> Result<usize, TreeError>
+    ensures { MatchResult result
+        (λ h. (args.new.items ≡ args.old.items ++ arg.expr ∷ []) × (h ≡ arg.height))
+        (λ e. e ≡ Memory) }
+{
+    let height = arg.height;
+    args.push(arg.into_expr())?;
+    Ok(height)
+}
+
+/// Adds the statement behind those before it.
+#[inline(always)]
+pub fn add_statement(statements: &mut Vec<Stmt>, statement: Stmt) -> Result<(), TreeError>
+    ensures { MatchResult result
+        (λ _. statements.new.items ≡ statements.old.items ++ statement ∷ [])
+        (λ e. e ≡ Memory) }
+{
+    statements.push(statement)?;
+    Ok(())
+}
+
+/// The statements, whose parts have at most this height, round the body.
+pub fn block(
+    alloc: Global,
+    statements: Vec<Stmt>,
+    height: usize,
+    body: Part,
+    place: u32,
+) -> Result<Part, TreeError>
+    requires low { height < 2 ^ 63 }
+    requires high { body.height < 2 ^ 63 }
+    ensures { MatchResult result
+        (λ p. (p.height ≡ max height body.height + 1)
+        × (tree_of p.expr ≡ tree.block (onto statements.items none) (tree_of body.expr) place))
+        (λ e. e ≡ Memory) }
+{
+    let height = height.max(body.height) + 1;
+    let body = body.into_expr();
+    let inside = Box::new(alloc, Block { statements, body })?;
+    let expr = Expr::Block { place, inside };
+    Ok(Part { expr, height })
+}
+
+/// The predicate, the statements, whose parts have at most this height, and the last expression of a loop.
+pub fn whole_loop(
+    alloc: Global,
+    test: Part,
+    statements: Vec<Stmt>,
+    height: usize,
+    last: Part,
+    place: u32,
+) -> Result<Part, TreeError>
+    requires low { test.height < 2 ^ 63 }
+    requires middle { height < 2 ^ 63 }
+    requires high { last.height < 2 ^ 63 }
+    ensures { MatchResult result
+        (λ p. (p.height ≡ max (max test.height height) last.height + 1)
+        × (tree_of p.expr ≡ tree.loop (tree_of test.expr) (onto statements.items none) (tree_of last.expr) place))
+        (λ e. e ≡ Memory) }
+{
+    let height = test.height.max(height).max(last.height) + 1;
+    let test = test.into_expr();
+    let last = last.into_expr();
+    let inside = Box::new(
+        alloc,
+        Loop {
+            test,
+            statements,
+            last,
+        },
+    )?;
+    let expr = Expr::Loop { place, inside };
+    Ok(Part { expr, height })
+}
+
+/// A list of fewer things is short.
+const FEW: usize = 32;
+
+/// The list. A short one, of which a text may have very many, keeps no room for more.
+pub fn fitted<T>(list: Vec<T>) -> Vec<T>
+    ensures { result.items ≡ list.items }
+{
+    let mut list = list;
+    if list.len() < FEW {
+        list.shrink_to_fit();
+    }
+    list
+}

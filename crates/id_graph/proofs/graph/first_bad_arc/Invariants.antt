@@ -1,7 +1,0 @@
-use Rattle.std.proofs.Common.{take, All}
-use Rattle.id_graph.specs.Graph.{ArcsExist}
-use Rattle.id_graph.proofs.graph.first_bad_arc.Given as goal
-
--- the instructions so far have only destinations that are ports
-abbrev pub invariant-loop-number : goal.invariant-loop-number
-invariant-loop-number l = All (ArcsExist l.instrs) (take l.number l.instrs)

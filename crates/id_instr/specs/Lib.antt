@@ -1,0 +1,4 @@
+-- What public clauses cite.
+pub mod Dests
+pub mod Graph
+pub mod Ports

@@ -1,0 +1,3 @@
+pub mod TurnsLemmas
+pub mod AroundLemmas
+pub mod LinksLemmas

@@ -1,0 +1,2 @@
+pub mod OrdersLemmas
+pub mod PathsLemmas

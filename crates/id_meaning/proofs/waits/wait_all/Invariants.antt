@@ -1,8 +1,0 @@
--- All waits where the facts so far turn rows On.
-use Rattle.std.proofs.Common.{drop}
-use Rattle.id_meaning.specs.Cells.{items}
-use Rattle.id_meaning.proofs.WaitsLemmas.{WaitsSo}
-use Rattle.id_meaning.proofs.waits.wait_all.Given as goal
-
-abbrev pub invariant-loop-fact : goal.invariant-loop-fact
-invariant-loop-fact l = WaitsSo l.checked l.links (items l.cells) l.initial.waits l.waits l.facts (drop l.fact-index l.facts)

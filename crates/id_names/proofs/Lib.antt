@@ -1,0 +1,2 @@
+pub mod HeldsLemmas
+pub mod NamesLemmas

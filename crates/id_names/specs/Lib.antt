@@ -1,0 +1,4 @@
+-- What public clauses cite.
+pub mod Helds
+pub mod Names
+pub mod Within

@@ -1,0 +1,3 @@
+pub mod FirstsLemmas
+pub mod MarkedLemmas
+pub mod ObservedLemmas

@@ -1,0 +1,5 @@
+pub mod ArrayLemmas
+pub mod BlockLemmas
+pub mod CallLemmas
+pub mod ReadLemmas
+pub mod WholeLemmas

@@ -1,0 +1,775 @@
+//! The parser of expressions and statements, a function for each production (docs/LANGUAGE.md, "Grammar").
+//!
+//! A reader takes the tokens from its part on, and how many expressions stand round the part.
+//! It gives the part back with the tokens behind it.
+
+ghost use Rattle.std.specs.Prelude.{Some, ◌≡◌, ◌≢◌, ◌+◌, ◌<◌, ◌≤◌, ◌↔◌, IsTrue, MatchResult};
+ghost use Rattle.id_text.specs.Tokens.{EndsOnce};
+ghost use Rattle.id_grammar.specs.Tree.{tree_of, stmt_tree, none};
+ghost use Rattle.id_grammar.specs.Grammar.{Expression, Grouped, Negation, Unary, Postfix, Atom, Arguments};
+ghost use Rattle.id_grammar.specs.Grammar.{Tail, operand, operator_of};
+ghost use Rattle.id_grammar.specs.Readers.{first_kind, second_kind, last_word, may_deny, open_first, IsRead};
+ghost use Rattle.id_grammar.specs.Readers.{IsPrefix, Leads, Fails, Grows, Stunts, Encloses, Exposes};
+ghost use Rattle.id_grammar.specs.Readers.{Surrounds, Bares, Indexes, Misindexes, Adds, Assigns, Misassigns};
+ghost use Rattle.id_grammar.specs.Readers.{Gathers, IsGathered, Applies, Misapplies, Hands, passed, Rises};
+
+use crate::operators::{begins_with_bracket, denies, open_behind, open_first, operator_within};
+use id_grammar::{
+    Expr, Level, MAX_NESTING, Part, Scope, Stmt, TreeError, Word, add_argument, add_statement,
+    array, begins_with, begins_with_sign, binary, binding, block, call, conditional, copied, enter,
+    expect_name, expect_word, fetch, fitted, is_sign, name, next, no_room, number, split, store,
+    truth, truth_of, unary, unexpected, whole_loop, with_rest,
+};
+use id_text::{Identifier, Keyword, Symbol, Token, TokenKind};
+use id_value::{BinaryOp, UnaryOp};
+use std::alloc::Global;
+
+/// `expr = conditional | or`
+#[cycle(expr)]
+fn parse_expression(
+    alloc: Global,
+    tokens: &[Token],
+    depth: usize,
+) -> Result<(Part, &[Token]), TreeError>
+    requires ends { EndsOnce tokens.now }
+    requires room { depth < MAX_NESTING }
+    ensures { MatchResult result
+        (λ x. IsRead tokens.now x.1.now depth x.0.height
+        × Leads tokens.now Expression depth x.1.now (tree_of x.0.expr) x.0.height)
+        (Fails tokens.now Expression depth) }
+{
+    if begins_with(tokens, Keyword::If) {
+        parse_conditional(alloc, tokens, depth)
+    } else {
+        parse_grouped(alloc, tokens, Level::Or, depth)
+    }
+}
+
+/// `conditional = "if" expr "then" expr "else" expr`
+#[cycle(expr)]
+fn parse_conditional(
+    alloc: Global,
+    tokens: &[Token],
+    depth: usize,
+) -> Result<(Part, &[Token]), TreeError>
+    requires ends { EndsOnce tokens.now }
+    requires begins { first_kind tokens.now ≡ TokenKind.Key Keyword.If }
+    requires room { depth < MAX_NESTING }
+    ensures { MatchResult result
+        (λ x. IsRead tokens.now x.1.now depth x.0.height
+        × Leads tokens.now Expression depth x.1.now (tree_of x.0.expr) x.0.height)
+        (Fails tokens.now Expression depth) }
+{
+    let inner = depth + 1;
+    let (first, begun) = found!(enter(tokens, inner + 1));
+    let (test, behind_then) = found!(parse_enclosed(alloc, begun, Word::Key(Keyword::Then), inner));
+    let (then, behind_else) = found!(parse_enclosed(
+        alloc,
+        behind_then,
+        Word::Key(Keyword::Else),
+        inner
+    ));
+    let (otherwise, rest) = found!(parse_expression(alloc, behind_else, inner));
+    with_rest(conditional(alloc, test, then, otherwise, first.start), rest)
+}
+
+/// `or = and { "or" and }`, `and = not { "and" not }`,
+/// `cmp = sum [ ("==" | "<>" | "<" | "<=" | ">" | ">=") sum ]`, `sum = product { ("+" | "-") product }`,
+/// `product = unary { ("*" | "div" | "rem") unary }`
+///
+/// The first operand is read at once, and the levels round it are left from the inside, so that an
+/// operand with no operator behind it costs one look at the token there.
+#[cycle(expr)]
+fn parse_grouped(
+    alloc: Global,
+    tokens: &[Token],
+    level: Level,
+    depth: usize,
+) -> Result<(Part, &[Token]), TreeError>
+    requires ends { EndsOnce tokens.now }
+    requires room { depth < MAX_NESTING }
+    ensures { MatchResult result
+        (λ x. IsRead tokens.now x.1.now depth x.0.height
+        × Leads tokens.now (Grouped level) depth x.1.now (tree_of x.0.expr) x.0.height)
+        (Fails tokens.now (Grouped level) depth) }
+{
+    let denied = denies(tokens, level);
+    let (mut left, mut rest) = found!(parse_first(alloc, tokens, denied, level, depth));
+    let mut inner = open_first(denied);
+    'operators: while let Some((at, op)) = operator_within(rest, inner, level) {
+        let (grown, behind) = found!(parse_right(alloc, left, op, rest, at, depth));
+        left = grown;
+        inner = open_behind(at);
+        rest = behind;
+    }
+    Ok((left, rest))
+}
+
+/// The first operand of a level, which begins with a `not` if it is denied.
+#[inline(always)]
+#[cycle(expr)]
+fn parse_first(
+    alloc: Global,
+    tokens: &[Token],
+    denied: bool,
+    level: Level,
+    depth: usize,
+) -> Result<(Part, &[Token]), TreeError>
+    requires ends { EndsOnce tokens.now }
+    requires denied { IsTrue denied ↔
+        (may_deny level × (first_kind tokens.now ≡ TokenKind.Key Keyword.Not)) }
+    requires room { depth < MAX_NESTING }
+    ensures { MatchResult result
+        (λ x. IsRead tokens.now x.1.now depth x.0.height
+        × Rises tokens.now level depth (open_first denied) x.1.now (tree_of x.0.expr) x.0.height)
+        (Fails tokens.now (Grouped level) depth) }
+{
+    if denied {
+        parse_prefixed(alloc, UnaryOp::Not, tokens, Level::And, depth)
+    } else {
+        parse_unary(alloc, tokens, depth)
+    }
+}
+
+/// An operator and its right operand, behind its left one.
+#[cycle(expr)]
+fn parse_right(
+    alloc: Global,
+    left: Part,
+    op: BinaryOp,
+    tokens: &[Token],
+    level: Level,
+    depth: usize,
+) -> Result<(Part, &[Token]), TreeError>
+    requires ends { EndsOnce tokens.now }
+    requires operator { operator_of level (first_kind tokens.now) ≡ Some op }
+    requires some { 0 < left.height }
+    requires fits { depth + left.height ≤ MAX_NESTING }
+    ensures { MatchResult result
+        (λ x. IsRead tokens.now x.1.now depth x.0.height
+        × Grows tokens.now level depth (tree_of left.expr) left.height x.1.now (tree_of x.0.expr) x.0.height)
+        (Stunts tokens.now level depth (tree_of left.expr) left.height) }
+{
+    let (first, behind) = found!(enter(tokens, depth + left.height + 1));
+    let (right, rest) = found!(parse_operand(alloc, behind, level, depth + 1));
+    with_rest(binary(alloc, op, left, right, first.start), rest)
+}
+
+/// An operand of a level.
+#[inline(always)]
+#[cycle(expr)]
+fn parse_operand(
+    alloc: Global,
+    tokens: &[Token],
+    level: Level,
+    depth: usize,
+) -> Result<(Part, &[Token]), TreeError>
+    requires ends { EndsOnce tokens.now }
+    requires room { depth < MAX_NESTING }
+    ensures { MatchResult result
+        (λ x. IsRead tokens.now x.1.now depth x.0.height
+        × Leads tokens.now (operand level) depth x.1.now (tree_of x.0.expr) x.0.height)
+        (Fails tokens.now (operand level) depth) }
+{
+    match level {
+        Level::Or => parse_grouped(alloc, tokens, Level::And, depth),
+        Level::And => parse_negation(alloc, tokens, depth),
+        Level::Comparison => parse_grouped(alloc, tokens, Level::Sum, depth),
+        Level::Sum => parse_grouped(alloc, tokens, Level::Product, depth),
+        Level::Product => parse_unary(alloc, tokens, depth),
+    }
+}
+
+/// `not = "not" not | cmp`
+#[cycle(expr)]
+fn parse_negation(
+    alloc: Global,
+    tokens: &[Token],
+    depth: usize,
+) -> Result<(Part, &[Token]), TreeError>
+    requires ends { EndsOnce tokens.now }
+    requires room { depth < MAX_NESTING }
+    ensures { MatchResult result
+        (λ x. IsRead tokens.now x.1.now depth x.0.height
+        × Leads tokens.now Negation depth x.1.now (tree_of x.0.expr) x.0.height)
+        (Fails tokens.now Negation depth) }
+{
+    if begins_with(tokens, Keyword::Not) {
+        parse_prefixed(alloc, UnaryOp::Not, tokens, Level::And, depth)
+    } else {
+        parse_grouped(alloc, tokens, Level::Comparison, depth)
+    }
+}
+
+/// A prefix operator and its operand, where an operand of the level stands.
+#[cycle(expr)]
+fn parse_prefixed(
+    alloc: Global,
+    op: UnaryOp,
+    tokens: &[Token],
+    level: Level,
+    depth: usize,
+) -> Result<(Part, &[Token]), TreeError>
+    requires ends { EndsOnce tokens.now }
+    requires prefix { IsPrefix level op (first_kind tokens.now) }
+    requires room { depth < MAX_NESTING }
+    ensures { MatchResult result
+        (λ x. IsRead tokens.now x.1.now depth x.0.height
+        × Leads tokens.now (operand level) depth x.1.now (tree_of x.0.expr) x.0.height)
+        (Fails tokens.now (operand level) depth) }
+{
+    let inner = depth + 1;
+    let (first, behind) = found!(enter(tokens, inner + 1));
+    let (operand, rest) = found!(parse_operand(alloc, behind, level, inner));
+    with_rest(unary(alloc, op, operand, first.start), rest)
+}
+
+/// `unary = "-" unary | postfix`
+///
+/// Most operands are a number or a name alone, and are read on the spot.
+#[inline(always)]
+#[cycle(expr)]
+fn parse_unary(alloc: Global, tokens: &[Token], depth: usize) -> Result<(Part, &[Token]), TreeError>
+    requires ends { EndsOnce tokens.now }
+    requires room { depth < MAX_NESTING }
+    ensures { MatchResult result
+        (λ x. IsRead tokens.now x.1.now depth x.0.height
+        × Leads tokens.now Unary depth x.1.now (tree_of x.0.expr) x.0.height)
+        (Fails tokens.now Unary depth) }
+{
+    let (first, rest) = split(tokens);
+    match &first.kind {
+        TokenKind::Number(value) => {
+            if !begins_with_sign(rest, Symbol::LeftBracket) {
+                return Ok((number(value, first.start), rest));
+            }
+        }
+        TokenKind::Name(x) => {
+            if !begins_with_bracket(rest) {
+                let whole = name(found!(copied(alloc, x)), first.start);
+                return Ok((whole, rest));
+            }
+        }
+        TokenKind::Key(_) => (),
+        TokenKind::Sign(_) => (),
+        TokenKind::End => (),
+    }
+    parse_signed(alloc, tokens, depth)
+}
+
+/// The same, of an operand of any form.
+#[cycle(expr)]
+fn parse_signed(
+    alloc: Global,
+    tokens: &[Token],
+    depth: usize,
+) -> Result<(Part, &[Token]), TreeError>
+    requires ends { EndsOnce tokens.now }
+    requires room { depth < MAX_NESTING }
+    ensures { MatchResult result
+        (λ x. IsRead tokens.now x.1.now depth x.0.height
+        × Leads tokens.now Unary depth x.1.now (tree_of x.0.expr) x.0.height)
+        (Fails tokens.now Unary depth) }
+{
+    if begins_with_sign(tokens, Symbol::Minus) {
+        parse_prefixed(alloc, UnaryOp::Neg, tokens, Level::Product, depth)
+    } else {
+        parse_postfix(alloc, tokens, depth)
+    }
+}
+
+/// `postfix = atom { "[" expr "]" }`
+#[cycle(expr)]
+fn parse_postfix(
+    alloc: Global,
+    tokens: &[Token],
+    depth: usize,
+) -> Result<(Part, &[Token]), TreeError>
+    requires ends { EndsOnce tokens.now }
+    requires room { depth < MAX_NESTING }
+    ensures { MatchResult result
+        (λ x. IsRead tokens.now x.1.now depth x.0.height
+        × Leads tokens.now Postfix depth x.1.now (tree_of x.0.expr) x.0.height)
+        (Fails tokens.now Postfix depth) }
+{
+    let (mut target, mut rest) = found!(parse_atom(alloc, tokens, depth));
+    'fetches: while begins_with_sign(rest, Symbol::LeftBracket) {
+        let (whole, behind) = found!(parse_fetch(alloc, target, rest, depth));
+        target = whole;
+        rest = behind;
+    }
+    Ok((target, rest))
+}
+
+/// A fetch, from behind its target: `"[" expr "]"`
+#[cycle(expr)]
+fn parse_fetch(
+    alloc: Global,
+    target: Part,
+    tokens: &[Token],
+    depth: usize,
+) -> Result<(Part, &[Token]), TreeError>
+    requires ends { EndsOnce tokens.now }
+    requires begins { first_kind tokens.now ≡ TokenKind.Sign Symbol.LeftBracket }
+    requires some { 0 < target.height }
+    requires fits { depth + target.height ≤ MAX_NESTING }
+    ensures { MatchResult result
+        (λ x. IsRead tokens.now x.1.now depth x.0.height
+        × Indexes tokens.now depth (tree_of target.expr) target.height x.1.now (tree_of x.0.expr) x.0.height)
+        (Misindexes tokens.now depth (tree_of target.expr) target.height) }
+{
+    let (first, begun) = found!(enter(tokens, depth + target.height + 1));
+    let bracket = Word::Sign(Symbol::RightBracket);
+    let (index, rest) = found!(parse_enclosed(alloc, begun, bracket, depth + 1));
+    with_rest(fetch(alloc, target, index, first.start), rest)
+}
+
+/// `atom = "(" expr ")" | block | loop | array | leaf`
+#[cycle(expr)]
+fn parse_atom(alloc: Global, tokens: &[Token], depth: usize) -> Result<(Part, &[Token]), TreeError>
+    requires ends { EndsOnce tokens.now }
+    requires room { depth < MAX_NESTING }
+    ensures { MatchResult result
+        (λ x. IsRead tokens.now x.1.now depth x.0.height
+        × Leads tokens.now Atom depth x.1.now (tree_of x.0.expr) x.0.height)
+        (Fails tokens.now Atom depth) }
+{
+    if begins_with_sign(tokens, Symbol::LeftParen) {
+        parse_parens(alloc, tokens, depth)
+    } else if begins_with_sign(tokens, Symbol::LeftBrace) {
+        parse_braces(alloc, tokens, depth)
+    } else if begins_with(tokens, Keyword::Array) {
+        parse_array(alloc, tokens, depth)
+    } else {
+        parse_leaf(alloc, tokens, depth)
+    }
+}
+
+/// `array = "array" "(" expr "," expr ")"`
+#[cycle(expr)]
+fn parse_array(alloc: Global, tokens: &[Token], depth: usize) -> Result<(Part, &[Token]), TreeError>
+    requires ends { EndsOnce tokens.now }
+    requires begins { first_kind tokens.now ≡ TokenKind.Key Keyword.Array }
+    requires room { depth < MAX_NESTING }
+    ensures { MatchResult result
+        (λ x. IsRead tokens.now x.1.now depth x.0.height
+        × Leads tokens.now Atom depth x.1.now (tree_of x.0.expr) x.0.height)
+        (Fails tokens.now Atom depth) }
+{
+    let inner = depth + 1;
+    let (first, behind) = found!(enter(tokens, inner + 1));
+    let (low, begun) = found!(parse_between(
+        alloc,
+        behind,
+        Symbol::LeftParen,
+        Symbol::Comma,
+        inner
+    ));
+    let (high, rest) = found!(parse_enclosed(alloc, begun, Word::Sign(Symbol::RightParen), inner));
+    with_rest(array(alloc, low, high, first.start), rest)
+}
+
+/// `"(" expr ")"`
+#[cycle(expr)]
+fn parse_parens(
+    alloc: Global,
+    tokens: &[Token],
+    depth: usize,
+) -> Result<(Part, &[Token]), TreeError>
+    requires ends { EndsOnce tokens.now }
+    requires begins { first_kind tokens.now ≡ TokenKind.Sign Symbol.LeftParen }
+    requires room { depth < MAX_NESTING }
+    ensures { MatchResult result
+        (λ x. IsRead tokens.now x.1.now depth x.0.height
+        × Leads tokens.now Atom depth x.1.now (tree_of x.0.expr) x.0.height)
+        (Fails tokens.now Atom depth) }
+{
+    let inner = depth + 1;
+    let (_, opened) = found!(enter(tokens, inner + 1));
+    let (mut inside, rest) = found!(parse_enclosed(
+        alloc,
+        opened,
+        Word::Sign(Symbol::RightParen),
+        inner
+    ));
+    inside.height += 1;
+    Ok((inside, rest))
+}
+
+/// An expression and the word or sign behind it.
+#[cycle(expr)]
+pub fn parse_enclosed(
+    alloc: Global,
+    tokens: &[Token],
+    closing: Word,
+    depth: usize,
+) -> Result<(Part, &[Token]), TreeError>
+    requires ends { EndsOnce tokens.now }
+    requires room { depth < MAX_NESTING }
+    ensures { MatchResult result
+        (λ x. IsRead tokens.now x.1.now depth x.0.height
+        × Encloses tokens.now depth closing x.1.now (tree_of x.0.expr) x.0.height)
+        (Exposes tokens.now depth closing) }
+{
+    let (inside, closed) = found!(parse_expression(alloc, tokens, depth));
+    let rest = found!(expect_word(closed, closing));
+    Ok((inside, rest))
+}
+
+/// A sign, an expression, and the sign behind it.
+#[inline(always)]
+#[cycle(expr)]
+fn parse_between(
+    alloc: Global,
+    tokens: &[Token],
+    opening: Symbol,
+    closing: Symbol,
+    depth: usize,
+) -> Result<(Part, &[Token]), TreeError>
+    requires ends { EndsOnce tokens.now }
+    requires room { depth < MAX_NESTING }
+    ensures { MatchResult result
+        (λ x. IsRead tokens.now x.1.now depth x.0.height
+        × Surrounds tokens.now depth (Word.Sign opening) (Word.Sign closing) x.1.now (tree_of x.0.expr) x.0.height)
+        (Bares tokens.now depth (Word.Sign opening) (Word.Sign closing)) }
+{
+    let begun = found!(expect_word(tokens, Word::Sign(opening)));
+    parse_enclosed(alloc, begun, Word::Sign(closing), depth)
+}
+
+/// `block | loop`
+#[cycle(expr)]
+fn parse_braces(
+    alloc: Global,
+    tokens: &[Token],
+    depth: usize,
+) -> Result<(Part, &[Token]), TreeError>
+    requires ends { EndsOnce tokens.now }
+    requires begins { first_kind tokens.now ≡ TokenKind.Sign Symbol.LeftBrace }
+    requires room { depth < MAX_NESTING }
+    ensures { MatchResult result
+        (λ x. IsRead tokens.now x.1.now depth x.0.height
+        × Leads tokens.now Atom depth x.1.now (tree_of x.0.expr) x.0.height)
+        (Fails tokens.now Atom depth) }
+{
+    let (_, opened) = split(tokens);
+    if begins_with(opened, Keyword::While) {
+        parse_loop(alloc, tokens, depth)
+    } else {
+        parse_block(alloc, tokens, depth)
+    }
+}
+
+/// `block = "{" { stmt } "in" expr "}"`
+#[cycle(expr)]
+fn parse_block(alloc: Global, tokens: &[Token], depth: usize) -> Result<(Part, &[Token]), TreeError>
+    requires ends { EndsOnce tokens.now }
+    requires begins { first_kind tokens.now ≡ TokenKind.Sign Symbol.LeftBrace }
+    requires no_while { second_kind tokens.now ≢ TokenKind.Key Keyword.While }
+    requires room { depth < MAX_NESTING }
+    ensures { MatchResult result
+        (λ x. IsRead tokens.now x.1.now depth x.0.height
+        × Leads tokens.now Atom depth x.1.now (tree_of x.0.expr) x.0.height)
+        (Fails tokens.now Atom depth) }
+{
+    let inner = depth + 1;
+    let (first, opened) = found!(enter(tokens, inner + 1));
+    let (statements, height, last) = found!(parse_statements(alloc, opened, Scope::Block, inner));
+    let (_, begun) = split(last);
+    let (body, rest) = found!(parse_enclosed(alloc, begun, Word::Sign(Symbol::RightBrace), inner));
+    with_rest(block(alloc, statements, height, body, first.start), rest)
+}
+
+/// `loop = "{" "while" expr "do" { stmt | next } "finally" expr "}"`
+#[cycle(expr)]
+fn parse_loop(alloc: Global, tokens: &[Token], depth: usize) -> Result<(Part, &[Token]), TreeError>
+    requires ends { EndsOnce tokens.now }
+    requires begins { first_kind tokens.now ≡ TokenKind.Sign Symbol.LeftBrace }
+    requires loops { second_kind tokens.now ≡ TokenKind.Key Keyword.While }
+    requires room { depth < MAX_NESTING }
+    ensures { MatchResult result
+        (λ x. IsRead tokens.now x.1.now depth x.0.height
+        × Leads tokens.now Atom depth x.1.now (tree_of x.0.expr) x.0.height)
+        (Fails tokens.now Atom depth) }
+{
+    let inner = depth + 1;
+    let (first, opened) = found!(enter(tokens, inner + 1));
+    let (_, tested) = split(opened);
+    let (test, begun) = found!(parse_enclosed(alloc, tested, Word::Key(Keyword::Do), inner));
+    let (statements, height, ending) = found!(parse_statements(alloc, begun, Scope::Loop, inner));
+    let (_, left) = split(ending);
+    let (last, rest) = found!(parse_enclosed(alloc, left, Word::Sign(Symbol::RightBrace), inner));
+    with_rest(
+        whole_loop(alloc, test, statements, height, last, first.start),
+        rest,
+    )
+}
+
+/// `{ stmt }` or `{ stmt | next }`, with the greatest height of a part, and the tokens from the last word on.
+#[cycle(expr)]
+fn parse_statements(
+    alloc: Global,
+    tokens: &[Token],
+    scope: Scope,
+    depth: usize,
+) -> Result<(Vec<Stmt>, usize, &[Token]), TreeError>
+    requires ends { EndsOnce tokens.now }
+    requires room { depth < MAX_NESTING }
+    ensures { MatchResult result
+        (λ x. IsGathered tokens.now x.2.now depth x.1
+        × first_kind x.2.now ≡ TokenKind.Key (last_word scope)
+        × Gathers tokens.now scope depth x.2.now x.0.items x.1)
+        (Fails tokens.now (Tail scope) depth) }
+{
+    let mut statements = Vec::new(alloc);
+    let mut height = 0usize;
+    let mut rest = tokens;
+    'stmts: while !begins_with(rest, last_word(scope)) {
+        let (statement, own, behind) = found!(parse_statement(alloc, rest, scope, depth));
+        found!(add_statement(&mut statements, statement));
+        height = height.max(own);
+        rest = behind;
+    }
+    Ok((fitted(statements), height, rest))
+}
+
+/// `stmt = NAME "=" expr ";" | store`, or `next` in a loop, with the greatest height of a part.
+#[cycle(expr)]
+fn parse_statement(
+    alloc: Global,
+    tokens: &[Token],
+    scope: Scope,
+    depth: usize,
+) -> Result<(Stmt, usize, &[Token]), TreeError>
+    requires ends { EndsOnce tokens.now }
+    requires not_last { first_kind tokens.now ≢ TokenKind.Key (last_word scope) }
+    requires room { depth < MAX_NESTING }
+    ensures { MatchResult result
+        (λ x. IsRead tokens.now x.2.now depth x.1
+        × Adds tokens.now scope depth x.2.now (stmt_tree x.0) x.1)
+        (Fails tokens.now (Tail scope) depth) }
+{
+    if begins_next(tokens, scope) {
+        return parse_next(alloc, tokens, depth);
+    }
+    let (x, place, named) = found!(expect_name(alloc, tokens));
+    if begins_with_sign(named, Symbol::LeftBracket) {
+        return parse_store(alloc, x, place, named, scope, depth);
+    }
+    let (value, rest) = found!(parse_between(
+        alloc,
+        named,
+        Symbol::Becomes,
+        Symbol::Semicolon,
+        depth
+    ));
+    let height = value.height;
+    let statement = binding(x, value, place);
+    Ok((statement, height, rest))
+}
+
+/// A store, from behind its name: `store = NAME "[" expr "]" "=" expr ";"`, with the greatest height of a part.
+/// The height of its name, 1, is never above that of its index.
+#[cycle(expr)]
+fn parse_store(
+    alloc: Global,
+    x: Identifier,
+    place: u32,
+    tokens: &[Token],
+    scope: Scope,
+    depth: usize,
+) -> Result<(Stmt, usize, &[Token]), TreeError>
+    requires ends { EndsOnce tokens.now }
+    requires begins { first_kind tokens.now ≡ TokenKind.Sign Symbol.LeftBracket }
+    requires room { depth < MAX_NESTING }
+    ensures { MatchResult result
+        (λ y. IsRead tokens.now y.2.now depth y.1
+        × Assigns tokens.now scope depth x place y.2.now (stmt_tree y.0) y.1)
+        (Misassigns tokens.now scope depth x place) }
+{
+    let (first, opened) = split(tokens);
+    let bracket = Word::Sign(Symbol::RightBracket);
+    let (index, closed) = found!(parse_enclosed(alloc, opened, bracket, depth));
+    let (value, rest) = found!(parse_between(
+        alloc,
+        closed,
+        Symbol::Becomes,
+        Symbol::Semicolon,
+        depth
+    ));
+    let height = index.height.max(value.height);
+    let target = name(x, place);
+    let statement = found!(store(alloc, target, index, value, first.start));
+    Ok((statement, height, rest))
+}
+
+/// `next = "next" NAME "=" expr ";"`, with the value's height.
+#[cycle(expr)]
+fn parse_next(
+    alloc: Global,
+    tokens: &[Token],
+    depth: usize,
+) -> Result<(Stmt, usize, &[Token]), TreeError>
+    requires ends { EndsOnce tokens.now }
+    requires begins { first_kind tokens.now ≡ TokenKind.Key Keyword.Next }
+    requires room { depth < MAX_NESTING }
+    ensures { MatchResult result
+        (λ x. IsRead tokens.now x.2.now depth x.1
+        × Adds tokens.now Scope.Loop depth x.2.now (stmt_tree x.0) x.1)
+        (Fails tokens.now (Tail Scope.Loop) depth) }
+{
+    let (first, rest) = split(tokens);
+    let (name, _, named) = found!(expect_name(alloc, rest));
+    let (value, behind) = found!(parse_between(
+        alloc,
+        named,
+        Symbol::Becomes,
+        Symbol::Semicolon,
+        depth
+    ));
+    let height = value.height;
+    let statement = next(name, value, first.start);
+    Ok((statement, height, behind))
+}
+
+/// `leaf = NUMBER | "true" | "false" | NAME | call`
+#[cycle(expr)]
+fn parse_leaf(alloc: Global, tokens: &[Token], depth: usize) -> Result<(Part, &[Token]), TreeError>
+    requires ends { EndsOnce tokens.now }
+    requires no_paren { first_kind tokens.now ≢ TokenKind.Sign Symbol.LeftParen }
+    requires no_brace { first_kind tokens.now ≢ TokenKind.Sign Symbol.LeftBrace }
+    requires no_array { first_kind tokens.now ≢ TokenKind.Key Keyword.Array }
+    requires room { depth < MAX_NESTING }
+    ensures { MatchResult result
+        (λ x. IsRead tokens.now x.1.now depth x.0.height
+        × Leads tokens.now Atom depth x.1.now (tree_of x.0.expr) x.0.height)
+        (Fails tokens.now Atom depth) }
+{
+    let (first, rest) = split(tokens);
+    match &first.kind {
+        TokenKind::Number(value) => {
+            let whole = number(value, first.start);
+            Ok((whole, rest))
+        }
+        TokenKind::Name(x) => {
+            let name = found!(copied(alloc, x));
+            parse_named(alloc, name, first.start, rest, depth)
+        }
+        TokenKind::Key(_) => match truth_of(first) {
+            Some(value) => {
+                let whole = truth(value, first.start);
+                Ok((whole, rest))
+            }
+            None => Err(unexpected(tokens)),
+        },
+        TokenKind::Sign(_) => Err(unexpected(tokens)),
+        TokenKind::End => Err(unexpected(tokens)),
+    }
+}
+
+/// A name or a call, from behind its name: `call = NAME "(" [ expr { "," expr } ] ")"`
+#[cycle(expr)]
+fn parse_named(
+    alloc: Global,
+    x: Identifier,
+    place: u32,
+    tokens: &[Token],
+    depth: usize,
+) -> Result<(Part, &[Token]), TreeError>
+    requires ends { EndsOnce tokens.now }
+    requires room { depth < MAX_NESTING }
+    ensures { MatchResult result
+        (λ y. (0 < y.0.height) × IsGathered tokens.now y.1.now depth y.0.height
+        × Applies tokens.now depth x place y.1.now (tree_of y.0.expr) y.0.height)
+        (Misapplies tokens.now depth x place) }
+{
+    if begins_with_sign(tokens, Symbol::LeftParen) {
+        let (_, opened) = split(tokens);
+        let (args, height, rest) = found!(parse_arguments(alloc, opened, depth + 1));
+        with_rest(call(alloc, x, args, height, place), rest)
+    } else {
+        let whole = name(x, place);
+        Ok((whole, tokens))
+    }
+}
+
+/// `[ expr { "," expr } ] ")"`, with the greatest height of an argument.
+#[cycle(expr)]
+fn parse_arguments(
+    alloc: Global,
+    tokens: &[Token],
+    depth: usize,
+) -> Result<(Vec<Expr>, usize, &[Token]), TreeError>
+    requires ends { EndsOnce tokens.now }
+    requires room { depth ≤ MAX_NESTING }
+    ensures { MatchResult result
+        (λ x. IsGathered tokens.now x.2.now depth x.1
+        × Leads tokens.now Arguments depth x.2.now (passed x.0.items none) x.1)
+        (Fails tokens.now Arguments depth) }
+{
+    let (first, closed) = split(tokens);
+    if is_sign(first, Symbol::RightParen) {
+        return Ok((Vec::new(alloc), 0, closed));
+    }
+    if depth >= MAX_NESTING {
+        return Err(no_room(tokens));
+    }
+    let (args, height, rest) = found!(parse_some_arguments(alloc, tokens, depth));
+    let (last, closed) = split(rest);
+    if is_sign(last, Symbol::RightParen) {
+        Ok((args, height, closed))
+    } else {
+        Err(unexpected(rest))
+    }
+}
+
+/// `expr { "," expr }`, with the greatest height of an argument.
+#[cycle(expr)]
+fn parse_some_arguments(
+    alloc: Global,
+    tokens: &[Token],
+    depth: usize,
+) -> Result<(Vec<Expr>, usize, &[Token]), TreeError>
+    requires ends { EndsOnce tokens.now }
+    requires not_closed { first_kind tokens.now ≢ TokenKind.Sign Symbol.RightParen }
+    requires room { depth < MAX_NESTING }
+    ensures { MatchResult result
+        (λ x. IsRead tokens.now x.2.now depth x.1
+        × first_kind x.2.now ≢ TokenKind.Sign Symbol.Comma
+        × Hands tokens.now depth x.2.now x.0.items x.1)
+        (Fails tokens.now Arguments depth) }
+{
+    let mut args = Vec::with_capacity(alloc, 1)?;
+    let (first, begun) = found!(parse_expression(alloc, tokens, depth));
+    let mut height = found!(add_argument(&mut args, first));
+    let mut rest = begun;
+    'arguments: while begins_with_sign(rest, Symbol::Comma) {
+        let (_, next) = split(rest);
+        let (arg, behind) = found!(parse_expression(alloc, next, depth));
+        height = height.max(found!(add_argument(&mut args, arg)));
+        rest = behind;
+    }
+    Ok((fitted(args), height, rest))
+}
+
+/// The word behind the statements.
+fn last_word(scope: Scope) -> Keyword
+    ensures { result ≡ last_word scope }
+{
+    match scope {
+        Scope::Block => Keyword::In,
+        Scope::Loop => Keyword::Finally,
+    }
+}
+
+/// Whether the tokens begin with `next`, where such a statement may stand.
+fn begins_next(tokens: &[Token], scope: Scope) -> bool
+    requires { EndsOnce tokens.now }
+    ensures { IsTrue result ↔
+        ((scope ≡ Scope.Loop) × (first_kind tokens.now ≡ TokenKind.Key Keyword.Next)) }
+{
+    match scope {
+        Scope::Block => false,
+        Scope::Loop => begins_with(tokens, Keyword::Next),
+    }
+}

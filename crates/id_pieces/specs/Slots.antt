@@ -1,0 +1,53 @@
+-- The columns that the builder reads, and where each import stands among those of its head, as it notes that.
+use Rattle.std.specs.Prelude.{◌≡◌, ℕ, suc, ◌<◌, ◌^◌, ◌==◌, ◌&&◌, Bool, if◌then◌else◌, List, [], ◌∷◌, length, nat_lt}
+use Rattle.std.specs.Prelude.{Option, None, Some, IsSome, unwrap_or}
+use Rattle.std.specs.HashMap.{get}
+use Rattle.id_check.specs.declared.checked.Checked.{Checked}
+use Rattle.id_desugar.specs.Ends.{AreEnds, AreNexts}
+use Rattle.id_desugar.specs.Regions.{all_imports, imports_of}
+use Rattle.id_pieces.specs.declared.columns.Columns.{Columns}
+use Rattle.id_pieces.specs.declared.slots.Import.{Import}
+use Rattle.id_pieces.specs.declared.slots.Slots.{Slots}
+use Rattle.id_pieces.specs.Rows.{slot_of}
+
+-- whether two imports are one
+abbrev pub same_import : Import → Import → Bool
+same_import i j = (i.head == j.head) && (i.binder == j.binder)
+
+abbrev pub behind : Option ℕ → Option ℕ
+behind None = None
+behind (Some k) = Some (suc k)
+
+-- how many stand before the first that is b, if one is
+abbrev pub found : List ℕ → ℕ → Option ℕ
+found [] b = None
+found (x ∷ xs) b = if x == b then Some 0 else behind (found xs b)
+
+-- what is noted of i where this import stands there
+abbrev pub noted : Import → ℕ → Import → Option ℕ
+noted j k i = if same_import j i then Some k else None
+
+-- what is noted of i where the head has these imports
+abbrev pub noted_all : ℕ → List ℕ → Import → Option ℕ
+noted_all h bs i = if h == i.head then found bs i.binder else None
+
+-- the imports of a head, if they are too many to be looked through for each use, and else none
+abbrev pub long_only : List ℕ → List ℕ
+long_only bs = if nat_lt 16 (length bs) then bs else []
+
+-- only imports whose numbers have 32 bits are noted
+abbrev pub AreShort : (Import → Option ℕ) → Type 0
+AreShort f = (i : Import) → IsSome (f i) → (i.head < 2 ^ 32) × (i.binder < 2 ^ 32)
+
+-- the columns are those of the program
+pub record AreColumns (P : Checked) (c : Columns) : Type 0 where
+  pub imports : c.imports.now ≡ all_imports P
+  pub ends : AreEnds P c.ends.now
+  pub nexts : AreNexts P c.nexts.now
+
+-- the slots of the imports of heads with many, with the columns
+pub record AreSlots (P : Checked) (s : Slots) : Type 0 where
+  pub columns : AreColumns P s.columns
+  pub short : AreShort (get same_import s.numbers)
+  pub numbers : (h b : ℕ) → 16 < length (imports_of P h) → let i : Import = record { head = h; binder = b } in
+      unwrap_or (get same_import s.numbers i) (length (imports_of P h)) ≡ slot_of (imports_of P h) b

@@ -1,0 +1,92 @@
+//! The rows of a loop, found from its head (docs/GRAPH.md, "Schemas"). Nothing here takes memory.
+
+ghost use Rattle.std.specs.Prelude.{◌≡◌, ◌<◌, ◌^◌, true, length};
+ghost use Rattle.id_check.specs.Programs as programs;
+ghost use Rattle.id_desugar.specs.Ends.{end_of};
+ghost use Rattle.id_desugar.specs.Regions.{is_loop_head, nexts_of};
+ghost use Rattle.id_pieces.specs.Rows as rows;
+ghost use Rattle.id_pieces.specs.Rows.{first_binder, entries_row, label, outer_at, switches_at, turn_row};
+ghost use Rattle.id_pieces.specs.Slots.{AreColumns};
+
+use crate::columns::Columns;
+use id_check::Checked;
+use id_desugar::{binder_at, row_at};
+use id_parts::Node;
+
+/// The `next` statements of the loop with this head, by index: the first of what its switches hand on.
+pub fn nexts_at<'a>(checked: &Checked, columns: Columns<'a>, head: usize) -> &'a [u32]
+    requires columns { AreColumns checked.now columns }
+    requires head { is_loop_head (rows.node checked.now head) ≡ true }
+    ensures nexts { result.now ≡ nexts_of checked.now head }
+    ensures few { length result.now < 2 ^ 61 }
+{
+    let handed = columns.imports(checked, switches_row(checked, columns, head));
+    let inner = columns.imports(checked, head);
+    &handed[..handed.len() - inner.len()]
+}
+
+/// The row of the entries of what the loop with this head imports.
+pub fn entries_row(checked: &Checked, columns: Columns<'_>, head: usize) -> usize
+    requires columns { AreColumns checked.now columns }
+    requires head { is_loop_head (rows.node checked.now head) ≡ true }
+    ensures { result ≡ entries_row checked.now head }
+{
+    head + 1 + nexts_at(checked, columns, head).len()
+}
+
+/// The row of the switches of the loop with this head.
+fn switches_row(checked: &Checked, columns: Columns<'_>, head: usize) -> usize
+    requires columns { AreColumns checked.now columns }
+    requires within { head < length (programs.rows checked.now) }
+    ensures switches { result ≡ switches_at (rows.node checked.now (end_of checked.now head)) }
+    ensures within { result < length (programs.rows checked.now) }
+{
+    switches_at(row_at(checked, columns.end(checked, head)).node)
+}
+
+/// The row of what hands on what the loop with this head imports.
+pub fn turn_row(checked: &Checked, columns: Columns<'_>, head: usize) -> usize
+    requires columns { AreColumns checked.now columns }
+    requires within { head < length (programs.rows checked.now) }
+    ensures { result ≡ turn_row checked.now head }
+{
+    switches_row(checked, columns, head) + 1
+}
+
+/// The switches of the loop that ends at a row of this node.
+fn switches_at(node: Node) -> usize
+    ensures { result ≡ switches_at node }
+{
+    match node {
+        Node::Loop { switches, .. } => switches as usize,
+        _ => 0,
+    }
+}
+
+/// The binder of the first value of the variable of a `next` statement.
+pub fn first_binder(checked: &Checked, next: usize) -> usize
+    ensures { result ≡ first_binder checked.now next }
+{
+    binder_at(checked, outer_at(row_at(checked, next).node)).unwrap_or(0)
+}
+
+/// The use of the outer name, of the `next` statement at a row of this node.
+fn outer_at(node: Node) -> usize
+    ensures { result ≡ outer_at node }
+{
+    match node {
+        Node::Next { outer, .. } => outer as usize,
+        _ => 0,
+    }
+}
+
+/// The row of the label of a binder.
+pub fn label(checked: &Checked, binder: usize) -> usize
+    ensures { result ≡ label checked.now binder }
+{
+    let row = row_at(checked, binder);
+    match row.node {
+        Node::Next { index, .. } => row.block as usize + 1 + index as usize,
+        _ => binder,
+    }
+}

@@ -1,0 +1,393 @@
+//! The instructions of a row (docs/GRAPH.md, "Schemas").
+
+ghost use Rattle.std.specs.Prelude.{[], ◌∷◌, ◌≡◌, ◌++◌, ◌<◌, ◌^◌, length, map, false, true, IfErr, OnOk};
+ghost use Rattle.id_check.specs.Programs as programs;
+ghost use Rattle.id_table.specs.Tables.{is_thing};
+ghost use Rattle.id_table.specs.declared.row.Node.TheVariants.{Start};
+ghost use Rattle.id_desugar.specs.Regions.{is_loop_head};
+ghost use Rattle.id_pieces.specs.Made.{is_of_loop};
+ghost use Rattle.id_pieces.specs.Rows.{for_each, import_entries, loop_entries, made, made_of, result_of, send_to};
+ghost use Rattle.id_pieces.specs.Rows.{switches, variable_entries};
+ghost use Rattle.id_pieces.specs.Rows as rows;
+ghost use Rattle.id_pieces.specs.Slots.{AreColumns};
+ghost use Rattle.id_pieces.specs.declared.arc.Form.TheVariants.{Plain, EnterAt, FetchAt};
+ghost use Rattle.id_instr.specs.declared.instr.Op.TheVariants.{Merge, Back, Next, Switch, Address};
+ghost use Rattle.id_instr.specs.declared.instr.PortKind.TheVariants.{Signal, Int};
+
+use crate::arc::{Form, Piece};
+use crate::calls::{called, param_of};
+use crate::columns::Columns;
+use crate::error::BuildError;
+use crate::loops::{entries_row, nexts_at};
+use crate::operators::{binary_op, port_at, port_of};
+use id_check::Checked;
+use id_desugar::row_at;
+use id_graph::{Op, PortKind};
+use id_parts::Node;
+use id_value::Kind;
+
+/// Adds the instructions of the row n.
+pub fn push_pieces(
+    checked: &Checked,
+    columns: Columns<'_>,
+    n: usize,
+    pieces: &mut Vec<Piece>,
+) -> Result<(), BuildError>
+    requires columns { AreColumns checked.now columns }
+    requires within { n < length (programs.rows checked.now) }
+    ensures pieces { OnOk result (pieces.new.items ≡ pieces.old.items ++ made checked.now n) }
+    ensures memory { IfErr result (λ e. e ≡ BuildError.Memory) }
+{
+    let row = row_at(checked, n);
+    push_row(checked, columns, n, row.place as usize, row.node, pieces)
+}
+
+/// Adds the instructions of the row n of this place and node.
+fn push_row(
+    checked: &Checked,
+    columns: Columns<'_>,
+    n: usize,
+    place: usize,
+    node: Node,
+    pieces: &mut Vec<Piece>,
+) -> Result<(), BuildError>
+    requires columns { AreColumns checked.now columns }
+    requires within { n < length (programs.rows checked.now) }
+    requires node { node ≡ rows.node checked.now n }
+    ensures pieces { OnOk result (pieces.new.items ≡ pieces.old.items ++ made_of checked.now n place node) }
+    ensures memory { IfErr result (λ e. e ≡ BuildError.Memory) }
+{
+    match node {
+        Node::Param { .. } | Node::Binding { .. } | Node::If { .. } | Node::Call { .. } => {
+            push(pieces, Op::Merge(port_at(checked, n)), place)
+        }
+        Node::Literal { value } => push(pieces, Op::Const(value), place),
+        Node::Unary { op, .. } => push(pieces, Op::Unary(op), place),
+        Node::Binary { op, left, .. } => push(
+            pieces,
+            Op::Binary(binary_op(op, port_at(checked, left))),
+            place,
+        ),
+        Node::Name { .. } | Node::Block { .. } | Node::Def { .. } => Ok(()),
+        Node::Next { .. } => push(pieces, Op::Next(port_at(checked, n)), place),
+        Node::Loop { .. } => push(pieces, Op::Merge(port_at(checked, n)), place),
+        Node::Array { .. } => push(pieces, Op::Alloc, place),
+        Node::Fetch { .. } => push_fetch(n, place, pieces),
+        Node::Store { .. } => push(pieces, Op::Store, place),
+        _ => push_marker(checked, columns, n, place, node, pieces),
+    }
+}
+
+/// Adds the instructions of the row n of this place and node, which is a marker and no thing of the text.
+#[inline(always)]
+fn push_marker(
+    checked: &Checked,
+    columns: Columns<'_>,
+    n: usize,
+    place: usize,
+    node: Node,
+    pieces: &mut Vec<Piece>,
+) -> Result<(), BuildError>
+    requires columns { AreColumns checked.now columns }
+    requires within { n < length (programs.rows checked.now) }
+    requires node { node ≡ rows.node checked.now n }
+    requires marker { is_thing node ≡ false }
+    ensures pieces { OnOk result (pieces.new.items ≡ pieces.old.items ++ made_of checked.now n place node) }
+    ensures memory { IfErr result (λ e. e ≡ BuildError.Memory) }
+{
+    match node {
+        Node::Head => {
+            let result = result_of(row_at(checked, columns.end(checked, n)).node);
+            push_head(port_of(result), place, pieces)
+        }
+        Node::Split { .. } | Node::Switches { .. } => {
+            push_switches(checked, columns.imports(checked, n), place, pieces)
+        }
+        Node::Enter { .. } => {
+            let call = columns.end(checked, n);
+            push_enter(called(checked, n), call, place, pieces)
+        }
+        Node::Arg { enter, index, .. } => {
+            let param = param_of(checked, enter as usize, index as usize);
+            push_send(checked, param, param, 0, place, pieces)
+        }
+        Node::Start | Node::LoopHead { .. } | Node::Variable | Node::Entries | Node::Turn => {
+            push_of_loop(checked, columns, n, place, node, pieces)
+        }
+        Node::Reset { value } => push(pieces, Op::Reset(port_at(checked, value)), place),
+        Node::Address { .. } => push(pieces, Op::Address, place),
+        Node::Program => push_answer(checked, pieces),
+        _ => Ok(()),
+    }
+}
+
+/// Adds the instructions of the row n of this place and node, which is a marker of a loop that has some.
+#[inline(always)]
+fn push_of_loop(
+    checked: &Checked,
+    columns: Columns<'_>,
+    n: usize,
+    place: usize,
+    node: Node,
+    pieces: &mut Vec<Piece>,
+) -> Result<(), BuildError>
+    requires columns { AreColumns checked.now columns }
+    requires within { n < length (programs.rows checked.now) }
+    requires node { node ≡ rows.node checked.now n }
+    requires marker { is_of_loop node ≡ true }
+    ensures pieces { OnOk result (pieces.new.items ≡ pieces.old.items ++ made_of checked.now n place node) }
+    ensures memory { IfErr result (λ e. e ≡ BuildError.Memory) }
+{
+    match node {
+        Node::Start => push_start(checked, columns, n, place, pieces),
+        Node::LoopHead { .. } => {
+            push_head(port_at(checked, columns.end(checked, n)), place, pieces)
+        }
+        Node::Variable => {
+            let next = columns.next(checked, n);
+            push(pieces, Op::Merge(port_at(checked, next)), place)
+        }
+        Node::Entries => {
+            let head = row_at(checked, n).block as usize;
+            push_entries(checked, columns.imports(checked, head), place, pieces)
+        }
+        Node::Turn => {
+            let head = row_at(checked, n).block as usize;
+            push_turn(checked, columns.imports(checked, head), place, pieces)
+        }
+        _ => Ok(()),
+    }
+}
+
+/// Adds the trigger and the way back of a block whose result goes to ports of this kind.
+fn push_head(kind: PortKind, place: usize, pieces: &mut Vec<Piece>) -> Result<(), BuildError>
+    ensures pieces { OnOk result (pieces.new.items ≡ pieces.old.items
+        ++ rows.piece (Plain (Merge Signal)) place ∷ rows.piece (Plain (Back kind)) place ∷ []) }
+    ensures memory { IfErr result (λ e. e ≡ BuildError.Memory) }
+{
+    push(pieces, Op::Merge(PortKind::Signal), place)?;
+    push(pieces, Op::Back(kind), place)?;
+    Ok(())
+}
+
+/// Adds the switches of a conditional or a loop with these imports: the trigger's, and one for each import.
+fn push_switches(
+    checked: &Checked,
+    imports: &[u32],
+    place: usize,
+    pieces: &mut Vec<Piece>,
+) -> Result<(), BuildError>
+    ensures pieces { OnOk result (pieces.new.items ≡ pieces.old.items
+        ++ rows.piece (Plain (Switch Signal)) place ∷ switches checked.now place imports.now) }
+    ensures memory { IfErr result (λ e. e ≡ BuildError.Memory) }
+{
+    push(pieces, Op::Switch(PortKind::Signal), place)?;
+    for import in imports {
+        push(
+            pieces,
+            Op::Switch(port_at(checked, *import as usize)),
+            place,
+        )?;
+    }
+    Ok(())
+}
+
+/// Adds the entries of a loop's imports.
+fn push_entries(
+    checked: &Checked,
+    imports: &[u32],
+    place: usize,
+    pieces: &mut Vec<Piece>,
+) -> Result<(), BuildError>
+    ensures pieces { OnOk result (pieces.new.items
+        ≡ pieces.old.items ++ for_each checked.now Merge place imports.now) }
+    ensures memory { IfErr result (λ e. e ≡ BuildError.Memory) }
+{
+    for import in imports {
+        push(pieces, Op::Merge(port_at(checked, *import as usize)), place)?;
+    }
+    Ok(())
+}
+
+/// Adds what hands the trigger and these imports of a loop on to the next iteration.
+fn push_turn(
+    checked: &Checked,
+    imports: &[u32],
+    place: usize,
+    pieces: &mut Vec<Piece>,
+) -> Result<(), BuildError>
+    ensures pieces { OnOk result (pieces.new.items ≡ pieces.old.items
+        ++ rows.piece (Plain (Next Signal)) place ∷ for_each checked.now Next place imports.now) }
+    ensures memory { IfErr result (λ e. e ≡ BuildError.Memory) }
+{
+    push(pieces, Op::Next(PortKind::Signal), place)?;
+    for import in imports {
+        push(pieces, Op::Next(port_at(checked, *import as usize)), place)?;
+    }
+    Ok(())
+}
+
+/// Adds the `enter` of the loop that begins at the row n, and the `send`s to its entries.
+fn push_start(
+    checked: &Checked,
+    columns: Columns<'_>,
+    n: usize,
+    place: usize,
+    pieces: &mut Vec<Piece>,
+) -> Result<(), BuildError>
+    requires columns { AreColumns checked.now columns }
+    requires within { n < length (programs.rows checked.now) }
+    requires start { rows.node checked.now n ≡ Start }
+    ensures pieces { OnOk result (pieces.new.items ≡ pieces.old.items ++ made_of checked.now n place Start) }
+    ensures memory { IfErr result (λ e. e ≡ BuildError.Memory) }
+{
+    let head = n + 1;
+    push_enter(head, columns.end(checked, head), place, pieces)?;
+    push_sends(checked, columns, head, place, pieces)
+}
+
+/// Adds the `send`s to the entries of the loop with this head.
+#[inline]
+fn push_sends(
+    checked: &Checked,
+    columns: Columns<'_>,
+    head: usize,
+    place: usize,
+    pieces: &mut Vec<Piece>,
+) -> Result<(), BuildError>
+    requires columns { AreColumns checked.now columns }
+    requires head { is_loop_head (rows.node checked.now head) ≡ true }
+    ensures pieces { OnOk result (pieces.new.items
+        ≡ pieces.old.items ++ map (send_to checked.now place) (loop_entries checked.now head)) }
+    ensures memory { IfErr result (λ e. e ≡ BuildError.Memory) }
+{
+    let nexts = nexts_at(checked, columns, head);
+    push_variable_sends(checked, nexts, head + 1, place, pieces)?;
+    let entries = entries_row(checked, columns, head);
+    push_import_sends(
+        checked,
+        columns.imports(checked, head),
+        entries,
+        place,
+        pieces,
+    )
+}
+
+/// Adds the `send`s to the entries of the variables with these `next` statements, which are the rows from this one on.
+fn push_variable_sends(
+    checked: &Checked,
+    nexts: &[u32],
+    first: usize,
+    place: usize,
+    pieces: &mut Vec<Piece>,
+) -> Result<(), BuildError>
+    requires few { first < 2 ^ 63 }
+    ensures pieces { OnOk result (pieces.new.items
+        ≡ pieces.old.items ++ map (send_to checked.now place) (variable_entries first nexts.now)) }
+    ensures memory { IfErr result (λ e. e ≡ BuildError.Memory) }
+{
+    for (index, next) in nexts.iter().enumerate() {
+        push_send(checked, *next as usize, first + index, 0, place, pieces)?;
+    }
+    Ok(())
+}
+
+/// Adds the `send`s to the entries of these imports, the parts of a row.
+fn push_import_sends(
+    checked: &Checked,
+    imports: &[u32],
+    entries: usize,
+    place: usize,
+    pieces: &mut Vec<Piece>,
+) -> Result<(), BuildError>
+    ensures pieces { OnOk result (pieces.new.items
+        ≡ pieces.old.items ++ map (send_to checked.now place) (import_entries entries 0 imports.now)) }
+    ensures memory { IfErr result (λ e. e ≡ BuildError.Memory) }
+{
+    for (part, import) in imports.iter().enumerate() {
+        push_send(checked, *import as usize, entries, part, place, pieces)?;
+    }
+    Ok(())
+}
+
+/// Adds the `enter` of the block with this head, whose result comes to the row `reply`.
+fn push_enter(
+    head: usize,
+    reply: usize,
+    place: usize,
+    pieces: &mut Vec<Piece>,
+) -> Result<(), BuildError>
+    ensures pieces { OnOk result (pieces.new.items ≡ pieces.old.items ++ rows.piece (EnterAt head reply) place ∷ []) }
+    ensures memory { IfErr result (λ e. e ≡ BuildError.Memory) }
+{
+    push_form(pieces, Form::EnterAt { head, call: reply }, place)
+}
+
+/// Adds the `send` of a binder's value to an entry, the part of a row.
+fn push_send(
+    checked: &Checked,
+    binder: usize,
+    row: usize,
+    part: usize,
+    place: usize,
+    pieces: &mut Vec<Piece>,
+) -> Result<(), BuildError>
+    ensures pieces { OnOk result (pieces.new.items ≡ pieces.old.items
+        ++ send_to checked.now place (record { binder = binder; row = row; part = part }) ∷ []) }
+    ensures memory { IfErr result (λ e. e ≡ BuildError.Memory) }
+{
+    let kind = port_at(checked, binder);
+    push_form(pieces, Form::SendTo { kind, row, part }, place)
+}
+
+/// Adds the address, the `fetch` and the merge for the reply of the fetch at the row n.
+fn push_fetch(n: usize, place: usize, pieces: &mut Vec<Piece>) -> Result<(), BuildError>
+    ensures pieces { OnOk result (pieces.new.items ≡ pieces.old.items ++ rows.piece (Plain Address) place
+        ∷ rows.piece (FetchAt n) place ∷ rows.piece (Plain (Merge Int)) place ∷ []) }
+    ensures memory { IfErr result (λ e. e ≡ BuildError.Memory) }
+{
+    push(pieces, Op::Address, place)?;
+    push_form(pieces, Form::FetchAt { row: n }, place)?;
+    push(pieces, Op::Merge(PortKind::Int), place)?;
+    Ok(())
+}
+
+/// Adds the answer's instruction.
+fn push_answer(checked: &Checked, pieces: &mut Vec<Piece>) -> Result<(), BuildError>
+    ensures pieces { OnOk result (pieces.new.items ≡ pieces.old.items
+        ++ rows.piece (Plain (Merge (rows.port_of (result_of (rows.node checked.now checked.now.main)))))
+        (programs.place checked.now checked.now.main) ∷ []) }
+    ensures memory { IfErr result (λ e. e ≡ BuildError.Memory) }
+{
+    let main = row_at(checked, checked.main);
+    push(
+        pieces,
+        Op::Merge(port_of(result_of(main.node))),
+        main.place as usize,
+    )
+}
+
+/// The result kind of the definition at a row of this node.
+fn result_of(node: Node) -> Kind
+    ensures { result ≡ result_of node }
+{
+    match node {
+        Node::Def { result, .. } => result,
+        _ => Kind::Int,
+    }
+}
+
+fn push(pieces: &mut Vec<Piece>, op: Op, place: usize) -> Result<(), BuildError>
+    ensures pieces { OnOk result (pieces.new.items ≡ pieces.old.items ++ rows.piece (Plain op) place ∷ []) }
+    ensures memory { IfErr result (λ e. e ≡ BuildError.Memory) }
+{
+    push_form(pieces, Form::Plain(op), place)
+}
+
+fn push_form(pieces: &mut Vec<Piece>, form: Form, place: usize) -> Result<(), BuildError>
+    ensures pieces { OnOk result (pieces.new.items ≡ pieces.old.items ++ rows.piece form place ∷ []) }
+    ensures memory { IfErr result (λ e. e ≡ BuildError.Memory) }
+{
+    pieces.push(Piece { form, place })?;
+    Ok(())
+}

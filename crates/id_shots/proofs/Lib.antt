@@ -1,0 +1,2 @@
+pub mod NearLemmas
+pub mod ShotsLemmas

@@ -1,0 +1,661 @@
+-- A source without a fault is coherent.
+use Rattle.std.proofs.Common.{◌≡◌, ◌⊎◌, ℤ, inl, inr, ℕ, zero, suc, Bool as Truth, true, false, Some, arith, List, [], ◌∷◌, length, refl, ap, sym, ◌∙◌, subst}
+use Rattle.std.specs.Prelude.{slice_get}
+use Rattle.std.proofs.lemmas.Bool.{cases_lt, false≢true}
+use Rattle.id_value.specs.declared.Kind.{Kind}
+use Rattle.id_value.specs.declared.Constant.{Constant}
+use Rattle.id_value.specs.declared.Constant.TheVariants as constant
+use Rattle.id_value.specs.declared.Outcome.{Outcome}
+use Rattle.id_value.specs.declared.Outcome.TheVariants.{Gives}
+use Rattle.id_value.specs.Results.{result_of_unary, result_of_binary}
+use Rattle.id_table.specs.declared.row.Node.{Node}
+use Rattle.id_table.specs.declared.row.Node.TheVariants.{Param, Literal, Name, Unary, Binary, Split, If, Arg, Call, Switches, Next, Loop, Block, Binding, Def}
+use Rattle.id_table.specs.declared.row.Node.TheVariants.{Array, Fetch, Store}
+use Rattle.id_table.specs.Rows.{at}
+use Rattle.id_table.specs.Tables.{is_param, is_thing}
+use Rattle.id_table.specs.Turns.{params_at}
+use Rattle.id_check.specs.Programs.{Stands, binder, place, rows}
+use Rattle.id_check.proofs.ProgramsLemmas.{table_of}
+use Rattle.id_list.proofs.AmongLemmas.{Among-from_at}
+use Rattle.id_source.specs.declared.Path.{Path}
+use Rattle.id_source.specs.declared.SourceValue.{SourceValue}
+use Rattle.id_source.specs.declared.SourceValue.TheVariants.{Int, Bool}
+use Rattle.id_source.specs.declared.SourceValue.TheVariants as value
+use Rattle.id_source.specs.declared.Site.{Site}
+use Rattle.id_source.specs.declared.SourceFault.TheVariants.{SecondStore}
+use Rattle.id_source.specs.declared.Fact.{Fact}
+use Rattle.id_source.specs.declared.Fact.TheVariants.{Has}
+use Rattle.id_source.specs.Sources.{Source, IsInput, value_of}
+use Rattle.id_source.specs.Facts.{LoopStands, NextStands, first_has, next_has, loop_has, outermost, below, without, between, Chooses, then_arm, else_arm, Rule}
+use Rattle.id_source.specs.Facts.{StoreStands, array_has, ask, asks, fetch_has, put, puts, second_store, shape, shape_made, site}
+use Rattle.id_source.specs.Facts.{param_has, literal_has, unary_has, binary_has, name_has, conditional_has, argument_has, call_has, block_has, binding_has}
+use Rattle.id_source.specs.Rounds.{Every, FaultFree, Rounds, Holds, IsCoherent}
+use Rattle.id_links.specs.Links.{arm_of}
+use Rattle.id_source.proofs.CheckedLemmas.{apart_of, loop-of}
+use Rattle.id_source.proofs.LiveLemmas.{all-fine, false-there, true-below}
+use Rattle.id_source.proofs.ParamsLemmas.{input_param, once, one_input, params-among, params-differ}
+use Rattle.id_source.proofs.StepsLemmas.{below-once, none-below}
+use Rattle.id_source.proofs.RoundsLemmas.{again}
+use Rattle.id_source.proofs.SitesLemmas.{site-order}
+
+-- a value is that of one constant
+same-constant : (c d : Constant) → value_of c ≡ value_of d → c ≡ d
+same-constant (constant.Int m) (constant.Int n) e = let q : m ≡ n = cc in ap (λ k. constant.Int k) q
+same-constant (constant.Bool b) (constant.Bool c) e = let q : b ≡ c = cc in ap (λ k. constant.Bool k) q
+same-constant (constant.Int m) (constant.Bool c) e = cc
+same-constant (constant.Bool b) (constant.Int n) e = cc
+
+every_holds : (S : Source) (n : ℕ) (fs : List Fact) → Every (Rounds S n) fs → Every (Holds S) fs
+every_holds S n [] h = tt
+every_holds S n (f ∷ fs) h = (record { round = n; there = h.0 }, every_holds S n fs h.1)
+
+-- what a source has follows by a rule from what it has
+pub record Because (S : Source) (f : Fact) : Type 0 where
+  pub premises : List Fact
+  pub rule : Rule S premises f
+  pub hold : Every (Holds S) premises
+
+pub because : (S : Source) (n : ℕ) (f : Fact) → Rounds S n f → Because S f
+because S zero f h = absurd h
+because S (suc n) f (inl h) = because S n f h
+because S (suc n) f (inr t) = record { premises = t.0; rule = t.1; hold = every_holds S n t.0 t.2 }
+
+-- ---- what a thing Has, by what stands there
+
+-- the conditional at the row n has its predicate at the row t, and this truth value of it turns On the arm at the row a
+pub record IsChoice (S : Source) (n t : ℕ) (b : Truth) (a : ℕ) : Type 0 where
+  pub split : ℕ
+  pub then : ℕ
+  pub otherwise : ℕ
+  pub stands : Stands S.checked n (If split then otherwise)
+  pub splits : Stands S.checked split (Split t)
+  pub arm : arm_of b then otherwise ≡ a
+
+pub choice : {S : Source} {n t a : ℕ} {b : Truth} → Chooses S n t b a → IsChoice S n t b a
+choice (then_arm {s = s} {a = a} {b = b} u v) = record { split = s; then = a; otherwise = b; stands = u; splits = v; arm = refl }
+choice (else_arm {s = s} {a = a} {b = b} u v) = record { split = s; then = a; otherwise = b; stands = u; splits = v; arm = refl }
+
+-- it has one predicate
+one_test : {S : Source} {n t u a d : ℕ} {b c : Truth} → IsChoice S n t b a → IsChoice S n u c d → t ≡ u
+one_test {S} {t = t} {u = u} f g =
+    let e : If f.split f.then f.otherwise ≡ If g.split g.then g.otherwise = sym f.stands.node ∙ g.stands.node in
+    let q : f.split ≡ g.split = cc in
+    let k : Split t ≡ Split u = sym f.splits.node ∙ ap (λ i. (at (rows S.checked) i).node) q ∙ g.splits.node in
+    cc
+
+-- and for each truth value one arm
+one_arm : {S : Source} {n t u a d : ℕ} {b c : Truth} → IsChoice S n t b a → IsChoice S n u c d → b ≡ c → a ≡ d
+one_arm {a = a} {d = d} {b = b} {c = c} f g e =
+    let k : If f.split f.then f.otherwise ≡ If g.split g.then g.otherwise = sym f.stands.node ∙ g.stands.node in
+    let x : f.then ≡ g.then = cc in
+    let y : f.otherwise ≡ g.otherwise = cc in
+    sym f.arm ∙ ap (λ i. arm_of b i f.otherwise) x ∙ ap (λ i. arm_of b g.then i) y ∙ ap (λ i. arm_of i g.then g.otherwise) e ∙ g.arm
+
+-- it is one of both
+pub arm-among : (x y : ℕ) (b : Truth) (a : ℕ) → arm_of b x y ≡ a → (a ≡ x) ⊎ (a ≡ y)
+arm-among x y true a h = inl (sym h)
+arm-among x y false a h = inr (sym h)
+
+-- a fetch stands at the place of the site
+pub record IsFetch (S : Source) (f : Site) : Type 0 where
+  pub row : ℕ
+  pub target : ℕ
+  pub index : ℕ
+  pub stands : Stands S.checked row (Fetch target index)
+  pub here : place S.checked row ≡ f.place
+
+-- it asks for cells of a structure that its target Has, by an index that its index Has
+pub record IsAsked (S : Source) (F : Fact → Type 0) (f s : Site) (j : ℤ) : Type 0 where
+  pub fetch : IsFetch S f
+  pub target : F (Has f.path (place S.checked fetch.target) (value.Name s))
+  pub index : F (Has f.path (place S.checked fetch.index) (value.Int j))
+
+pub asked_by : {S : Source} (F : Fact → Type 0) {f s : Site} {j : ℤ} {fs : List Fact} → Rule S fs (ask f s j) → Every F fs → IsAsked S F f s j
+asked_by F (asks {n = n} {t = t} {i = i} st e) h =
+    record { fetch = record { row = n; target = t; index = i; stands = st; here = refl }; target = h.1.0; index = h.1.1.0 }
+
+-- a store stands at the place of the site, and puts what its value Has
+pub record IsPut (S : Source) (F : Fact → Type 0) (a : Site) (v : SourceValue) : Type 0 where
+  pub row : ℕ
+  pub target : ℕ
+  pub index : ℕ
+  pub value : ℕ
+  pub stands : StoreStands S.checked row target index value
+  pub here : place S.checked row ≡ a.place
+  pub has : F (Has a.path (place S.checked value) v)
+
+pub put_by : {S : Source} (F : Fact → Type 0) {s a : Site} {j : ℤ} {v : SourceValue} {fs : List Fact} → Rule S fs (put s j v a) → Every F fs → IsPut S F a v
+put_by F (puts {m = m} {t = t} {i = i} {x = x} st e) h =
+    record { row = m; target = t; index = i; value = x; stands = st; here = refl; has = h.1.1.1.0 }
+
+-- an `array` stands at the place of the site, and gives its structure the bounds that its parts Have
+pub record IsMade (S : Source) (F : Fact → Type 0) (s : Site) (lo hi : ℤ) : Type 0 where
+  pub row : ℕ
+  pub low : ℕ
+  pub high : ℕ
+  pub stands : Stands S.checked row (Array low high)
+  pub here : place S.checked row ≡ s.place
+  pub lowest : F (Has s.path (place S.checked low) (value.Int lo))
+  pub highest : F (Has s.path (place S.checked high) (value.Int hi))
+
+pub made_by : {S : Source} (F : Fact → Type 0) {s : Site} {lo hi : ℤ} {fs : List Fact} → Rule S fs (shape s lo hi) → Every F fs → IsMade S F s lo hi
+made_by F (shape_made {n = n} {a = a} {b = b} st e) h =
+    record { row = n; low = a; high = b; stands = st; here = refl; lowest = h.1.0; highest = h.1.1.0 }
+
+-- the call at the row n is of the procedure that is defined at a row
+pub record IsCall (S : Source) (n : ℕ) : Type 0 where
+  pub enter : ℕ
+  pub count : ℕ
+  pub def : ℕ
+  pub name : ℕ
+  pub head : ℕ
+  pub kind : Kind
+  pub body : ℕ
+  pub stands : Stands S.checked n (Call enter count)
+  pub binder : binder S.checked enter ≡ Some def
+  pub definition : Stands S.checked def (Def name head kind body)
+
+-- it is of one
+pub record IsSameCall {S : Source} {n m : ℕ} (c : IsCall S n) (d : IsCall S m) : Type 0 where
+  pub enter : c.enter ≡ d.enter
+  pub head : c.head ≡ d.head
+  pub body : c.body ≡ d.body
+
+pub one_call : {S : Source} {n m : ℕ} (c : IsCall S n) (d : IsCall S m) → n ≡ m → IsSameCall c d
+one_call {S} c d e =
+    let R = rows S.checked in
+    let k : Call c.enter c.count ≡ Call d.enter d.count = sym c.stands.node ∙ ap (λ i. (at R i).node) e ∙ d.stands.node in
+    let enter : c.enter ≡ d.enter = cc in
+    let b : Some c.def ≡ Some d.def = sym c.binder ∙ ap (λ i. binder S.checked i) enter ∙ d.binder in
+    let q : c.def ≡ d.def = cc in
+    let f : Def c.name c.head c.kind c.body ≡ Def d.name d.head d.kind d.body = sym c.definition.node ∙ ap (λ i. (at R i).node) q ∙ d.definition.node in
+    record { enter = enter; head = cc; body = cc }
+
+-- the argument of one index has one value
+one_argument : (S : Source) (m l e f i j a b : ℕ) → Stands S.checked m (Arg e i a) → Stands S.checked l (Arg f j b) → e ≡ f → i ≡ j → a ≡ b
+one_argument S m l e f i j a b s t p q =
+    let R = rows S.checked in
+    let r : m ≡ l =
+    (table_of S.checked).one_arg m l e i (record { value = a; within = s.within; node = s.node })
+    (record { value = b; within = t.within; node = t.node ∙ (λ k. Arg (sym p k) (sym q k) b) }) in
+    let k : Arg e i a ≡ Arg f j b = sym s.node ∙ ap (λ n. (at R n).node) r ∙ t.node in
+    cc
+
+-- a call has an argument for the parameter at the row b, and passes on what that Has
+pub record IsPassed (S : Source) (F : Fact → Type 0) (b : ℕ) (p : Path) (v : SourceValue) : Type 0 where
+  pub call : ℕ
+  pub outer : Path
+  pub is_call : IsCall S call
+  pub row : ℕ
+  pub index : ℕ
+  pub value : ℕ
+  pub argument : Stands S.checked row (Arg is_call.enter index value)
+  pub param : slice_get (params_at (rows S.checked) is_call.head) index ≡ Some b
+  pub path : p ≡ below outer (place S.checked call) 0
+  pub has : F (Has outer (place S.checked value) v)
+
+-- what follows at a parameter: its input at the empty path, or what a call passes on
+abbrev pub FollowsParam : Source → (Fact → Type 0) → ℕ → Path → SourceValue → Type 0
+FollowsParam S F b p v = ((c : Constant) × (p ≡ outermost) × IsInput S b c × (v ≡ value_of c)) ⊎ IsPassed S F b p v
+
+-- the loop of a `next` at the row m
+pub record IsNext (S : Source) (m o a : ℕ) : Type 0 where
+  pub row : ℕ
+  pub head : ℕ
+  pub switches : ℕ
+  pub test : ℕ
+  pub last : ℕ
+  pub loop : LoopStands S.checked row head switches test last
+  pub next : NextStands S.checked m head o a
+
+-- in iteration 0 a variable Has what its name means outside
+pub record IsFirst (S : Source) (F : Fact → Type 0) (m o a : ℕ) (p : Path) (v : SourceValue) : Type 0 where
+  pub of : IsNext S m o a
+  pub outer : Path
+  pub outside : ℕ
+  pub binder : binder S.checked o ≡ Some outside
+  pub path : p ≡ below outer (place S.checked of.row) 0
+  pub has : F (Has (without (between S of.row outside) outer) (place S.checked outside) v)
+
+-- in a later one, what its `next` expression Has in the one before
+pub record IsLater (S : Source) (F : Fact → Type 0) (m o a : ℕ) (p : Path) (v : SourceValue) : Type 0 where
+  pub of : IsNext S m o a
+  pub outer : Path
+  pub number : ℕ
+  pub path : p ≡ below outer (place S.checked of.row) (suc number)
+  pub has : F (Has (below outer (place S.checked of.row) number) (place S.checked a) v)
+
+-- the loop at the row n Has what its last expression Has in an iteration
+pub record IsLeft (S : Source) (F : Fact → Type 0) (n l : ℕ) (p : Path) (v : SourceValue) : Type 0 where
+  pub head : ℕ
+  pub switches : ℕ
+  pub test : ℕ
+  pub loop : LoopStands S.checked n head switches test l
+  pub number : ℕ
+  pub has : F (Has (below p (place S.checked n) number) (place S.checked l) v)
+
+-- a fetch Has what is put into a cell that it asks for
+pub record IsFetched (S : Source) (F : Fact → Type 0) (n : ℕ) (p : Path) (v : SourceValue) : Type 0 where
+  pub name : Site
+  pub cell : ℤ
+  pub store : Site
+  pub asks : F (ask (site p (place S.checked n)) name cell)
+  pub puts : F (put name cell v store)
+
+-- what follows at a row of this node from facts: a literal's value, an operator's result on what its operands Have, what a name's
+-- binder, the chosen arm of a conditional, a callee's body at the path of the call, a block's body, a loop's last expression and a
+-- binding's expression Has, and what follows at a parameter and at a loop's variable
+abbrev pub Follows : Source → (Fact → Type 0) → ℕ → Node → Path → SourceValue → Type 0
+Follows S F n (Literal c) p v = v ≡ value_of c
+Follows S F n (Unary o a) p v =
+    (c : Constant) × (x : Constant) × F (Has p (place S.checked a) (value_of c)) × (result_of_unary o c ≡ Gives x) × (v ≡ value_of x)
+Follows S F n (Binary o a b) p v =
+    (c : Constant) × (d : Constant) × (x : Constant) × F (Has p (place S.checked a) (value_of c)) × F (Has p (place S.checked b) (value_of d)) ×
+    (result_of_binary o c d ≡ Gives x) × (v ≡ value_of x)
+Follows S F n (Name y) p v = (b : ℕ) × (binder S.checked n ≡ Some b) × F (Has (without (between S n b) p) (place S.checked b) v)
+Follows S F n (If s x y) p v =
+    (t : ℕ) × (b : Truth) × (a : ℕ) × IsChoice S n t b a × F (Has p (place S.checked t) (value_of (constant.Bool b))) × F (Has p (place S.checked a) v)
+Follows S F n (Call e c) p v = (d : IsCall S n) × F (Has (below p (place S.checked n) 0) (place S.checked d.body) v)
+Follows S F n (Block b) p v = F (Has p (place S.checked b) v)
+Follows S F n (Loop h w l) p v = IsLeft S F n l p v
+Follows S F n (Next y i o a) p v = IsFirst S F n o a p v ⊎ IsLater S F n o a p v
+Follows S F n (Binding y a) p v = F (Has p (place S.checked a) v)
+Follows S F n (Array a b) p v = v ≡ value.Name (site p (place S.checked n))
+Follows S F n (Fetch t i) p v = IsFetched S F n p v
+Follows S F n (Param y k) p v = FollowsParam S F n p v
+Follows S F n _ p v = ⊥
+
+-- a thing stands there, and at its node the value follows
+pub record FollowsAt (S : Source) (F : Fact → Type 0) (p : Path) (e : ℕ) (v : SourceValue) : Type 0 where
+  pub row : ℕ
+  pub node : Node
+  pub stands : Stands S.checked row node
+  pub thing : is_thing node ≡ true
+  pub here : place S.checked row ≡ e
+  pub follows : Follows S F row node p v
+
+param_follows : {S : Source} (F : Fact → Type 0) {b : ℕ} {p : Path} {v : SourceValue} (n : Node) → Stands S.checked b n → is_param n ≡ true
+    → FollowsParam S F b p v → FollowsAt S F p (place S.checked b) v
+param_follows F (Param x k) s t i = record { row = _; node = _; stands = s; thing = refl; here = refl; follows = i }
+param_follows F _ s t i = absurd (false≢true t)
+
+-- a fetch that asks stands there
+abbrev pub Fetches : Source → (Fact → Type 0) → Type 0
+Fetches S F = (f s : Site) (j : ℤ) → F (ask f s j) → IsFetch S f
+
+fetched : {S : Source} (F : Fact → Type 0) {f s a : Site} {j : ℤ} {v : SourceValue} → IsFetch S f → F (ask f s j) → F (put s j v a)
+    → FollowsAt S F f.path f.place v
+fetched {S} F {f} {s} {a} {j} {v} x h k =
+    let G : ℕ → Type 0 = λ e. F (ask (site f.path e) s j) in
+    record {
+      row = x.row;
+      node = Fetch x.target x.index;
+      stands = x.stands;
+      thing = refl;
+      here = x.here;
+      follows = record { name = s; cell = j; store = a; asks = subst G (sym x.here) h; puts = k };
+    }
+
+pub follows_by : {S : Source} (F : Fact → Type 0) → Fetches S F → {p : Path} {e : ℕ} {v : SourceValue} {fs : List Fact} → Rule S fs (Has p e v) → Every F fs
+    → FollowsAt S F p e v
+follows_by F asked (param_has {c = c} i) h = let q = input_param i in param_follows F _ (record { within = q.0; node = refl }) q.1 (inl (c, refl, i, refl))
+follows_by F asked (literal_has s) h = record { row = _; node = _; stands = s; thing = refl; here = refl; follows = refl }
+follows_by F asked (unary_has {x = x} c s is) h = record { row = _; node = _; stands = s; thing = refl; here = refl; follows = (c, x, h.1.0, is, refl) }
+follows_by F asked (binary_has {x = x} c d s is) h =
+    record { row = _; node = _; stands = s; thing = refl; here = refl; follows = (c, d, x, h.1.0, h.1.1.0, is, refl) }
+follows_by F asked (name_has {b = b} s is) h = record { row = _; node = _; stands = s; thing = refl; here = refl; follows = (b, is, h.1.0) }
+follows_by F asked (conditional_has {t = t} {a = a} {b = b} c) h =
+    let d = choice c in
+    record { row = _; node = If d.split d.then d.otherwise; stands = d.stands; thing = refl; here = refl; follows = (t, b, a, d, h.1.0, h.1.1.0) }
+follows_by {S} F asked (argument_has {n = n} {h = g} {m = m} {i = i} {v = a} {q = q} {p = p} s t is def there) h =
+    let R = rows S.checked in
+    let w = params-among R g (length R) q (Among-from_at q (params_at R g) i there) in
+    let call : IsCall S n = record { enter = _; count = _; def = _; name = _; head = g; kind = _; body = _; stands = s; binder = is; definition = def } in
+    param_follows F _ (record { within = w.0; node = refl }) w.1
+    (inr (record { call = n; outer = p; is_call = call; row = m; index = i; value = a; argument = t; param = there; path = refl; has = h.1.0 }))
+follows_by {S} F asked (call_has {n = n} s is def) h =
+    let call : IsCall S n = record { enter = _; count = _; def = _; name = _; head = _; kind = _; body = _; stands = s; binder = is; definition = def } in
+    record { row = n; node = _; stands = s; thing = refl; here = refl; follows = (call, h.1.0) }
+follows_by {S} F asked (first_has {n = n} {h = g} {w = w} {t = t} {l = l} {m = m} {o = o} {v = a} {c = c} {p = q} s x e) h =
+    let of : IsNext S m o a = record { row = n; head = g; switches = w; test = t; last = l; loop = s; next = x } in
+    record {
+      row = m;
+      node = Next x.name x.index o a;
+      stands = x.next;
+      thing = refl;
+      here = refl;
+      follows = inl (record { of = of; outer = q; outside = c; binder = e; path = refl; has = h.1.0 });
+    }
+follows_by {S} F asked (next_has {n = n} {h = g} {w = w} {t = t} {l = l} {m = m} {o = o} {v = a} q k s x) h =
+    let of : IsNext S m o a = record { row = n; head = g; switches = w; test = t; last = l; loop = s; next = x } in
+    record {
+      row = m;
+      node = Next x.name x.index o a;
+      stands = x.next;
+      thing = refl;
+      here = refl;
+      follows = inr (record { of = of; outer = q; number = k; path = refl; has = h.0 });
+    }
+follows_by F asked (loop_has {n = n} {h = g} {w = w} {t = t} {l = l} q k s) h =
+    record {
+      row = n;
+      node = Loop g w l;
+      stands = s.loop;
+      thing = refl;
+      here = refl;
+      follows = record { head = g; switches = w; test = t; loop = s; number = k; has = h.0 };
+    }
+follows_by F asked (block_has s) h = record { row = _; node = _; stands = s; thing = refl; here = refl; follows = h.1.0 }
+follows_by F asked (binding_has s) h = record { row = _; node = _; stands = s; thing = refl; here = refl; follows = h.0 }
+follows_by F asked (array_has s e) h = record { row = _; node = _; stands = s; thing = refl; here = refl; follows = refl }
+follows_by F asked (fetch_has {f = f} {s = s} {a = a} {j = j} {v = v}) h = fetched F (asked f s j h.0) h.0 h.1.0
+
+-- what follows at a place follows at the thing that stands there
+pub follows_at : {S : Source} (F : Fact → Type 0) {p : Path} {e : ℕ} {v : SourceValue} (n : ℕ) (m : Node) → Stands S.checked n m → is_thing m ≡ true
+    → place S.checked n ≡ e → FollowsAt S F p e v → Follows S F n m p v
+follows_at {S} F {p} {e} {v} n m s t here f =
+    let R = rows S.checked in
+    let T : Node → Type 0 = λ z. is_thing z ≡ true in
+    let q : f.row ≡ n =
+    (apart_of S.checked).apart f.row n f.stands.within s.within (subst T (sym f.stands.node) f.thing) (subst T (sym s.node) t) (f.here ∙ sym here) in
+    let k : f.node ≡ m = sym f.stands.node ∙ ap (λ i. (at R i).node) q ∙ s.node in
+    let A : ℕ → Type 0 = λ i. Follows S F i f.node p v in
+    let B : Node → Type 0 = λ z. Follows S F n z p v in
+    subst B k (subst A q f.follows)
+
+one_outcome : {v w : Constant} (a b : Outcome) → a ≡ b → a ≡ Gives v → b ≡ Gives w → v ≡ w
+one_outcome a b e p q = cc
+
+-- the values of a place are those of earlier rounds' one value
+abbrev Earlier : Source → ℕ → Type 0
+Earlier S n = (p : Path) (e : ℕ) (v w : SourceValue) → Rounds S n (Has p e v) → Holds S (Has p e w) → v ≡ w
+
+-- what calls pass on at a path is one value
+one_passed : (S : Source) (m : ℕ) → Earlier S m → (b : ℕ) (p : Path) (v w : SourceValue) → IsPassed S (Rounds S m) b p v → IsPassed S (Holds S) b p w → v ≡ w
+one_passed S m early b p v w h k =
+    let P = S.checked in
+    let R = rows P in
+    let z = below-once h.outer k.outer (place P h.call) (place P k.call) 0 0 (sym h.path ∙ k.path) in
+    let x = h.is_call.stands in
+    let y = k.is_call.stands in
+    let n : h.call ≡ k.call = (apart_of P).apart h.call k.call x.within y.within (ap is_thing x.node) (ap is_thing y.node) z.1 in
+    let c = one_call h.is_call k.is_call n in
+    let hs = params_at R h.is_call.head in
+    let i : h.index ≡ k.index =
+    once hs b h.index k.index (params-differ R h.is_call.head (length R)) h.param (ap (λ g. slice_get (params_at R g) k.index) c.head ∙ k.param) in
+    let a : h.value ≡ k.value = one_argument S h.row k.row h.is_call.enter k.is_call.enter h.index k.index h.value k.value h.argument k.argument c.enter i in
+    let A : Path → Type 0 = λ q. Holds S (Has q (place P k.value) w) in
+    let B : ℕ → Type 0 = λ j. Holds S (Has h.outer (place P j) w) in
+    early h.outer (place P h.value) v w h.has (subst B (sym a) (subst A (sym z.0) k.has))
+
+one_param : (S : Source) (m : ℕ) → Earlier S m → (b : ℕ) (p : Path) (v w : SourceValue) → FollowsParam S (Rounds S m) b p v → FollowsParam S (Holds S) b p w
+    → v ≡ w
+one_param S m early b p v w (inl h) (inl k) = h.3 ∙ ap value_of (one_input h.2 k.2) ∙ sym k.3
+one_param S m early b p v w (inl h) (inr k) = absurd (none-below k.outer (place S.checked k.call) 0 (sym h.1 ∙ k.path))
+one_param S m early b p v w (inr h) (inl k) = absurd (none-below h.outer (place S.checked h.call) 0 (sym k.1 ∙ h.path))
+one_param S m early b p v w (inr h) (inr k) = one_passed S m early b p v w h k
+
+-- a `next` is of one loop
+one_loop : (S : Source) (m o a : ℕ) (x y : IsNext S m o a) → x.row ≡ y.row
+one_loop S m o a x y =
+    let P = S.checked in
+    let q : x.head ≡ y.head = sym x.next.block ∙ y.next.block in
+    let L : ℕ → Type 0 = λ h. LoopStands P y.row h y.switches y.test y.last in
+    let s = subst L (sym q) y.loop in
+    (table_of P).one_loop x.row y.row x.head (loop-of P x.row x.head x.switches x.test x.last x.loop) (loop-of P y.row x.head y.switches y.test y.last s)
+
+one_first : (S : Source) (n : ℕ) → Earlier S n → (m o a : ℕ) (p : Path) (v w : SourceValue) → IsFirst S (Rounds S n) m o a p v → IsFirst S (Holds S) m o a p w
+    → v ≡ w
+one_first S n early m o a p v w h k =
+    let P = S.checked in
+    let r = one_loop S m o a h.of k.of in
+    let z = below-once h.outer k.outer (place P h.of.row) (place P k.of.row) 0 0 (sym h.path ∙ k.path) in
+    let s : Some k.outside ≡ Some h.outside = sym k.binder ∙ h.binder in
+    let c : k.outside ≡ h.outside = cc in
+    let A : ℕ → Type 0 = λ i. Holds S (Has (without (between S i k.outside) k.outer) (place P k.outside) w) in
+    let B : Path → Type 0 = λ q. Holds S (Has (without (between S h.of.row k.outside) q) (place P k.outside) w) in
+    let C : ℕ → Type 0 = λ i. Holds S (Has (without (between S h.of.row i) h.outer) (place P i) w) in
+    early (without (between S h.of.row h.outside) h.outer) (place P h.outside) v w h.has (subst C c (subst B (sym z.0) (subst A (sym r) k.has)))
+
+one_later : (S : Source) (n : ℕ) → Earlier S n → (m o a : ℕ) (p : Path) (v w : SourceValue) → IsLater S (Rounds S n) m o a p v → IsLater S (Holds S) m o a p w
+    → v ≡ w
+one_later S n early m o a p v w h k =
+    let P = S.checked in
+    let L = place P h.of.row in
+    let z = below-once h.outer k.outer L (place P k.of.row) (suc h.number) (suc k.number) (sym h.path ∙ k.path) in
+    let i : h.number ≡ k.number = (let e = z.2 in omega arith) in
+    let A : ℕ → Type 0 = λ e. Holds S (Has (below k.outer e k.number) (place P a) w) in
+    let B : Path → Type 0 = λ q. Holds S (Has (below q L k.number) (place P a) w) in
+    let C : ℕ → Type 0 = λ j. Holds S (Has (below h.outer L j) (place P a) w) in
+    early (below h.outer L h.number) (place P a) v w h.has (subst C (sym i) (subst B (sym z.0) (subst A (sym z.1) k.has)))
+
+-- no variable Has a first value and a later one at one path
+first_or_later : (S : Source) (F G : Fact → Type 0) (m o a : ℕ) (p : Path) (v w : SourceValue) → IsFirst S F m o a p v → IsLater S G m o a p w → ⊥
+first_or_later S F G m o a p v w h k =
+    let z = below-once h.outer k.outer (place S.checked h.of.row) (place S.checked k.of.row) 0 (suc k.number) (sym h.path ∙ k.path) in
+    let e = z.2 in
+    omega arith
+
+one_variable : (S : Source) (n : ℕ) → Earlier S n → (m o a : ℕ) (p : Path) (v w : SourceValue)
+    → IsFirst S (Rounds S n) m o a p v ⊎ IsLater S (Rounds S n) m o a p v
+    → IsFirst S (Holds S) m o a p w ⊎ IsLater S (Holds S) m o a p w → v ≡ w
+one_variable S n early m o a p v w (inl h) (inl k) = one_first S n early m o a p v w h k
+one_variable S n early m o a p v w (inl h) (inr k) = absurd (first_or_later S (Rounds S n) (Holds S) m o a p v w h k)
+one_variable S n early m o a p v w (inr h) (inl k) = absurd (first_or_later S (Holds S) (Rounds S n) m o a p w v k h)
+one_variable S n early m o a p v w (inr h) (inr k) = one_later S n early m o a p v w h k
+
+-- a loop has one predicate
+one_predicate : (S : Source) (n h g w x t u l : ℕ) → LoopStands S.checked n h w t l → LoopStands S.checked n g x u l → t ≡ u
+one_predicate S n h g w x t u l s r =
+    let e : Loop h w l ≡ Loop g x l = sym s.loop.node ∙ r.loop.node in
+    let q : w ≡ x = cc in
+    let k : Switches t ≡ Switches u = sym s.switches.node ∙ ap (λ i. (at (rows S.checked) i).node) q ∙ r.switches.node in
+    cc
+
+truth-differs : Bool true ≡ Bool false → ⊥
+truth-differs e = cc
+
+-- a loop is left in one iteration: in those before it the predicate Has true, and there false
+one_left : (S : Source) (m : ℕ) → Earlier S m → (n l : ℕ) (p : Path) (v w : SourceValue) → IsLeft S (Rounds S m) n l p v → IsLeft S (Holds S) n l p w → v ≡ w
+one_left S m early n l p v w h k =
+    let P = S.checked in
+    let L = place P n in
+    let r = k.has.round in
+    let t = one_predicate S n h.head k.head h.switches k.switches h.test k.test l h.loop k.loop in
+    let mine = false-there S m (all-fine S m) n h.head h.switches h.test l h.number p v h.loop h.has in
+    let other = false-there S r (all-fine S r) n k.head k.switches k.test l k.number p w k.loop k.has.there in
+    let T : ℕ → Truth → ℕ → Type 0 = λ i b u. Holds S (Has (below p L i) (place P u) (Bool b)) in
+    elim (cases_lt h.number k.number) [
+      | inl c ↦
+          let x = true-below S r (all-fine S r) n k.head k.switches k.test l h.number p (Bool false) k.loop k.number c other in
+          let y : T h.number true h.test = subst (λ u. T h.number true u) (sym t) (record { round = r; there = x }) in
+          absurd (truth-differs (sym (early (below p L h.number) (place P h.test) (Bool false) (Bool true) mine y)))
+      | inr c ↦ elim (cases_lt k.number h.number) [
+        | inl d ↦
+            let x = true-below S m (all-fine S m) n h.head h.switches h.test l k.number p (Bool false) h.loop h.number d mine in
+            let y : T k.number false h.test = subst (λ u. T k.number false u) (sym t) (record { round = r; there = other }) in
+            absurd (truth-differs (early (below p L k.number) (place P h.test) (Bool true) (Bool false) x y))
+        | inr d ↦
+            let e : k.number ≡ h.number = omega arith in
+            let A : ℕ → Type 0 = λ i. Holds S (Has (below p L i) (place P l) w) in
+            early (below p L h.number) (place P l) v w h.has (subst A e k.has)
+      ]
+    ]
+
+-- ---- what is asked for and put
+
+asked-round : (S : Source) (n : ℕ) (f s : Site) (j : ℤ) → Rounds S n (ask f s j) → IsAsked S (Rounds S n) f s j
+asked-round S n f s j h = let r = again S n (ask f s j) h in asked_by (Rounds S n) r.1 r.2
+
+asked-held : (S : Source) (f s : Site) (j : ℤ) → Holds S (ask f s j) → IsAsked S (Holds S) f s j
+asked-held S f s j h = let b = because S h.round (ask f s j) h.there in asked_by (Holds S) b.rule b.hold
+
+fetches-round : (S : Source) (n : ℕ) → Fetches S (Rounds S n)
+fetches-round S n f s j h = (asked-round S n f s j h).fetch
+
+fetches-held : (S : Source) → Fetches S (Holds S)
+fetches-held S f s j h = (asked-held S f s j h).fetch
+
+put-round : (S : Source) (n : ℕ) (s a : Site) (j : ℤ) (v : SourceValue) → Rounds S n (put s j v a) → IsPut S (Rounds S n) a v
+put-round S n s a j v h = let r = again S n (put s j v a) h in put_by (Rounds S n) r.1 r.2
+
+put-held : (S : Source) (s a : Site) (j : ℤ) (v : SourceValue) → Holds S (put s j v a) → IsPut S (Holds S) a v
+put-held S s a j v h = let b = because S h.round (put s j v a) h.there in put_by (Holds S) b.rule b.hold
+
+made-round : (S : Source) (n : ℕ) (s : Site) (lo hi : ℤ) → Rounds S n (shape s lo hi) → IsMade S (Rounds S n) s lo hi
+made-round S n s lo hi h = let r = again S n (shape s lo hi) h in made_by (Rounds S n) r.1 r.2
+
+made-held : (S : Source) (s : Site) (lo hi : ℤ) → Holds S (shape s lo hi) → IsMade S (Holds S) s lo hi
+made-held S s lo hi h = let b = because S h.round (shape s lo hi) h.there in made_by (Holds S) b.rule b.hold
+
+-- one fetch asks for one cell
+record IsSameCell (s t : Site) (i j : ℤ) : Type 0 where
+  pub name : s ≡ t
+  pub index : i ≡ j
+
+one_fetch : (S : Source) (f : Site) (x y : IsFetch S f) → (x.target ≡ y.target) × (x.index ≡ y.index)
+one_fetch S f x y =
+    let R = rows S.checked in
+    let q : x.row ≡ y.row =
+    (apart_of S.checked).apart x.row y.row x.stands.within y.stands.within (ap is_thing x.stands.node) (ap is_thing y.stands.node) (x.here ∙ sym y.here) in
+    let k : Fetch x.target x.index ≡ Fetch y.target y.index = sym x.stands.node ∙ ap (λ i. (at R i).node) q ∙ y.stands.node in
+    let t : x.target ≡ y.target = cc in
+    let i : x.index ≡ y.index = cc in
+    (t, i)
+
+one_cell : (S : Source) (n : ℕ) → Earlier S n → (f s t : Site) (i j : ℤ) → IsAsked S (Rounds S n) f s i → IsAsked S (Holds S) f t j → IsSameCell s t i j
+one_cell S n early f s t i j x y =
+    let q = one_fetch S f x.fetch y.fetch in
+    let A : ℕ → Type 0 = λ e. Holds S (Has f.path (place S.checked e) (value.Name t)) in
+    let B : ℕ → Type 0 = λ e. Holds S (Has f.path (place S.checked e) (value.Int j)) in
+    let a = early f.path (place S.checked x.fetch.target) (value.Name s) (value.Name t) x.target (subst A (sym q.0) y.target) in
+    let b = early f.path (place S.checked x.fetch.index) (value.Int i) (value.Int j) x.index (subst B (sym q.1) y.index) in
+    let name : s ≡ t = cc in
+    let index : i ≡ j = cc in
+    record { name = name; index = index }
+
+-- without a fault one store puts something into a cell
+one_store : (S : Source) → FaultFree S → (s a b : Site) (j : ℤ) (v w : SourceValue) → Holds S (put s j v a) → Holds S (put s j w b) → a ≡ b
+one_store S free s a b j v w h k = elim (site-order a b) [
+  | inl x ↦
+      absurd (free (SecondStore s j a b) (record { premises = put s j v a ∷ put s j w b ∷ []; rule = second_store x; hold = (h, (k, tt)) }))
+  | inr (inl x) ↦ x
+  | inr (inr x) ↦
+      absurd (free (SecondStore s j b a) (record { premises = put s j w b ∷ put s j v a ∷ []; rule = second_store x; hold = (k, (h, tt)) }))
+]
+
+-- and one value
+one_value : (S : Source) (x y : ℕ) (m l t u i j : ℕ) → StoreStands S.checked m t i x → StoreStands S.checked l u j y → place S.checked m ≡ place S.checked l →
+    x ≡ y
+one_value S x y m l t u i j g h e =
+    let R = rows S.checked in
+    let q : m ≡ l =
+    (apart_of S.checked).apart m l g.store.within h.store.within (ap is_thing g.store.node) (ap is_thing h.store.node) e in
+    let k : Store g.address x ≡ Store h.address y = sym g.store.node ∙ ap (λ c. (at R c).node) q ∙ h.store.node in
+    cc
+
+one_put : (S : Source) (n : ℕ) → Earlier S n → (a : Site) (v w : SourceValue) → IsPut S (Rounds S n) a v → IsPut S (Holds S) a w → v ≡ w
+one_put S n early a v w x y =
+    let q : x.value ≡ y.value = one_value S x.value y.value x.row y.row x.target y.target x.index y.index x.stands y.stands (x.here ∙ sym y.here) in
+    let A : ℕ → Type 0 = λ e. Holds S (Has a.path (place S.checked e) w) in
+    early a.path (place S.checked x.value) v w x.has (subst A (sym q) y.has)
+
+-- a fetch Has one value
+one_fetched : (S : Source) → FaultFree S → (m : ℕ) → Earlier S m → (n : ℕ) (p : Path) (v w : SourceValue) → IsFetched S (Rounds S m) n p v
+    → IsFetched S (Holds S) n p w → v ≡ w
+one_fetched S free m early n p v w x y =
+    let f = site p (place S.checked n) in
+    let c = one_cell S m early f x.name y.name x.cell y.cell (asked-round S m f x.name x.cell x.asks) (asked-held S f y.name y.cell y.asks) in
+    let A : Site → Type 0 = λ s. Holds S (put s y.cell w y.store) in
+    let B : ℤ → Type 0 = λ j. Holds S (put x.name j w y.store) in
+    let k = subst B (sym c.index) (subst A (sym c.name) y.puts) in
+    let q : x.store ≡ y.store = one_store S free x.name x.store y.store x.cell v w (record { round = m; there = x.puts }) k in
+    let C : Site → Type 0 = λ s. Holds S (put x.name x.cell w s) in
+    one_put S m early x.store v w (put-round S m x.name x.store x.cell v x.puts) (put-held S x.name x.store x.cell w (subst C (sym q) k))
+
+-- what follows at a node is one value
+one_at_node : (S : Source) → FaultFree S → (m : ℕ) → Earlier S m → (n : ℕ) (z : Node) (p : Path) (v w : SourceValue) → Follows S (Rounds S m) n z p v
+    → Follows S (Holds S) n z p w → v ≡ w
+one_at_node S free m early n (Literal c) p v w h k = h ∙ sym k
+one_at_node S free m early n (Unary o a) p v w h k =
+    let c = same-constant h.0 k.0 (early p _ _ _ h.2 k.2) in
+    let x = one_outcome _ _ (ap (λ d. result_of_unary o d) c) h.3 k.3 in
+    h.4 ∙ ap value_of x ∙ sym k.4
+one_at_node S free m early n (Binary o a b) p v w h k =
+    let c = same-constant h.0 k.0 (early p _ _ _ h.3 k.3) in
+    let d = same-constant h.1 k.1 (early p _ _ _ h.4 k.4) in
+    let x = one_outcome _ _ (λ i. result_of_binary o (c i) (d i)) h.5 k.5 in
+    h.6 ∙ ap value_of x ∙ sym k.6
+one_at_node S free m early n (Name y) p v w h k =
+    let s : Some k.0 ≡ Some h.0 = sym k.1 ∙ h.1 in
+    let q : k.0 ≡ h.0 = cc in
+    let P : ℕ → Type 0 = λ b. Holds S (Has (without (between S n b) p) (place S.checked b) w) in
+    early (without (between S n h.0) p) (place S.checked h.0) v w h.2 (subst P q k.2)
+one_at_node S free m early n (If s x y) p v w h k =
+    let t = one_test k.3 h.3 in
+    let there : Holds S (Has p (place S.checked h.0) (value_of (constant.Bool k.1))) =
+    subst (λ i. Holds S (Has p (place S.checked i) (value_of (constant.Bool k.1)))) t k.4 in
+    let c = same-constant (constant.Bool h.1) (constant.Bool k.1) (early p _ _ _ h.4 there) in
+    let b : h.1 ≡ k.1 = cc in
+    let a = one_arm k.3 h.3 (sym b) in
+    early p _ v w h.5 (subst (λ i. Holds S (Has p (place S.checked i) w)) a k.5)
+one_at_node S free m early n (Call e c) p v w h k =
+    let q = one_call h.0 k.0 refl in
+    let F : ℕ → Type 0 = λ b. Holds S (Has (below p (place S.checked n) 0) (place S.checked b) w) in
+    early (below p (place S.checked n) 0) (place S.checked h.0.body) v w h.1 (subst F (sym q.body) k.1)
+one_at_node S free m early n (Block b) p v w h k = early p _ v w h k
+one_at_node S free m early n (Loop g x l) p v w h k = one_left S m early n l p v w h k
+one_at_node S free m early n (Next y i o a) p v w h k = one_variable S m early n o a p v w h k
+one_at_node S free m early n (Binding y a) p v w h k = early p _ v w h k
+one_at_node S free m early n (Array a b) p v w h k = h ∙ sym k
+one_at_node S free m early n (Fetch t i) p v w h k = one_fetched S free m early n p v w h k
+one_at_node S free m early n (Param y k) p v w h l = one_param S m early n p v w h l
+one_at_node S free m early n _ p v w h k = absurd h
+
+one_by_round : (S : Source) → FaultFree S → (n : ℕ) → Earlier S n
+one_by_round S free zero p e v w h k = absurd h
+one_by_round S free (suc n) p e v w (inl h) k = one_by_round S free n p e v w h k
+one_by_round S free (suc n) p e v w (inr t) k =
+    let f = follows_by (Rounds S n) (fetches-round S n) t.1 t.2 in
+    let b = because S k.round _ k.there in
+    let g = follows_by (Holds S) (fetches-held S) b.rule b.hold in
+    one_at_node S free n (one_by_round S free n) f.row f.node p v w f.follows (follows_at (Holds S) f.row f.node f.stands f.thing f.here g)
+
+-- each path and place has at most one value
+pub one-value : (S : Source) → FaultFree S → (p : Path) (e : ℕ) (v w : SourceValue) → Holds S (Has p e v) → Holds S (Has p e w) → v ≡ w
+one-value S free p e v w h k = one_by_round S free h.round p e v w h.there k
+
+-- each structure has one shape
+one-shape : (S : Source) → FaultFree S → (s : Site) (lo hi low high : ℤ) → Holds S (shape s lo hi) → Holds S (shape s low high) → (lo ≡ low) × (hi ≡ high)
+one-shape S free s lo hi low high h k =
+    let R = rows S.checked in
+    let x = made-held S s lo hi h in
+    let y = made-held S s low high k in
+    let q : x.row ≡ y.row =
+    (apart_of S.checked).apart x.row y.row x.stands.within y.stands.within (ap is_thing x.stands.node) (ap is_thing y.stands.node) (x.here ∙ sym y.here) in
+    let e : Array x.low x.high ≡ Array y.low y.high = sym x.stands.node ∙ ap (λ i. (at R i).node) q ∙ y.stands.node in
+    let l : x.low ≡ y.low = cc in
+    let m : x.high ≡ y.high = cc in
+    let A : ℕ → Type 0 = λ i. Holds S (Has s.path (place S.checked i) (value.Int low)) in
+    let B : ℕ → Type 0 = λ i. Holds S (Has s.path (place S.checked i) (value.Int high)) in
+    let a = one-value S free s.path (place S.checked x.low) (value.Int lo) (value.Int low) x.lowest (subst A (sym l) y.lowest) in
+    let b = one-value S free s.path (place S.checked x.high) (value.Int hi) (value.Int high) x.highest (subst B (sym m) y.highest) in
+    let c : lo ≡ low = cc in
+    let d : hi ≡ high = cc in
+    (c, d)
+
+-- and into each cell one store puts one value
+one-cell : (S : Source) → FaultFree S → (s : Site) (j : ℤ) (v w : SourceValue) (a b : Site) → Holds S (put s j v a) → Holds S (put s j w b) → (v ≡ w) × (a ≡ b)
+one-cell S free s j v w a b h k =
+    let q = one_store S free s a b j v w h k in
+    let C : Site → Type 0 = λ c. Holds S (put s j w c) in
+    let x = put-held S s a j v h in
+    let n = x.has.round in
+    let y = put-held S s a j w (subst C (sym q) k) in
+    let r : x.value ≡ y.value = one_value S x.value y.value x.row y.row x.target y.target x.index y.index x.stands y.stands (x.here ∙ sym y.here) in
+    let A : ℕ → Type 0 = λ e. Holds S (Has a.path (place S.checked e) w) in
+    (one-value S free a.path (place S.checked x.value) v w x.has (subst A (sym r) y.has), q)
+
+-- a source without a fault is coherent
+pub coherence : (S : Source) → FaultFree S → IsCoherent S
+coherence S free = record { values = one-value S free; shapes = one-shape S free; puts = one-cell S free }

@@ -1,0 +1,11 @@
+pub mod ParamsLemmas
+pub mod RoundsLemmas
+pub mod StepsLemmas
+pub mod PathOrderLemmas
+pub mod SitesLemmas
+pub mod CheckedLemmas
+pub mod LiveLemmas
+pub mod Coherence
+pub mod NumbersLemmas
+pub mod ThingsLemmas
+pub mod PlacedLemmas

@@ -1,0 +1,8 @@
+-- What public clauses cite.
+pub mod Sources
+pub mod Facts
+pub mod Rounds
+pub mod Orders
+pub mod Computed
+pub mod Names
+pub mod Things

@@ -1,0 +1,737 @@
+-- The rows of a program's tree are a table.
+use Rattle.std.proofs.Common.{◌≡◌, inl, inr, ◌+◌, ◌-◌, ◌<◌, ◌≤◌, ℕ, suc, Bool, true, false, List, [], ◌∷◌, ◌++◌, length, refl, sym, ap, ◌∙◌, subst}
+use Rattle.std.proofs.Common.{arith}
+use Rattle.std.proofs.lemmas.Bool.{cases_lt, false≢true}
+use Rattle.id_value.specs.declared.Kind.{Kind}
+use Rattle.id_grammar.specs.Tree.{Tree, binding, next, store, param, define}
+use Rattle.id_table.specs.declared.row.Row.{Row}
+use Rattle.id_table.specs.declared.row.Stand.{Stand}
+use Rattle.id_table.specs.declared.row.Region.{Region}
+use Rattle.id_table.specs.declared.row.Node.{Node}
+use Rattle.id_table.specs.declared.row.Node.TheVariants.{Head, Literal, Name, Split, If, Enter, Arg}
+use Rattle.id_table.specs.declared.row.Node.TheVariants.{Call, Def, Program, Start, LoopHead, Variable, Entries, Switches, Turn, NextUse, Next, Body, Reset}
+use Rattle.id_table.specs.declared.row.Node.TheVariants.{Loop, Address, Store}
+use Rattle.id_table.specs.Names.{number_of, first_names}
+use Rattle.id_table.specs.Rows.{Parts, add, add_arguments, add_nexts, add_variables, arm, arm_at, begin_loop, count_of, at, in_top}
+use Rattle.id_table.specs.Rows.{last, rows_of, size, top, with_row}
+use Rattle.id_table.specs.Tables.{Formed, HasNear, HasOperand, HasPart, IsFormed, IsNested}
+use Rattle.id_table.specs.Tables.{begins_block, can_be_on, has_statements, is_address, is_in_loop, is_loop, is_next, is_statement, is_store}
+use Rattle.id_table.specs.Loops.{InSide, IsLoop, IsLoopOf, IsNextIn, IsNextOf, StandsAt}
+use Rattle.id_table.specs.Tables.{is_arg, is_block, is_call, is_def, is_enter, is_expression, is_head, is_if, is_split, is_switches, is_top}
+use Rattle.id_table.specs.Tables.{is_variable}
+use Rattle.id_table.specs.Stores.{IsAddressOf, IsStoreOf}
+use Rattle.id_table.specs.Calls.{AreArgs, IsArgIn, IsArgOf, IsCallOf, IsEnterOf}
+use Rattle.id_table.specs.Regions.{AreArms, InArm, IsIfOf, IsSplitOf, Lies, here, in_arm, in_loop, in_side}
+use Rattle.id_table.specs.Trees.{IsTree, IsProgramTree, Sort, Expression, Arguments, Statements}
+use Rattle.id_table.specs.Trees.{Params, Defs, by_literal, by_unary, by_binary, by_name, by_conditional}
+use Rattle.id_table.specs.Trees.{by_call, by_loop, by_array, by_fetch, next_statement, store_statement, no_arguments, more_arguments, by_block}
+use Rattle.id_table.specs.Trees.{no_statements, more_statements, no_params, more_params, no_defs, more_defs}
+use Rattle.id_table.specs.Turns.{AreParamsOf, IsDefOf, IsTable}
+use Rattle.id_table.proofs.BlockLemmas.{around-within}
+use Rattle.id_table.proofs.HasLemmas.{Has, Has-add, Has-arguments, Has-itself, Has-push, addressed, argued, at-push, entered, push-size, push-within}
+use Rattle.id_table.proofs.HasLemmas.{row_for, row_in}
+use Rattle.id_table.proofs.HasLemmas.{Has-nexts, Has-variables, closed, headed, left_by, nexted, opened, reset, stated, switched, tested, used}
+use Rattle.id_table.proofs.RowLemmas.{Belongs, RowsAre-none}
+use Rattle.id_table.proofs.ExpressionLemmas.{AreExpression, AreStatement, AreStatements, AreParams, are-array, are-binary, are-binding, are-block}
+use Rattle.id_table.proofs.ExpressionLemmas.{are-fetch, are-leaf, are-param, are-unary, statement-before}
+use Rattle.id_table.proofs.CallLemmas.{Called, are-call, called-argument, called-enter}
+use Rattle.id_table.proofs.ConditionalLemmas.{are-conditional}
+use Rattle.id_table.proofs.LoopLemmas.{are-loop}
+use Rattle.id_table.proofs.NextLemmas.{AreNexts, IsRound, Variables, nexts-both, nexts-none, nexts_in, one-next, one-statement, size-variables}
+use Rattle.id_table.proofs.NextLemmas.{variables-added, variables-each}
+use Rattle.id_table.proofs.StoreLemmas.{are-store}
+use Rattle.id_table.proofs.ParamsLemmas.{NoParams-expression}
+use Rattle.id_table.proofs.ProcedureLemmas.{StandsIn, are-define}
+
+module _ (F : List Row) where
+  -- the rows from lo up to hi stand in procedures
+  abbrev pub AreDefs : ℕ → ℕ → Type 0
+  AreDefs lo hi = (i : ℕ) → lo ≤ i → i < hi → StandsIn F i (at F i)
+
+  -- the rows from lo up to hi are those of a tree of this sort
+  abbrev pub Are : Sort → Stand → ℕ → ℕ → Type 0
+  Are Expression s lo hi = AreExpression F s lo hi
+  Are Arguments s lo hi = Unit {0}
+  Are Statements s lo hi = AreStatements F s lo hi
+  Are Params s lo hi = s.region ≡ top s.block → AreParams F s lo hi
+  Are Defs s lo hi = AreDefs lo hi
+
+  last_of : (s : Stand) (lo hi : ℕ) → AreExpression F s lo hi → suc (hi - 1) ≡ hi
+  last_of s lo hi e = omega (arith, e.ends)
+
+  -- those up to a row that is added
+  grown : (s : Stand) (lo : ℕ) (R : List Row) (r : Row) → AreExpression F s lo (suc (length R)) → AreExpression F s lo (length (R ++ r ∷ []))
+  grown s lo R r e = subst (AreExpression F s lo) (sym (push-size R r)) e
+
+  arguments-within : (t : Tree) (s : Stand) (p e i : ℕ) (T : Parts) → size T ≤ size (add_arguments s p e i T t)
+  arguments-within t s p e i T = (Has-arguments (add_arguments s p e i T t).rows t s p e i T (Has-itself (add_arguments s p e i T t).rows)).within
+
+  nexts-within : (t : Tree) (s : Stand) (i : ℕ) (T : Parts) → size T ≤ size (add_nexts s i T t)
+  nexts-within t s i T = (Has-nexts (add_nexts s i T t).rows t s i T (Has-itself (add_nexts s i T t).rows)).within
+
+  -- the rows of a store, behind those of its parts
+  stored : (s : Stand) (T : Parts) (t i e : Tree) (p : ℕ) → Has F (add s T (store t i e p)).rows → AreExpression F s (size T) (size (add s T t))
+      → AreExpression F s (size (add s T t)) (size (add s (add s T t) i))
+      → AreExpression F s (size (addressed s T t i p)) (size (add s (addressed s T t i p) e))
+      → AreStatement F s (size T) (size (add s (addressed s T t i p) e))
+  stored s T t i e p h target index value =
+      let U = add s T t in
+      let V = add s U i in
+      let A = addressed s T t i p in
+      let W = add s A e in
+      let f = Has-add F e s A (Has-push F W.rows _ h) in
+      let one : suc (last U) ≡ size U = last_of s (size T) (size U) target in
+      let next : size A ≡ suc (size V) = push-size V.rows _ in
+      are-store F s p (size T) (last U) (last V) (size V) (last W) (size W) (record {
+        within = push-within F W.rows _ h;
+        target = subst (AreExpression F s (size T)) (sym one) target;
+        index = subst (λ k. AreExpression F s k (size V)) (sym one) index;
+        index_ends = last_of s (size U) (size V) index;
+        address = at-push F V.rows _ f;
+        value = subst (λ k. AreExpression F s k (size W)) next value;
+        value_ends = last_of s (size A) (size W) value;
+        row = at-push F W.rows _ h;
+      })
+
+  mutual
+    pub Are-add : {k : Sort} {t : Tree} (s : Stand) (T : Parts) → IsTree k t → Has F (add s T t).rows → Are k s (size T) (size (add s T t))
+    Are-add s T (by_literal {v} {p}) h = grown s (size T) T.rows _ (are-leaf F s p (size T) (Literal v) (at-push F T.rows _ h) refl refl (λ a q. q))
+    Are-add s T (by_name {x} {p}) h =
+        grown s (size T) T.rows _ (are-leaf F s p (size T) (Name (number_of T.names x)) (at-push F T.rows _ h) refl refl (λ a q. q))
+    Are-add s T (by_unary {o} {a} {p} t) h =
+        let U = add s T a in
+        let e = Are-add s T t (Has-push F U.rows _ h) in
+        grown s (size T) U.rows _
+        (are-unary F s p (size T) (last U) (size U) o (at-push F U.rows _ h) (push-within F U.rows _ h) (last_of s (size T) (size U) e) e)
+    Are-add s T (by_binary {o} {a} {b} {p} t u) h =
+        let U = add s T a in
+        let V = add s U b in
+        let after = Has-push F V.rows _ h in
+        let e = Are-add s T t (Has-add F b s U after) in
+        let f = Are-add s U u after in
+        grown s (size T) V.rows _
+        (are-binary F s p (size T) (size U) (last U) (last V) (size V) o (at-push F V.rows _ h) (push-within F V.rows _ h) (last_of s (size T) (size U) e)
+        (last_of s (size U) (size V) f) e f)
+    Are-add s T (by_array {a} {b} {p} t u) h =
+        let U = add s T a in
+        let V = add s U b in
+        let after = Has-push F V.rows _ h in
+        let e = Are-add s T t (Has-add F b s U after) in
+        let f = Are-add s U u after in
+        grown s (size T) V.rows _
+        (are-array F s p (size T) (size U) (last U) (last V) (size V) (at-push F V.rows _ h) (push-within F V.rows _ h) (last_of s (size T) (size U) e)
+        (last_of s (size U) (size V) f) e f)
+    Are-add s T (by_fetch {t = a} {i = b} {p} t u) h =
+        let U = add s T a in
+        let V = add s U b in
+        let after = Has-push F V.rows _ h in
+        let e = Are-add s T t (Has-add F b s U after) in
+        let f = Are-add s U u after in
+        grown s (size T) V.rows _
+        (are-fetch F s p (size T) (size U) (last U) (last V) (size V) (at-push F V.rows _ h) (push-within F V.rows _ h) (last_of s (size T) (size U) e)
+        (last_of s (size U) (size V) f) e f)
+    Are-add s T (by_conditional {t} {x} {y} {p} d e f) h =
+        let U = add s T t in
+        let n = size U in
+        let S = with_row U s p (size T) (Split (last U)) in
+        let X = add (arm s n true) S x in
+        let Y = add (arm s n false) X y in
+        let has = Has-push F Y.rows _ h in
+        let has_then = Has-add F y (arm s n false) X has in
+        let has_split = Has-add F x (arm s n true) S has_then in
+        let test = Are-add s T d (Has-push F U.rows _ has_split) in
+        let then = Are-add (arm s n true) S e has_then in
+        let otherwise = Are-add (arm s n false) X f has in
+        let then_last : suc (last X) ≡ size X = last_of (arm s n true) (size S) (size X) then in
+        let start : size S ≡ suc n = push-size U.rows _ in
+        grown s (size T) Y.rows _ (are-conditional F s p (size T) (last U) n (last X) (last Y) (size Y) (record {
+          within = push-within F Y.rows _ h;
+          test = test;
+          test_ends = last_of s (size T) n test;
+          split = at-push F U.rows _ has_split;
+          then = subst (λ m. AreExpression F (arm s n true) m (suc (last X))) start (subst (AreExpression F (arm s n true) (size S)) (sym then_last) then);
+          otherwise = subst (λ m. AreExpression F (arm s n false) m (size Y)) (sym then_last) otherwise;
+          otherwise_ends = last_of (arm s n false) (size X) (size Y) otherwise;
+          row = at-push F Y.rows _ h;
+        }))
+    Are-add s T (by_call {x} {a} {p} d) h =
+        let e = size T in
+        let E = entered s T x p in
+        let U = add_arguments s p e 0 E a in
+        let has = Has-push F U.rows _ h in
+        let own = Has-arguments F a s p e 0 E has in
+        let start = called-enter F s p e (size U) (count_of a) (number_of T.names x) (at-push F T.rows _ own) (at-push F U.rows _ h)
+        (push-within F U.rows _ h) in
+        let all = Are-arguments s p e (size U) (count_of a) 0 E d has (omega arith) (omega arith)
+        (subst (Called F s p e (size U) (count_of a) 0) (sym (push-size T.rows _)) start) in
+        grown s e U.rows _ (are-call F s p e (size U) (count_of a) all)
+    Are-add s T no_arguments h = tt
+    Are-add s T (more_arguments d f) h = tt
+    Are-add s T (by_block {ss} {b} {p} t u) h =
+        let U = add s T ss in
+        let V = add s U b in
+        let after = Has-push F V.rows _ h in
+        let f = Are-add s U u after in
+        let ends = last_of s (size U) (size V) f in
+        grown s (size T) V.rows _
+        (are-block F s p (size T) (size U) (last V) (size V) (at V.rows (last V)).value (at-push F V.rows _ h) (push-within F V.rows _ h) ends
+        (ap (λ (r : Row). r.value) (sym (after.same (last V) (omega arith)))) (Are-add s T t (Has-add F b s U after)) f)
+    Are-add s T no_statements h = record {
+      low = omega arith;
+      rows = RowsAre-none F s (size T);
+      turned = λ i b c e. absurd (omega arith);
+      held = λ i b c e. absurd (omega arith);
+    }
+    Are-add s T (more_statements {x} {a} {ss} {p} t u) h =
+        let U = add s T a in
+        let V = add s T (binding x a p) in
+        let after = Has-add F ss s V h in
+        let e = Are-add s T t (Has-push F U.rows _ after) in
+        statement-before F s (size T) (size U) (size (add s V ss))
+        (are-binding F s p (size T) (number_of U.names x) (last U) (size U) (at-push F U.rows _ after) (last_of s (size T) (size U) e) e)
+        (subst (λ n. AreStatements F s n (size (add s V ss))) (push-size U.rows _) (Are-add s V u h))
+    Are-add s T (next_statement {x} {a} {ss} {p} t u) h =
+        let U = add s T a in
+        let V = add s T (next x a p) in
+        let after = Has-add F ss s V h in
+        let e = Are-add s T t (Has-push F U.rows _ after) in
+        statement-before F s (size T) (size U) (size (add s V ss))
+        (are-binding F s p (size T) (number_of U.names x) (last U) (size U) (at-push F U.rows _ after) (last_of s (size T) (size U) e) e)
+        (subst (λ n. AreStatements F s n (size (add s V ss))) (push-size U.rows _) (Are-add s V u h))
+    Are-add s T (store_statement {t} {i} {e} {ss} {p} d f g u) h =
+        let U = add s T t in
+        let V = add s U i in
+        let A = addressed s T t i p in
+        let W = add s A e in
+        let X = add s T (store t i e p) in
+        let after = Has-add F ss s X h in
+        let has = Has-push F W.rows _ after in
+        let has_index = Has-push F V.rows _ (Has-add F e s A has) in
+        let own = stored s T t i e p after (Are-add s T d (Has-add F i s U has_index)) (Are-add s U f has_index) (Are-add s A g has) in
+        statement-before F s (size T) (size W) (size (add s X ss)) own
+        (subst (λ n. AreStatements F s n (size (add s X ss))) (push-size W.rows _) (Are-add s X u h))
+    Are-add s T (by_loop {t} {ss} {l} {p} d e f) h =
+        let lo = size T in
+        let head = suc lo in
+        let S = with_row T s p lo Start in
+        let H = headed s T p in
+        let V = add_variables (in_top head) H ss in
+        let E = begin_loop s T ss p in
+        let U = tested s T t ss p in
+        let W = switched s T t ss p in
+        let B = opened s T t ss p in
+        let N = stated s T t ss p in
+        let C = closed s T t ss p in
+        let L = left_by s T t ss l p in
+        let Z = reset s T t ss l p in
+        let w = size U in
+        let n = size Z in
+        let body = arm (in_top head) w true in
+        let behind = arm (in_top head) w false in
+        let has_reset = Has-push F Z.rows _ h in
+        let has_last = Has-push F L.rows _ has_reset in
+        let has_body = Has-add F l behind C has_last in
+        let has_statements = Has-push F N.rows _ has_body in
+        let has_turn = Has-nexts F ss body 0 B has_statements in
+        let has_switches = Has-push F W.rows _ has_turn in
+        let has_test = Has-push F U.rows _ has_switches in
+        let has_entries = Has-add F t (in_top head) E has_test in
+        let has_variables = Has-push F V.rows _ has_entries in
+        let has_head = Has-variables F ss (in_top head) H has_variables in
+        let has_start = Has-push F S.rows _ has_head in
+        let to_head : size S ≡ head = push-size T.rows _ in
+        let to_variables : size H ≡ suc (size S) = push-size S.rows _ in
+        let to_test : size E ≡ suc (size V) = push-size V.rows _ in
+        let to_turn : size W ≡ suc w = push-size U.rows _ in
+        let to_body : size B ≡ suc (size W) = push-size W.rows _ in
+        let to_last : size C ≡ suc (size N) = push-size N.rows _ in
+        let to_loop : n ≡ suc (size L) = push-size L.rows _ in
+        let many = size-variables (in_top head) ss H in
+        let variables = variables-added F head 0 ss H (omega arith) has_variables in
+        let test = Are-add (in_top head) E d has_test in
+        let last_rows = Are-add behind C f has_last in
+        let test_last : suc (last U) ≡ w = last_of (in_top head) (size E) w test in
+        let last_last : suc (last L) ≡ size L = last_of behind (size C) (size L) last_rows in
+        let head_row = subst (λ k. at F k ≡ row_in (in_top head) p head k (LoopHead lo)) to_head (at-push F S.rows _ has_head) in
+        let loop_row : at F n ≡ row_in s p lo n (Loop head w (last L)) = at-push F Z.rows _ h in
+        let round : IsRound F lo head w (last L) n = record {
+          within = push-within F Z.rows _ h;
+          low = omega (arith, test.low, test.ends);
+          head = ap (λ (r : Row). r.node) head_row;
+          node = ap (λ (r : Row). r.node) loop_row;
+        } in
+        let statements = Are-nexts lo head w (last L) n 0 B e round has_statements variables (omega arith) (omega (arith, last_rows.low, last_rows.ends)) in
+        let begun : size B ≡ suc (suc w) = omega arith in
+        grown s lo Z.rows _ (are-loop F s p lo (size V) (last U) w (size N) (last L) n (record {
+          within = push-within F Z.rows _ h;
+          ends = omega arith;
+          start = at-push F T.rows _ has_start;
+          head = head_row;
+          count = 0 + nexts_in ss;
+          many = omega arith;
+          variable = λ k g. variables-each F head 0 ss variables k (omega arith) (omega arith);
+          entries = at-push F V.rows _ has_entries;
+          test = subst (λ k. AreExpression F (in_top head) k w) to_test test;
+          test_ends = test_last;
+          switches = subst (λ k. at F w ≡ row_in (in_top head) p k w (Switches (last U))) to_test (at-push F U.rows _ has_switches);
+          turn = subst (λ k. at F k ≡ row_in body p k k Turn) to_turn (at-push F W.rows _ has_turn);
+          body = subst (λ k. AreNexts F body 0 (0 + nexts_in ss) k (size N)) begun statements;
+          body_end = subst (λ k. at F (size N) ≡ row_in body p k (size N) Body) begun (at-push F N.rows _ has_body);
+          last = subst (λ k. AreExpression F behind k (suc (last L))) to_last (subst (AreExpression F behind (size C)) (sym last_last) last_rows);
+          reset = subst (λ k. at F k ≡ row_in behind p (suc (size N)) k (Reset (last L))) (sym last_last)
+              (subst (λ k. at F (size L) ≡ row_in behind p k (size L) (Reset (last L))) to_last (at-push F L.rows _ has_reset));
+          row = loop_row;
+        }))
+    Are-add s T no_params h = λ high. record {
+      low = omega arith;
+      rows = RowsAre-none F s (size T);
+      param = λ i b c. absurd (omega arith);
+      block = λ i b c. absurd (omega arith);
+    }
+    Are-add s T (more_params {x} {k} {ps} {p} t) h =
+        let U = add s T (param x k p) in
+        λ high. are-param F s p (size (add s U ps)) (number_of T.names x) (size T) k high (at-push F T.rows _ (Has-add F ps s U h))
+        (subst (λ n. AreParams F s n (size (add s U ps))) (push-size T.rows _) (Are-add s U t h high))
+    Are-add s T no_defs h = λ i b c. absurd (omega arith)
+    Are-add s T (more_defs {x} {k} {ps} {b} {ds} {p} t u v) h =
+        let D = add s T (define x ps k b p) in
+        let n = size T in
+        let w = in_top n in
+        let H = with_row T w p n Head in
+        let U = add w H ps in
+        let V = add w U b in
+        let has = Has-add F ds s D h in
+        let after = Has-push F V.rows _ has in
+        let own = are-define F T.rows V.rows p (size U) (number_of V.names x) (last V) k (Has-add F ps w H (Has-add F b w U after)) has
+        (Are-add w H t (Has-add F b w U after) refl) (Are-add w U u after) (NoParams-expression F w U u after) refl in
+        let rest = Are-add s D v h in
+        λ i c d. elim (cases_lt i (size D)) [ inl f ↦ own i c f | inr f ↦ rest i f d ]
+
+    -- the rows of arguments come behind those of the arguments before them
+    Are-arguments : {t : Tree} (s : Stand) (p e n c i : ℕ) (T : Parts) → IsTree Arguments t → Has F (add_arguments s p e i T t).rows → i + count_of t ≡ c
+        → size (add_arguments s p e i T t) ≤ n → Called F s p e n c i (size T) → Called F s p e n c c (size (add_arguments s p e i T t))
+    Are-arguments s p e n c i T no_arguments h same within t = let z : i ≡ c = omega arith in subst (λ k. Called F s p e n c k (size T)) z t
+    Are-arguments s p e n c i T (more_arguments {a} {b} d f) h same within t =
+        let U = add s T a in
+        let A = argued s p e i U in
+        let has = Has-arguments F b s p e (suc i) A h in
+        let value = Are-add s T d (Has-push F U.rows _ has) in
+        let long = push-size U.rows (row_for U.rows s p e (Arg e i (last U))) in
+        let longer : size A ≤ size (add_arguments s p e (suc i) A b) = arguments-within b s p e (suc i) A in
+        let one = called-argument F s p e n c i (size T) (size U) (last U) t value (last_of s (size T) (size U) value) (at-push F U.rows _ has)
+        (omega arith) (omega arith) in
+        Are-arguments s p e n c (suc i) A f h (omega arith) within (subst (Called F s p e n c (suc i)) (sym long) one)
+
+    -- the rows of the statements of a loop
+    Are-nexts : {t : Tree} (u g w l n i : ℕ) (T : Parts) → IsTree Statements t → IsRound F u g w l n → Has F (add_nexts (arm (in_top g) w true) i T t).rows
+        → Variables F g i t → w < size T → size (add_nexts (arm (in_top g) w true) i T t) ≤ n
+        → AreNexts F (arm (in_top g) w true) i (i + nexts_in t) (size T) (size (add_nexts (arm (in_top g) w true) i T t))
+    Are-nexts u g w l n i T no_statements r h v after within =
+        let s = arm (in_top g) w true in
+        let z : i ≡ i + 0 = omega arith in
+        subst (λ c. AreNexts F s i c (size T) (size T)) z (nexts-none F s i (size T))
+    Are-nexts u g w l n i T (more_statements {x} {a} {ss} {p} d e) r h v after within =
+        let s = arm (in_top g) w true in
+        let U = add s T a in
+        let V = add s T (binding x a p) in
+        let c = i + nexts_in ss in
+        let has = Has-nexts F ss s i V h in
+        let value = Are-add s T d (Has-push F U.rows _ has) in
+        let long : size V ≡ suc (size U) = push-size U.rows _ in
+        let one = one-statement F s (size T) i (size U) (omega (arith, r.low))
+        (are-binding F s p (size T) (number_of U.names x) (last U) (size U) (at-push F U.rows _ has) (last_of s (size T) (size U) value) value) in
+        let rest = Are-nexts u g w l n i V e r h v (omega (arith, value.low, value.ends)) within in
+        nexts-both F s i i c (size T) (size V) (size (add_nexts s i V ss)) (subst (AreNexts F s i i (size T)) (sym long) one) rest
+    Are-nexts u g w l n j T (store_statement {t} {i} {e} {ss} {p} d f k q) r h v after within =
+        let s = arm (in_top g) w true in
+        let U = add s T t in
+        let V = add s U i in
+        let A = addressed s T t i p in
+        let W = add s A e in
+        let X = add s T (store t i e p) in
+        let c = j + nexts_in ss in
+        let has = Has-nexts F ss s j X h in
+        let has_value = Has-push F W.rows _ has in
+        let has_index = Has-push F V.rows _ (Has-add F e s A has_value) in
+        let own = stored s T t i e p has (Are-add s T d (Has-add F i s U has_index)) (Are-add s U f has_index) (Are-add s A k has_value) in
+        let long : size X ≡ suc (size W) = push-size W.rows _ in
+        let one = one-statement F s (size T) j (size W) (omega (arith, r.low)) own in
+        let rest = Are-nexts u g w l n j X q r h v (omega (arith, own.low)) within in
+        nexts-both F s j j c (size T) (size X) (size (add_nexts s j X ss)) (subst (AreNexts F s j j (size T)) (sym long) one) rest
+    Are-nexts u g w l n i T (next_statement {x} {a} {ss} {p} d e) r h v after within =
+        let s = arm (in_top g) w true in
+        let N = used s T x p in
+        let U = add s N a in
+        let V = nexted s i T x a p in
+        let name = number_of T.names x in
+        let c = suc i + nexts_in ss in
+        let has = Has-nexts F ss s (suc i) V h in
+        let has_value = Has-push F U.rows _ has in
+        let has_use = Has-add F a s N has_value in
+        let value = Are-add s N d has_value in
+        let short : size N ≡ suc (size T) = push-size T.rows _ in
+        let long : size V ≡ suc (size U) = push-size U.rows _ in
+        let longer : size V ≤ size (add_nexts s (suc i) V ss) = nexts-within ss s (suc i) V in
+        let one = one-next F u g w l n r p (size T) name i (last U) (size U) (at-push F T.rows _ has_use)
+        (subst (λ k. AreExpression F s k (size U)) short value) (last_of s (size N) (size U) value) (at-push F U.rows _ has) v.0 after (omega arith) in
+        let rest = Are-nexts u g w l n (suc i) V e r h v.1 (omega (arith, value.low, value.ends)) within in
+        let z : c ≡ i + suc (nexts_in ss) = omega arith in
+        subst (λ k. AreNexts F s i k (size T) (size (add_nexts s (suc i) V ss))) z
+        (nexts-both F s i (suc i) c (size T) (size V) (size (add_nexts s (suc i) V ss)) (subst (AreNexts F s i (suc i) (size T)) (sym long) one) rest)
+
+abbrev is_start : Node → Bool
+is_start Start = true
+is_start _ = false
+
+abbrev start_or : ℕ → Node → ℕ
+start_or d (LoopHead t) = t
+start_or d _ = d
+
+abbrev reset_or : ℕ → Node → ℕ
+reset_or d (Reset v) = v
+reset_or d _ = d
+
+variable_node : (n : Node) → is_variable n ≡ true → n ≡ Variable
+variable_node Variable e = refl
+variable_node _ e = absurd (false≢true e)
+
+-- a side of the switches of a loop begins behind them
+InSide-low : (w b n i : ℕ) (side : Bool) → w + 1 < b → InSide w b n side i → w < i
+InSide-low w b n i true l h = h.0
+InSide-low w b n i false l h = omega (arith, h.0)
+
+-- an expression can be On, and so can a store
+expression_on : (n : Node) → is_expression n ≡ true → can_be_on n ≡ true
+expression_on (Store a v) e = absurd (false≢true e)
+expression_on _ e = e
+
+store_on : (n : Node) → is_store n ≡ true → can_be_on n ≡ true
+store_on (Store a v) e = refl
+store_on _ e = absurd (false≢true e)
+
+-- a node of which something is true that is false of heads is no head
+no_head : (f : Node → Bool) → f Head ≡ false → ((t : ℕ) → f (LoopHead t) ≡ false) → (n : Node) → f n ≡ true → begins_block n ≡ false
+no_head f a b Head e = absurd (false≢true (sym a ∙ e))
+no_head f a b (LoopHead t) e = absurd (false≢true (sym (b t) ∙ e))
+no_head f a b _ e = refl
+
+-- an arm begins behind its split
+InArm-low : (s x n i : ℕ) (b : Bool) → s < x → InArm s x n b i → s < i
+InArm-low s x n i true l h = h.0
+InArm-low s x n i false l h = omega (arith, h.0)
+
+-- each split, each loop and each pair of switches stands in a region that begins before it
+record Begun (F : List Row) : Type 0 where
+  split : (u : ℕ) → u < length F → is_split (at F u).node ≡ true → (at F u).region.head < u
+  loop : (u s : ℕ) → u < length F → (at F u).node ≡ LoopHead s → (at F s).region.head < u
+  switches : (u : ℕ) → u < length F → is_switches (at F u).node ≡ true → (at F u).region.head < u
+
+-- what lies in a region begins no earlier
+Lies-head : (F : List Row) (q r : Region) → Begun F → Lies F q r → q.head ≤ r.head
+Lies-head F q r before here = omega arith
+Lies-head F q r before (in_arm {s} w e l) = let z = before.split s w e in let y = Lies-head F q (at F s).region before l in omega arith
+Lies-head F q r before (in_loop {h} {s} w e l) = let z = before.loop h s w e in let y = Lies-head F q (at F s).region before l in omega arith
+Lies-head F q r before (in_side {w = u} w e l) = let z = before.switches u w e in let y = Lies-head F q (at F u).region before l in omega arith
+
+-- a table whose rows but the last stand in procedures, and whose last row is `Program`
+record Ends (F : List Row) (n : ℕ) : Type 0 where
+  size : length F ≡ suc n
+  rows : (i : ℕ) → i < n → StandsIn F i (at F i)
+  last : at F n ≡ record { place = 0; first = 0; block = 0; region = top 0; value = n; node = Program }
+
+module _ (F : List Row) (n : ℕ) (h : Ends F n) where
+  ends_node : (at F n).node ≡ Program
+  ends_node = ap (λ (r : Row). r.node) h.last
+
+  -- what is true of each row in a procedure and of the last row is true of each
+  by_row : (P : ℕ → Row → Type 0) → ((i : ℕ) → StandsIn F i (at F i) → P i (at F i)) → P n (at F n) → (i : ℕ) → i < length F → P i (at F i)
+  by_row P each end i b = elim (cases_lt i n) [
+    | inl l ↦ each i (h.rows i l)
+    | inr l ↦ let e : n ≡ i = omega (arith, h.size) in
+        subst (λ k. P k (at F k)) e end
+  ]
+
+  -- and where it cannot be true of `Program`
+  in_procedure : (i : ℕ) → i < length F → ((at F i).node ≡ Program → ⊥) → StandsIn F i (at F i)
+  in_procedure i b other = elim (cases_lt i n) [
+    | inl l ↦ h.rows i l
+    | inr l ↦ let e : i ≡ n = omega (arith, h.size) in
+        absurd (other (ap (λ k. (at F k).node) e ∙ ends_node))
+  ]
+
+  not_end : (f : Node → Bool) → f Program ≡ false → (i : ℕ) → f (at F i).node ≡ true → (at F i).node ≡ Program → ⊥
+  not_end f e i t p = false≢true (sym e ∙ sym (ap f p) ∙ t)
+
+  Formed-ends : IsFormed F
+  Formed-ends = record {
+    each = by_row (λ i r. Formed i r) (λ i s. record { first = s.first; parts = s.fits.formed })
+        (subst (Formed n) (sym h.last) (record { first = omega arith; parts = λ a e. absurd e }));
+  }
+
+  Nested-ends : IsNested F
+  Nested-ends = record {
+    each = λ i j l b f. by_row (λ k r. (m : ℕ) → r.first ≤ m → m < k → r.first ≤ (at F m).first) (λ k s. s.nested)
+        (subst (λ (r : Row). (m : ℕ) → r.first ≤ m → m < n → r.first ≤ (at F m).first) (sym h.last) (λ m g k. omega arith)) j b i f l;
+  }
+
+  def_here : (i : ℕ) → i + 1 < length F → StandsIn F i (at F i)
+  def_here i b = h.rows i (omega (arith, h.size))
+
+  head_at : (i x g b : ℕ) (k : Kind) → i < length F → (at F i).node ≡ Def x g k b
+      → ((at F g).node ≡ Head) × ((at F i).first ≡ g) × (is_expression (at F b).node ≡ true)
+  head_at i x g b k l e = (in_procedure i l (not_end is_def refl i (ap is_def e))).head_is x g b k e
+
+  -- of two definitions of one head none is behind the other
+  no_later : (m k g : ℕ) → IsDefOf F m g → IsDefOf F k g → m < k → ⊥
+  no_later m k g d e l =
+      let s = in_procedure k e.within (not_end is_def refl k (ap is_def e.node)) in
+      let f = (head_at k e.name g e.body e.result e.within e.node).1 in
+      let before = ((in_procedure m d.within (not_end is_def refl m (ap is_def d.node))).fits.formed g
+      (subst (λ x. HasPart x g) (sym d.node) (inl refl))).1 in
+      false≢true (sym (s.alone (ap is_def e.node) m (omega arith) l) ∙ ap is_def d.node)
+
+  -- a row of a conditional belongs to the others of it
+  belongs : (i : ℕ) (m : Node) → i < length F → (at F i).node ≡ m → (m ≡ Program → ⊥) → Belongs F i m
+  belongs i m l e other = subst (Belongs F i) e (in_procedure i l (λ p. other (sym e ∙ p))).fits.belongs
+
+  branches : (i u : ℕ) (c : IsIfOf F i u) → IsSplitOf F u i × AreArms F u c.then c.otherwise i
+  branches i u c = belongs i (If u c.then c.otherwise) c.within c.node (λ p. false≢true (sym (ap is_if p)))
+
+  -- the region of a row that is no head begins before it
+  region_before : (u : ℕ) → u < length F → ((at F u).node ≡ Program → ⊥) → begins_block (at F u).node ≡ false → (at F u).region.head < u
+  region_before u l other e =
+      let q = in_procedure u l other in
+      elim q.region [
+        | inl r ↦ elim (cases_lt (at F u).block u) [
+          | inl f ↦ omega (arith, f, ap (λ (z : Region). z.head) r)
+          | inr f ↦ let z : u ≡ (at F u).block = omega (arith, f, q.block.0) in
+              absurd (false≢true (sym e ∙ ap (λ k. begins_block (at F k).node) z ∙ q.block.1))
+        ]
+        | inr (inl k) ↦
+            let a = (branches k.row k.split k.conditional).1 in
+            let b = InArm-low k.split k.conditional.then k.row u k.side a.low k.among in
+            omega (arith, b, ap (λ (z : Region). z.head) k.region)
+        | inr (inr k) ↦
+            let b = InSide-low k.loop.switches k.body k.row u k.side k.body_is.low k.among in
+            omega (arith, b, ap (λ (z : Region). z.head) k.region)
+      ]
+
+  loop_rows : (i u : ℕ) (c : IsLoopOf F i u) → IsLoop F i u c.switches c.last
+  loop_rows i u c = belongs i (Loop u c.switches c.last) c.within c.node (λ p. false≢true (sym (ap is_loop p)))
+
+  loop_low : (i u : ℕ) → IsLoopOf F i u → u < i
+  loop_low i u c = let z = loop_rows i u c in omega (arith, z.before_test.low, z.test.low, z.test.behind, z.body_is.low, z.last_is.low, z.last_is.ends)
+
+  -- a part of a loop stands where it ought to
+  part_of_loop : (i : ℕ) (m : Node) → i < length F → (at F i).node ≡ m → is_in_loop m ≡ true
+      → (n : ℕ) × (c : IsLoopOf F n (at F i).block) × (let z = loop_rows n (at F i).block c in StandsAt (at F i).block z.entries c.switches z.body n m i)
+  part_of_loop i m l e is =
+      let q = in_procedure i l (not_end is_in_loop refl i (ap is_in_loop e ∙ is)) in
+      let w = q.loop_of (ap is_in_loop e ∙ is) in
+      let z = loop_rows w.0 (at F i).block w.1 in
+      (w.0, w.1, subst (λ k. StandsAt (at F i).block z.entries w.1.switches z.body w.0 k i) e (z.stands i q.block.0 w.2 refl))
+
+  -- a `Reset` right before a loop names its last expression
+  reset_last : (i v m u : ℕ) (c : IsLoopOf F m u) → (at F i).node ≡ Reset v → i + 1 ≡ m → c.last ≡ v
+  reset_last i v m u c e q =
+      let z = (loop_rows m u c).last_is in
+      let same : c.last + 1 ≡ i = omega (arith, z.ends, q) in
+      ap (reset_or 0) (sym z.node ∙ ap (λ k. (at F k).node) same ∙ e)
+
+  loop_at : (u t : ℕ) → u < length F → (at F u).node ≡ LoopHead t → (n : ℕ) × IsLoopOf F n u
+  loop_at u t l e = belongs u (LoopHead t) l e (λ p. false≢true (sym (ap begins_block p)))
+
+  -- the region of a loop begins before its head
+  loop_before : (u s : ℕ) → u < length F → (at F u).node ≡ LoopHead s → (at F s).region.head < u
+  loop_before u s l e =
+      let c = loop_at u s l e in
+      let z = loop_rows c.0 u c.1 in
+      let node = z.start_of.node in
+      let low : z.start < length F = omega (arith, z.begins, l) in
+      let y = region_before z.start low (λ p. false≢true (sym (ap is_start (sym node ∙ p)))) (ap begins_block node) in
+      let same : s ≡ z.start = omega (arith, z.begins, ap (start_or 0) (sym e ∙ z.before_test.head)) in
+      let q = ap (λ k. (at F k).region.head) same in
+      omega (arith, y, q, z.begins)
+
+  loop_once : (m k u : ℕ) → IsLoopOf F m u → IsLoopOf F k u → m ≡ k
+  loop_once m k u d e = elim (cases_lt m k) [
+    | inl l ↦ absurd ((loop_rows k u e).alone m d.switches d.last (loop_low m u d) l d.node)
+    | inr l ↦ elim (cases_lt k m) [
+      | inl f ↦ absurd ((loop_rows m u d).alone k e.switches e.last (loop_low k u e) f e.node)
+      | inr f ↦ omega arith
+    ]
+  ]
+
+  -- a `next` statement stands in the body of its loop
+  next_inside : (m u k x : ℕ) (s : IsNextOf F m u k x) → (n : ℕ) × (c : IsLoopOf F n u) × IsNextIn F n m u c.switches k x s.outer
+  next_inside m u k x s =
+      let q = belongs m (Next x k s.outer s.value) s.within s.node (λ p. false≢true (sym (ap is_next p))) in
+      subst (λ g. (n : ℕ) × (c : IsLoopOf F n g) × IsNextIn F n m g c.switches k x s.outer) s.block (q.loop, q.of, q.inside)
+
+  next_low : (m u k x : ℕ) (s : IsNextOf F m u k x) → u < m
+  next_low m u k x s =
+      let q = next_inside m u k x s in
+      let z = loop_rows q.0 u q.1 in
+      let f = ((in_procedure m s.within (not_end is_next refl m (ap is_next s.node))).fits.formed s.outer
+      (subst (λ y. HasPart y s.outer) (sym s.node) (inl refl))).1 in
+      omega (arith, f, q.2.before, z.before_test.low, z.test.low, z.test.behind)
+
+  next_once : (m l u k x y : ℕ) → IsNextOf F m u k x → IsNextOf F l u k y → m ≡ l
+  next_once m l u k x y a b =
+      let v = next_inside m u k x a in
+      let w = next_inside l u k y b in
+      let same = loop_once w.0 v.0 u w.1 v.1 in
+      (loop_rows v.0 u v.1).once m l k x y (next_low m u k x a) v.2.behind (next_low l u k y b) (omega (arith, w.2.behind, same)) a b
+
+  begun : Begun F
+  begun = record {
+    split = λ u l e. region_before u l (not_end is_split refl u e) (no_head is_split refl (λ t. refl) (at F u).node e);
+    loop = loop_before;
+    switches = λ u l e. region_before u l (not_end is_switches refl u e) (no_head is_switches refl (λ t. refl) (at F u).node e);
+  }
+
+  -- of two conditionals of one split none is behind the other
+  no_later_if : (m k u : ℕ) → IsIfOf F m u → IsIfOf F k u → m < k → ⊥
+  no_later_if m k u d e l =
+      let a = branches m u d in
+      let b = branches k u e in
+      let low : u < m = omega (arith, a.1.low, a.1.next, a.1.ends) in
+      let in_one : (side : Bool) → InArm u e.then k side m → ⊥ = λ side among.
+      let z = Lies-head F (arm_at u side) (at F u).region begun (subst (Lies F (arm_at u side)) (sym a.0.region) (b.1.each side m among)) in
+      let y = begun.split u (omega (arith, low, d.within)) (ap is_split a.0.node) in
+      omega arith in
+      elim (cases_lt e.then m) [ inl f ↦ in_one false (f, l) | inr f ↦ in_one true (low, f) ]
+
+  -- the parameters of a definition
+  params_at_def : (i g : ℕ) → IsDefOf F i g → AreParamsOf F g i
+  params_at_def i g d =
+      let first = (head_at i d.name g d.body d.result d.within d.node).1 in
+      subst (λ h. AreParamsOf F h i) first ((in_procedure i d.within (not_end is_def refl i (ap is_def d.node))).params (ap is_def d.node))
+
+  in_call : (i u : ℕ) (c : IsCallOf F i u) → IsEnterOf F u i × AreArgs F u i c.count
+  in_call i u c = belongs i (Call u c.count) c.within c.node (λ p. false≢true (sym (ap is_call p)))
+
+  arg_belongs : (i u k : ℕ) (a : IsArgOf F i u k) → IsArgIn F i u k a.value
+  arg_belongs i u k a = belongs i (Arg u k a.value) a.within a.node (λ p. false≢true (sym (ap is_arg p)))
+
+  call_once : (m k u : ℕ) → IsCallOf F m u → IsCallOf F k u → m ≡ k
+  call_once m k u d e = elim (cases_lt m k) [
+    | inl l ↦ absurd (later m k d e l)
+    | inr l ↦ elim (cases_lt k m) [ inl f ↦ absurd (later k m e d f) | inr f ↦ omega arith ]
+  ]
+    where
+      -- of two calls of one `Enter` none is behind the other
+      later : (m k : ℕ) (d : IsCallOf F m u) → IsCallOf F k u → m < k → ⊥
+      later m k d e l = (in_call k u e).1.alone m d.count (in_call m u d).0.before l d.node
+
+  arg_once : (m l u k : ℕ) → IsArgOf F m u k → IsArgOf F l u k → m ≡ l
+  arg_once m l u k a b =
+      let v = arg_belongs m u k a in
+      let w = arg_belongs l u k b in
+      let same = call_once w.row v.row u w.call v.call in
+      (in_call v.row u v.call).1.once m l k v.stands.after v.stands.before w.stands.after (omega (arith, w.stands.before, same)) a b
+
+  address_in : (i a : ℕ) (c : IsStoreOf F i a) → IsAddressOf F a i c.value
+  address_in i a c = belongs i (Store a c.value) c.within c.node (λ p. false≢true (sym (ap is_store p)))
+
+  store_once : (m k a : ℕ) → IsStoreOf F m a → IsStoreOf F k a → m ≡ k
+  store_once m k a d e = elim (cases_lt m k) [
+    | inl l ↦ absurd (later m k d e l)
+    | inr l ↦ elim (cases_lt k m) [ inl f ↦ absurd (later k m e d f) | inr f ↦ omega arith ]
+  ]
+    where
+      -- of two stores of one `Address` none is behind the other: it would stand in the other's value, which begins behind the `Address`
+      later : (m k : ℕ) (d : IsStoreOf F m a) → IsStoreOf F k a → m < k → ⊥
+      later m k d e l =
+          let x = address_in m a d in
+          let y = address_in k a e in
+          let less = (Formed-ends.each a (omega (arith, x.before, x.value_behind, d.within))).first in
+          elim (cases_lt m e.value) [
+            | inl f ↦
+                let z = Nested-ends.each m e.value f (omega (arith, y.value_behind, e.within)) (omega (arith, y.value_first, x.before, x.value_behind)) in
+                omega (arith, z, y.value_first, x.first, less)
+            | inr f ↦ let z : e.value ≡ m = omega (arith, f, l, y.value_behind) in
+                omega (arith, ap (λ j. (at F j).first) z, y.value_first, x.first, less)
+          ]
+
+  IsTable-ends : IsTable F
+  IsTable-ends = record {
+    formed = Formed-ends;
+    nested = Nested-ends;
+    ends = let e : length F - 1 ≡ n = omega (arith, h.size) in ap (λ k. (at F k).node) e ∙ ends_node;
+    ends_once = λ i b e. elim (cases_lt i n) [ inl l ↦ absurd ((h.rows i l).no_program e) | inr l ↦ omega (arith, h.size) ];
+    some = omega (arith, h.size);
+    block = λ i b. (def_here i b).block;
+    region = λ i b. (def_here i b).region;
+    at_top = λ i b e. (in_procedure i b (not_end is_top refl i e)).fits.at_top e;
+    head_block = λ i b e. (in_procedure i b (not_end begins_block refl i e)).fits.heads e;
+    inside = λ j i b a. let w = around-within F j i a in (def_here j b).inside i w.0 w.1;
+    part_stands = λ i a l e. (in_procedure i l (λ p. subst (λ m. HasNear m a) p e)).fits.part_stands a e;
+    statement_stands = λ s b l e.
+        let w = around-within F s b e.inside in
+        let q = in_procedure s l (not_end has_statements refl s e.block) in
+        q.fits.statements e.block b w.0 w.1 e.statement e.right;
+    operand_is = λ i a l e. (in_procedure i l (λ p. subst (λ m. HasOperand m a) p e)).fits.operand_is a e;
+    head_place = λ i g d. (in_procedure i d.within (not_end is_def refl i (ap is_def d.node))).head_place d.name g d.body d.result d.node;
+    head_is = λ i x g b k l e. head_at i x g b k l e;
+    params = λ i g d. params_at_def i g d;
+    has_def = λ g l e. let s = in_procedure g l (not_end is_head refl g (ap is_head e)) in
+        let own = s.fits.heads (ap begins_block e) in
+        (s.def_of.row, subst (IsDefOf F s.def_of.row) (sym (s.def_of.block (ap (λ k. is_head (at F k).node) own ∙ ap is_head e)) ∙ own) s.def_of.def);
+    def_of = λ i b. (def_here i b).def_of;
+    one_def = λ m k g d e. elim (cases_lt m k) [
+      | inl l ↦ absurd (no_later m k g d e l)
+      | inr l ↦ elim (cases_lt k m) [ inl f ↦ absurd (no_later k m g e d f) | inr f ↦ omega arith ]
+    ];
+    has_if = λ u t l e. belongs u (Split t) l e (λ p. false≢true (sym (ap is_split p)));
+    one_if = λ m k u d e. elim (cases_lt m k) [
+      | inl l ↦ absurd (no_later_if m k u d e l)
+      | inr l ↦ elim (cases_lt k m) [ inl f ↦ absurd (no_later_if k m u e d f) | inr f ↦ omega arith ]
+    ];
+    split_of = λ i u c. (branches i u c).0;
+    arms = λ i u c. (branches i u c).1;
+    has_call = λ u x l e. belongs u (Enter x) l e (λ p. false≢true (sym (ap is_enter p)));
+    one_call = λ m k u d e. call_once m k u d e;
+    enter_of = λ i u c. (in_call i u c).0;
+    arg_of = λ i u k a. arg_belongs i u k a;
+    args_of = λ i u c. (in_call i u c).1;
+    one_arg = λ m l u k a b. arg_once m l u k a b;
+    has_store = λ a t i l e. belongs a (Address t i) l e (λ p. false≢true (sym (ap is_address p)));
+    one_store = λ m k a d e. store_once m k a d e;
+    address_of = λ i a c. address_in i a c;
+    in_loop = λ i t b e. (def_here i b).in_loop t e;
+    has_loop = λ u t l e. loop_at u t l e;
+    switches_of = λ u t l e. let c = belongs u (Switches t) l e (λ p. false≢true (sym (ap is_switches p))) in (c.loop, c.of, c.own);
+    entries_of = λ i l e. let w = part_of_loop i Entries l e refl in (w.0, w.1, sym w.2);
+    turn_of = λ i l e. let w = part_of_loop i Turn l e refl in (w.0, w.1, sym w.2);
+    body_of = λ i l e. let w = part_of_loop i Body l e refl in (w.0, w.1, sym w.2);
+    reset_of = λ i v l e. let w = part_of_loop i (Reset v) l e refl in (w.0, w.1, reset_last i v w.0 (at F i).block w.1 e w.2, w.2);
+    one_loop = λ m k u d e. loop_once m k u d e;
+    loop_is = λ i u c. loop_rows i u c;
+    start_of_loop = λ u l e. belongs u Start l e (λ p. false≢true (sym (ap is_start p)));
+    loop_of = λ i l e. (in_procedure i l (not_end is_in_loop refl i e)).loop_of e;
+    use_of = λ o x l e. let v = belongs o (NextUse x) l e (λ p. false≢true (sym (ap is_in_loop p))) in (v.row, v.index, v.next, v.own);
+    next_in = λ m u k x s. next_inside m u k x s;
+    has_next = λ i l e.
+        let v = belongs i Variable l (variable_node (at F i).node e) (λ p. false≢true (sym (ap is_variable p))) in
+        (v.row, v.index, v.name, v.next, v.own);
+    one_next = λ m l u k x y a b. next_once m l u k x y a b;
+    value_block = λ i b l e. (in_procedure i l (not_end is_block refl i (ap is_block e))).fits.value_block b e;
+    value_self = by_row (λ i r. is_block r.node ≡ false → r.value ≡ i) (λ i s. s.fits.value_self) (λ _. ap (λ (r : Row). r.value) h.last);
+    value_stands = λ i l e.
+        let v = (in_procedure i l (not_end is_expression refl i e)).fits.value e in
+        (v.within, v.expression, v.no_block, v.region, v.block);
+    turned = λ i l e. (in_procedure i l (not_end is_expression refl i e)).turned (expression_on (at F i).node e);
+    store_turned = λ i l e. (in_procedure i l (not_end is_store refl i e)).turned (store_on (at F i).node e);
+    in_a_block = λ i l e. (in_procedure i l (not_end is_statement refl i e)).in_a_block e;
+  }
+
+-- the rows of a program's tree are a table
+pub IsTable-rows_of : (t : Tree) → IsProgramTree t → IsTable (rows_of t)
+IsTable-rows_of t d =
+    let start : Parts = record { rows = []; names = first_names } in
+    let T = add (in_top 0) start t in
+    let F = rows_of t in
+    let r = row_for T.rows (in_top 0) 0 0 Program in
+    let rows = Are-add F (in_top 0) start d (Has-push F T.rows r (Has-itself F)) in
+    IsTable-ends F (size T) (record { size = push-size T.rows r; rows = λ i l. rows i (omega arith) l; last = at-push F T.rows r (Has-itself F) })
