@@ -1,8 +1,15 @@
 -- What has been read by parts that come one behind the other.
-use Rattle.std.proofs.Common.{◌≡◌, ℕ, ◌+◌, ◌≤◌, max, List, ◌∷◌, length, ap, arith}
+use Rattle.std.proofs.Common.{◌≡◌, ◌≢◌, ◌∙◌, ℕ, ◌+◌, ◌≤◌, max, List, ◌∷◌, length, ap, sym, arith}
 use Rattle.id_text.specs.Tokens.{EndsOnce}
 use Rattle.id_text.specs.declared.token.Token.{Token}
-use Rattle.id_grammar.specs.Readers.{IsBehind, IsRead, IsGathered}
+use Rattle.id_text.specs.declared.token.TokenKind.{TokenKind}
+use Rattle.id_text.specs.declared.token.TokenKind.TheVariants.{End}
+use Rattle.id_grammar.specs.Readers.{first_kind, IsBehind, IsRead, IsGathered}
+
+-- the tokens behind one of a kind that is not the end's
+pub EndsOnce-behind : {ts us : List Token} {t : Token} {k : TokenKind} → ts ≡ t ∷ us → first_kind ts ≡ k → (k ≢ End) → (t.kind ≢ End → EndsOnce us) →
+    EndsOnce us
+EndsOnce-behind e b n w = w (λ q. n (sym b ∙ ap first_kind e ∙ q))
 
 -- the tokens behind one
 pub IsBehind-token : {ts us : List Token} {t : Token} → ts ≡ t ∷ us → EndsOnce us → IsBehind us ts

@@ -30,7 +30,7 @@ use Rattle.id_parser.proofs.BlockLemmas.{opens_braces, At-block, At-loop, Enclos
 use Rattle.id_parser.proofs.BlockLemmas.{At-next, Fails-tail, Adds-done, IsGathered-add, Gathers-none, Gathers-add}
 use Rattle.id_parser.proofs.BlockLemmas.{Fails-gathered, Leads-gathered, Leads-last, Fails-last}
 use Rattle.id_parser.proofs.WholeLemmas.{MatchResult-whole}
-use Rattle.id_parser.proofs.ReadLemmas.{IsRead-token, IsRead-next, IsRead-both, IsRead-inside, IsRead-beside, IsRead-closed}
+use Rattle.id_parser.proofs.ReadLemmas.{EndsOnce-behind, IsRead-token, IsRead-next, IsRead-both, IsRead-inside, IsRead-beside, IsRead-closed}
 use Rattle.id_parser.proofs.ReadLemmas.{IsGathered-then, IsRead-gathered, IsGathered-call}
 use Rattle.id_grammar.proofs.ReaderLemmas.{At-surrounded, Fails-surrounded, Surrounds-done, Bares-word, Bares-part}
 use Rattle.id_parser.proofs.BlockLemmas.{Surrounds-tail, Bares-tail}
@@ -42,6 +42,26 @@ pub parse_expression-returns-else-begins_with : goal.parse_expression-returns-el
 parse_expression-returns-else-begins_with t c =
     let is_not : first_kind c.args.tokens.now ≡ Key If → ⊥ = search rules in
     MatchResult-weaker c.parse_grouped.result c.parse_grouped.ensures (λ x q. (q.0, Expression-leads is_not q.1)) (λ x q. Expression-fails is_not q)
+
+pub parse_conditional-parse_enclosed-requires : goal.parse_conditional-parse_enclosed-requires
+parse_conditional-parse_enclosed-requires t c =
+    (grind (arith, common_steps), (EndsOnce-behind c.in-Ok.ensures.whole c.requires.begins (λ q. cc) c.in-Ok.ensures.ends, omega (arith, c.in-Ok.ensures.fits)))
+
+pub parse_conditional-parse_enclosed-requires-2 : goal.parse_conditional-parse_enclosed-requires-2
+parse_conditional-parse_enclosed-requires-2 t c =
+    (grind (arith, common_steps), (c.in-Ok-parse_enclosed.ensures.0.behind.ends, omega (arith, c.in-Ok.ensures.fits)))
+
+pub parse_conditional-parse_expression-requires : goal.parse_conditional-parse_expression-requires
+parse_conditional-parse_expression-requires t c =
+    (grind (arith, common_steps), (c.in-Ok-parse_enclosed-2.ensures.0.behind.ends, omega (arith, c.in-Ok.ensures.fits)))
+
+pub parse_conditional-overflow_add-inner : goal.parse_conditional-overflow_add-inner
+parse_conditional-overflow_add-inner t c =
+    omega (arith, c.requires.room)
+
+pub parse_conditional-overflow_add-inner-2 : goal.parse_conditional-overflow_add-inner-2
+parse_conditional-overflow_add-inner-2 t c =
+    omega (arith, c.requires.room)
 
 pub parse_conditional-returns-in-Err : goal.parse_conditional-returns-in-Err
 parse_conditional-returns-in-Err t c =
@@ -111,6 +131,18 @@ pub parse_grouped-returns : goal.parse_grouped-returns
 parse_grouped-returns t c =
     (c.operators.invariant.0, Rises-ends c.operators.invariant.1 (sym c.operator_within.ensures ∙ c.in_default.is))
 
+pub parse_right-overflow_add-depth : goal.parse_right-overflow_add-depth
+parse_right-overflow_add-depth t c =
+    omega (arith, c.requires.fits)
+
+pub parse_right-overflow_add-depth-2 : goal.parse_right-overflow_add-depth-2
+parse_right-overflow_add-depth-2 t c =
+    omega (arith, c.requires.fits)
+
+pub parse_right-overflow_add-depth-3 : goal.parse_right-overflow_add-depth-3
+parse_right-overflow_add-depth-3 t c =
+    omega (arith, c.requires.fits)
+
 pub parse_right-returns-in-Err : goal.parse_right-returns-in-Err
 parse_right-returns-in-Err t c =
     Right-deep c.requires.ends c.args.level c.args.op c.requires.operator _ _ _ _ c.in-Err.ensures.err c.in-Err.ensures.deep
@@ -137,6 +169,18 @@ pub parse_negation-returns-else-begins_with : goal.parse_negation-returns-else-b
 parse_negation-returns-else-begins_with t c =
     let is_not : first_kind c.args.tokens.now ≡ Key Not → ⊥ = search rules in
     MatchResult-weaker c.parse_grouped.result c.parse_grouped.ensures (λ x q. (q.0, Negation-leads is_not q.1)) (λ x q. Negation-fails is_not q)
+
+pub parse_prefixed-overflow_add-inner : goal.parse_prefixed-overflow_add-inner
+parse_prefixed-overflow_add-inner t c =
+    omega (arith, c.requires.room)
+
+pub parse_prefixed-overflow_add-inner-2 : goal.parse_prefixed-overflow_add-inner-2
+parse_prefixed-overflow_add-inner-2 t c =
+    omega (arith, c.requires.room)
+
+pub parse_prefixed-unary-requires : goal.parse_prefixed-unary-requires
+parse_prefixed-unary-requires t c =
+    omega (arith, c.in-Ok-parse_operand.ensures.0.fits)
 
 pub parse_prefixed-parse_operand-requires : goal.parse_prefixed-parse_operand-requires
 parse_prefixed-parse_operand-requires t c =
@@ -192,6 +236,11 @@ parse_signed-returns-else-begins_with_sign t c =
     let is_not : first_kind c.args.tokens.now ≡ Sign Minus → ⊥ = search rules in
     MatchResult-weaker c.parse_postfix.result c.parse_postfix.ensures (λ x q. (q.0, Unary-leads is_not q.1)) (λ x q. Unary-fails is_not q)
 
+pub parse_postfix-parse_fetch-requires : goal.parse_postfix-parse_fetch-requires
+parse_postfix-parse_fetch-requires t c =
+    let is : first_kind c.fetches.rest.now ≡ Sign LeftBracket = search rules in
+    (grind (arith, common_steps), (c.fetches.invariant.0.behind.ends, (is, (c.fetches.invariant.0.some, c.fetches.invariant.0.fits))))
+
 pub parse_postfix-returns-in-Err : goal.parse_postfix-returns-in-Err
 parse_postfix-returns-in-Err t c =
     Postfix-fails c.in-Err.ensures
@@ -212,6 +261,22 @@ parse_postfix-returns t c =
     let is_not : first_kind c.fetches.rest.now ≡ Sign LeftBracket → ⊥ = search rules in
     (c.fetches.invariant.0, Pointed-ends c.fetches.invariant.1 is_not)
 
+pub parse_fetch-parse_enclosed-requires : goal.parse_fetch-parse_enclosed-requires
+parse_fetch-parse_enclosed-requires t c =
+    (grind (arith, common_steps), (EndsOnce-behind c.in-Ok.ensures.whole c.requires.begins (λ q. cc) c.in-Ok.ensures.ends, omega (arith, c.in-Ok.ensures.fits, c.requires.some)))
+
+pub parse_fetch-overflow_add-depth : goal.parse_fetch-overflow_add-depth
+parse_fetch-overflow_add-depth t c =
+    omega (arith, c.requires.fits)
+
+pub parse_fetch-overflow_add-depth-2 : goal.parse_fetch-overflow_add-depth-2
+parse_fetch-overflow_add-depth-2 t c =
+    omega (arith, c.requires.fits)
+
+pub parse_fetch-overflow_add-depth-3 : goal.parse_fetch-overflow_add-depth-3
+parse_fetch-overflow_add-depth-3 t c =
+    omega (arith, c.requires.fits)
+
 pub parse_fetch-returns-in-Err : goal.parse_fetch-returns-in-Err
 parse_fetch-returns-in-Err t c =
     Fetch-deep c.requires.ends c.requires.begins _ _ _ _ c.in-Err.ensures.err c.in-Err.ensures.deep
@@ -227,6 +292,22 @@ parse_fetch-returns t c =
       Fetch-indexes c.in-Ok.ensures.whole c.requires.begins _ _ _ c.in-Ok.ensures.fits c.in-Ok-parse_enclosed.ensures.1 p.1 p.0,
     ))
     (record { fails = λ K. tt })
+
+pub parse_array-parse_between-requires : goal.parse_array-parse_between-requires
+parse_array-parse_between-requires t c =
+    (grind (arith, common_steps), (EndsOnce-behind c.in-Ok.ensures.whole c.requires.begins (λ q. cc) c.in-Ok.ensures.ends, omega (arith, c.in-Ok.ensures.fits)))
+
+pub parse_array-parse_enclosed-requires : goal.parse_array-parse_enclosed-requires
+parse_array-parse_enclosed-requires t c =
+    (grind (arith, common_steps), (c.in-Ok-parse_between.ensures.0.behind.ends, omega (arith, c.in-Ok.ensures.fits)))
+
+pub parse_array-overflow_add-inner : goal.parse_array-overflow_add-inner
+parse_array-overflow_add-inner t c =
+    omega (arith, c.requires.room)
+
+pub parse_array-overflow_add-inner-2 : goal.parse_array-overflow_add-inner-2
+parse_array-overflow_add-inner-2 t c =
+    omega (arith, c.requires.room)
 
 pub parse_array-returns-in-Err : goal.parse_array-returns-in-Err
 parse_array-returns-in-Err t c =
@@ -251,6 +332,22 @@ parse_array-returns t c =
     ))
     (record { fails = λ K. tt })
 
+pub parse_parens-parse_enclosed-requires : goal.parse_parens-parse_enclosed-requires
+parse_parens-parse_enclosed-requires t c =
+    (grind (arith, common_steps), (EndsOnce-behind c.in-Ok.ensures.whole c.requires.begins (λ q. cc) c.in-Ok.ensures.ends, omega (arith, c.in-Ok.ensures.fits)))
+
+pub parse_parens-overflow_add-inner : goal.parse_parens-overflow_add-inner
+parse_parens-overflow_add-inner t c =
+    omega (arith, c.requires.room)
+
+pub parse_parens-overflow_add-inner-2 : goal.parse_parens-overflow_add-inner-2
+parse_parens-overflow_add-inner-2 t c =
+    omega (arith, c.requires.room)
+
+pub parse_parens-overflow_add-inside : goal.parse_parens-overflow_add-inside
+parse_parens-overflow_add-inside t c =
+    omega (arith, c.in-Ok-parse_enclosed.ensures.0.fits)
+
 pub parse_parens-returns-in-Err : goal.parse_parens-returns-in-Err
 parse_parens-returns-in-Err t c =
     Fails-deep c.requires.ends (opens_parens c.requires.begins) _ _ c.in-Err.ensures.err c.in-Err.ensures.deep
@@ -265,6 +362,14 @@ parse_parens-returns t c = (
   Leads-at refl (omega arith) (Leads-done
       (At-enclosed (At-parens c.in-Ok.ensures.whole c.requires.begins c.in-Ok.ensures.fits) c.in-Ok-parse_enclosed.ensures.1)),
 )
+
+pub parse_enclosed-parse_expression-requires : goal.parse_enclosed-parse_expression-requires
+parse_enclosed-parse_expression-requires t c =
+    (grind (arith, common_steps), (c.requires.ends, c.requires.room))
+
+pub parse_enclosed-expect_word-requires : goal.parse_enclosed-expect_word-requires
+parse_enclosed-expect_word-requires t c =
+    c.in-Ok.ensures.0.behind.ends
 
 pub parse_enclosed-returns-in-Err : goal.parse_enclosed-returns-in-Err
 parse_enclosed-returns-in-Err t c =
@@ -286,6 +391,26 @@ pub parse_between-returns : goal.parse_between-returns
 parse_between-returns t c =
     MatchResult-weaker c.parse_enclosed.result c.parse_enclosed.ensures
     (λ x q. (IsRead-behind c.in-Ok.ensures.behind q.0, Surrounds-done c.in-Ok.ensures.ok q.1)) (λ x q. Bares-part c.in-Ok.ensures.ok q)
+
+pub parse_block-parse_statements-requires : goal.parse_block-parse_statements-requires
+parse_block-parse_statements-requires t c =
+    (grind (arith, common_steps), (EndsOnce-behind c.in-Ok.ensures.whole c.requires.begins (λ q. cc) c.in-Ok.ensures.ends, omega (arith, c.in-Ok.ensures.fits)))
+
+pub parse_block-split-requires : goal.parse_block-split-requires
+parse_block-split-requires t c =
+    c.in-Ok-parse_statements.ensures.0.ends
+
+pub parse_block-parse_enclosed-requires : goal.parse_block-parse_enclosed-requires
+parse_block-parse_enclosed-requires t c =
+    (grind (arith, common_steps), (EndsOnce-behind c.split.ensures.whole c.in-Ok-parse_statements.ensures.1 (λ q. cc) c.split.ensures.ends, omega (arith, c.in-Ok.ensures.fits)))
+
+pub parse_block-overflow_add-inner : goal.parse_block-overflow_add-inner
+parse_block-overflow_add-inner t c =
+    omega (arith, c.requires.room)
+
+pub parse_block-overflow_add-inner-2 : goal.parse_block-overflow_add-inner-2
+parse_block-overflow_add-inner-2 t c =
+    omega (arith, c.requires.room)
 
 pub parse_block-returns-in-Err : goal.parse_block-returns-in-Err
 parse_block-returns-in-Err t c =
@@ -322,6 +447,34 @@ pub parse_braces-parse_block-requires : goal.parse_braces-parse_block-requires
 parse_braces-parse_block-requires t c =
     let is_not : first_kind c.split.result.1.now ≡ Key While → ⊥ = search rules in
     (grind (arith, common_steps), (c.requires.ends, (c.requires.begins, (λ q. is_not (ap second_kind (sym c.split.ensures.whole) ∙ q), c.requires.room))))
+
+pub parse_loop-split-requires : goal.parse_loop-split-requires
+parse_loop-split-requires t c =
+    EndsOnce-behind c.in-Ok.ensures.whole c.requires.begins (λ q. cc) c.in-Ok.ensures.ends
+
+pub parse_loop-parse_enclosed-requires : goal.parse_loop-parse_enclosed-requires
+parse_loop-parse_enclosed-requires t c =
+    (grind (arith, common_steps), (EndsOnce-behind c.split.ensures.whole (sym (ap second_kind c.in-Ok.ensures.whole) ∙ c.requires.loops) (λ q. cc) c.split.ensures.ends, omega (arith, c.in-Ok.ensures.fits)))
+
+pub parse_loop-parse_statements-requires : goal.parse_loop-parse_statements-requires
+parse_loop-parse_statements-requires t c =
+    (grind (arith, common_steps), (c.in-Ok-parse_enclosed.ensures.0.behind.ends, omega (arith, c.in-Ok.ensures.fits)))
+
+pub parse_loop-split-requires-2 : goal.parse_loop-split-requires-2
+parse_loop-split-requires-2 t c =
+    c.in-Ok-parse_statements.ensures.0.ends
+
+pub parse_loop-parse_enclosed-requires-2 : goal.parse_loop-parse_enclosed-requires-2
+parse_loop-parse_enclosed-requires-2 t c =
+    (grind (arith, common_steps), (EndsOnce-behind c.split-2.ensures.whole c.in-Ok-parse_statements.ensures.1 (λ q. cc) c.split-2.ensures.ends, omega (arith, c.in-Ok.ensures.fits)))
+
+pub parse_loop-overflow_add-inner : goal.parse_loop-overflow_add-inner
+parse_loop-overflow_add-inner t c =
+    omega (arith, c.requires.room)
+
+pub parse_loop-overflow_add-inner-2 : goal.parse_loop-overflow_add-inner-2
+parse_loop-overflow_add-inner-2 t c =
+    omega (arith, c.requires.room)
 
 pub parse_loop-returns-in-Err : goal.parse_loop-returns-in-Err
 parse_loop-returns-in-Err t c =
@@ -375,6 +528,15 @@ pub parse_statements-returns-in-Err : goal.parse_statements-returns-in-Err
 parse_statements-returns-in-Err t c =
     Fails-gathered c.stmts.invariant.1 c.in-Err.ensures
 
+pub parse_statement-parse_store-requires : goal.parse_statement-parse_store-requires
+parse_statement-parse_store-requires t c =
+    let is : first_kind c.in-Ok.found.2.now ≡ Sign LeftBracket = search rules in
+    (grind (arith, common_steps), (c.in-Ok.ensures.behind.ends, (is, c.requires.room)))
+
+pub parse_statement-parse_between-requires : goal.parse_statement-parse_between-requires
+parse_statement-parse_between-requires t c =
+    (grind (arith, common_steps), (c.in-Ok.ensures.behind.ends, c.requires.room))
+
 pub parse_statement-returns-then-begins_next : goal.parse_statement-returns-then-begins_next
 parse_statement-returns-then-begins_next t c =
     let is : (c.args.scope ≡ scope.Loop) × (first_kind c.args.tokens.now ≡ Key Next) = search rules in
@@ -407,6 +569,14 @@ parse_statement-returns t c =
           (At-surrounded (At-binding c.args.scope c.args.depth (omega arith) c.in-Ok.ensures.ok is_not) (Surrounds-tail c.in-Ok-parse_between.ensures.1)),
     )
 
+pub parse_store-parse_enclosed-requires : goal.parse_store-parse_enclosed-requires
+parse_store-parse_enclosed-requires t c =
+    (grind (arith, common_steps), (EndsOnce-behind c.split.ensures.whole c.requires.begins (λ q. cc) c.split.ensures.ends, c.requires.room))
+
+pub parse_store-parse_between-requires : goal.parse_store-parse_between-requires
+parse_store-parse_between-requires t c =
+    (grind (arith, common_steps), (c.in-Ok.ensures.0.behind.ends, c.requires.room))
+
 pub parse_store-returns-in-Err : goal.parse_store-returns-in-Err
 parse_store-returns-in-Err t c =
     Misassigns-enclosed (Behind-bracket c.args.scope c.args.depth c.args.x c.args.place c.split.ensures.whole c.requires.begins)
@@ -429,6 +599,14 @@ parse_store-returns t c =
           (Encloses-tail c.in-Ok.ensures.1)) (Surrounds-tail c.in-Ok-parse_between.ensures.1)),
     )
 
+pub parse_next-expect_name-requires : goal.parse_next-expect_name-requires
+parse_next-expect_name-requires t c =
+    EndsOnce-behind c.split.ensures.whole c.requires.begins (λ q. cc) c.split.ensures.ends
+
+pub parse_next-parse_between-requires : goal.parse_next-parse_between-requires
+parse_next-parse_between-requires t c =
+    (grind (arith, common_steps), (c.in-Ok.ensures.behind.ends, c.requires.room))
+
 pub parse_next-returns-in-Err : goal.parse_next-returns-in-Err
 parse_next-returns-in-Err t c =
     Fails-name (At-next c.args.depth (omega arith) c.split.ensures.whole c.requires.begins) c.in-Err.ensures.err
@@ -445,6 +623,10 @@ parse_next-returns t c = (
       (At-surrounded (At-name (At-next c.args.depth (omega arith) c.split.ensures.whole c.requires.begins) c.in-Ok.ensures.ok)
       (Surrounds-tail c.in-Ok-parse_between.ensures.1)),
 )
+
+pub parse_leaf-parse_named-requires : goal.parse_leaf-parse_named-requires
+parse_leaf-parse_named-requires t c =
+    (grind (arith, common_steps), (c.split.ensures.ends (λ q. cc), c.requires.room))
 
 pub parse_leaf-returns-in-Number : goal.parse_leaf-returns-in-Number
 parse_leaf-returns-in-Number t c = (
@@ -490,6 +672,19 @@ parse_leaf-returns-in-Ok t c =
     ))
     (λ y q. Fails-named c.split.ensures.whole c.args.depth (omega (arith, c.requires.room)) c.in-Ok.found is q)
 
+pub parse_named-parse_arguments-requires : goal.parse_named-parse_arguments-requires
+parse_named-parse_arguments-requires t c =
+    let is : first_kind c.args.tokens.now ≡ Sign LeftParen = search rules in
+    (grind (arith, common_steps), (EndsOnce-behind c.split.ensures.whole is (λ q. cc) c.split.ensures.ends, omega (arith, c.requires.room)))
+
+pub parse_named-call-requires : goal.parse_named-call-requires
+parse_named-call-requires t c =
+    omega (arith, c.in-Ok.ensures.0.fits)
+
+pub parse_named-overflow_add-depth : goal.parse_named-overflow_add-depth
+parse_named-overflow_add-depth t c =
+    omega (arith, c.requires.room)
+
 pub parse_named-returns-in-Err : goal.parse_named-returns-in-Err
 parse_named-returns-in-Err t c =
     let is : first_kind c.args.tokens.now ≡ Sign LeftParen = search rules in
@@ -512,6 +707,14 @@ parse_named-returns-else-begins_with_sign t c =
       record { ends = c.requires.ends; shorter = omega arith; fits = omega (arith, c.requires.room, c.name-whole.ensures.height) },
       Applies-name c.args.depth is_not c.name-whole.ensures.tree c.name-whole.ensures.height,
     )
+
+pub parse_arguments-split-requires-2 : goal.parse_arguments-split-requires-2
+parse_arguments-split-requires-2 t c =
+    c.in-Ok.ensures.0.behind.ends
+
+pub parse_arguments-unexpected-requires : goal.parse_arguments-unexpected-requires
+parse_arguments-unexpected-requires t c =
+    c.in-Ok.ensures.0.behind.ends
 
 pub parse_arguments-returns-then-is_sign : goal.parse_arguments-returns-then-is_sign
 parse_arguments-returns-then-is_sign t c =
