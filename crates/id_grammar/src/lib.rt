@@ -23,8 +23,9 @@ mod tokens;
 mod tree;
 
 pub use part::{
-    Part, add_argument, add_statement, array, binary, binding, block, call, conditional, fetch,
-    fitted, name, next, number, store, truth, unary, whole_loop, with_rest,
+    ArgumentList, Part, Statement, StatementList, add_argument, add_statement, array, binary,
+    binding, block, call, conditional, fetch, first_argument, fitted, name, next, no_arguments,
+    no_statements, number, store, truth, unary, whole_loop, with_rest,
 };
 pub use phrase::{Level, Scope};
 pub use tokens::{

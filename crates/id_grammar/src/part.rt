@@ -26,6 +26,45 @@ impl Drop for Part {
     }
 }
 
+/// A statement that was read, and the greatest height of its parts.
+pub struct Statement {
+    pub stmt: Stmt,
+    pub height: usize,
+}
+
+/// A drop of its own, like that of `Part`.
+impl Drop for Statement {
+    fn drop(self) {
+        let Statement { stmt: _, height: _ } = self;
+    }
+}
+
+/// Statements that were read, in order, and the greatest height of a part.
+pub struct StatementList {
+    pub list: Vec<Stmt>,
+    pub height: usize,
+}
+
+/// A drop of its own, like that of `Part`.
+impl Drop for StatementList {
+    fn drop(self) {
+        let StatementList { list: _, height: _ } = self;
+    }
+}
+
+/// Arguments that were read, in order, and the greatest height of one.
+pub struct ArgumentList {
+    pub list: Vec<Expr>,
+    pub height: usize,
+}
+
+/// A drop of its own, like that of `Part`.
+impl Drop for ArgumentList {
+    fn drop(self) {
+        let ArgumentList { list: _, height: _ } = self;
+    }
+}
+
 impl Part {
     /// The expression alone.
     pub fn into_expr(self) -> Expr
@@ -33,6 +72,36 @@ impl Part {
     {
         let Part { expr, height: _ } = self;
         expr
+    }
+}
+
+impl Statement {
+    /// The statement alone.
+    fn into_stmt(self) -> Stmt
+        ensures { result ≡ self.stmt }
+    {
+        let Statement { stmt, height: _ } = self;
+        stmt
+    }
+}
+
+impl StatementList {
+    /// The statements alone.
+    fn into_list(self) -> Vec<Stmt>
+        ensures { result ≡ self.list }
+    {
+        let StatementList { list, height: _ } = self;
+        list
+    }
+}
+
+impl ArgumentList {
+    /// The arguments alone.
+    fn into_list(self) -> Vec<Expr>
+        ensures { result ≡ self.list }
+    {
+        let ArgumentList { list, height: _ } = self;
+        list
     }
 }
 
@@ -65,21 +134,21 @@ pub fn name(name: Identifier, place: u32) -> Part
     Part { expr, height: 1 }
 }
 
-/// The procedure's name with the arguments, which have at most this height.
+/// The procedure's name with the arguments.
 pub fn call(
     alloc: Global,
     name: Identifier,
-    args: Vec<Expr>,
-    height: usize,
+    args: ArgumentList,
     place: u32,
 ) -> Result<Part, TreeError>
-    requires { height < 2 ^ 63 }
+    requires { args.height < 2 ^ 63 }
     ensures { MatchResult result
-        (λ p. (p.height ≡ height + 1)
-        × (tree_of p.expr ≡ tree.call name (passed args.items none) place))
+        (λ p. (p.height ≡ args.height + 1)
+        × (tree_of p.expr ≡ tree.call name (passed args.list.items none) place))
         (λ e. e ≡ Memory) }
 {
-    let height = height + 1;
+    let height = args.height + 1;
+    let args = fitted(args.into_list());
     let inside = Box::new(alloc, Call { name, args })?;
     let expr = Expr::Call { place, inside };
     Ok(Part { expr, height })
@@ -220,101 +289,141 @@ pub fn with_rest(
 }
 
 /// The name for the value of an expression.
-pub fn binding(name: Identifier, value: Part, place: u32) -> Stmt
-    ensures { stmt_tree result ≡ tree.binding name (tree_of value.expr) place }
+pub fn binding(name: Identifier, value: Part, place: u32) -> Statement
+    ensures height { result.height ≡ value.height }
+    ensures tree { stmt_tree result.stmt ≡ tree.binding name (tree_of value.expr) place }
 {
+    let height = value.height;
     let value = value.into_expr();
-    Stmt::Binding { place, name, value }
+    let stmt = Stmt::Binding { place, name, value };
+    Statement { stmt, height }
 }
 
 /// The next value of a loop's variable.
-pub fn next(name: Identifier, value: Part, place: u32) -> Stmt
-    ensures { stmt_tree result ≡ tree.next name (tree_of value.expr) place }
+pub fn next(name: Identifier, value: Part, place: u32) -> Statement
+    ensures height { result.height ≡ value.height }
+    ensures tree { stmt_tree result.stmt ≡ tree.next name (tree_of value.expr) place }
 {
+    let height = value.height;
     let value = value.into_expr();
-    Stmt::Next { place, name, value }
+    let stmt = Stmt::Next { place, name, value };
+    Statement { stmt, height }
 }
 
-/// The value of a structure's element.
+/// The value of a structure's element. The height of the structure's name, 1, is never above that of the index.
 pub fn store(
     alloc: Global,
     target: Part,
     index: Part,
     value: Part,
     place: u32,
-) -> Result<Stmt, TreeError>
+) -> Result<Statement, TreeError>
     ensures { MatchResult result
-        (λ s. stmt_tree s
-        ≡ tree.store (tree_of target.expr) (tree_of index.expr) (tree_of value.expr) place)
+        (λ s. (s.height ≡ max index.height value.height)
+        × (stmt_tree s.stmt ≡ tree.store (tree_of target.expr) (tree_of index.expr) (tree_of value.expr) place))
         (λ e. e ≡ Memory) }
 {
+    let height = index.height.max(value.height);
     let inside = found!(triple(alloc, target, index, value));
-    Ok(Stmt::Store { place, inside })
+    let stmt = Stmt::Store { place, inside };
+    Ok(Statement { stmt, height })
 }
 
-/// Adds the argument behind those before it, and gives its height.
-#[inline(always)]
-pub fn add_argument(args: &mut Vec<Expr>, arg: Part) -> Result<usize, TreeError>
+/// No arguments.
+pub fn no_arguments(alloc: Global) -> ArgumentList
+    ensures items { result.list.items ≡ [] }
+    ensures height { result.height ≡ 0 }
+{
+    let list = Vec::new(alloc);
+    ArgumentList { list, height: 0 }
+}
+
+/// The first argument. Most calls have no other, so there is room for no more.
+pub fn first_argument(alloc: Global, arg: Part) -> Result<ArgumentList, TreeError>
     ensures { MatchResult result
-        (λ h. (args.new.items ≡ args.old.items ++ arg.expr ∷ []) × (h ≡ arg.height))
+        (λ a. (a.list.items ≡ arg.expr ∷ []) × (a.height ≡ arg.height))
         (λ e. e ≡ Memory) }
 {
     let height = arg.height;
-    args.push(arg.into_expr())?;
-    Ok(height)
+    let mut list = Vec::with_capacity(alloc, 1)?;
+    list.push(arg.into_expr())?;
+    Ok(ArgumentList { list, height })
+}
+
+/// Adds the argument behind those before it.
+pub fn add_argument(args: &mut ArgumentList, arg: Part) -> Result<(), TreeError>
+    ensures { MatchResult result
+        (λ _. (args.new.list.items ≡ args.old.list.items ++ arg.expr ∷ [])
+        × (args.new.height ≡ max args.old.height arg.height))
+        (λ e. e ≡ Memory) }
+{
+    args.height = args.height.max(arg.height);
+    args.list.push(arg.into_expr())?;
+    Ok(())
+}
+
+/// No statements.
+pub fn no_statements(alloc: Global) -> StatementList
+    ensures items { result.list.items ≡ [] }
+    ensures height { result.height ≡ 0 }
+{
+    let list = Vec::new(alloc);
+    StatementList { list, height: 0 }
 }
 
 /// Adds the statement behind those before it.
 #[inline(always)]
-pub fn add_statement(statements: &mut Vec<Stmt>, statement: Stmt) -> Result<(), TreeError>
+pub fn add_statement(statements: &mut StatementList, statement: Statement) -> Result<(), TreeError>
     ensures { MatchResult result
-        (λ _. statements.new.items ≡ statements.old.items ++ statement ∷ [])
+        (λ _. (statements.new.list.items ≡ statements.old.list.items ++ statement.stmt ∷ [])
+        × (statements.new.height ≡ max statements.old.height statement.height))
         (λ e. e ≡ Memory) }
 {
-    statements.push(statement)?;
+    statements.height = statements.height.max(statement.height);
+    statements.list.push(statement.into_stmt())?;
     Ok(())
 }
 
-/// The statements, whose parts have at most this height, round the body.
+/// The statements round the body.
 pub fn block(
     alloc: Global,
-    statements: Vec<Stmt>,
-    height: usize,
+    statements: StatementList,
     body: Part,
     place: u32,
 ) -> Result<Part, TreeError>
-    requires low { height < 2 ^ 63 }
+    requires low { statements.height < 2 ^ 63 }
     requires high { body.height < 2 ^ 63 }
     ensures { MatchResult result
-        (λ p. (p.height ≡ max height body.height + 1)
-        × (tree_of p.expr ≡ tree.block (onto statements.items none) (tree_of body.expr) place))
+        (λ p. (p.height ≡ max statements.height body.height + 1)
+        × (tree_of p.expr ≡ tree.block (onto statements.list.items none) (tree_of body.expr) place))
         (λ e. e ≡ Memory) }
 {
-    let height = height.max(body.height) + 1;
+    let height = statements.height.max(body.height) + 1;
+    let statements = fitted(statements.into_list());
     let body = body.into_expr();
     let inside = Box::new(alloc, Block { statements, body })?;
     let expr = Expr::Block { place, inside };
     Ok(Part { expr, height })
 }
 
-/// The predicate, the statements, whose parts have at most this height, and the last expression of a loop.
+/// The predicate, the statements and the last expression of a loop.
 pub fn whole_loop(
     alloc: Global,
     test: Part,
-    statements: Vec<Stmt>,
-    height: usize,
+    statements: StatementList,
     last: Part,
     place: u32,
 ) -> Result<Part, TreeError>
     requires low { test.height < 2 ^ 63 }
-    requires middle { height < 2 ^ 63 }
+    requires middle { statements.height < 2 ^ 63 }
     requires high { last.height < 2 ^ 63 }
     ensures { MatchResult result
-        (λ p. (p.height ≡ max (max test.height height) last.height + 1)
-        × (tree_of p.expr ≡ tree.loop (tree_of test.expr) (onto statements.items none) (tree_of last.expr) place))
+        (λ p. (p.height ≡ max (max test.height statements.height) last.height + 1)
+        × (tree_of p.expr ≡ tree.loop (tree_of test.expr) (onto statements.list.items none) (tree_of last.expr) place))
         (λ e. e ≡ Memory) }
 {
-    let height = test.height.max(height).max(last.height) + 1;
+    let height = test.height.max(statements.height).max(last.height) + 1;
+    let statements = fitted(statements.into_list());
     let test = test.into_expr();
     let last = last.into_expr();
     let inside = Box::new(

@@ -15,10 +15,11 @@ ghost use Rattle.id_grammar.specs.Readers.{Gathers, IsGathered, Applies, Misappl
 
 use crate::operators::{begins_with_bracket, denies, open_behind, open_first, operator_within};
 use id_grammar::{
-    Expr, Level, MAX_NESTING, Part, Scope, Stmt, TreeError, Word, add_argument, add_statement,
-    array, begins_with, begins_with_sign, binary, binding, block, call, conditional, copied, enter,
-    expect_name, expect_word, fetch, fitted, is_sign, name, next, no_room, number, split, store,
-    truth, truth_of, unary, unexpected, whole_loop, with_rest,
+    ArgumentList, Level, MAX_NESTING, Part, Scope, Statement, StatementList, TreeError, Word,
+    add_argument, add_statement, array, begins_with, begins_with_sign, binary, binding, block,
+    call, conditional, copied, enter, expect_name, expect_word, fetch, first_argument, is_sign,
+    name, next, no_arguments, no_room, no_statements, number, split, store, truth, truth_of, unary,
+    unexpected, whole_loop, with_rest,
 };
 use id_text::{Identifier, Keyword, Symbol, Token, TokenKind};
 use id_value::{BinaryOp, UnaryOp};
@@ -474,10 +475,10 @@ fn parse_block(alloc: Global, tokens: &[Token], depth: usize) -> Result<(Part, &
 {
     let inner = depth + 1;
     let (first, opened) = found!(enter(tokens, inner + 1));
-    let (statements, height, last) = found!(parse_statements(alloc, opened, Scope::Block, inner));
+    let (statements, last) = found!(parse_statements(alloc, opened, Scope::Block, inner));
     let (_, begun) = split(last);
     let (body, rest) = found!(parse_enclosed(alloc, begun, Word::Sign(Symbol::RightBrace), inner));
-    with_rest(block(alloc, statements, height, body, first.start), rest)
+    with_rest(block(alloc, statements, body, first.start), rest)
 }
 
 /// `loop = "{" "while" expr "do" { stmt | next } "finally" expr "}"`
@@ -496,57 +497,52 @@ fn parse_loop(alloc: Global, tokens: &[Token], depth: usize) -> Result<(Part, &[
     let (first, opened) = found!(enter(tokens, inner + 1));
     let (_, tested) = split(opened);
     let (test, begun) = found!(parse_enclosed(alloc, tested, Word::Key(Keyword::Do), inner));
-    let (statements, height, ending) = found!(parse_statements(alloc, begun, Scope::Loop, inner));
+    let (statements, ending) = found!(parse_statements(alloc, begun, Scope::Loop, inner));
     let (_, left) = split(ending);
     let (last, rest) = found!(parse_enclosed(alloc, left, Word::Sign(Symbol::RightBrace), inner));
-    with_rest(
-        whole_loop(alloc, test, statements, height, last, first.start),
-        rest,
-    )
+    with_rest(whole_loop(alloc, test, statements, last, first.start), rest)
 }
 
-/// `{ stmt }` or `{ stmt | next }`, with the greatest height of a part, and the tokens from the last word on.
+/// `{ stmt }` or `{ stmt | next }`, and the tokens from the last word on.
 #[cycle(expr)]
 fn parse_statements(
     alloc: Global,
     tokens: &[Token],
     scope: Scope,
     depth: usize,
-) -> Result<(Vec<Stmt>, usize, &[Token]), TreeError>
+) -> Result<(StatementList, &[Token]), TreeError>
     requires ends { EndsOnce tokens.now }
     requires room { depth < MAX_NESTING }
     ensures { MatchResult result
-        (λ x. IsGathered tokens.now x.2.now depth x.1
-        × first_kind x.2.now ≡ TokenKind.Key (last_word scope)
-        × Gathers tokens.now scope depth x.2.now x.0.items x.1)
+        (λ x. IsGathered tokens.now x.1.now depth x.0.height
+        × first_kind x.1.now ≡ TokenKind.Key (last_word scope)
+        × Gathers tokens.now scope depth x.1.now x.0.list.items x.0.height)
         (Fails tokens.now (Tail scope) depth) }
 {
-    let mut statements = Vec::new(alloc);
-    let mut height = 0usize;
+    let mut statements = no_statements(alloc);
     let mut rest = tokens;
     'stmts: while !begins_with(rest, last_word(scope)) {
-        let (statement, own, behind) = found!(parse_statement(alloc, rest, scope, depth));
+        let (statement, behind) = found!(parse_statement(alloc, rest, scope, depth));
         found!(add_statement(&mut statements, statement));
-        height = height.max(own);
         rest = behind;
     }
-    Ok((fitted(statements), height, rest))
+    Ok((statements, rest))
 }
 
-/// `stmt = NAME "=" expr ";" | store`, or `next` in a loop, with the greatest height of a part.
+/// `stmt = NAME "=" expr ";" | store`, or `next` in a loop.
 #[cycle(expr)]
 fn parse_statement(
     alloc: Global,
     tokens: &[Token],
     scope: Scope,
     depth: usize,
-) -> Result<(Stmt, usize, &[Token]), TreeError>
+) -> Result<(Statement, &[Token]), TreeError>
     requires ends { EndsOnce tokens.now }
     requires not_last { first_kind tokens.now ≢ TokenKind.Key (last_word scope) }
     requires room { depth < MAX_NESTING }
     ensures { MatchResult result
-        (λ x. IsRead tokens.now x.2.now depth x.1
-        × Adds tokens.now scope depth x.2.now (stmt_tree x.0) x.1)
+        (λ x. IsRead tokens.now x.1.now depth x.0.height
+        × Adds tokens.now scope depth x.1.now (stmt_tree x.0.stmt) x.0.height)
         (Fails tokens.now (Tail scope) depth) }
 {
     if begins_next(tokens, scope) {
@@ -563,13 +559,10 @@ fn parse_statement(
         Symbol::Semicolon,
         depth
     ));
-    let height = value.height;
-    let statement = binding(x, value, place);
-    Ok((statement, height, rest))
+    Ok((binding(x, value, place), rest))
 }
 
-/// A store, from behind its name: `store = NAME "[" expr "]" "=" expr ";"`, with the greatest height of a part.
-/// The height of its name, 1, is never above that of its index.
+/// A store, from behind its name: `store = NAME "[" expr "]" "=" expr ";"`
 #[cycle(expr)]
 fn parse_store(
     alloc: Global,
@@ -578,13 +571,13 @@ fn parse_store(
     tokens: &[Token],
     scope: Scope,
     depth: usize,
-) -> Result<(Stmt, usize, &[Token]), TreeError>
+) -> Result<(Statement, &[Token]), TreeError>
     requires ends { EndsOnce tokens.now }
     requires begins { first_kind tokens.now ≡ TokenKind.Sign Symbol.LeftBracket }
     requires room { depth < MAX_NESTING }
     ensures { MatchResult result
-        (λ y. IsRead tokens.now y.2.now depth y.1
-        × Assigns tokens.now scope depth x place y.2.now (stmt_tree y.0) y.1)
+        (λ y. IsRead tokens.now y.1.now depth y.0.height
+        × Assigns tokens.now scope depth x place y.1.now (stmt_tree y.0.stmt) y.0.height)
         (Misassigns tokens.now scope depth x place) }
 {
     let (first, opened) = split(tokens);
@@ -597,25 +590,24 @@ fn parse_store(
         Symbol::Semicolon,
         depth
     ));
-    let height = index.height.max(value.height);
     let target = name(x, place);
     let statement = found!(store(alloc, target, index, value, first.start));
-    Ok((statement, height, rest))
+    Ok((statement, rest))
 }
 
-/// `next = "next" NAME "=" expr ";"`, with the value's height.
+/// `next = "next" NAME "=" expr ";"`
 #[cycle(expr)]
 fn parse_next(
     alloc: Global,
     tokens: &[Token],
     depth: usize,
-) -> Result<(Stmt, usize, &[Token]), TreeError>
+) -> Result<(Statement, &[Token]), TreeError>
     requires ends { EndsOnce tokens.now }
     requires begins { first_kind tokens.now ≡ TokenKind.Key Keyword.Next }
     requires room { depth < MAX_NESTING }
     ensures { MatchResult result
-        (λ x. IsRead tokens.now x.2.now depth x.1
-        × Adds tokens.now Scope.Loop depth x.2.now (stmt_tree x.0) x.1)
+        (λ x. IsRead tokens.now x.1.now depth x.0.height
+        × Adds tokens.now Scope.Loop depth x.1.now (stmt_tree x.0.stmt) x.0.height)
         (Fails tokens.now (Tail Scope.Loop) depth) }
 {
     let (first, rest) = split(tokens);
@@ -627,9 +619,7 @@ fn parse_next(
         Symbol::Semicolon,
         depth
     ));
-    let height = value.height;
-    let statement = next(name, value, first.start);
-    Ok((statement, height, behind))
+    Ok((next(name, value, first.start), behind))
 }
 
 /// `leaf = NUMBER | "true" | "false" | NAME | call`
@@ -685,71 +675,70 @@ fn parse_named(
 {
     if begins_with_sign(tokens, Symbol::LeftParen) {
         let (_, opened) = split(tokens);
-        let (args, height, rest) = found!(parse_arguments(alloc, opened, depth + 1));
-        with_rest(call(alloc, x, args, height, place), rest)
+        let (args, rest) = found!(parse_arguments(alloc, opened, depth + 1));
+        with_rest(call(alloc, x, args, place), rest)
     } else {
         let whole = name(x, place);
         Ok((whole, tokens))
     }
 }
 
-/// `[ expr { "," expr } ] ")"`, with the greatest height of an argument.
+/// `[ expr { "," expr } ] ")"`
 #[cycle(expr)]
 fn parse_arguments(
     alloc: Global,
     tokens: &[Token],
     depth: usize,
-) -> Result<(Vec<Expr>, usize, &[Token]), TreeError>
+) -> Result<(ArgumentList, &[Token]), TreeError>
     requires ends { EndsOnce tokens.now }
     requires room { depth ≤ MAX_NESTING }
     ensures { MatchResult result
-        (λ x. IsGathered tokens.now x.2.now depth x.1
-        × Leads tokens.now Arguments depth x.2.now (passed x.0.items none) x.1)
+        (λ x. IsGathered tokens.now x.1.now depth x.0.height
+        × Leads tokens.now Arguments depth x.1.now (passed x.0.list.items none) x.0.height)
         (Fails tokens.now Arguments depth) }
 {
     let (first, closed) = split(tokens);
     if is_sign(first, Symbol::RightParen) {
-        return Ok((Vec::new(alloc), 0, closed));
+        return Ok((no_arguments(alloc), closed));
     }
     if depth >= MAX_NESTING {
         return Err(no_room(tokens));
     }
-    let (args, height, rest) = found!(parse_some_arguments(alloc, tokens, depth));
+    let (args, rest) = found!(parse_some_arguments(alloc, tokens, depth));
     let (last, closed) = split(rest);
     if is_sign(last, Symbol::RightParen) {
-        Ok((args, height, closed))
+        Ok((args, closed))
     } else {
         Err(unexpected(rest))
     }
 }
 
-/// `expr { "," expr }`, with the greatest height of an argument.
+/// `expr { "," expr }`
 #[cycle(expr)]
 fn parse_some_arguments(
     alloc: Global,
     tokens: &[Token],
     depth: usize,
-) -> Result<(Vec<Expr>, usize, &[Token]), TreeError>
+) -> Result<(ArgumentList, &[Token]), TreeError>
     requires ends { EndsOnce tokens.now }
     requires not_closed { first_kind tokens.now ≢ TokenKind.Sign Symbol.RightParen }
     requires room { depth < MAX_NESTING }
     ensures { MatchResult result
-        (λ x. IsRead tokens.now x.2.now depth x.1
-        × first_kind x.2.now ≢ TokenKind.Sign Symbol.Comma
-        × Hands tokens.now depth x.2.now x.0.items x.1)
+        (λ x. IsRead tokens.now x.1.now depth x.0.height
+        × first_kind x.1.now ≢ TokenKind.Sign Symbol.Comma
+        × Hands tokens.now depth x.1.now x.0.list.items x.0.height)
         (Fails tokens.now Arguments depth) }
 {
-    let mut args = Vec::with_capacity(alloc, 1)?;
     let (first, begun) = found!(parse_expression(alloc, tokens, depth));
-    let mut height = found!(add_argument(&mut args, first));
+    let mut args = found!(first_argument(alloc, first));
     let mut rest = begun;
     'arguments: while begins_with_sign(rest, Symbol::Comma) {
         let (_, next) = split(rest);
         let (arg, behind) = found!(parse_expression(alloc, next, depth));
-        height = height.max(found!(add_argument(&mut args, arg)));
+        found!(add_argument(&mut args, arg));
         rest = behind;
     }
-    Ok((fitted(args), height, rest))
+    Ok((args, rest))
 }
 
 /// The word behind the statements.

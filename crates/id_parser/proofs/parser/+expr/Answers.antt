@@ -514,14 +514,14 @@ parse_loop-returns t c =
 
 pub parse_statements-stmts-init : goal.parse_statements-stmts-init
 parse_statements-stmts-init t c = (
-  record { ends = c.requires.ends; shorter = omega arith; fits = omega arith },
-  rw c.new-statements.ensures.items (Gathers-none c.args.tokens.now c.args.scope c.args.depth),
+  rw c.no_statements-statements.ensures.height (record { ends = c.requires.ends; shorter = omega arith; fits = omega arith }),
+  rw (c.no_statements-statements.ensures.items, c.no_statements-statements.ensures.height) (Gathers-none c.args.tokens.now c.args.scope c.args.depth),
 )
 
 pub parse_statements-stmts-preserved : goal.parse_statements-stmts-preserved
 parse_statements-stmts-preserved t c = (
-  rw c.max-height.ensures (IsGathered-add c.stmts.invariant.0 c.in-Ok.ensures.0),
-  rw (c.max-height.ensures, c.in-Ok-add_statement.ensures) (Gathers-add c.in-Ok.found.0 c.stmts.invariant.1 c.in-Ok.ensures.1),
+  rw c.in-Ok-add_statement.ensures.1 (IsGathered-add c.stmts.invariant.0 c.in-Ok.ensures.0),
+  rw (c.in-Ok-add_statement.ensures.1, c.in-Ok-add_statement.ensures.0) (Gathers-add c.in-Ok.found.0.stmt c.stmts.invariant.1 c.in-Ok.ensures.1),
 )
 
 pub parse_statements-returns-in-Err : goal.parse_statements-returns-in-Err
@@ -564,8 +564,8 @@ parse_statement-returns-in-Err-parse_between t c =
 pub parse_statement-returns : goal.parse_statement-returns
 parse_statement-returns t c =
     let is_not : first_kind c.in-Ok.found.2.now ≡ Sign LeftBracket → ⊥ = search rules in (
-      IsRead-behind c.in-Ok.ensures.behind c.in-Ok-parse_between.ensures.0,
-      Adds-done c.binding-statement.ensures (omega arith)
+      rw c.binding.ensures.height (IsRead-behind c.in-Ok.ensures.behind c.in-Ok-parse_between.ensures.0),
+      Adds-done c.binding.ensures.tree (omega (arith, c.binding.ensures.height))
           (At-surrounded (At-binding c.args.scope c.args.depth (omega arith) c.in-Ok.ensures.ok is_not) (Surrounds-tail c.in-Ok-parse_between.ensures.1)),
     )
 
@@ -590,11 +590,11 @@ parse_store-returns-in-Err-parse_between t c =
 pub parse_store-returns : goal.parse_store-returns
 parse_store-returns t c =
     let tree =
-    c.in-Ok-store.ensures
+    c.in-Ok-store.ensures.1
     ∙ ap (λ a. store a (tree_of c.in-Ok.found.0.expr) (tree_of c.in-Ok-parse_between.found.0.expr) c.split.result.0.now.start)
     c.name-target.ensures.tree in (
-      rw c.max-height.ensures (IsRead-next c.split.ensures.whole (IsRead-both c.in-Ok.ensures.0 c.in-Ok-parse_between.ensures.0)),
-      Assigns-done tree (omega (arith, c.max-height.ensures))
+      rw c.in-Ok-store.ensures.0 (IsRead-next c.split.ensures.whole (IsRead-both c.in-Ok.ensures.0 c.in-Ok-parse_between.ensures.0)),
+      Assigns-done tree (omega (arith, c.in-Ok-store.ensures.0))
           (Behind-surrounded (Behind-enclosed (Behind-bracket c.args.scope c.args.depth c.args.x c.args.place c.split.ensures.whole c.requires.begins)
           (Encloses-tail c.in-Ok.ensures.1)) (Surrounds-tail c.in-Ok-parse_between.ensures.1)),
     )
@@ -618,8 +618,8 @@ parse_next-returns-in-Err-parse_between t c =
 
 pub parse_next-returns : goal.parse_next-returns
 parse_next-returns t c = (
-  IsRead-next c.split.ensures.whole (IsRead-behind c.in-Ok.ensures.behind c.in-Ok-parse_between.ensures.0),
-  Adds-done c.next-statement.ensures (omega arith)
+  rw c.next.ensures.height (IsRead-next c.split.ensures.whole (IsRead-behind c.in-Ok.ensures.behind c.in-Ok-parse_between.ensures.0)),
+  Adds-done c.next.ensures.tree (omega (arith, c.next.ensures.height))
       (At-surrounded (At-name (At-next c.args.depth (omega arith) c.split.ensures.whole c.requires.begins) c.in-Ok.ensures.ok)
       (Surrounds-tail c.in-Ok-parse_between.ensures.1)),
 )
@@ -719,8 +719,8 @@ parse_arguments-unexpected-requires t c =
 pub parse_arguments-returns-then-is_sign : goal.parse_arguments-returns-then-is_sign
 parse_arguments-returns-then-is_sign t c =
     let is : c.split.result.0.now.kind ≡ Sign RightParen = search rules in (
-      IsGathered-unpassed c.args.depth c.requires.room c.split.ensures.whole (c.split.ensures.ends (λ q. cc)),
-      rw c.new.ensures.items (Leads-unpassed c.args.depth c.requires.room c.split.ensures.whole is),
+      rw c.no_arguments.ensures.height (IsGathered-unpassed c.args.depth c.requires.room c.split.ensures.whole (c.split.ensures.ends (λ q. cc))),
+      rw (c.no_arguments.ensures.items, c.no_arguments.ensures.height) (Leads-unpassed c.args.depth c.requires.room c.split.ensures.whole is),
     )
 
 pub parse_arguments-returns-then-depth-ge-MAX_NESTING : goal.parse_arguments-returns-then-depth-ge-MAX_NESTING
@@ -743,17 +743,17 @@ parse_arguments-returns-else-is_sign-2 t c =
 
 pub parse_some_arguments-arguments-init : goal.parse_some_arguments-arguments-init
 parse_some_arguments-arguments-init t c = (
-  rw c.in-Ok-add_argument.ensures.1 c.in-Ok.ensures.0,
-  rw (c.in-Ok-add_argument.ensures.1, c.in-Ok-add_argument.ensures.0, c.in_ok-args.ensures.items)
+  rw c.in-Ok-first_argument.ensures.1 c.in-Ok.ensures.0,
+  rw (c.in-Ok-first_argument.ensures.1, c.in-Ok-first_argument.ensures.0)
       (Hands-first c.args.depth c.requires.not_closed c.in-Ok.found.0.expr _ refl c.in-Ok.ensures.1),
 )
 
 pub parse_some_arguments-arguments-preserved : goal.parse_some_arguments-arguments-preserved
 parse_some_arguments-arguments-preserved t c =
     let comma : first_kind c.arguments.rest.now ≡ Sign Comma = search rules in (
-      rw (c.max-height.ensures, c.in-Ok-add_argument-2.ensures.1)
+      rw c.in-Ok-add_argument.ensures.1
           (IsRead-add c.arguments.invariant.0 c.split.ensures.whole c.in-Ok-parse_expression.ensures.0),
-      rw (c.max-height.ensures, c.in-Ok-add_argument-2.ensures.1, c.in-Ok-add_argument-2.ensures.0)
+      rw (c.in-Ok-add_argument.ensures.1, c.in-Ok-add_argument.ensures.0)
           (Hands-add c.arguments.invariant.1 c.split.ensures.whole c.in-Ok-parse_expression.found.0.expr _
           refl comma (omega (arith, c.requires.room)) c.in-Ok-parse_expression.ensures.1),
     )

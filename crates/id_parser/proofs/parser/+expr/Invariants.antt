@@ -88,7 +88,7 @@ decreases-parse_arguments l = (200 - l.depth) * 32 + 20
 
 -- arguments have come, and the call is open
 abbrev pub invariant-parse_some_arguments-arguments : goal.invariant-parse_some_arguments-arguments
-invariant-parse_some_arguments-arguments l = IsRead l.fn.tokens l.rest l.depth l.height × Hands l.fn.tokens l.depth l.rest l.args.items l.height
+invariant-parse_some_arguments-arguments l = IsRead l.fn.tokens l.rest l.depth l.args.height × Hands l.fn.tokens l.depth l.rest l.args.list.items l.args.height
 
 abbrev pub decreases-parse_some_arguments-arguments : goal.decreases-parse_some_arguments-arguments
 decreases-parse_some_arguments-arguments l = length l.rest
@@ -111,7 +111,8 @@ decreases-parse_grouped-operators l = length l.rest
 
 -- statements have come, and the block or the loop is open
 abbrev pub invariant-parse_statements-stmts : goal.invariant-parse_statements-stmts
-invariant-parse_statements-stmts l = IsGathered l.fn.tokens l.rest l.depth l.height × Gathers l.fn.tokens l.scope l.depth l.rest l.statements.items l.height
+invariant-parse_statements-stmts l = IsGathered l.fn.tokens l.rest l.depth l.statements.height ×
+    Gathers l.fn.tokens l.scope l.depth l.rest l.statements.list.items l.statements.height
 
 abbrev pub decreases-parse_statements-stmts : goal.decreases-parse_statements-stmts
 decreases-parse_statements-stmts l = length l.rest
