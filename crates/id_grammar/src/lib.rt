@@ -29,8 +29,8 @@ pub use part::{
 };
 pub use phrase::{Level, Scope};
 pub use tokens::{
-    Word, begins_with, begins_with_sign, copied, enter, expect_end, expect_kind, expect_name,
-    expect_word, is_sign, no_room, split, truth_of, unexpected,
+    Word, begins_with, begins_with_sign, copied, enter, expect_name, expect_word, is_sign, no_room,
+    split, truth_of, unexpected,
 };
 pub use tree::{
     Block, Call, Def, Expr, Loop, MAX_NESTING, Pair, Param, Program, Stmt, TreeError, Triple,

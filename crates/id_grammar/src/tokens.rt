@@ -10,17 +10,14 @@ ghost use Rattle.id_grammar.specs.Readers.{
   Misses,
   BeginsWithName,
   LacksName,
-  Types,
-  Untypes,
   truth_in,
   begins_expression,
   no_room_at,
 };
-ghost use Rattle.id_grammar.specs.Grammar.{word, kind_of, kind_named};
+ghost use Rattle.id_grammar.specs.Grammar.{word, kind_of};
 
 use crate::tree::{MAX_NESTING, TreeError};
 use id_text::{Identifier, Keyword, Symbol, Token, TokenKind};
-use id_value::Kind;
 use std::alloc::Global;
 
 /// A reserved word or a sign, which a production fixes.
@@ -98,19 +95,6 @@ pub fn truth_of(token: &Token) -> Option<bool>
     match &token.kind {
         TokenKind::Key(Keyword::True) => Some(true),
         TokenKind::Key(Keyword::False) => Some(false),
-        _ => None,
-    }
-}
-
-/// The kind that the tokens begin with.
-pub fn kind_at(tokens: &[Token]) -> Option<Kind>
-    requires { EndsOnce tokens.now }
-    ensures { result ≡ kind_named (first_kind tokens.now) }
-{
-    match &tokens[0].kind {
-        TokenKind::Key(Keyword::Int) => Some(Kind::Int),
-        TokenKind::Key(Keyword::Bool) => Some(Kind::Bool),
-        TokenKind::Key(Keyword::Array) => Some(Kind::Array),
         _ => None,
     }
 }
@@ -215,37 +199,5 @@ pub fn expect_name(
         TokenKind::Key(_) => Err(unexpected(tokens)),
         TokenKind::Sign(_) => Err(unexpected(tokens)),
         TokenKind::End => Err(unexpected(tokens)),
-    }
-}
-
-/// `":" kind`, and the tokens behind it.
-pub fn expect_kind(tokens: &[Token]) -> Result<(Kind, &[Token]), TreeError>
-    requires { EndsOnce tokens.now }
-    ensures behind { IfOk result (λ x. IsBehind x.1.now tokens.now) }
-    ensures ok { IfOk result (λ x. Types tokens.now x.1.now x.0) }
-    ensures err { IfErr result (Untypes tokens.now) }
-{
-    let named = expect_word(tokens, Word::Sign(Symbol::Colon))?;
-    let (_, rest) = split(named);
-    match kind_at(named) {
-        Some(kind) => Ok((kind, rest)),
-        None => Err(unexpected(named)),
-    }
-}
-
-/// Refuses the first token unless it is the end.
-pub fn expect_end(tokens: &[Token]) -> Result<(), TreeError>
-    requires { EndsOnce tokens.now }
-    ensures ok { IfOk result (λ _. first_kind tokens.now ≡ TokenKind.End) }
-    ensures some { IfErr result (λ _. first_kind tokens.now ≢ TokenKind.End) }
-    ensures err { IfErr result (λ e. e ≡ TreeError.Unexpected (first_start tokens.now)) }
-{
-    let (first, _) = split(tokens);
-    match &first.kind {
-        TokenKind::End => Ok(()),
-        TokenKind::Name(_) => Err(unexpected(tokens)),
-        TokenKind::Number(_) => Err(unexpected(tokens)),
-        TokenKind::Key(_) => Err(unexpected(tokens)),
-        TokenKind::Sign(_) => Err(unexpected(tokens)),
     }
 }

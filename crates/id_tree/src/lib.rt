@@ -19,6 +19,7 @@ macro_rules! found {
     };
 }
 
+mod heads;
 mod program;
 
 pub use id_grammar::{

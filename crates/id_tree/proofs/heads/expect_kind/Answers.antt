@@ -2,7 +2,7 @@
 use Rattle.std.proofs.Common.{◌∙◌, sym}
 use Rattle.std.proofs.lemmas.Result.{err_from_is_err_and}
 use Rattle.id_grammar.proofs.ParamLemmas.{Types-done, Untypes-kind, Untypes-colon}
-use Rattle.id_grammar.proofs.tokens.expect_kind.Goals as goal
+use Rattle.id_tree.proofs.heads.expect_kind.Goals as goal
 
 pub returns-in_err-named-clause-err : goal.returns-in_err-named-clause-err
 returns-in_err-named-clause-err c =
