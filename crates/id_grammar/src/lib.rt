@@ -17,11 +17,13 @@ macro_rules! found {
     };
 }
 
+mod operators;
 mod part;
 mod phrase;
 mod tokens;
 mod tree;
 
+pub use operators::{begins_with_bracket, denies, open_behind, open_first, operator_within};
 pub use part::{
     ArgumentList, Part, Statement, StatementList, add_argument, add_statement, array, binary,
     binding, block, call, conditional, fetch, first_argument, fitted, name, next, no_arguments,

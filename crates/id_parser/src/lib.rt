@@ -16,7 +16,6 @@ macro_rules! found {
     };
 }
 
-mod operators;
 mod parser;
 
 pub use parser::parse_enclosed;

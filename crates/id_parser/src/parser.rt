@@ -13,13 +13,13 @@ ghost use Rattle.id_grammar.specs.Readers.{IsPrefix, Leads, Fails, Grows, Stunts
 ghost use Rattle.id_grammar.specs.Readers.{Surrounds, Bares, Indexes, Misindexes, Adds, Assigns, Misassigns};
 ghost use Rattle.id_grammar.specs.Readers.{Gathers, IsGathered, Applies, Misapplies, Hands, passed, Rises};
 
-use crate::operators::{begins_with_bracket, denies, open_behind, open_first, operator_within};
 use id_grammar::{
     ArgumentList, Level, MAX_NESTING, Part, Scope, Statement, StatementList, TreeError, Word,
-    add_argument, add_statement, array, begins_with, begins_with_sign, binary, binding, block,
-    call, conditional, copied, enter, expect_name, expect_word, fetch, first_argument, is_sign,
-    name, next, no_arguments, no_room, no_statements, number, split, store, truth, truth_of, unary,
-    unexpected, whole_loop, with_rest,
+    add_argument, add_statement, array, begins_with, begins_with_bracket, begins_with_sign, binary,
+    binding, block, call, conditional, copied, denies, enter, expect_name, expect_word, fetch,
+    first_argument, is_sign, name, next, no_arguments, no_room, no_statements, number, open_behind,
+    open_first, operator_within, split, store, truth, truth_of, unary, unexpected, whole_loop,
+    with_rest,
 };
 use id_text::{Identifier, Keyword, Symbol, Token, TokenKind};
 use id_value::{BinaryOp, UnaryOp};

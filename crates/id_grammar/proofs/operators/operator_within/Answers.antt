@@ -3,7 +3,7 @@ use Rattle.std.proofs.Common.{◌≡◌, ◌∙◌, ap, List, [], ◌∷◌, get
 use Rattle.id_text.specs.Tokens.{EndsOnce}
 use Rattle.id_text.specs.declared.token.Token.{Token}
 use Rattle.id_grammar.specs.Readers.{first_kind, kept_within, operator_in}
-use Rattle.id_parser.proofs.operators.operator_within.Goals as goal
+use Rattle.id_grammar.proofs.operators.operator_within.Goals as goal
 
 first-at : (ts : List Token) (t : Token) → EndsOnce ts → t ≡ get_or ts 0 t → t.kind ≡ first_kind ts
 first-at [] t p e = absurd p

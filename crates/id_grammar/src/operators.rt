@@ -14,7 +14,8 @@ ghost use Rattle.id_grammar.specs.Readers.{
   IsBracket,
 };
 
-use id_grammar::{Level, begins_with, begins_with_sign};
+use crate::phrase::Level;
+use crate::tokens::{begins_with, begins_with_sign};
 use id_text::{Keyword, Symbol, Token, TokenKind};
 use id_value::{Arithmetic, BinaryOp, Comparison, Logic};
 
