@@ -37,8 +37,7 @@ use Rattle.id_scope.specs.Causes.{head_in, is_count, is_array_param, same_kind, 
 use Rattle.id_scope.specs.Causes.{wrong_argument, wrong_both, wrong_count, wrong_equals, wrong_like, wrong_params}
 use Rattle.id_scope.specs.declared.kinds.Link.{Link}
 use Rattle.id_scope.specs.declared.kinds.Link.TheVariants.{Fixed, To, Nowhere}
-use Rattle.id_scope.specs.Kinds.{AreKinds, EndsIn, binary_kind, constant_kind, in_kind}
-use Rattle.id_scope.specs.Kinds.{in_nothing, further, link_at, link_of, link_of_name, unary_kind}
+use Rattle.id_scope.specs.Kinds.{AreKinds, EndsIn, binary_kind, constant_kind, in_kind, in_nothing, further, link_at, link_of, link_of_name, unary_kind}
 use Rattle.id_check.specs.Programs.{Calls, Stands, binder, kind, region, rows, tree}
 use Rattle.id_scope.specs.Scopes.{binder_by, binder_in, binder_of, binds, bound_name, first_of, held, is_name}
 use Rattle.id_scope.specs.Scopes.{is_next_use, keeps, looks, sees, sees_own, takes, used_name, user_of, uses_procedure, uses_value}

@@ -3,8 +3,8 @@
 //! Keeps: what is in the store and the cells is what the record leads to.
 //! Errors: `TakeError`; after each of them nothing has changed.
 //! Read first: `specs/Desks.antt`, then `Desk::take`.
-//! Not here: what a message comes to (`id_firing`), matching (`id_match`), how events are kept (`id_record`), the element
-//! itself (`id_element`).
+//! Not here: what a message comes to (`id_firing`), matching (`id_match`), how events are kept (`id_record`), the
+//! element itself (`id_element`).
 #![tactic(auto)]
 
 mod cells;

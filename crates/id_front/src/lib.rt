@@ -1,7 +1,7 @@
 //! The front of the waiting-matching store: slots in pairs, in which a value that fits waits for its partner.
 //!
-//! Keeps: a value stands in one of the two slots of a pair that its tag's numbers tell, with a mark where a value of that
-//! pair waits behind.
+//! Keeps: a value stands in one of the two slots of a pair that its tag's numbers tell, with a mark where a value of
+//! that pair waits behind.
 //! Errors: want of memory alone, and then nothing has changed.
 //! Read first: `specs/Waiting.antt`, `specs/Front.antt`, then `meet`.
 //! Not here: what waits behind the slots, and the store of both (`id_match`).

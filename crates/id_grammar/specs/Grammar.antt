@@ -26,7 +26,8 @@ use Rattle.id_grammar.specs.declared.phrase.Scope.TheVariants as scope
 use Rattle.id_grammar.specs.declared.tokens.Word.{Word}
 use Rattle.id_grammar.specs.declared.tokens.Word.TheVariants as the
 use Rattle.id_grammar.specs.Tree as tree
-use Rattle.id_grammar.specs.Tree.{Tree, literal, unary, conditional, call, block, loop, array, fetch, binding, next, store}
+use Rattle.id_grammar.specs.Tree.{Tree, literal, unary, conditional, call, block, loop, array, fetch, binding, next}
+use Rattle.id_grammar.specs.Tree.{store}
 use Rattle.id_grammar.specs.Tree.{param, define, binary, none, more}
 
 -- What a rule is for: a definition; its parameters behind the bracket, and more of them behind one; an expression of

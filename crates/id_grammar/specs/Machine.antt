@@ -17,7 +17,8 @@ use Rattle.id_grammar.specs.declared.tokens.Word.{Word}
 use Rattle.id_grammar.specs.declared.tokens.Word.TheVariants as the
 use Rattle.id_value.specs.declared.Kind.TheVariants as kind
 use Rattle.id_grammar.specs.Tree.{Tree, binary, none, more}
-use Rattle.id_grammar.specs.Grammar.{Phrase, Definition, Parameters, MoreParameters, Expression, Grouped, Negation, Unary}
+use Rattle.id_grammar.specs.Grammar.{Phrase, Definition, Parameters, MoreParameters, Expression, Grouped, Negation}
+use Rattle.id_grammar.specs.Grammar.{Unary}
 use Rattle.id_grammar.specs.Grammar.{Postfix, Atom, Arguments, MoreArguments, Tail, Rest, done, word, either, name}
 use Rattle.id_grammar.specs.Grammar.{of_kind, part, fetch_of, kind_named, Opens, definition, no_parameters}
 use Rattle.id_grammar.specs.Grammar.{first_parameter, last_parameter, next_parameter, by_conditional, denied, negated}

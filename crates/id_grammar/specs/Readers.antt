@@ -24,7 +24,8 @@ use Rattle.id_grammar.specs.declared.tree.Def.{Def}
 use Rattle.id_grammar.specs.declared.tree.TreeError.{TreeError}
 use Rattle.id_grammar.specs.declared.tree.TreeError.TheVariants.{Unexpected, TooDeep, Memory}
 use Rattle.id_grammar.specs.Tree.{Tree, tree_of, stmt_tree, def_tree, unary, param, more}
-use Rattle.id_grammar.specs.Grammar.{Phrase, Definition, Parameters, MoreParameters, Arguments, MoreArguments, Tail, Rest}
+use Rattle.id_grammar.specs.Grammar.{Phrase, Definition, Parameters, MoreParameters, Arguments, MoreArguments, Tail}
+use Rattle.id_grammar.specs.Grammar.{Rest}
 use Rattle.id_grammar.specs.Grammar.{named_of, assigned_of, done, of_kind, part, sign, enclosed, with_statement, Opens}
 use Rattle.id_grammar.specs.Grammar.{Grouped, word, operand, operator_of}
 use Rattle.id_grammar.specs.Machine.{Frame, Left, Target, Inside, again, Begin, Want, Have, Next, Outcome, Refused}

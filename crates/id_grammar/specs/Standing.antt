@@ -6,7 +6,8 @@ use Rattle.id_grammar.specs.declared.phrase.Level.TheVariants as level
 use Rattle.id_value.specs.declared.BinaryOp.{BinaryOp}
 use Rattle.id_value.specs.declared.Kind.{Kind}
 use Rattle.id_grammar.specs.Tree.{Tree}
-use Rattle.id_grammar.specs.Grammar.{Phrase, Definition, Expression, Grouped, Negation, Unary, Postfix, Atom, Rest, done}
+use Rattle.id_grammar.specs.Grammar.{Phrase, Definition, Expression, Grouped, Negation, Unary, Postfix, Atom, Rest}
+use Rattle.id_grammar.specs.Grammar.{done}
 use Rattle.id_grammar.specs.Grammar.{word, either, name, of_kind, part, operand, left_operand, operator_of, own_height}
 use Rattle.id_grammar.specs.Grammar.{Derives, Follows, Program}
 use Rattle.id_grammar.specs.Machine.{least_height, Frame, Left, Right, Target, Inside, Outer, ahead, State, Begin, Want}

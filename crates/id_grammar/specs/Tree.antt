@@ -5,7 +5,8 @@ use Rattle.id_value.specs.declared.Constant.{Constant}
 use Rattle.id_value.specs.declared.UnaryOp.{UnaryOp}
 use Rattle.id_value.specs.declared.BinaryOp.{BinaryOp}
 use Rattle.id_grammar.specs.declared.tree.Expr.{Expr, Literal, Unary', Binary', Name, If', Call', Block', Loop', Array'}
-use Rattle.id_grammar.specs.declared.tree.Expr.{Fetch', Row_of-Expr, end_of-Expr, more_of-Expr, Row_of-Stmt, end_of-Stmt}
+use Rattle.id_grammar.specs.declared.tree.Expr.{Fetch', Row_of-Expr, end_of-Expr, more_of-Expr, Row_of-Stmt}
+use Rattle.id_grammar.specs.declared.tree.Expr.{end_of-Stmt}
 use Rattle.id_grammar.specs.declared.tree.Expr.{more_of-Stmt}
 use Rattle.id_grammar.specs.declared.tree.Stmt.{Stmt, Binding, Next, Store'}
 use Rattle.id_grammar.specs.declared.tree.Param.{Param}

@@ -1,6 +1,7 @@
 -- Lemmas on specs/Rear.antt.
 use Rattle.std.proofs.Common.{◌≡◌, ◌≢◌, ℕ, zero, suc, ◌<◌, drop, drop-cons, Bool, true, false, cond, ◌&&◌, nat_eq, List, [], ◌∷◌, ◌++◌}
-use Rattle.std.proofs.Common.{length, get_or, Option, Some, None, IsSome, is_some, IfSome, IsTrue, IsPermutation, Result, swap_remove, insert, refl, sym, ◌∙◌, ap, subst, arith}
+use Rattle.std.proofs.Common.{length, get_or, Option, Some, None, IsSome, is_some, IfSome, IsTrue, IsPermutation, Result, swap_remove, insert, refl, sym, ◌∙◌}
+use Rattle.std.proofs.Common.{ap, subst, arith}
 use Rattle.std.specs.Cmp.{IsEquivalence}
 use Rattle.std.specs.List.{IsDistinct, Contains}
 use Rattle.std.specs.Map.{lookup, keys_of}

@@ -1,4 +1,5 @@
--- The texts of numbers, places, values, structures and cells (docs/LANGUAGE.md, "Output"). Bytes are those of ASCII text.
+-- The texts of numbers, places, values, structures and cells (docs/LANGUAGE.md, "Output"). Bytes are those of ASCII
+-- text.
 use Rattle.std.specs.Prelude.{ℕ, ℤ, ◌==◌, Bool as Truth, true, false, List, [], ◌++◌}
 use Rattle.std.specs.Prelude.{codes, decimal, slice_get}
 use Rattle.std.specs.Option.{option_map_or}

@@ -2,7 +2,8 @@
 //!
 //! Keeps: each part stands before its row, within the row's interval; the intervals nest.
 //! Errors: want of memory, as which a number of more than 32 bits is told too.
-//! Read first: `Node` (which forms have which rows), `specs/Rows.antt`, then `specs/Turns.antt`; docs/GRAPH.md ("Parts").
+//! Read first: `Node` (which forms have which rows), `specs/Rows.antt`, then `specs/Turns.antt`; docs/GRAPH.md
+//! ("Parts").
 //! Not here: the tree (`id_tree`), who makes the table (`id_maker`, `id_parts`), binders and kinds (`id_check`).
 //!
 //! Rows stand in the order in which the text finishes its parts; a **marker** row stands wherever a region or a
