@@ -17,9 +17,9 @@ ghost use Rattle.id_pieces.specs.Slots.{AreSlots};
 use crate::origins::{name_in, origin, output, trigger_of};
 use id_check::Checked;
 use id_desugar::row_at;
-use id_graph::Port;
-use id_parts::{Node, Region, Row};
+use id_instr::Port;
 use id_pieces::{Arc, BuildError, Origin, Slots, first_binder, nexts_at, turn_row};
+use id_table::{Node, Region, Row};
 
 /// The arcs of a graph in the making: the numbers of the rows' first instructions, and the arcs so far.
 #[derive(Drop)]

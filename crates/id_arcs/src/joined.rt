@@ -5,7 +5,7 @@ ghost use Rattle.id_pieces.specs.Rows.{op_by};
 ghost use Rattle.id_pieces.specs.Made.{Fits, instrs_from, IsBetween, connected, number_by, with_dest};
 
 use crate::feeds::number_by;
-use id_graph::{Dest, Dests, Instr, Op, Others};
+use id_instr::{Dest, Dests, Instr, Op, Others};
 use id_pieces::{Arc, Form, Piece};
 use std::alloc::{AllocError, Global};
 

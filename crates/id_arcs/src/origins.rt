@@ -7,8 +7,8 @@ ghost use Rattle.id_pieces.specs.Slots.{AreSlots};
 
 use id_check::Checked;
 use id_desugar::{binder_at, row_at};
-use id_parts::{Node, Region};
 use id_pieces::{Origin, Slots, entries_row, label, slot_of};
+use id_table::{Node, Region};
 
 /// What the first instruction of a row gives.
 pub fn output(row: usize) -> Origin

@@ -20,12 +20,12 @@ use crate::size::made_count;
 use id_arcs::{Arcs, connect_all, number_by, push_bare, push_feeds};
 use id_check::Checked;
 use id_desugar::{Kernel, row_at};
-use id_graph::{Block, Graph, Instr};
+use id_instr::{Block, Graph, Instr};
 use id_list::Sequence;
-use id_parts::Node;
 use id_pieces::{
     BuildError, Columns, Piece, Slots, entries_row, find_slots, is_param, push_pieces,
 };
+use id_table::Node;
 use std::alloc::Global;
 
 /// A graph that the schemas give the program.

@@ -9,8 +9,8 @@ ghost use Rattle.id_pieces.specs.Slots.{AreColumns};
 
 use id_check::Checked;
 use id_desugar::{Column, Kernel, end_of, find_ends, row_at};
-use id_parts::Node;
 use id_pieces::{Columns, nexts_at};
+use id_table::Node;
 use std::alloc::{AllocError, Global};
 
 /// Whether the schemas give the program at most 1,000,000 instructions: `build` refuses it otherwise. Takes no memory.

@@ -12,7 +12,7 @@ use crate::queues::{Queues, Wait};
 use id_check::Checked;
 use id_facts::{RowFact, Trail};
 use id_links::{Links, awaited, distance, node_of};
-use id_parts::Node;
+use id_table::Node;
 use std::alloc::AllocError;
 
 /// Lets all wait for their binders that wait where these facts turn rows On.

@@ -14,7 +14,7 @@ ghost use Rattle.id_compile.specs.Refusals.{IsCauseInside};
 use id_build::{BuildError, build, is_small, is_small_and_plain, is_surely_small};
 use id_check::{CheckCause, Checked, Tabled, check_table, into_table};
 use id_desugar::regions;
-use id_graph::Graph;
+use id_instr::Graph;
 use id_text::{TextError, lex};
 use id_tree::{Program, TreeError, parse};
 use id_valid::Valid;

@@ -14,13 +14,14 @@ ghost use Rattle.id_observed.specs.Observed.{main_tag};
 use id_element::{Element, Short, TakeError};
 use id_flight::{Demand, Queue};
 use id_gap::{Flight, InFlight};
-use id_graph::Port;
-use id_meaning::{Inputs, SourceFault, SourceValue};
+use id_inputs::Inputs;
+use id_instr::Port;
 use id_observe::{
     Holdings, Observed, answer, first_fault, main_tag, observe_holdings, observe_records,
 };
 use id_ops::value_of;
 use id_record::{Fault, Step};
+use id_source::{SourceFault, SourceValue};
 use id_tag::{Message, Payload, PlainToken, Sender, Value, route, route_tag};
 use id_valid::Valid;
 use id_value::Constant;

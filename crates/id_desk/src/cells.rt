@@ -7,7 +7,7 @@ use crate::desk::Desk;
 use id_bank::{ReadAnswer, WriteAnswer};
 use id_firing::{TakeError, answer_fired, fill_verdict, next_stamp, send_replies};
 use id_flight::{Demand, Queue};
-use id_graph::Port;
+use id_instr::Port;
 use id_ops::Fired;
 use id_record::{
     Envelope, Fate, Handling, NO_REPLIES, Reaction, Replies, Verdict, Visiting, message, tag_of,

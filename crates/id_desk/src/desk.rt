@@ -10,7 +10,7 @@ use id_firing::{
     send_deed, send_like, send_shot, short_of,
 };
 use id_flight::Queue;
-use id_graph::{Graph, Instr, Port};
+use id_instr::{Graph, Instr, Port};
 use id_match::Waiting;
 use id_ops::{Deed, Shot};
 use id_record::{

@@ -10,7 +10,7 @@ ghost use Rattle.id_desugar.specs.Regions.{is_loop_head, is_right_in};
 
 use crate::column::Column;
 use id_check::Checked;
-use id_parts::{Node, Region, Row};
+use id_table::{Node, Region, Row};
 
 /// What stands past the end of a table.
 const NO_ROW: Row = Row {

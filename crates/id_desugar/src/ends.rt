@@ -9,7 +9,7 @@ ghost use Rattle.id_desugar.specs.Ends as ends;
 use crate::access::row_at;
 use crate::column::{Column, MOST};
 use id_check::Checked;
-use id_parts::Node;
+use id_table::Node;
 use std::alloc::{AllocError, Global};
 
 /// For each row the row where what begins there ends, if something does.

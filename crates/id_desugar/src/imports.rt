@@ -18,7 +18,7 @@ use crate::column::{Column, MOST};
 use crate::ends::begun_at;
 use crate::list::{AllImports, Imports};
 use id_check::Checked;
-use id_parts::Node;
+use id_table::Node;
 use std::alloc::{AllocError, Global};
 
 /// The rows from `lo` up to `hi`, of which uses are gathered: first values of the loop with the head `own`, if one is

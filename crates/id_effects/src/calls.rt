@@ -9,7 +9,7 @@ use id_check::Checked;
 use id_facts::{RowFact, RowValue, Trail, add_values};
 use id_given::add_seen;
 use id_links::{Links, binder_of, node_of};
-use id_parts::Node;
+use id_table::Node;
 use std::alloc::{AllocError, Global};
 
 /// A call that is On.

@@ -13,7 +13,7 @@ use id_check::Checked;
 use id_facts::{RowFact, RowValue, Trail, add_has, add_ons};
 use id_given::{add_asked, add_given, add_put};
 use id_links::{Links, node_of};
-use id_parts::Node;
+use id_table::Node;
 use std::alloc::{AllocError, Global};
 
 /// Adds the facts that follow from this one, with others that the cells have, where this waits.

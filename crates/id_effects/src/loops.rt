@@ -14,7 +14,7 @@ use id_check::Checked;
 use id_facts::{RowFact, RowValue, Trail, add_has, add_on, add_ons, same_trail};
 use id_given::add_seen;
 use id_links::{Links, awaited, binder_of, block_of, distance, node_of};
-use id_parts::Node;
+use id_table::Node;
 use std::alloc::{AllocError, Global};
 
 /// An iteration of a loop.

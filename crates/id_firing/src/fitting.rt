@@ -10,7 +10,7 @@ ghost use Rattle.id_valid.specs.Roles.{is_second, op_at};
 ghost use Rattle.id_firing.specs.Fits.{AddressFits, ContinuationFits, Fits, IsCell, ReadFits, ReplyFits};
 ghost use Rattle.id_firing.specs.Fits.{TakesReturn, TokenFits, WriteFits};
 
-use id_graph::{Dest, Graph, Op, Port, PortKind, kind_at};
+use id_instr::{Dest, Graph, Op, Port, PortKind, kind_at};
 use id_tag::{Cell, Message, Payload, Tag, Value};
 use id_valid::Valid;
 use id_value::is_inside;

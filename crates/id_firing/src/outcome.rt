@@ -34,9 +34,8 @@ ghost use Rattle.id_instr.specs.Graph.{arcs_on};
 ghost use Rattle.id_ops.specs.Operators.{side_of, tag_within};
 
 use crate::step::{Arrival, PlainOperands, Reacted, Short, TakeError};
-use id_bank::{ReadAnswer, WriteAnswer};
 use id_flight::Queue;
-use id_graph::{Dest, Graph, Instr, Op, Port};
+use id_instr::{Dest, Graph, Instr, Op, Port};
 use id_match::{Met, Offered, Waiting};
 use id_ops::{
     Deed, Fired, Fresh, Operands, Shot, Target, deed_on, deed_on_two, fire, shoot_one, shoot_two,
@@ -45,6 +44,7 @@ use id_record::{
     Envelope, Reaction, Record, Verdict, chosen, count_started, message, moved_to, start, token_at,
     token_to,
 };
+use id_slot::{ReadAnswer, WriteAnswer};
 use id_tag::{Context, Payload, Plain, PlainToken, Tag, Value, element_of, name_of, serial_of};
 use std::alloc::AllocError;
 

@@ -15,7 +15,7 @@ ghost use Rattle.id_tag.specs.declared.plain.Plain.{Plain};
 ghost use Rattle.id_tag.specs.Plains.{cell_of, message_of, tag_in as tag_of};
 
 use crate::demand::Demand;
-use id_graph::Port;
+use id_instr::Port;
 use id_tag::{
     Cell, Context, Message, Payload, Plain, PlainCell, PlainToken, Sender, Structure, Tag, Value,
     plain_cell, plain_of, small, tiny,

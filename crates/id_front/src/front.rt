@@ -23,7 +23,7 @@ ghost use Rattle.id_front.specs.Front.{one_less, one_more};
 ghost use Rattle.id_front.specs.declared.front.Behind.TheVariants.{Nothing};
 
 use crate::{Entry, Half, Met, Offered, pair};
-use id_graph::Port;
+use id_instr::Port;
 use id_tag::{Context, Plain, PlainToken, Tag, Value, plain_of, small, tiny};
 use std::alloc::{AllocError, Global};
 

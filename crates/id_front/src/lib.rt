@@ -16,7 +16,7 @@ pub use front::{
     Behind, Pair, Slot, count, has, has_room, in_front, larger, leave_behind, mark, meet, put,
     slot_for, slot_in, stands_behind, step_behind, take,
 };
-use id_graph::Port;
+use id_instr::Port;
 use id_tag::{Plain, Tag, Value};
 
 /// A value that waits, with its port.

@@ -4,7 +4,7 @@ ghost use Rattle.std.specs.Prelude.{◌≡◌, ◌+◌, ◌++◌, ◌≤◌, ◌
 
 use id_element::{Element, Short, TakeError};
 use id_flight::{Demand, Queue};
-use id_record::Step;
+use id_line::Step;
 use id_tag::{Context, Message, PlainToken};
 use std::alloc::{AllocError, Global};
 use std::marker::Model;

@@ -11,7 +11,7 @@ use id_cells::Cells;
 use id_check::Checked;
 use id_facts::{RowFact, RowValue, Trail, add_has, add_values, row_value};
 use id_links::{beyond, far, node_of};
-use id_parts::Node;
+use id_table::Node;
 use std::alloc::{AllocError, Global};
 
 /// Adds the facts that come at the row at the path, where this fact is followed.

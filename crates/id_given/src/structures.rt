@@ -9,7 +9,7 @@ ghost use Rattle.id_given.specs.Given.{store_by, stored, stored_by, stores};
 
 use id_cells::{Bounds, Cells, Point};
 use id_facts::{RowFact, RowValue, Trail, add_has, add_values};
-use id_parts::Node;
+use id_table::Node;
 use id_value::{bounds_are_good, is_inside};
 use std::alloc::{AllocError, Global};
 

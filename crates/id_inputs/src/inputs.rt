@@ -17,8 +17,8 @@ ghost use Rattle.id_inputs.specs.Reading.{AreGiven, AreSaid, IsFirstLack, cause_
 use id_check::Checked;
 use id_links::node_of;
 use id_list::Sequence;
-use id_parts::Node;
 use id_source::main_params;
+use id_table::Node;
 use id_text::Identifier;
 use id_value::{Constant, Kind};
 use std::alloc::{AllocError, AllocFailed, Global};

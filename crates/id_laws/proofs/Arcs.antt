@@ -84,9 +84,10 @@ some_is h = cc
 
 same_form : (o f : Form) (e e' : ℕ) → Some (piece o e) ≡ Some (piece f e') → (o ≡ f) × (e' ≡ e)
 same_form o f e e' h =
-    let both : piece o e ≡ piece f e' = cc in
-    (ap (λ (z : Rattle.id_pieces.specs.declared.arc.Piece.Piece). z.form) both,
-    ap (λ (z : Rattle.id_pieces.specs.declared.arc.Piece.Piece). z.place) (sym both))
+    let both : piece o e ≡ piece f e' = cc in (
+      ap (λ (z : Rattle.id_pieces.specs.declared.arc.Piece.Piece). z.form) both,
+      ap (λ (z : Rattle.id_pieces.specs.declared.arc.Piece.Piece). z.place) (sym both),
+    )
 
 -- a part that is made, as its row's node has it
 pub record Doing (P : Checked) (n part : ℕ) (f : Form) (e : ℕ) : Type 0 where

@@ -16,7 +16,7 @@ use crate::numbers::{high_half, index_of, joined, low_half, port_at};
 use crate::payload::tag_of;
 use crate::reading::{message_at, tag_at, went};
 use crate::step::Verdict;
-use id_graph::Port;
+use id_instr::Port;
 use id_ops::Fired;
 use id_tag::{Cell, Payload, Structure, Tag, Value};
 

@@ -21,7 +21,7 @@ ghost use Rattle.id_line.specs.Events.{value_of};
 use crate::numbers::{index_of, instr_at, joined, place, position_at};
 use crate::payload::value_of;
 use crate::step::Verdict;
-use id_graph::Port;
+use id_instr::Port;
 use id_ops::{Fired, tag_within};
 use id_tag::{Cell, Context, Message, Payload, Sender, Tag, Value};
 use id_value::FaultKind;

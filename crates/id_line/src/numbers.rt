@@ -5,7 +5,7 @@ ghost use Rattle.std.specs.Int.{cast_signed, w32};
 ghost use Rattle.id_line.specs.Lines.{context_of, element_at, high_half, index_of, instr_at, joined, low_half};
 ghost use Rattle.id_line.specs.Lines.{port_at};
 
-use id_graph::Port;
+use id_instr::Port;
 use id_tag::Context;
 
 /// Two numbers of 32 bits as the halves of one.

@@ -11,7 +11,7 @@ ghost use Rattle.id_links.specs.Links.{target_of, test_of};
 use crate::edges::Edges;
 use crate::nodes::node_of;
 use id_check::Checked;
-use id_parts::{Node, Row};
+use id_table::{Node, Row};
 use std::alloc::{AllocError, Global};
 
 /// What each row leads to.

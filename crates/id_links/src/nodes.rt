@@ -5,7 +5,7 @@ ghost use Rattle.id_table.specs.Rows.{at};
 ghost use Rattle.id_check.specs.Programs.{rows};
 
 use id_check::Checked;
-use id_parts::Node;
+use id_table::Node;
 
 /// The row of the head of the block that the row stands in; past the last one, 0.
 pub fn block_of(checked: &Checked, row: usize) -> usize

@@ -10,12 +10,12 @@ ghost use Rattle.id_table.specs.declared.row.Node.TheVariants.{Variable, If, Arg
 ghost use Rattle.id_table.specs.Texts.{texts};
 ghost use Rattle.id_maker.specs.Making.{end_loop, parts, stmts_tree, IsAdded, IsStart};
 
+use id_grammar::{Def, Param, Stmt};
 use id_table::{
     Node, Row, Spelled, Stand, arg_node, def_node, if_node, in_arm, main_alone, next_node, short,
     stand_in,
 };
 use id_text::Identifier;
-use id_tree::{Def, Param, Stmt};
 use id_value::Constant;
 use indexmap::IndexSet;
 use std::alloc::{AllocError, Global};

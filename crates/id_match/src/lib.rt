@@ -34,7 +34,7 @@ use id_front::{
     put, slot_for, slot_in, stands_behind, step_behind, take,
 };
 pub use id_front::{Entry, Half, Met, Offered};
-use id_graph::Port;
+use id_instr::Port;
 use id_tag::{Plain, PlainToken, Tag, Value};
 use rear::{Rear, sort_by_tag};
 use std::alloc::{AllocError, Global};

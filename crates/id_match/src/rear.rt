@@ -26,7 +26,7 @@ ghost use Rattle.slab.specs.Slab.{ContainsKey, Updates, get};
 ghost use Rattle.id_tag.specs.Plains.{tag_in, whole};
 
 use id_front::{Entry, Half, Met, Offered, pair};
-use id_graph::Port;
+use id_instr::Port;
 use id_tag::{Context, NearHasher, Plain, PlainToken, Tag, Value, plain_of};
 use slab::Slab;
 use std::alloc::{AllocError, Global};

@@ -12,7 +12,7 @@ use crate::names::compare_sites;
 use crate::within::{is_filled_within, is_site_within};
 use id_core::CellValue;
 use id_list::Sequence;
-use id_meaning::Shape;
+use id_source::Shape;
 use std::alloc::AllocError;
 use std::cmp::Ordering;
 use std::marker::Model;

@@ -6,7 +6,7 @@ ghost use Rattle.id_names.specs.Names.{IsOrderOf, IsSortedOf, AreApart, AreApart
 ghost use Rattle.id_names.specs.Names.{OfOneFetch, site_cmp, name_cmp};
 
 use id_list::Sequence;
-use id_meaning::{Ask, NameValue, Site};
+use id_source::{Ask, NameValue, Site};
 use std::alloc::AllocError;
 use std::cmp::Ordering;
 

@@ -7,7 +7,7 @@ ghost use Rattle.id_names.specs.Within.{AsksWithin, AnswerWithin, NameWithin, Na
 ghost use Rattle.id_names.specs.Within.{FaultWithin, SecondWithin, EndingWithin};
 ghost use Rattle.id_sink.specs.Within.{FilledWithin};
 
-use id_meaning::{Ask, NameValue, Path, PathStep, Put, Site, SourceFault, SourceValue};
+use id_source::{Ask, NameValue, Path, PathStep, Put, Site, SourceFault, SourceValue};
 
 /// How a run ended.
 #[derive(Drop)]

@@ -11,11 +11,11 @@ ghost use Rattle.id_paths.specs.Paths.{path_by};
 
 use id_bank::{Cells, Filled};
 use id_element::Element;
-use id_graph::Graph;
+use id_instr::Graph;
 use id_list::Sequence;
-use id_meaning::{Ask, Path, Shape, Site, SourceValue};
 use id_observed::{CellValue, Named, all_structures, all_waiting, answer, source_value, value_in};
 use id_paths::{Paths, is_alloc};
+use id_source::{Ask, Path, Shape, Site, SourceValue};
 use id_tag::Structure;
 use id_valid::Valid;
 use std::alloc::{AllocError, Global};

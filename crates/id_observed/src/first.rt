@@ -10,9 +10,9 @@ ghost use Rattle.id_observed.specs.Firsts.{AreMergedOf, IsFirstFault};
 
 use crate::observe::source_fault;
 use id_element::Element;
-use id_meaning::SourceFault;
 use id_merge::{Merged, merge_records};
 use id_paths::Paths;
+use id_source::SourceFault;
 use id_valid::Valid;
 use std::alloc::{AllocError, Global};
 

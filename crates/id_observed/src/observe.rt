@@ -24,11 +24,11 @@ ghost use Rattle.id_paths.specs.Paths.{path_by, place_of};
 
 use id_bank::{Cells, Filled, Reader};
 use id_element::Element;
-use id_graph::{Graph, Instr, Op, PortKind};
+use id_instr::{Graph, Instr, Op, PortKind};
 use id_list::Sequence;
-use id_meaning::{Ask, NameValue, Put, Shape, Site, SourceFault, SourceValue};
 use id_paths::{Making, Paths, brought, place_of};
 use id_record::{Events, Fault, Step};
+use id_source::{Ask, NameValue, Put, Shape, Site, SourceFault, SourceValue};
 use id_tag::{Cell, Context, Payload, Structure, Tag, Value};
 use id_valid::Valid;
 use std::alloc::{AllocError, Global};

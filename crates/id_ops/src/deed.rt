@@ -11,7 +11,7 @@ ghost use Rattle.id_tag.specs.declared.Value.TheVariants as values;
 
 use crate::Fired;
 use crate::shot::Target;
-use id_graph::{Op, PortKind};
+use id_instr::{Op, PortKind};
 use id_tag::{Plain, PlainCell, Tag, Value, element_of, plain_cell_in, serial_of};
 use id_value::is_inside;
 

@@ -21,7 +21,7 @@ mod deed;
 mod shot;
 
 pub use deed::{Deed, deed_on, deed_on_two};
-use id_graph::{Dyadic, Instr, Op, PortKind};
+use id_instr::{Dyadic, Instr, Op, PortKind};
 use id_tag::{Cell, Context, Structure, Tag, Value};
 use id_value::{
     Constant, FaultKind, Outcome, UnaryOp, bounds_are_good, calculate, compare, decide, is_inside,

@@ -16,7 +16,7 @@ ghost use Rattle.id_ops.specs.declared.shot.Shot.TheVariants.{Sent};
 ghost use Rattle.id_ops.specs.Shots.{IsBrief, IsOwn, fired_of, sends_on, target_tag};
 
 use crate::Fired;
-use id_graph::{Dyadic, Op, PortKind};
+use id_instr::{Dyadic, Op, PortKind};
 use id_tag::{Context, Plain, Tag, element_of, plain_truth, serial_of};
 use id_value::{Constant, Outcome, UnaryOp, calculate, compare, decide, unary_result};
 

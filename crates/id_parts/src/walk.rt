@@ -7,12 +7,12 @@ ghost use Rattle.id_table.specs.Rows.{in_top, add, add_arguments, parts_of, rows
 ghost use Rattle.id_maker.specs.Making.{add_argument, add_body, add_next, pair_tree};
 ghost use Rattle.id_maker.specs.Making.{parts, exprs_tree, stmts_tree, IsAdded, IsStart};
 
+use id_grammar::{Block, Call, Def, Expr, Loop, Pair, Program, Stmt, Triple};
 use id_maker::Maker;
 use id_table::{
     Node, Pairing, Stand, Table, about_names, about_rows, names_of, other_side, pair_node, stand_in,
 };
 use id_text::Identifier;
-use id_tree::{Block, Call, Def, Expr, Loop, Pair, Program, Stmt, Triple};
 use id_value::UnaryOp;
 use std::alloc::{AllocError, Global};
 

@@ -15,11 +15,11 @@ ghost use Rattle.id_paths.specs.Paths.{enter_of, is_alloc, is_enter, made_by, ma
 ghost use Rattle.id_paths.specs.Paths.{making_of, makings_of, step_of, steps_to};
 
 use id_element::{Element, op_at};
-use id_graph::{Graph, Op};
+use id_instr::{Graph, Op};
 use id_list::Sequence;
-use id_meaning::{Path, PathStep, Site};
 use id_ops::Fired;
 use id_record::{Events, Outputs, tag_of};
+use id_source::{Path, PathStep, Site};
 use id_tag::{Context, NearHasher, Payload, Structure, Tag, Value};
 use std::alloc::{AllocError, Global};
 use std::collections::HashMap;

@@ -1,6 +1,6 @@
 //! Where values come from, and arcs.
 
-use id_graph::{Op, Port, PortKind};
+use id_instr::{Op, Port, PortKind};
 
 /// Where a value comes from: the instruction that is this part of a row's, and which side of it; what is no
 /// switch has the true side alone.

@@ -7,7 +7,7 @@ ghost use Rattle.id_pieces.specs.Rows.{called, head_of, param_at, param_of};
 
 use id_check::Checked;
 use id_desugar::{binder_at, row_at};
-use id_parts::Node;
+use id_table::Node;
 
 /// The head of the procedure that the `Enter` at a row calls.
 pub fn called(checked: &Checked, enter: usize) -> usize

@@ -11,7 +11,7 @@ ghost use Rattle.id_pieces.specs.Slots.{AreColumns};
 use crate::columns::Columns;
 use id_check::Checked;
 use id_desugar::{binder_at, row_at};
-use id_parts::Node;
+use id_table::Node;
 
 /// The `next` statements of the loop with this head, by index: the first of what its switches hand on.
 pub fn nexts_at<'a>(checked: &Checked, columns: Columns<'a>, head: usize) -> &'a [u32]

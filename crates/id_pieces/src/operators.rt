@@ -5,7 +5,7 @@ ghost use Rattle.id_check.specs.Programs as programs;
 ghost use Rattle.id_pieces.specs.Rows.{binary_op, port_at, port_of};
 
 use id_check::Checked;
-use id_graph::{Dyadic, PortKind};
+use id_instr::{Dyadic, PortKind};
 use id_value::{BinaryOp, Comparison, Kind, Logic, Truth};
 
 /// The kind of the ports that take values of this kind.

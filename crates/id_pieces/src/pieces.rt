@@ -22,8 +22,8 @@ use crate::loops::{entries_row, nexts_at};
 use crate::operators::{binary_op, port_at, port_of};
 use id_check::Checked;
 use id_desugar::row_at;
-use id_graph::{Op, PortKind};
-use id_parts::Node;
+use id_instr::{Op, PortKind};
+use id_table::Node;
 use id_value::Kind;
 
 /// Adds the instructions of the row n.

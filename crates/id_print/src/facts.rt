@@ -9,12 +9,12 @@ ghost use Rattle.id_sink.specs.Within.{PointWithin, SiteWithin, AskWithin};
 ghost use Rattle.id_names.specs.Within.{HasWithin, PutWithin, FactWithin};
 ghost use Rattle.id_names.specs.Within.{FactsWithin};
 
-use id_meaning::{Ask, Fact, Path, Put, Shape, Site, SourceValue};
 use id_names::{is_ask_within, is_point_within, is_put_within, is_site_within, is_value_within};
 use id_sink::{
     Cursor, PrintError, Sink, put, put_ask, put_filled, put_point, put_point_value, put_shape,
     put_site_behind,
 };
+use id_source::{Ask, Fact, Path, Put, Shape, Site, SourceValue};
 use id_text::MAX_BYTES;
 
 /// Writes a line for each fact of the text, in order. Takes no memory.

@@ -22,7 +22,6 @@ ghost use Rattle.id_print.specs.Reports.{ReportWithin};
 
 use id_core::{CellValue, Machine};
 use id_list::Sequence;
-use id_meaning::{Ask, NameValue, Shape, Site, SourceFault, SourceValue};
 use id_names::{
     Ending, Helds, are_asks_within, are_names_within, behind_first, has_lines, is_answer_within,
     is_cell_first, is_ending_within, sorted_asks, sorted_names,
@@ -31,6 +30,7 @@ use id_sink::{
     Cursor, PrintError, Sink, put, put_ask, put_cell, put_content, put_point_value, put_shape,
     put_site, put_value,
 };
+use id_source::{Ask, NameValue, Shape, Site, SourceFault, SourceValue};
 use id_text::MAX_BYTES;
 use id_value::FaultKind;
 use std::alloc::{AllocError, Global};

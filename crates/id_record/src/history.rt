@@ -12,7 +12,7 @@ use crate::ledger::Ledger;
 use crate::margin::{Margin, add_beside, add_line, add_shot};
 use crate::outputs::{Envelope, Outputs, chosen};
 use crate::telling::is_telling;
-use id_graph::{Dest, Graph, Op};
+use id_instr::{Dest, Graph, Op};
 use id_line::{
     Celled, Fault, Handled, Handling, Line, NO_REPLIES, Reaction, Replies, Step, Verdict, packed,
     packed_beside, tag_of, value_of, whole,

@@ -10,7 +10,7 @@ ghost use Rattle.id_ops.specs.Operators.{side_of};
 ghost use Rattle.id_record.specs.Sends.{HasSecond, beside, count_started, moved_to, replies, sent, started};
 ghost use Rattle.id_record.specs.Sends.{token_to};
 
-use id_graph::{Dest, Instr, Op, Port};
+use id_instr::{Dest, Instr, Op, Port};
 use id_ops::{Fired, tag_within};
 use id_tag::{Context, Message, Payload, Sender, Tag, Value};
 use std::marker::Model;

@@ -9,7 +9,7 @@ ghost use Rattle.id_compile.specs.Refusals.{AreRefusedFor, IsInsideOf, IsRefused
 
 use id_check::Checked;
 use id_compile::{Compiled, EngineError, compile};
-use id_meaning::{InputError, Inputs, param_name, read_inputs};
+use id_inputs::{InputError, Inputs, param_name, read_inputs};
 use std::alloc::Global;
 
 /// A program with its graph and the inputs of its `main`.

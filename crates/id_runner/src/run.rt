@@ -28,7 +28,7 @@ use id_compile::EngineError;
 use id_core::{
     Came, Element, MAX_ELEMENTS, Machine, MachineError, Merged, TakeError, merge_records,
 };
-use id_meaning::Inputs;
+use id_inputs::Inputs;
 use id_print::{Ending, PrintError, Report, Sink, run_report, write_report, write_trace};
 use id_tag::{Context, Message, route};
 use id_valid::Valid;

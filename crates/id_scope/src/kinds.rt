@@ -9,7 +9,7 @@ ghost use Rattle.id_scope.specs.Chains as chains;
 ghost use Rattle.id_scope.specs.Chains.{IsGoing, IsFilling, IsState};
 
 use crate::rows::{user_of, wide};
-use id_parts::{Node, Row};
+use id_table::{Node, Row};
 use id_tree::{BinaryOp, Constant, Kind, UnaryOp};
 use std::alloc::{AllocError, Global};
 

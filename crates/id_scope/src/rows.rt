@@ -3,7 +3,7 @@
 ghost use Rattle.std.specs.Prelude.{◌≡◌};
 ghost use Rattle.id_scope.specs.Scopes as scopes;
 
-use id_parts::Node;
+use id_table::Node;
 
 /// Whether names that are bound in the part are seen in the whole of it.
 pub fn is_scope(node: Node) -> bool

@@ -17,7 +17,7 @@ ghost use Rattle.id_scope.specs.Names.{IsTaking, again, given, keys, newly};
 
 use crate::cause::{CheckCause, note};
 use crate::rows::{bound_name, closes, is_scope, sees_own, takes};
-use id_parts::{Node, Row};
+use id_table::{Node, Row};
 use std::alloc::{AllocError, Global};
 
 /// The most rows whose binders are looked for. No text comes near it.

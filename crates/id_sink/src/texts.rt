@@ -12,7 +12,7 @@ ghost use Rattle.id_sink.specs.Within.{StepsWithin, PointWithin, SiteWithin, Val
 use crate::cursor::Cursor;
 use crate::line::Piece;
 use crate::sink::{PrintError, Sink, put};
-use id_meaning::{Ask, Path, PathStep, Shape, Site, SourceValue};
+use id_source::{Ask, Path, PathStep, Shape, Site, SourceValue};
 use id_text::{MAX_BYTES, line_col};
 use itoa::Buffer;
 

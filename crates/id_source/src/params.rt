@@ -8,7 +8,7 @@ ghost use Rattle.id_source.specs.Sources.{body_of, head_of, main_body, main_para
 
 use id_check::Checked;
 use id_links::node_of;
-use id_parts::{Node, Row};
+use id_table::{Node, Row};
 use std::alloc::{AllocError, Global};
 
 /// The rows of main's parameters, in order.

@@ -13,7 +13,7 @@ ghost use Rattle.id_tag.specs.Routes.{offset_of, tag_route, cell_route, route_of
 mod near;
 mod plain;
 
-use id_graph::{Port, PortKind};
+use id_instr::{Port, PortKind};
 pub use near::{NearHasher, mix};
 pub use plain::{
     Plain, PlainCell, PlainToken, element_of, name_of, plain_cell, plain_cell_in, plain_of,

@@ -10,7 +10,7 @@ ghost use Rattle.id_tag.specs.declared.Cell.{Cell};
 ghost use Rattle.id_tag.specs.declared.Value.TheVariants as value;
 
 use crate::{Cell, Context, Message, Payload, Sender, Structure, Tag, Value};
-use id_graph::{Port, PortKind};
+use id_instr::{Port, PortKind};
 
 /// A word, which is a signal, a number or a truth value; or a context, a continuation, a structure or an address in
 /// small numbers. Beside its kind it has at most a number of 32 bits and one of 64, or two more of 32 in its place, so

@@ -5,7 +5,7 @@ ghost use Rattle.std.specs.List.{list_any};
 ghost use Rattle.id_valid.specs.Roles.{is_entry, is_first, is_second};
 ghost use Rattle.id_valid.specs.Past.{has_role, FirstPast, Least};
 
-use id_graph::Graph;
+use id_instr::Graph;
 
 /// The first faulty instruction past the end, if there is one. There instruction 0 is faulty, and
 /// those with a role.

@@ -4,7 +4,7 @@ ghost use Rattle.std.specs.Prelude.{◌≡◌, MatchOption};
 ghost use Rattle.id_instr.specs.declared.instr.Block.{Block};
 ghost use Rattle.id_valid.specs.Roles.{back_kind, merge_kind, op_at, result_kind, has_main_place, IsMain};
 
-use id_graph::{Block, Graph, Instr, Op, PortKind};
+use id_instr::{Block, Graph, Instr, Op, PortKind};
 
 /// What the instruction of this number does, if there is one.
 pub fn op_at(graph: &Graph, number: usize) -> Option<Op>

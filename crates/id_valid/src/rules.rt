@@ -9,7 +9,7 @@ ghost use Rattle.id_valid.specs.Validator.{IsSentTo, IsSound, IsTaken};
 
 use crate::roles::{back_kind, main_block, merge_kind, op_at, result_kind};
 use crate::survey::Survey;
-use id_graph::{Dest, Graph, Instr, Op, Port, PortKind, kind_at};
+use id_instr::{Dest, Graph, Instr, Op, Port, PortKind, kind_at};
 
 /// Whether no rule makes the instruction faulty.
 pub fn is_sound(survey: &Survey<'_>, number: usize) -> bool

@@ -6,7 +6,7 @@ ghost use Rattle.id_instr.specs.Graph.{arcs};
 ghost use Rattle.id_valid.specs.Roles.{arcs_into, is_dest, is_entry, is_first, is_reply, is_second, replies_to};
 ghost use Rattle.id_valid.specs.Survey.{Adds, Counts, Marks, Notes};
 
-use id_graph::{Dest, Graph, Instr, Op, Port};
+use id_instr::{Dest, Graph, Instr, Op, Port};
 use std::alloc::{AllocError, Global};
 use std::marker::Model;
 

@@ -8,7 +8,7 @@ use crate::past::first_past;
 use crate::roles::main_block;
 use crate::rules::is_sound;
 use crate::survey::Survey;
-use id_graph::{Block, Graph};
+use id_instr::{Block, Graph};
 use std::alloc::{AllocError, Global};
 use std::fmt;
 use std::marker::Model;

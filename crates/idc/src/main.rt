@@ -11,7 +11,7 @@ mod tests;
 
 use id_args::{arguments, read_words};
 use id_engine::{Disk, Request, Source, Stream, Unasked, drive, settle};
-use id_print::Sink;
+use id_sink::Sink;
 use std::alloc::{AllocError, Global};
 use std::convert::AsStr;
 use std::io::BufWriter;

@@ -1,7 +1,7 @@
 use crate::run;
 use id_args::read_words;
 use id_engine::{Request, Source, SourceFault, Stream, drive, settle};
-use id_print::{Sink, SinkFault, put};
+use id_sink::{Sink, SinkFault, put};
 use std::alloc::{AllocError, Global};
 use std::io;
 use std::io::{BufWriter, ErrorKind, Write};

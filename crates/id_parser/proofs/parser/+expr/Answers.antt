@@ -262,9 +262,13 @@ parse_postfix-returns t c =
     (c.fetches.invariant.0, Pointed-ends c.fetches.invariant.1 is_not)
 
 pub parse_fetch-parse_enclosed-requires : goal.parse_fetch-parse_enclosed-requires
-parse_fetch-parse_enclosed-requires t c =
-    (grind (arith, common_steps), (EndsOnce-behind c.in-Ok.ensures.whole c.requires.begins (λ q. cc) c.in-Ok.ensures.ends,
-        omega (arith, c.in-Ok.ensures.fits, c.requires.some)))
+parse_fetch-parse_enclosed-requires t c = (
+  grind (arith, common_steps),
+  (
+    EndsOnce-behind c.in-Ok.ensures.whole c.requires.begins (λ q. cc) c.in-Ok.ensures.ends,
+    omega (arith, c.in-Ok.ensures.fits, c.requires.some),
+  ),
+)
 
 pub parse_fetch-overflow_add-depth : goal.parse_fetch-overflow_add-depth
 parse_fetch-overflow_add-depth t c =
@@ -402,9 +406,13 @@ parse_block-split-requires t c =
     c.in-Ok-parse_statements.ensures.0.ends
 
 pub parse_block-parse_enclosed-requires : goal.parse_block-parse_enclosed-requires
-parse_block-parse_enclosed-requires t c =
-    (grind (arith, common_steps), (EndsOnce-behind c.split.ensures.whole c.in-Ok-parse_statements.ensures.1 (λ q. cc) c.split.ensures.ends,
-        omega (arith, c.in-Ok.ensures.fits)))
+parse_block-parse_enclosed-requires t c = (
+  grind (arith, common_steps),
+  (
+    EndsOnce-behind c.split.ensures.whole c.in-Ok-parse_statements.ensures.1 (λ q. cc) c.split.ensures.ends,
+    omega (arith, c.in-Ok.ensures.fits),
+  ),
+)
 
 pub parse_block-overflow_add-inner : goal.parse_block-overflow_add-inner
 parse_block-overflow_add-inner t c =
@@ -455,9 +463,10 @@ parse_loop-split-requires t c =
     EndsOnce-behind c.in-Ok.ensures.whole c.requires.begins (λ q. cc) c.in-Ok.ensures.ends
 
 pub parse_loop-parse_enclosed-requires : goal.parse_loop-parse_enclosed-requires
-parse_loop-parse_enclosed-requires t c =
-    (grind (arith, common_steps),
-        (EndsOnce-behind c.split.ensures.whole (sym (ap second_kind c.in-Ok.ensures.whole) ∙ c.requires.loops) (λ q. cc) c.split.ensures.ends, omega (arith, c.in-Ok.ensures.fits)))
+parse_loop-parse_enclosed-requires t c = (
+  grind (arith, common_steps),
+  (EndsOnce-behind c.split.ensures.whole (sym (ap second_kind c.in-Ok.ensures.whole) ∙ c.requires.loops) (λ q. cc) c.split.ensures.ends, omega (arith, c.in-Ok.ensures.fits)),
+)
 
 pub parse_loop-parse_statements-requires : goal.parse_loop-parse_statements-requires
 parse_loop-parse_statements-requires t c =
@@ -468,9 +477,13 @@ parse_loop-split-requires-2 t c =
     c.in-Ok-parse_statements.ensures.0.ends
 
 pub parse_loop-parse_enclosed-requires-2 : goal.parse_loop-parse_enclosed-requires-2
-parse_loop-parse_enclosed-requires-2 t c =
-    (grind (arith, common_steps), (EndsOnce-behind c.split-2.ensures.whole c.in-Ok-parse_statements.ensures.1 (λ q. cc) c.split-2.ensures.ends,
-        omega (arith, c.in-Ok.ensures.fits)))
+parse_loop-parse_enclosed-requires-2 t c = (
+  grind (arith, common_steps),
+  (
+    EndsOnce-behind c.split-2.ensures.whole c.in-Ok-parse_statements.ensures.1 (λ q. cc) c.split-2.ensures.ends,
+    omega (arith, c.in-Ok.ensures.fits),
+  ),
+)
 
 pub parse_loop-overflow_add-inner : goal.parse_loop-overflow_add-inner
 parse_loop-overflow_add-inner t c =
