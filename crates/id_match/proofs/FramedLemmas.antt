@@ -29,7 +29,7 @@ use Rattle.id_match.specs.declared.rear.Name.{Name}
 use Rattle.id_match.specs.declared.rear.Came.TheVariants.{Kept}
 use Rattle.id_front.specs.Halves.{answer_at, half_after}
 use Rattle.id_match.specs.Rear.{name_of, same_name, tag_at, halves_in, halves_by, halves_of, rear_half, frame_entries, rear_entries}
-use Rattle.id_match.specs.Rear.{IsFramed, Sets, Holds, MakesFrame, Tells, TellsOf, WritesFrame, after_came, after_said}
+use Rattle.id_match.specs.Rear.{IsFramed, IsOffered, IsOfferedAt, Sets, Holds, MakesFrame, Tells, TellsOf, WritesFrame, after_came, after_said}
 use Rattle.id_front.proofs.FrontLemmas.{lookup-append, not_passed, numbers_one, numbers_apart}
 
 -- ---- names
@@ -411,28 +411,63 @@ module _ (keys : List (Name × ℕ)) (frames : Slab Frame) (was : IsFramed keys 
     half_in =
         ap (λ m. lookup (nat_eq t.instr) (halves_of keys frames m)) (sym own) ∙ ap (λ o. lookup (nat_eq t.instr) (halves_by frames o)) found
 
-    pub tells_in : (r : Result Came AllocError) (h : Half) (short room : Bool)
-        → TellsOf r h short room (lookup (nat_eq t.instr) (halves_in (get frames key))) → TellsOf r h short room (rear_half keys frames t)
-    tells_in r h short room tells = subst (TellsOf r h short room) (sym half_in) tells
+    -- an offer to the frame of a name, which stays with it or leaves with it
+    module _ (more : List (Name × ℕ)) (slab : Slab Frame) (h : Half) (short room : Bool) (r : Result Came AllocError) (left_it : Bool)
+        (at : IsOfferedAt frames slab key t.instr h short room r left_it) where
+      abbrev came : Option Half
+      came = after_came r h (lookup (nat_eq t.instr) (halves_in (get frames key)))
 
-    module _ (more : List (Name × ℕ)) (mid : Slab Frame) (r : Result Came AllocError) (h : Half)
-        (writes : WritesFrame frames mid key t.instr (after_came r h (lookup (nat_eq t.instr) (halves_in (get frames key))))) where
-      pub wrote_in : (slab : Slab Frame) → more ≡ keys → slab ≡ mid → Holds keys frames more slab t (after_came r h (rear_half keys frames t))
-      wrote_in slab same stays =
-          subst (λ s. Holds keys frames more s t (after_came r h (rear_half keys frames t))) (sym stays)
-          (subst (λ o. Holds keys frames more mid t (after_came r h o)) (sym half_in)
-          (wrote keys frames was t n own key more mid found (halves_in (get frames key)) refl _ writes.frame same writes.updates writes.sets))
+      offered : Holds keys frames more slab t came → IsOffered keys frames more slab t h short room r
+      offered holds = record {
+        holds = subst (λ q. Holds keys frames more slab t (after_came r h q)) (sym half_in) holds;
+        tells = subst (TellsOf r h short room) (sym half_in) at.tells;
+      }
 
-      pub left_in : (slab : Slab Frame) → ((m : Name) → lookup (same_name m) more ≡ cond (same_name n m) None (lookup (same_name m) keys))
-          → IsDistinct same_name (keys_of more) → (halves_in (get mid key) ≡ []) × Updates mid slab key None
-          → Holds keys frames more slab t (after_came r h (rear_half keys frames t))
-      left_in slab tells unique gives =
-          let o = after_came r h (lookup (nat_eq t.instr) (halves_in (get frames key))) in
-          let empty : writes.frame.halves.items ≡ [] = ap halves_in (sym writes.updates.changed) ∙ gives.0 in
-          subst (λ o. Holds keys frames more slab t (after_came r h o)) (sym half_in)
-          (left keys frames was t n own key more slab found (halves_in (get frames key)) refl o tells unique
-          (updates_twice frames mid slab key (Some writes.frame) None writes.updates gives.1)
-          (subst (λ l. Sets (halves_in (get frames key)) l t.instr o) empty writes.sets))
+      wrote_by : more ≡ keys → (f : Option Frame) → is_some f ≡ true → Updates frames slab key f
+          → Sets (halves_in (get frames key)) (halves_in f) t.instr came → Holds keys frames more slab t came
+      wrote_by same (Some f) some updates sets =
+          wrote keys frames was t n own key more slab found (halves_in (get frames key)) refl came f same updates sets
+      wrote_by same None some updates sets = cc
+
+      left_by : ((m : Name) → lookup (same_name m) more ≡ cond (same_name n m) None (lookup (same_name m) keys)) → IsDistinct same_name (keys_of more)
+          → (f : Option Frame) → is_some f ≡ false → Updates frames slab key f → Sets (halves_in (get frames key)) (halves_in f) t.instr came
+          → Holds keys frames more slab t came
+      left_by gone unique (Some f) none updates sets = cc
+      left_by gone unique None none updates sets =
+          left keys frames was t n own key more slab found (halves_in (get frames key)) refl came gone unique updates sets
+
+      pub wrote_in : more ≡ keys → left_it ≡ false → IsOffered keys frames more slab t h short room r
+      wrote_in same stays =
+          offered (wrote_by same at.frame (at.stays ∙ ap (λ b. cond b false true) stays) at.updates at.sets)
+
+      pub left_in : ((m : Name) → lookup (same_name m) more ≡ cond (same_name n m) None (lookup (same_name m) keys))
+          → IsDistinct same_name (keys_of more) → left_it ≡ true → IsOffered keys frames more slab t h short room r
+      left_in gone unique leaves =
+          offered (left_by gone unique at.frame (at.stays ∙ ap (λ b. cond b false true) leaves) at.updates at.sets)
+
+-- an offer to a frame, which is given back or not
+pub offered_at : (frames mid slab : Slab Frame) (key i : ℕ) (h : Half) (short room : Bool) (r : Result Came AllocError)
+    → TellsOf r h short room (lookup (nat_eq i) (halves_in (get frames key)))
+    → WritesFrame frames mid key i (after_came r h (lookup (nat_eq i) (halves_in (get frames key)))) → (left_it : Bool)
+    → (IsTrue left_it → (halves_in (get mid key) ≡ []) × Updates mid slab key None) → (left_it ≡ false → slab ≡ mid)
+    → IsOfferedAt frames slab key i h short room r left_it
+offered_at frames mid slab key i h short room r tells writes false gives stays = record {
+  tells = tells;
+  frame = Some writes.frame;
+  sets = writes.sets;
+  updates = subst (λ s. Updates frames s key (Some writes.frame)) (sym (stays refl)) writes.updates;
+  stays = refl;
+}
+offered_at frames mid slab key i h short room r tells writes true gives stays =
+    let given : (halves_in (get mid key) ≡ []) × Updates mid slab key None = gives refl in
+    let empty : writes.frame.halves.items ≡ [] = ap halves_in (sym writes.updates.changed) ∙ given.0 in
+    record {
+      tells = tells;
+      frame = None;
+      sets = subst (λ l. Sets (halves_in (get frames key)) l i (after_came r h (lookup (nat_eq i) (halves_in (get frames key))))) empty writes.sets;
+      updates = updates_twice frames mid slab key (Some writes.frame) None writes.updates given.1;
+      stays = refl;
+    }
 
 -- ---- what an offer to a frame sets
 

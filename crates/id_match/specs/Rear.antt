@@ -1,6 +1,6 @@
 -- The rear of the store: what waits behind its front, in frames.
 use Rattle.std.specs.Prelude.{◌≡◌, ℕ, Bool, ◌==◌, ◌&&◌, if◌then◌else◌, nat_eq, Option, Some, None, List, [], map, true}
-use Rattle.std.specs.Prelude.{Result, Ok, Err, false, ◌≢◌, ◌∷◌, IfSome, IsTrue}
+use Rattle.std.specs.Prelude.{Result, Ok, Err, false, ◌≢◌, ◌∷◌, IfSome, IsTrue, is_some}
 use Rattle.std.specs.declared.alloc.AllocError.{AllocError}
 use Rattle.std.specs.List.{flat_map, IsDistinct}
 use Rattle.std.specs.Map.{lookup, keys_of}
@@ -119,6 +119,16 @@ pub record WritesFrame (frames slab : Slab Frame) (key i : ℕ) (o : Option Half
   pub frame : Frame
   pub sets : Sets (halves_in (get frames key)) frame.halves.items i o
   pub updates : Updates frames slab key (Some frame)
+
+-- an offer to the frame with this key comes to this result: the frame stays, or is given back where nothing waits in it
+pub record IsOfferedAt (frames slab : Slab Frame) (key i : ℕ) (h : Half) (short room : Bool)
+    (r : Result Came AllocError) (left : Bool) : Type 0 where
+  pub tells : TellsOf r h short room (lookup (nat_eq i) (halves_in (get frames key)))
+  pub frame : Option Frame
+  pub sets : Sets (halves_in (get frames key)) (halves_in frame) i
+      (after_came r h (lookup (nat_eq i) (halves_in (get frames key))))
+  pub updates : Updates frames slab key frame
+  pub stays : is_some frame ≡ (if left then false else true)
 
 -- an offer under a tag that comes to this result leaves what it says, and tells it
 pub record IsOffered (keys : List (Name × ℕ)) (frames : Slab Frame) (more : List (Name × ℕ)) (slab : Slab Frame)

@@ -20,8 +20,8 @@ ghost use Rattle.id_front.specs.Front.{half_entry};
 ghost use Rattle.id_front.specs.Waiting.{entry_at, pair_of};
 ghost use Rattle.id_front.specs.Halves.{answer_at, half_after};
 ghost use Rattle.id_front.specs.Meetings.{told};
-ghost use Rattle.id_match.specs.Rear.{IsFramed, IsOffered, Sets, after_came, frame_entries, name_of, rear_entries};
-ghost use Rattle.id_match.specs.Rear.{MakesFrame, TellsOf, WritesFrame, halves_in, rear_half, said, tag_at};
+ghost use Rattle.id_match.specs.Rear.{IsFramed, IsOffered, IsOfferedAt, Sets, after_came, frame_entries, halves_in, name_of};
+ghost use Rattle.id_match.specs.Rear.{MakesFrame, TellsOf, WritesFrame, rear_entries, rear_half, said, tag_at};
 ghost use Rattle.slab.specs.Slab.{ContainsKey, Updates, get};
 ghost use Rattle.id_tag.specs.Plains.{tag_in, whole};
 
@@ -236,6 +236,24 @@ fn give_back(frames: &mut Slab<Frame>, key: usize) -> bool
     is_left
 }
 
+// Offers a value to the frame with this key, gives the frame back once nothing waits in it, and answers whether it did.
+#[inline(always)]
+fn offer_at(
+    frames: &mut Slab<Frame>,
+    key: usize,
+    instr: u32,
+    half: Half,
+    short: bool,
+    room: bool,
+) -> (Result<Came, AllocError>, bool)
+    requires { ContainsKey frames.old key }
+    ensures { IsOfferedAt frames.old frames.new key instr half short room result.0 result.1 }
+{
+    let came = offer_in(frames, key, instr, half, short, room);
+    let is_left = give_back(frames, key);
+    (came, is_left)
+}
+
 // An offer to the frames, in one look-up. Room is made where the name is new, and only there, before any change.
 fn offer_to(
     alloc: Global,
@@ -260,8 +278,8 @@ fn offer_to(
         },
         Ok(Place::Occupied(place)) => {
             let key = *place.get();
-            let came = offer_in(frames, key, tag.instr, half, short, room);
-            if give_back(frames, key) {
+            let (came, is_left) = offer_at(frames, key, tag.instr, half, short, room);
+            if is_left {
                 place.remove();
             }
             came

@@ -4,12 +4,12 @@ use Rattle.std.specs.HashMap.Entry.{IsEntryFor, entry_value}
 use Rattle.std.specs.List.{IsDistinct}
 use Rattle.std.specs.Map.{lookup, keys_of}
 use Rattle.id_match.specs.Rear.{MakesFrame, same_name}
-use Rattle.id_match.proofs.FramedLemmas.{left_in, made_in, none_in, stayed, tells_in, tells_kept, wrote_in}
+use Rattle.id_match.proofs.FramedLemmas.{left_in, made_in, none_in, stayed, tells_kept, wrote_in}
 use Rattle.id_match.proofs.rear.offer_to.Goals as goal
 
 -- a name in the table has a frame
-pub offer_in-came-requires : goal.offer_in-came-requires
-offer_in-came-requires c =
+pub offer_at-came-requires : goal.offer_at-came-requires
+offer_at-came-requires c =
     c.requires.held c.name_of.result c.get-key.result.now
     (sym (sym (ap entry_value c.in-Ok-Occupied.field-0-is) ∙ c.in-Ok-Occupied.ensures.value) ∙ c.get-key.ensures)
 
@@ -30,39 +30,30 @@ returns-in-Ok c =
     }
 
 -- a frame is given back
-pub returns-then-give_back : goal.returns-then-give_back
-returns-then-give_back c =
+pub returns-then-is_left : goal.returns-then-is_left
+returns-then-is_left c =
     let p = c.in-Ok-Occupied in
     let name = sym (rw p.field-0-is at p.ensures.same_map) in
     let found : lookup (same_name c.name_of.result) c.args.keys.now.entries ≡ Some c.get-key.result.now =
     sym (sym (ap entry_value p.field-0-is) ∙ p.ensures.value) ∙ c.get-key.ensures in
     let removal = rw p.field-0-is at p.ensures.removal in
     let gone = left_in c.args.keys.now.entries c.args.frames.now c.requires c.args.tag c.name_of.result c.name_of.ensures c.get-key.result.now found _
-    c.offer_in-came.new.frames c.offer_in-came.result c.args.half c.offer_in-came.ensures.writes c.give_back.new.frames
+    c.offer_at-came.new.frames c.args.half c.args.short c.args.room c.offer_at-came.result.0 c.offer_at-came.result.1 c.offer_at-came.ensures
     (λ m. ap (lookup (same_name m)) c.remove.ensures.removed ∙ removal.0.0 m)
-    (subst (λ es. IsDistinct same_name (keys_of es)) (sym c.remove.ensures.removed) removal.3)
-    (c.give_back.ensures.left c.if-give_back.true) in
-    record {
-      holds = search rules;
-      tells = tells_in c.args.keys.now.entries c.args.frames.now c.requires c.args.tag c.name_of.result c.name_of.ensures c.get-key.result.now found
-          c.offer_in-came.result c.args.half c.args.short c.args.room c.offer_in-came.ensures.tells;
-    }
+    (subst (λ es. IsDistinct same_name (keys_of es)) (sym c.remove.ensures.removed) removal.3) c.if-is_left.true in
+    search rules
 
 -- a frame stays
-pub returns-else-give_back : goal.returns-else-give_back
-returns-else-give_back c =
+pub returns-else-is_left : goal.returns-else-is_left
+returns-else-is_left c =
     let p = c.in-Ok-Occupied in
     let name = sym (rw p.field-0-is at p.ensures.same_map) in
     let found : lookup (same_name c.name_of.result) c.args.keys.now.entries ≡ Some c.get-key.result.now =
     sym (sym (ap entry_value p.field-0-is) ∙ p.ensures.value) ∙ c.get-key.ensures in
     let wrote = wrote_in c.args.keys.now.entries c.args.frames.now c.requires c.args.tag c.name_of.result c.name_of.ensures c.get-key.result.now found _
-    c.offer_in-came.new.frames c.offer_in-came.result c.args.half c.offer_in-came.ensures.writes c.give_back.new.frames
-    (rw p.field-0-is at p.ensures.unchanged) (c.give_back.ensures.stays c.if-give_back.false) in
-    record {
-      holds = search rules;
-      tells = tells_in c.args.keys.now.entries c.args.frames.now c.requires c.args.tag c.name_of.result c.name_of.ensures c.get-key.result.now found
-          c.offer_in-came.result c.args.half c.args.short c.args.room c.offer_in-came.ensures.tells;
-    }
+    c.offer_at-came.new.frames c.args.half c.args.short c.args.room c.offer_at-came.result.0 c.offer_at-came.result.1 c.offer_at-came.ensures
+    (rw p.field-0-is at p.ensures.unchanged) c.if-is_left.false in
+    search rules
 
 -- there was no memory for a frame, or for its name
 pub returns-in-Err-make_frame : goal.returns-in-Err-make_frame
