@@ -20,8 +20,8 @@ ghost use Rattle.id_front.specs.Front.{half_entry};
 ghost use Rattle.id_front.specs.Waiting.{entry_at, pair_of};
 ghost use Rattle.id_front.specs.Halves.{answer_at, half_after};
 ghost use Rattle.id_front.specs.Meetings.{told};
-ghost use Rattle.id_match.specs.Rear.{IsFramed, IsOffered, IsOfferedAt, Sets, after_came, frame_entries, halves_in, name_of};
-ghost use Rattle.id_match.specs.Rear.{MakesFrame, TellsOf, WritesFrame, rear_entries, rear_half, said, tag_at};
+ghost use Rattle.id_match.specs.Rear.{IsFramed, IsOffered, IsOfferedAt, Sets, after_came, frame_entries, halves_in};
+ghost use Rattle.id_match.specs.Rear.{MakesFrame, TellsOf, WritesFrame, name_of, rear_entries, rear_half, said, tag_at};
 ghost use Rattle.slab.specs.Slab.{ContainsKey, Updates, get};
 ghost use Rattle.id_tag.specs.Plains.{tag_in, whole};
 

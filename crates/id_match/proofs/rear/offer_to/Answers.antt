@@ -3,7 +3,8 @@ use Rattle.std.proofs.Common.{◌≡◌, ◌∙◌, None, Some, sym, ap, subst, 
 use Rattle.std.specs.HashMap.Entry.{IsEntryFor, entry_value}
 use Rattle.std.specs.List.{IsDistinct}
 use Rattle.std.specs.Map.{lookup, keys_of}
-use Rattle.id_match.specs.Rear.{MakesFrame, same_name}
+use Rattle.id_front.specs.Halves.{half_after}
+use Rattle.id_match.specs.Rear.{Holds, IsOffered, MakesFrame, rear_half, same_name}
 use Rattle.id_match.proofs.FramedLemmas.{left_in, made_in, none_in, stayed, tells_kept, wrote_in}
 use Rattle.id_match.proofs.rear.offer_to.Goals as goal
 
@@ -24,7 +25,8 @@ returns-in-Ok c =
     c.insert.result.now c.args.half absent (update.0 c.insert.result.now).0 (update.2 c.insert.result.now)
     (subst (λ k. MakesFrame c.args.frames.now c.make_frame.new.frames k c.args.tag.instr c.args.half) (sym c.insert.ensures.value) c.in-Ok.ensures.makes) in
     record {
-      holds = search rules;
+      holds = subst (λ es. Holds c.args.keys.now.entries c.args.frames.now es c.make_frame.new.frames c.args.tag
+          (half_after (rear_half c.args.keys.now.entries c.args.frames.now c.args.tag) c.args.half.port c.args.half.value)) (search rules) made;
       tells = tells_kept c.args.half c.args.short c.args.room _
           (none_in c.args.keys.now.entries c.args.frames.now c.requires c.args.tag c.name_of.result c.name_of.ensures absent) c.in-Ok.ensures.room;
     }
@@ -41,7 +43,8 @@ returns-then-is_left c =
     c.offer_at-came.new.frames c.args.half c.args.short c.args.room c.offer_at-came.result.0 c.offer_at-came.result.1 c.offer_at-came.ensures
     (λ m. ap (lookup (same_name m)) c.remove.ensures.removed ∙ removal.0.0 m)
     (subst (λ es. IsDistinct same_name (keys_of es)) (sym c.remove.ensures.removed) removal.3) c.if-is_left.true in
-    search rules
+    subst (λ es. IsOffered c.args.keys.now.entries c.args.frames.now es c.offer_at-came.new.frames c.args.tag c.args.half c.args.short c.args.room
+    c.offer_at-came.result.0) (search rules) gone
 
 -- a frame stays
 pub returns-else-is_left : goal.returns-else-is_left
@@ -53,7 +56,8 @@ returns-else-is_left c =
     let wrote = wrote_in c.args.keys.now.entries c.args.frames.now c.requires c.args.tag c.name_of.result c.name_of.ensures c.get-key.result.now found _
     c.offer_at-came.new.frames c.args.half c.args.short c.args.room c.offer_at-came.result.0 c.offer_at-came.result.1 c.offer_at-came.ensures
     (rw p.field-0-is at p.ensures.unchanged) c.if-is_left.false in
-    search rules
+    subst (λ es. IsOffered c.args.keys.now.entries c.args.frames.now es c.offer_at-came.new.frames c.args.tag c.args.half c.args.short c.args.room
+    c.offer_at-came.result.0) (search rules) wrote
 
 -- there was no memory for a frame, or for its name
 pub returns-in-Err-make_frame : goal.returns-in-Err-make_frame
@@ -64,7 +68,8 @@ returns-in-Err-make_frame c =
     let same = stayed c.args.keys.now.entries c.args.frames.now _ c.make_frame.new.frames c.args.tag c.requires (rw p.field-0-is at p.ensures.unchanged)
     c.in-Err-make_frame.ensures.err in
     record {
-      holds = search rules;
+      holds = subst (λ es. Holds c.args.keys.now.entries c.args.frames.now es c.make_frame.new.frames c.args.tag
+          (rear_half c.args.keys.now.entries c.args.frames.now c.args.tag)) (search rules) same;
       tells = none_in c.args.keys.now.entries c.args.frames.now c.requires c.args.tag c.name_of.result c.name_of.ensures absent;
     }
 
