@@ -39,3 +39,13 @@ returns c =
       | then-loop-row-test+then-not-is_variable w ↦ none (sym (w.is_variable.ensures ∙ ap (λ (r : Row). is_variable r.node) w.row_at.ensures)
           ∙ w.if-not-is_variable.true)
     ]
+
+pub loop-row-init : goal.loop-row-init
+loop-row-init c =
+    let P = c.args.checked.now in
+    let v = c.args.head + 1 in
+    let all : v + length (rows P) - v ≡ length (rows P) = omega arith in
+    ap (λ z. z ++ nexts_from P v (v + length (rows P) - v)) c.new-list.ensures.items ∙ ap (nexts_from P v) all
+
+pub next_of-requires : goal.next_of-requires
+next_of-requires c = record { nexts = c.requires.nexts; within = omega (arith, c.loop-row-test.true, c.len-row-end.ensures) }
