@@ -203,20 +203,12 @@ fn turn(
     let this = row_at(checked, row);
     match this.node {
         Node::LoopHead { .. } => {
-            let list = imports_of_loop(alloc, checked, ends, lists.as_slice(), marks, row)?;
-            let imports = Imports::new(alloc, list)?;
+            let imports = imports_of_loop(alloc, checked, ends, lists.as_slice(), marks, row)?;
             lists[row] = imports;
         }
         Node::Switches { .. } => {
-            let list = handed_on(
-                alloc,
-                checked,
-                nexts,
-                lists.as_slice(),
-                row,
-                this.block as usize,
-            )?;
-            let imports = Imports::new(alloc, list)?;
+            let head = this.block as usize;
+            let imports = handed_on(alloc, checked, nexts, lists.as_slice(), row, head)?;
             lists[row] = imports;
         }
         _ => {}
@@ -232,14 +224,14 @@ fn imports_of_loop(
     lists: &[Imports],
     marks: &mut Vec<u32>,
     head: usize,
-) -> Result<Vec<u32>, AllocError>
+) -> Result<Imports, AllocError>
     requires ends { AreEnds checked.now ends.now }
     requires few { length (programs.rows checked.now) ≤ MOST }
     requires within { head < length (programs.rows checked.now) }
     requires lists { AreTurned checked.now head lists.now }
     requires long { length marks.old.items ≡ length (programs.rows checked.now) }
     requires marks { AreBelow (head + 1) marks.old.items }
-    ensures list { IfOk result (λ v. v.items ≡ taken checked.now head) }
+    ensures list { IfOk result (λ i. i ≡ taken checked.now head) }
     ensures long { length marks.new.items ≡ length marks.old.items }
     ensures marks { AreBelow (head + 2) marks.new.items }
 {
@@ -249,7 +241,8 @@ fn imports_of_loop(
         own: Some(head),
         mark: head as u32 + 1,
     };
-    gather(alloc, checked, ends, lists, marks, span)
+    let list = gather(alloc, checked, ends, lists, marks, span)?;
+    Imports::new(alloc, list)
 }
 
 /// What the switches of a loop hand on: its variables, and what its head imports.
@@ -260,18 +253,18 @@ fn handed_on(
     lists: &[Imports],
     switches: usize,
     head: usize,
-) -> Result<Vec<u32>, AllocError>
+) -> Result<Imports, AllocError>
     requires nexts { AreNexts checked.now nexts.now }
     requires within { switches < length (programs.rows checked.now) }
     requires lists { AreTurned checked.now switches lists.now }
     requires node { table.is_switches (at (programs.rows checked.now) switches).node ≡ true }
     requires head { head ≡ (at (programs.rows checked.now) switches).block }
     requires low { head < switches }
-    ensures { IfOk result (λ v. v.items ≡ imports_of checked.now switches) }
+    ensures { IfOk result (λ i. i ≡ imports_of checked.now switches) }
 {
     let mut list = next_rows(alloc, checked, nexts, head)?;
     list.extend_from_slice(lists[head].as_slice())?;
-    Ok(list)
+    Imports::new(alloc, list)
 }
 
 /// The rows of the `next`s of the loop with this head, by index.

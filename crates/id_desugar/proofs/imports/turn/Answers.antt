@@ -14,12 +14,12 @@ returns-in_ok-imports-in-LoopHead-clause-lists c =
     let P = c.args.checked.now in
     let node = ap (λ (r : Row). r.node) (sym c.row_at-this.ensures) ∙ c.in-LoopHead.is in
     AreTurned-set P c.args.row c.args.lists.now.items c.in_ok-imports-in-LoopHead.imports c.requires.lists c.requires.within
-    (c.in_ok-imports-in-LoopHead.ensures ∙ c.in_ok-list-in-LoopHead.ensures.list ∙ loop_imports P c.args.row c.in-LoopHead.start node)
+    (c.in_ok-imports-in-LoopHead.ensures.list ∙ loop_imports P c.args.row c.in-LoopHead.start node)
 
 pub returns-in_ok-imports-in-Switches-clause-lists : goal.returns-in_ok-imports-in-Switches-clause-lists
 returns-in_ok-imports-in-Switches-clause-lists c =
     AreTurned-set c.args.checked.now c.args.row c.args.lists.now.items c.in_ok-imports-in-Switches.imports c.requires.lists c.requires.within
-    (c.in_ok-imports-in-Switches.ensures ∙ c.in_ok-list-in-Switches.ensures)
+    c.in_ok-imports-in-Switches.ensures
 
 pub handed_on-requires-clause-low : goal.handed_on-requires-clause-low
 handed_on-requires-clause-low c =
