@@ -33,12 +33,14 @@ fn are_steps_within(steps: &[PathStep], size: usize) -> bool
     steps.iter().all(|step| step.place <= size)
 }
 
+/// Whether a place and its path lie in a text of so many bytes.
 pub fn is_site_within(site: &Site, size: usize) -> bool
     ensures { IsTrue result ↔ SiteWithin size site.now }
 {
     is_point_within(&site.path, site.place, size)
 }
 
+/// Whether the name that a value is, if it is one, lies in a text of so many bytes.
 pub fn is_value_within(value: &SourceValue, size: usize) -> bool
     ensures { IsTrue result ↔ ValueWithin size value.now }
 {
@@ -48,6 +50,7 @@ pub fn is_value_within(value: &SourceValue, size: usize) -> bool
     }
 }
 
+/// The same of an answer, if there is one.
 pub fn is_answer_within(answer: &Option<SourceValue>, size: usize) -> bool
     ensures { IsTrue result ↔ AnswerWithin size answer.now }
 {
@@ -57,24 +60,28 @@ pub fn is_answer_within(answer: &Option<SourceValue>, size: usize) -> bool
     }
 }
 
+/// Whether a structure, the value in its cell and the store of that lie in a text of so many bytes.
 pub fn is_put_within(stored: &Put, size: usize) -> bool
     ensures { IsTrue result ↔ PutWithin size stored.now }
 {
     is_filled_within(&stored.name, &stored.value, size) && is_site_within(&stored.store, size)
 }
 
+/// Whether a structure and the value in its cell lie in a text of so many bytes.
 pub fn is_filled_within(name: &Site, value: &SourceValue, size: usize) -> bool
     ensures { IsTrue result ↔ FilledWithin size name.now value.now }
 {
     is_site_within(name, size) && is_value_within(value, size)
 }
 
+/// Whether a fetch and the structure that it asks lie in a text of so many bytes.
 pub fn is_ask_within(ask: &Ask, size: usize) -> bool
     ensures { IsTrue result ↔ AskWithin size ask.now }
 {
     is_site_within(&ask.fetch, size) && is_site_within(&ask.name, size)
 }
 
+/// The same of each of these fetches.
 pub fn are_asks_within(asks: &[Ask], size: usize) -> bool
     ensures { IsTrue result ↔ AsksWithin size asks.now }
 {
@@ -87,12 +94,14 @@ fn is_name_within(name: &NameValue, size: usize) -> bool
     is_point_within(&name.path, name.place, size) && is_value_within(&name.value, size)
 }
 
+/// Whether each of these binders and its value lie in a text of so many bytes.
 pub fn are_names_within(names: &[NameValue], size: usize) -> bool
     ensures { IsTrue result ↔ NamesWithin size names.now }
 {
     names.iter().all(|name| is_name_within(name, size))
 }
 
+/// Whether the fault that a run met, if it did, lies in a text of so many bytes.
 pub fn is_ending_within(ending: &Ending, size: usize) -> bool
     ensures { IsTrue result ↔ EndingWithin size ending.now }
 {
