@@ -1,7 +1,7 @@
 //! What a message comes to: whether it fits, what is fired, what that makes, and what it sends.
 //!
 //! Keeps: nothing beyond its values.
-//! Errors: `TakeError`, where a stamp or a serial number would be too large.
+//! Errors: `TakeError`, where no stamp is left.
 //! Read first: `specs/Steps.antt`, `specs/Firings.antt`, then `react`.
 //! Not here: what an operator does (`id_ops`), the state of an element (`id_desk`).
 #![tactic(auto)]

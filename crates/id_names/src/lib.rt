@@ -1,7 +1,7 @@
 //! Which names and structures a report has, in which order, and whether all that it has is of the text.
 //!
 //! Keeps: nothing beyond its values.
-//! Errors: none.
+//! Errors: want of memory alone.
 //! Read first: `specs/Names.antt`, `specs/Within.antt`, `specs/Helds.antt`.
 //! Not here: how it is printed (`id_print`), sinks and the texts of values (`id_sink`).
 #![tactic(auto)]
