@@ -29,10 +29,6 @@ module _ {A E : Type 0} where
   on_ok_both (Ok a) P Q R t h k = t a h k
   on_ok_both (Err e) P Q R t h k = tt
 
-  pub on_ok_from : (r : Result A E) (P Q : Type 0) → (P → Q) → OnOk r P → OnOk r Q
-  on_ok_from (Ok a) P Q t h = t h
-  on_ok_from (Err e) P Q t h = tt
-
   pub if_ok_all : (r : Result A E) (P Q R : A → Type 0) (X : Type 0) → ((a : A) → P a → X → Q a → R a) → IfOk r P → OnOk r X → IfOk r Q → IfOk r R
   if_ok_all (Ok a) P Q R X t h x k = t a h x k
   if_ok_all (Err e) P Q R X t h x k = tt

@@ -2,7 +2,6 @@
 
 ghost use Rattle.std.specs.Prelude.{◌≡◌, ◌++◌, codes, decimal, map, slice_get};
 ghost use Rattle.std.specs.Option.{option_copied};
-ghost use Rattle.id_sink.specs.Texts.{place_text};
 ghost use Rattle.id_sink.specs.Told.{Prints};
 ghost use Rattle.id_compile.specs.Refusals.{at_text, cause_text, checker_refusal, compiler_refusal, detail_text};
 ghost use Rattle.id_compile.specs.Refusals.{IsDetailInside, IsInside, IsPrintedLine, IsWord, kind_text, kinds_text};

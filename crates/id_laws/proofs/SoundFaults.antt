@@ -30,7 +30,7 @@ use Rattle.id_core.specs.Events.{EventView}
 use Rattle.id_core.specs.Steps.{fired_step}
 use Rattle.id_core.specs.Machines.{World}
 use Rattle.id_core.specs.Observed as shown
-use Rattle.id_observed.specs.Observed.{stores_as}
+use Rattle.id_paths.specs.Sourced.{stores_as}
 use Rattle.id_source.specs.declared.Path.{Path}
 use Rattle.id_source.specs.declared.PathStep.{PathStep}
 use Rattle.id_source.specs.declared.Site.{Site}

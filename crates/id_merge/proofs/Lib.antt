@@ -1,3 +1,4 @@
 pub mod OrderedLemmas
 pub mod MergedLemmas
 pub mod RecordsLemmas
+pub mod FirstsLemmas

@@ -1,2 +1,3 @@
 -- What public clauses cite.
 pub mod Merged
+pub mod Firsts

@@ -1,4 +1,5 @@
 -- What public clauses cite.
+pub mod Endings
 pub mod Helds
 pub mod Names
 pub mod Within

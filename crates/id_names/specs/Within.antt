@@ -16,6 +16,7 @@ use Rattle.id_names.specs.declared.helds.Held.TheVariants as held
 use Rattle.id_names.specs.declared.within.Ending.{Ending}
 use Rattle.id_names.specs.declared.within.Ending.TheVariants.{Quiet, Stopped, Fault}
 use Rattle.id_sink.specs.Within.{PointWithin, SiteWithin, ValueWithin, FilledWithin, AskWithin}
+use Rattle.id_names.specs.declared.reports.Report.{Report}
 
 -- the places of what is put into a cell are at most so many bytes in
 pub record PutWithin (size : ℕ) (p : Put) : Type 0 where
@@ -82,3 +83,11 @@ FactWithin size (fact.Ask a) = AskWithin size a
 -- those of all these facts are
 abbrev pub FactsWithin : ℕ → List Fact → Type 0
 FactsWithin size fs = All (FactWithin size) fs
+
+-- the places of a report are at most so many bytes in
+pub record ReportWithin (size : ℕ) (r : Report) : Type 0 where
+  pub ending : EndingWithin size r.ending
+  pub answer : AnswerWithin size r.answer
+  pub names : NamesWithin size r.names
+  pub structures : HeldsWithin size r.structures
+  pub waiting : AsksWithin size r.waiting

@@ -1,6 +1,6 @@
 //! Whether the places of things lie in a text of so many bytes.
 
-ghost use Rattle.std.specs.Prelude.{◌≤◌, ◌↔◌, IsTrue};
+ghost use Rattle.std.specs.Prelude.{◌↔◌, IsTrue};
 ghost use Rattle.id_sink.specs.Within.{StepsWithin, PointWithin, SiteWithin, ValueWithin, AskWithin};
 ghost use Rattle.id_names.specs.Within.{PutWithin};
 ghost use Rattle.id_names.specs.Within.{AsksWithin, AnswerWithin, NameWithin, NamesWithin};

@@ -1,1 +1,2 @@
 pub mod NothingLemmas
+pub mod AnswerLemmas

@@ -2,14 +2,18 @@
 //!
 //! Keeps: nothing beyond its values.
 //! Errors: want of memory alone.
-//! Read first: `specs/Observed.antt`, then `observe_records` and `observe_holdings`.
-//! Not here: the elements (`id_element`), their records as one list (`id_merge`), the paths of tags (`id_paths`), how
-//!     what is shown is printed (`id_print`).
+//! Read first: `id_observed/specs/Observed.antt`, then `observe_records` and `observe_holdings`.
+//! Not here: the elements (`id_element`), their records as one list and the first fault (`id_merge`), the paths of tags
+//!     (`id_paths`), each kind of thing that is shown (`id_observed`), how what is shown is printed (`id_print`).
 #![tactic(auto)]
 
+mod answer;
 mod holdings;
+mod observe;
 
+pub use answer::answer;
 pub use holdings::{Holdings, observe_holdings};
-pub use id_merge::{Merged, merge_records};
-pub use id_observed::{CellValue, Observed, answer, first_fault, observe_records};
+pub use id_merge::{Merged, first_fault, merge_records};
+pub use id_observed::CellValue;
 pub use id_paths::main_tag;
+pub use observe::{Observed, observe_records};

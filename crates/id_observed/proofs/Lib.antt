@@ -1,3 +1,2 @@
-pub mod FirstsLemmas
 pub mod MarkedLemmas
 pub mod ObservedLemmas

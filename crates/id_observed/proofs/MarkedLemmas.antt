@@ -14,7 +14,8 @@ use Rattle.id_line.specs.Events.{AreUnmarked, EventView, is_marked, is_marked_in
 use Rattle.id_paths.specs.Paths.{makings_of, path_by}
 use Rattle.id_paths.specs.Paths.{events_of, made, path_in}
 use Rattle.id_observed.specs.Observed.{is_label, label_marks, name_at, name_in, names_of}
-use Rattle.id_observed.specs.Observed.{shape_at, shape_of, shapes_of, source_value, structures_in}
+use Rattle.id_observed.specs.Observed.{shape_at, shape_of, shapes_of, structures_in}
+use Rattle.id_paths.specs.Sourced.{source_value}
 use Rattle.id_paths.specs.Paths.{site_at}
 use Rattle.id_desk.specs.Replays.{ElementView}
 use Rattle.id_paths.specs.declared.paths.Paths.{Paths}

@@ -1,3 +1,2 @@
 -- What public clauses cite.
-pub mod Firsts
 pub mod Observed

@@ -1,17 +1,14 @@
-//! What the records of elements show: the answer, what binders have, structures and the faults.
+//! What the records and cells of elements show, one kind of thing each: names, structures, their cells, fetches, faults.
 //!
 //! Keeps: nothing beyond its values.
 //! Errors: want of memory alone.
-//! Read first: `specs/Observed.antt`, then `observe_records`.
-//! Not here: what is shown of the answer and of structures alone (`id_observe`), the elements (`id_element`), their
-//! records as one list (`id_merge`), the paths of tags (`id_paths`).
+//! Read first: `specs/Observed.antt`, then `all_names`.
+//! Not here: what a run shows in all (`id_observe`), the elements (`id_element`), the paths of tags and what values and
+//!     faults are in the source (`id_paths`).
 #![tactic(auto)]
 
-mod first;
 mod observe;
 
-pub use first::first_fault;
 pub use observe::{
-    CellValue, Named, Observed, all_structures, all_waiting, answer, observe_records, source_value,
-    value_in,
+    CellValue, Named, all_cells, all_faults, all_names, all_structures, all_waiting,
 };

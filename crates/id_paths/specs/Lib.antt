@@ -1,2 +1,3 @@
 -- What public clauses cite.
 pub mod Paths
+pub mod Sourced

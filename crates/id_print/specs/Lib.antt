@@ -1,5 +1,4 @@
 pub mod Texts
 pub mod Reports
-pub mod Endings
 
 -- For use inside.

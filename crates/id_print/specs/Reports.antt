@@ -4,22 +4,8 @@ use Rattle.id_source.specs.declared.NameValue.{NameValue}
 use Rattle.id_print.specs.Texts.{quiet_text, stopped_text, fault_text}
 use Rattle.id_names.specs.declared.within.Ending.{Ending}
 use Rattle.id_names.specs.declared.within.Ending.TheVariants.{Quiet, Stopped, Fault}
-use Rattle.id_print.specs.declared.report.Report.{Report}
-use Rattle.std.specs.Prelude.{ℕ, List, All, Option, None, Some}
-use Rattle.id_source.specs.declared.Path.{Path}
-use Rattle.id_source.specs.declared.Fact.{Fact}
-use Rattle.id_source.specs.declared.Fact.TheVariants.{On, Has}
-use Rattle.id_source.specs.declared.Fact.TheVariants as fact
-use Rattle.id_source.specs.declared.Site.{Site}
-use Rattle.id_source.specs.declared.SourceValue.{SourceValue}
-use Rattle.id_source.specs.declared.Put.{Put}
-use Rattle.id_source.specs.declared.Ask.{Ask}
-use Rattle.id_source.specs.declared.SourceFault.{SourceFault}
-use Rattle.id_source.specs.declared.SourceFault.TheVariants.{Operator, SecondStore}
-use Rattle.id_names.specs.declared.helds.Held.{Held}
-use Rattle.id_names.specs.declared.helds.Held.TheVariants as held
-use Rattle.id_sink.specs.Within.{PointWithin, SiteWithin, ValueWithin, FilledWithin, AskWithin}
-use Rattle.id_names.specs.Within.{HeldsWithin, AsksWithin, AnswerWithin, EndingWithin, NamesWithin}
+use Rattle.id_names.specs.declared.reports.Report.{Report}
+use Rattle.std.specs.Prelude.{ℕ, List}
 
 -- the names where they are asked for, and none where they are not
 abbrev pub asked : Bool → List NameValue → List NameValue
@@ -34,11 +20,3 @@ ending_text text r ns (Fault f) = fault_text text f
 -- the text of a report, with its names where they are asked for
 abbrev pub report_text : List ℕ → Bool → Report → List ℕ
 report_text text names r = ending_text text r (asked names r.names) r.ending
-
--- the places of a report are at most so many bytes in
-pub record ReportWithin (size : ℕ) (r : Report) : Type 0 where
-  pub ending : EndingWithin size r.ending
-  pub answer : AnswerWithin size r.answer
-  pub names : NamesWithin size r.names
-  pub structures : HeldsWithin size r.structures
-  pub waiting : AsksWithin size r.waiting

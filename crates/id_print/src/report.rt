@@ -1,12 +1,6 @@
-//! Reports of runs, and how they are printed.
+//! How reports of runs are printed.
 
-ghost use Rattle.std.specs.Prelude.{◌≡◌, ◌≤◌, ◌↔◌, ◌++◌, [], codes, length, map, IsTrue, IsFalse, IfOk};
-ghost use Rattle.id_core.specs.Observed.{answer, faults, names, waiting};
-ghost use Rattle.id_source.specs.Orders.{NamesRise, Rises};
-ghost use Rattle.id_names.specs.declared.helds.Held.TheVariants as held;
-ghost use Rattle.id_print.specs.Endings.{EndsSo};
-ghost use Rattle.id_names.specs.Names.{IsOrderOf, IsSortedOf, AreApart, AreApartBy, HeldBefore, WaitBefore};
-ghost use Rattle.id_names.specs.Names.{OfOneThing, OfOneFetch, held_lines};
+ghost use Rattle.std.specs.Prelude.{◌≡◌, ◌≤◌, ◌++◌, [], codes, length};
 ghost use Rattle.id_sink.specs.Told.{Prints};
 ghost use Rattle.id_print.specs.Texts.{kind_text, fault_head_text, fault_text, answer_text, answer_value_text};
 ghost use Rattle.id_print.specs.Texts.{name_text, names_text, helds_text, waiting_text, waitings_text};
@@ -18,14 +12,10 @@ ghost use Rattle.id_print.specs.Reports.{asked, report_text};
 ghost use Rattle.id_sink.specs.Within.{SiteWithin, FilledWithin, AskWithin};
 ghost use Rattle.id_names.specs.Within.{SecondWithin, FaultWithin, NameWithin};
 ghost use Rattle.id_names.specs.Within.{NamesWithin, HeldsWithin, AsksWithin, AnswerWithin};
-ghost use Rattle.id_print.specs.Reports.{ReportWithin};
+ghost use Rattle.id_names.specs.Within.{ReportWithin};
 
-use id_core::{CellValue, Machine};
-use id_list::Sequence;
-use id_names::{
-    Ending, Helds, are_asks_within, are_names_within, behind_first, has_lines, is_answer_within,
-    is_cell_first, is_ending_within, sorted_asks, sorted_names,
-};
+use id_core::CellValue;
+use id_names::{Ending, Helds, Report, behind_first, has_lines, is_cell_first};
 use id_sink::{
     Cursor, PrintError, Sink, put, put_ask, put_cell, put_content, put_point_value, put_shape,
     put_site, put_value,
@@ -33,222 +23,6 @@ use id_sink::{
 use id_source::{Ask, NameValue, Shape, Site, SourceFault, SourceValue};
 use id_text::MAX_BYTES;
 use id_value::FaultKind;
-use std::alloc::{AllocError, Global};
-
-/// What a run has shown: how it ended, the answer, what binders have, by path and place, where that was asked for, the
-/// structures with their cells, by name and index, and the fetches that wait, by path and place.
-#[derive(Drop)]
-pub struct Report {
-    pub ending: Ending,
-    pub answer: Option<SourceValue>,
-    pub names: Sequence<NameValue>,
-    pub structures: Helds,
-    pub waiting: Sequence<Ask>,
-}
-
-/// The report of a run: it ended at its first fault, by stamp and then by element, where there is one, else it is quiet
-/// or it was stopped. What binders have is looked up only where `named` asks for it: else the report has no names.
-pub fn run_report(alloc: Global, machine: &Machine<'_>, named: bool) -> Result<Report, AllocError>
-    ensures answer { IfOk result (λ r. r.answer ≡ answer machine.now.graph machine.now.world) }
-    ensures ending { IfOk result (λ r. EndsSo machine.now r.ending) }
-
-    // What binders have is all there, in order; where the run shows no name twice, each comes before the next.
-    ensures names { IfOk result (λ r. IsTrue named → IsSortedOf r.names (names machine.now.graph machine.now.world)) }
-    ensures rise { IfOk result
-        (λ r. IsTrue named → AreApart (names machine.now.graph machine.now.world) → NamesRise r.names) }
-    ensures none { IfOk result (λ r. IsFalse named → r.names ≡ []) }
-
-    // So are the structures with their cells, and the fetches that wait.
-    ensures held { IfOk result (λ r. IsOrderOf HeldBefore r.structures (held_lines machine.now)) }
-    ensures held_rise { IfOk result
-        (λ r. AreApartBy OfOneThing (held_lines machine.now) → Rises HeldBefore r.structures) }
-    ensures waiting { IfOk result
-        (λ r. IsOrderOf WaitBefore r.waiting (waiting machine.now.graph machine.now.world)) }
-    ensures waiting_rise { IfOk result
-        (λ r. AreApartBy OfOneFetch (waiting machine.now.graph machine.now.world) → Rises WaitBefore r.waiting) }
-{
-    let ending = ending_of(alloc, machine)?;
-    report_with(alloc, machine, named, ending)
-}
-
-/// The report of a run that ended so.
-fn report_with(
-    alloc: Global,
-    machine: &Machine<'_>,
-    named: bool,
-    ending: Ending,
-) -> Result<Report, AllocError>
-    ensures ending { IfOk result (λ r. r.ending ≡ ending) }
-    ensures answer { IfOk result (λ r. r.answer ≡ answer machine.now.graph machine.now.world) }
-    ensures names { IfOk result (λ r. IsTrue named → IsSortedOf r.names (names machine.now.graph machine.now.world)) }
-    ensures rise { IfOk result
-        (λ r. IsTrue named → AreApart (names machine.now.graph machine.now.world) → NamesRise r.names) }
-    ensures none { IfOk result (λ r. IsFalse named → r.names ≡ []) }
-    ensures held { IfOk result (λ r. IsOrderOf HeldBefore r.structures (held_lines machine.now)) }
-    ensures held_rise { IfOk result
-        (λ r. AreApartBy OfOneThing (held_lines machine.now) → Rises HeldBefore r.structures) }
-    ensures waiting { IfOk result
-        (λ r. IsOrderOf WaitBefore r.waiting (waiting machine.now.graph machine.now.world)) }
-    ensures waiting_rise { IfOk result
-        (λ r. AreApartBy OfOneFetch (waiting machine.now.graph machine.now.world) → Rises WaitBefore r.waiting) }
-{
-    let lists = lists_of(alloc, machine, named)?;
-    Ok(report_of(ending, lists))
-}
-
-/// The report of a run that ended so and shows these.
-fn report_of(ending: Ending, lists: Lists) -> Report
-    ensures { result ≡ record {
-      ending = ending;
-      answer = lists.answer;
-      names = lists.names;
-      structures = lists.lines;
-      waiting = lists.waiting;
-    } }
-{
-    Report {
-        ending,
-        answer: lists.answer,
-        names: lists.names,
-        structures: lists.lines,
-        waiting: lists.waiting,
-    }
-}
-
-/// The answer, what binders have, the lines of structures and cells, and the fetches that wait, in order.
-#[derive(Drop)]
-struct Lists {
-    answer: Option<SourceValue>,
-    names: Sequence<NameValue>,
-    lines: Helds,
-    waiting: Sequence<Ask>,
-}
-
-/// What a run shows, in order, of what binders have where that is asked for.
-fn lists_of(alloc: Global, machine: &Machine<'_>, named: bool) -> Result<Lists, AllocError>
-    ensures answer { IfOk result (λ r. r.answer ≡ answer machine.now.graph machine.now.world) }
-    ensures names { IfOk result (λ r. IsTrue named → IsSortedOf r.names (names machine.now.graph machine.now.world)) }
-    ensures rise { IfOk result
-        (λ r. IsTrue named → AreApart (names machine.now.graph machine.now.world) → NamesRise r.names) }
-    ensures none { IfOk result (λ r. IsFalse named → r.names ≡ []) }
-    ensures held { IfOk result (λ r. IsOrderOf HeldBefore r.lines (held_lines machine.now)) }
-    ensures held_rise { IfOk result
-        (λ r. AreApartBy OfOneThing (held_lines machine.now) → Rises HeldBefore r.lines) }
-    ensures waiting { IfOk result
-        (λ r. IsOrderOf WaitBefore r.waiting (waiting machine.now.graph machine.now.world)) }
-    ensures waiting_rise { IfOk result
-        (λ r. AreApartBy OfOneFetch (waiting machine.now.graph machine.now.world) → Rises WaitBefore r.waiting) }
-{
-    let names = asked_names(alloc, machine, named)?;
-    let held = machine_held(alloc, machine)?;
-    Ok(Lists {
-        answer: held.answer,
-        names,
-        lines: held.lines,
-        waiting: held.waiting,
-    })
-}
-
-/// What binders have where that is asked for, and else no names.
-fn asked_names(
-    alloc: Global,
-    machine: &Machine<'_>,
-    named: bool,
-) -> Result<Sequence<NameValue>, AllocError>
-    ensures names { IfOk result (λ ns. IsTrue named → IsSortedOf ns (names machine.now.graph machine.now.world)) }
-    ensures rise { IfOk result
-        (λ ns. IsTrue named → AreApart (names machine.now.graph machine.now.world) → NamesRise ns) }
-    ensures none { IfOk result (λ ns. IsFalse named → ns ≡ []) }
-{
-    if named {
-        machine_names(alloc, machine)
-    } else {
-        Ok(Sequence::new(Vec::new(alloc)))
-    }
-}
-
-/// The answer, the lines of structures and cells, and the fetches that wait, in order.
-#[derive(Drop)]
-struct InOrder {
-    answer: Option<SourceValue>,
-    lines: Helds,
-    waiting: Sequence<Ask>,
-}
-
-/// What a run shows of its answer and of structures, in order.
-fn machine_held(alloc: Global, machine: &Machine<'_>) -> Result<InOrder, AllocError>
-    ensures answer { IfOk result (λ r. r.answer ≡ answer machine.now.graph machine.now.world) }
-    ensures held { IfOk result (λ r. IsOrderOf HeldBefore r.lines (held_lines machine.now)) }
-    ensures held_rise { IfOk result
-        (λ r. AreApartBy OfOneThing (held_lines machine.now) → Rises HeldBefore r.lines) }
-    ensures waiting { IfOk result
-        (λ r. IsOrderOf WaitBefore r.waiting (waiting machine.now.graph machine.now.world)) }
-    ensures waiting_rise { IfOk result
-        (λ r. AreApartBy OfOneFetch (waiting machine.now.graph machine.now.world) → Rises WaitBefore r.waiting) }
-{
-    let holdings = machine.holdings(alloc)?;
-    in_order(
-        holdings.answer,
-        holdings.structures,
-        holdings.cells,
-        holdings.waiting,
-    )
-}
-
-/// An answer with the lines of these structures and cells and with these fetches, both in order.
-fn in_order(
-    answer: Option<SourceValue>,
-    shapes: Sequence<Shape>,
-    cells: Sequence<CellValue>,
-    waiting: Sequence<Ask>,
-) -> Result<InOrder, AllocError>
-    ensures answer { IfOk result (λ r. r.answer ≡ answer) }
-    ensures held { IfOk result
-        (λ r. IsOrderOf HeldBefore r.lines (map held.Array shapes ++ map held.Cell cells)) }
-    ensures held_rise { IfOk result
-        (λ r. AreApartBy OfOneThing (map held.Array shapes ++ map held.Cell cells) → Rises HeldBefore r.lines) }
-    ensures waiting { IfOk result (λ r. IsOrderOf WaitBefore r.waiting waiting) }
-    ensures waiting_rise { IfOk result (λ r. AreApartBy OfOneFetch waiting → Rises WaitBefore r.waiting) }
-{
-    let lines = Helds::new(shapes, cells)?;
-    let waiting = sorted_asks(waiting)?;
-    Ok(InOrder {
-        answer,
-        lines,
-        waiting,
-    })
-}
-
-/// What binders have in a run, by path and place.
-fn machine_names(alloc: Global, machine: &Machine<'_>) -> Result<Sequence<NameValue>, AllocError>
-    ensures sorted { IfOk result (λ ns. IsSortedOf ns (names machine.now.graph machine.now.world)) }
-    ensures rise { IfOk result (λ ns. AreApart (names machine.now.graph machine.now.world) → NamesRise ns) }
-{
-    let shown = machine.observe(alloc)?;
-    Ok(sorted_names(shown.names))
-}
-
-/// How a run ended. The records are looked at only where there is a fault.
-fn ending_of(alloc: Global, machine: &Machine<'_>) -> Result<Ending, AllocError>
-    ensures { IfOk result (EndsSo machine.now) }
-{
-    match machine.first_fault(alloc)? {
-        Some(fault) => Ok(Ending::Fault(fault)),
-        None => Ok(ending_without_fault(machine)),
-    }
-}
-
-/// How a run ended that met no fault.
-fn ending_without_fault(machine: &Machine<'_>) -> Ending
-    requires { faults machine.now.graph machine.now.world ≡ [] }
-    ensures { EndsSo machine.now result }
-{
-    if machine.is_quiet() {
-        Ending::Quiet
-    } else {
-        Ending::Stopped
-    }
-}
 
 fn put_kind<W: Sink>(kind: FaultKind, sink: &mut W) -> Result<(), PrintError>
     ensures { Prints (W.told sink.old) (W.told sink.new) (kind_text kind) result }
@@ -586,15 +360,4 @@ pub fn write_report<W: Sink>(
         Ending::Stopped => put_stopped(sink, &mut cursor, report, shown),
         Ending::Fault(fault) => write_fault(fault, text, sink),
     }
-}
-
-/// Whether every place that the report tells lies in a text of so many bytes. Takes no memory.
-pub fn is_within(report: &Report, size: usize) -> bool
-    ensures { IsTrue result ↔ ReportWithin size report.now }
-{
-    is_ending_within(&report.ending, size)
-        && is_answer_within(&report.answer, size)
-        && are_names_within(report.names.as_slice(), size)
-        && report.structures.are_within(size)
-        && are_asks_within(report.waiting.as_slice(), size)
 }

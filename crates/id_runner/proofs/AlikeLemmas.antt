@@ -24,7 +24,8 @@ use Rattle.id_print.specs.Reports.{asked}
 use Rattle.id_print.specs.Texts.{quiet_text}
 use Rattle.id_names.proofs.NamesLemmas.{Rises-sorted, Tells, asks_told, helds_told, names_told}
 use Rattle.id_runner.specs.Alike.{ArePrintedAlike, PrintedAlike}
-use Rattle.id_runner.specs.Runs.{Ends, EndsAt, after, held_of}
+use Rattle.id_runner.specs.Runs.{Ends, held_of}
+use Rattle.id_turns.specs.Turns.{EndsAt, after}
 use Rattle.id_runner.specs.Runs.Ends.{fault, quiet, stopped}
 use Rattle.id_runner.proofs.HeldLemmas.{AreApartBy-held, AreApartBy-waiting}
 use Rattle.id_runner.proofs.NamesLemmas.{AreApart-sound, among_permuted, among_sorted}

@@ -4,10 +4,7 @@ pub mod HeldLemmas
 pub mod NamesLemmas
 pub mod PlacedLemmas
 pub mod RunLemmas
-pub mod StampsLemmas
-pub mod DeliveryLemmas
 pub mod ShownLemmas
-pub mod StuckLemmas
+pub mod LeftLemmas
 pub mod TraceLemmas
-pub mod TurnLemmas
 pub mod PrintedLemmas

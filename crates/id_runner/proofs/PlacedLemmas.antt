@@ -50,14 +50,14 @@ use Rattle.id_pieces.specs.Schemas.{Makes, Schemas}
 use Rattle.id_check.proofs.ProgramsLemmas.{table_of}
 use Rattle.id_names.specs.declared.within.Ending.{Ending}
 use Rattle.id_names.specs.declared.within.Ending.TheVariants.{Quiet, Stopped, Fault}
-use Rattle.id_print.specs.declared.report.Report.{Report}
+use Rattle.id_names.specs.declared.reports.Report.{Report}
 use Rattle.id_names.specs.declared.helds.Held.{Held}
 use Rattle.id_names.specs.declared.helds.Held.TheVariants.{Array, Cell}
 use Rattle.id_names.specs.Names.{AreSomeHeld}
 use Rattle.id_sink.specs.Within.{PointWithin, SiteWithin, ValueWithin}
 use Rattle.id_names.specs.Within.{AnswerWithin, AsksWithin, FaultWithin, EndingWithin, HeldWithin, HeldsWithin}
 use Rattle.id_names.specs.Within.{NameWithin, NamesWithin, FactWithin, FactsWithin}
-use Rattle.id_print.specs.Reports.{ReportWithin}
+use Rattle.id_names.specs.Within.{ReportWithin}
 use Rattle.id_compile.specs.Programs.{IsPlacedWithin}
 use Rattle.id_runner.specs.Reports.{SaysTruly, IsTrueOf}
 

@@ -9,21 +9,22 @@ use Rattle.id_instr.specs.Graph.{Parts}
 use Rattle.id_core.specs.Events.{EventView}
 use Rattle.id_core.specs.Machines.{World, MachineView, start}
 use Rattle.id_laws.specs.Laws.{NeverStuck, QuietIsComplete, Soundness}
-use Rattle.id_print.specs.declared.report.Report.{Report}
+use Rattle.id_names.specs.declared.reports.Report.{Report}
 use Rattle.id_sink.specs.declared.sink.PrintError.{PrintError}
 use Rattle.id_sink.specs.Told.{Told, Prints}
 use Rattle.id_print.specs.Reports.{report_text}
 use Rattle.id_trace.specs.Traces.{trace_text}
 use Rattle.id_compile.specs.declared.error.EngineError.{EngineError}
 use Rattle.id_compile.specs.declared.error.EngineError.TheVariants.{Memory, Write}
-use Rattle.id_runner.specs.Reports.{AreAllowed, HasRun, IsReportFrom, IsTrueOf, IsUnallowed, PrintsEvents}
+use Rattle.id_runner.specs.Reports.{AreAllowed, IsReportFrom, IsTrueOf, IsUnallowed, PrintsEvents}
+use Rattle.id_turns.specs.Deliveries.{HasRun}
 use Rattle.id_runner.specs.Reports.{PrintsMachine, PrintsRun, RunsSo, ran, unallowed, status_of}
 use Rattle.id_runner.specs.Reports.PrintsEvents.{all_out, front_out}
 use Rattle.id_runner.specs.Reports.PrintsRun.{whole, cut}
 use Rattle.id_runner.specs.Reports.PrintsMachine.{reported, out_of_memory}
 use Rattle.id_runner.specs.Runs.{IsTraceOf}
 use Rattle.id_runner.proofs.RunLemmas.{IsReportOfRun-from, IsTrueOf-laws}
-use Rattle.id_runner.proofs.StuckLemmas.{left_over}
+use Rattle.id_runner.proofs.LeftLemmas.{left_over}
 
 -- ---- what is printed of a machine
 

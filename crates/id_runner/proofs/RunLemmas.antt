@@ -1,5 +1,5 @@
 -- Lemmas on runs of machines, and on what their reports say (specs/Reports.antt).
-use Rattle.std.proofs.Common.{◌≡◌, ℕ, Bool, true, false, List, [], ◌∷◌, ◌++◌, Option, Some, None, refl, sym, ap, subst, ◌∙◌}
+use Rattle.std.proofs.Common.{◌≡◌, ℕ, Bool, true, false, List, [], Option, Some, None, refl, sym, ap, subst, ◌∙◌}
 use Rattle.std.specs.Prelude.{◌≤◌, All, length, IfSome, slice_get}
 use Rattle.id_instr.specs.Graph.{Parts}
 use Rattle.id_value.specs.declared.Constant.{Constant}
@@ -9,27 +9,23 @@ use Rattle.id_source.specs.Sources.{Source, AreInputs}
 use Rattle.id_source.specs.Names.{AreSomeNames}
 use Rattle.id_source.specs.Rounds.{Answers, IsAnswer, Faulty}
 use Rattle.id_pieces.specs.Schemas.{Schemas}
-use Rattle.id_core.specs.Machines.{World, MachineView, IsQuiet, start, delivered, run}
+use Rattle.id_core.specs.Machines.{World, MachineView, IsQuiet, start, run}
 use Rattle.id_core.specs.Observed.{faults}
 use Rattle.id_core.specs.Observed as shown
 use Rattle.id_laws.specs.Laws.{Soundness, QuietIsComplete, IsSound, IsComplete}
 use Rattle.id_list.proofs.AmongLemmas.{Among-from_at}
 use Rattle.id_names.specs.declared.within.Ending.{Ending}
 use Rattle.id_names.specs.declared.within.Ending.TheVariants.{Quiet, Stopped, Fault}
-use Rattle.id_print.specs.declared.report.Report.{Report}
-use Rattle.id_observed.proofs.FirstsLemmas.{first_is_shown}
-use Rattle.id_print.specs.Endings.{EndsSo}
+use Rattle.id_names.specs.declared.reports.Report.{Report}
+use Rattle.id_merge.proofs.FirstsLemmas.{first_is_shown}
+use Rattle.id_names.specs.Endings.{EndsSo}
 use Rattle.id_names.specs.Names.{WaitBefore}
 use Rattle.id_source.specs.Orders.{Rises}
-use Rattle.id_runner.specs.Runs.{after}
-use Rattle.id_runner.specs.Reports.{HasRun, IsReportFrom, IsReportOfRun, IsTrueOf, SaysSome, SaysTruly}
+use Rattle.id_turns.specs.Turns.{after}
+use Rattle.id_turns.specs.Deliveries.{HasRun}
+use Rattle.id_runner.specs.Reports.{IsReportFrom, IsReportOfRun, IsTrueOf, SaysSome, SaysTruly}
 use Rattle.id_runner.proofs.HeldLemmas.{AreApartBy-held, AreApartBy-waiting, AreHeld-complete, AreSomeHeld-sound, AreWaiting-complete}
 use Rattle.id_runner.proofs.NamesLemmas.{among_sorted, AreApart-sound, AreSomeNames-sound, AreSomeNames-none, AreNames-complete}
-
--- deliveries and then more of them
-pub run-append : (g : Parts) (count : ℕ) (ks ls : List ℕ) (s : World) → run g count (ks ++ ls) s ≡ run g count ls (run g count ks s)
-run-append g count [] ls s = refl
-run-append g count (k ∷ ks) ls s = run-append g count ks ls (delivered g count s k)
 
 -- a value that may be missing: what holds of it where it is there
 if_some : (S : Source) (o : Option SourceValue) → ((v : SourceValue) → o ≡ Some v → Answers S v) → IfSome o (Answers S)

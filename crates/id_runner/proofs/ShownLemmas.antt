@@ -1,12 +1,12 @@
 -- Lemmas on specs/Commands.antt: from a report that is so to what is printed.
 use Rattle.std.proofs.Common.{◌≡◌, ◌≢◌, ◌≤◌, ℕ, zero, suc, Bool, true, false, IsTrue, List, [], ◌∷◌, ◌++◌, Option}
 use Rattle.std.proofs.Common.{Some, Result, Ok, Err, IfOk, IfErr, OnOk, slice_get, codes, refl, sym, ap, ◌∙◌, subst}
-use Rattle.id_observed.proofs.FirstsLemmas.{first_is_shown}
+use Rattle.id_merge.proofs.FirstsLemmas.{first_is_shown}
 use Rattle.id_check.specs.declared.checked.Checked.{Checked}
 use Rattle.id_sink.specs.declared.sink.PrintError.{PrintError}
 use Rattle.id_names.specs.declared.within.Ending.{Ending}
 use Rattle.id_names.specs.declared.within.Ending.TheVariants.{Quiet, Stopped, Fault}
-use Rattle.id_print.specs.declared.report.Report.{Report}
+use Rattle.id_names.specs.declared.reports.Report.{Report}
 use Rattle.id_sink.specs.Told.{Told, Prints}
 use Rattle.id_print.specs.Reports.{asked, ending_text, report_text}
 use Rattle.id_runner.specs.Commands.{Check, List_graph, Draw_graph, Facts, Run, Shows, accepted, listed, drawn, facts}
@@ -30,12 +30,14 @@ use Rattle.id_instr.specs.Graph.{Parts}
 use Rattle.id_source.specs.declared.SourceFault.{SourceFault}
 use Rattle.id_core.specs.Machines.{start}
 use Rattle.id_core.specs.Observed.{answer, names, waiting}
-use Rattle.id_print.specs.Endings.{EndsSo}
+use Rattle.id_names.specs.Endings.{EndsSo}
 use Rattle.id_names.specs.Names.{HeldBefore, IsOrderOf, IsSortedOf, WaitBefore}
 use Rattle.id_print.specs.Texts.{fault_text, quiet_text, stopped_text}
-use Rattle.id_runner.specs.Reports.{HasEnded, at_fault, at_rest, HasPrinted, IsReportOfRun, IsTrueOf, RunsSo, SaysTruly, ran, unallowed, status_of}
+use Rattle.id_turns.specs.Turns.{HasEnded, at_fault, at_rest}
+use Rattle.id_runner.specs.Reports.{HasPrinted, IsReportOfRun, IsTrueOf, RunsSo, SaysTruly, ran, unallowed, status_of}
 use Rattle.id_runner.specs.Reports.PrintsRun.{whole, cut, unprinted}
-use Rattle.id_runner.specs.Runs.{Ends, IsTraceOf, Ran, after, held_of}
+use Rattle.id_runner.specs.Runs.{Ends, IsTraceOf, Ran, held_of}
+use Rattle.id_turns.specs.Turns.{after}
 use Rattle.id_runner.proofs.AnsweredLemmas.{late_unallowed, refused_unallowed}
 use Rattle.id_core.specs.Events.{EventView}
 use Rattle.id_pieces.specs.Schemas.{Schemas}

@@ -4,4 +4,3 @@ pub mod Runs
 pub mod Alike
 -- For use inside.
 pub mod Reports
-pub mod Turns

@@ -1,10 +1,9 @@
 -- The report of a run of a text's program, and deliveries to a machine.
-use Rattle.std.specs.Prelude.{◌≡◌, ◌≢◌, ◌≤◌, ◌<◌, ◌+◌, ◌⊎◌, ℕ, Bool, IsTrue, IsFalse, List, [], ◌++◌, All, length}
-use Rattle.std.specs.Prelude.{Option, Some, IfSome, Result, Ok, Err, slice_get}
+use Rattle.std.specs.Prelude.{◌≡◌, ◌≤◌, ◌<◌, ◌+◌, ◌⊎◌, ℕ, Bool, IsTrue, IsFalse, List, [], ◌++◌, All, length}
+use Rattle.std.specs.Prelude.{Option, IfSome, Result, Ok, Err}
 use Rattle.id_check.specs.declared.checked.Checked.{Checked}
 use Rattle.id_value.specs.declared.Constant.{Constant}
-use Rattle.id_source.specs.declared.SourceFault.{SourceFault}
-use Rattle.id_source.specs.Sources.{Source, AreInputs, source}
+use Rattle.id_source.specs.Sources.{Source, source}
 use Rattle.id_list.specs.List.{Among}
 use Rattle.id_source.specs.declared.Ask.{Ask}
 use Rattle.id_source.specs.declared.Fact.TheVariants as fact
@@ -14,20 +13,16 @@ use Rattle.id_source.specs.Orders.{NamesRise, Rises}
 use Rattle.id_pieces.specs.Schemas.{Schemas}
 use Rattle.id_pieces.specs.Rows.{size}
 use Rattle.id_instr.specs.Graph.{Parts}
-use Rattle.id_tag.specs.declared.Message.{Message}
-use Rattle.id_flight.specs.Queues.{context_at}
-use Rattle.id_line.specs.declared.step.Step.{Step}
-use Rattle.id_line.specs.declared.step.Step.TheVariants.{Went, Stuck}
 use Rattle.id_core.specs.Events.{EventView}
-use Rattle.id_core.specs.Machines.{World, MachineView, delivered, event_at, run, start}
-use Rattle.id_core.specs.Observed.{answer, faults, names, waiting}
+use Rattle.id_core.specs.Machines.{World, MachineView, start}
+use Rattle.id_core.specs.Observed.{answer, names, waiting}
 use Rattle.id_names.specs.declared.within.Ending.{Ending}
 use Rattle.id_names.specs.declared.within.Ending.TheVariants.{Quiet, Stopped, Fault}
-use Rattle.id_print.specs.declared.report.Report.{Report}
+use Rattle.id_names.specs.declared.reports.Report.{Report}
 use Rattle.id_sink.specs.declared.sink.PrintError.{PrintError}
 use Rattle.id_sink.specs.Told.{Told, Prints}
-use Rattle.id_print.specs.Endings.{EndsSo}
-use Rattle.id_print.specs.Reports.{ReportWithin}
+use Rattle.id_names.specs.Endings.{EndsSo}
+use Rattle.id_names.specs.Within.{ReportWithin}
 use Rattle.id_print.specs.Reports.{report_text}
 use Rattle.id_trace.specs.Traces.{trace_text}
 use Rattle.id_names.specs.Names.{IsOrderOf, IsSortedOf, AreApart, AreApartBy, HeldBefore, WaitBefore}
@@ -36,9 +31,9 @@ use Rattle.id_source.specs.Computed.{HasMoreFacts}
 use Rattle.id_compile.specs.declared.error.EngineError.{EngineError}
 use Rattle.id_compile.specs.declared.error.EngineError.TheVariants.{BadElements, BadSteps, BadRounds, TooManyFacts}
 use Rattle.id_compile.specs.declared.error.EngineError.TheVariants.{Memory, Write}
-use Rattle.id_runner.specs.Runs.{AreInTurn, EndsAt, IsBehindOthers, IsHeldBack, IsNext, IsTraceOf, after, first_turn}
+use Rattle.id_turns.specs.Turns.{AreInTurn, after, first_turn}
+use Rattle.id_runner.specs.Runs.{IsTraceOf}
 use Rattle.id_runner.specs.Runs.{held_of}
-use Rattle.id_runner.specs.declared.run.Hand.{Hand}
 
 -- the status of an ending
 abbrev pub status_of : Ending → ℕ
@@ -83,13 +78,6 @@ pub record IsReportFrom (m : MachineView) (b : Bool) (r : Report) : Type 0 where
   pub waits : IsOrderOf WaitBefore r.waiting (waiting m.graph m.world)
   pub waits_rise : AreApartBy OfOneFetch (waiting m.graph m.world) → Rises WaitBefore r.waiting
   pub ends : EndsSo m r.ending
-
--- deliveries at these positions, from this state, have come to an end: at a fault, or where all messages left are held
--- back
-pub data HasEnded (g : Parts) (count steps : ℕ) (w : World) (ks : List ℕ) : Type 0 where
-  at_fault : (f : SourceFault) → EndsAt g count w ks f → HasEnded g count steps w ks
-  at_rest : faults g (run g count ks w) ≡ [] → All (IsHeldBack count steps (run g count ks w)) (run g count ks w).flight
-      → HasEnded g count steps w ks
 
 -- the report, with names where they are asked for, is that of a run that has ended, on so many elements, each of which
 -- has handled at most so many messages
@@ -150,29 +138,6 @@ pub data RunsSo (P : Checked) (vs : List Constant) (text : List ℕ) (count : �
   unallowed : (e : EngineError) → IsUnallowed count steps e → new ≡ old →
       RunsSo P vs text count t steps b old new (Err e)
 
--- the elements of a machine are so many
-abbrev pub HasCount : MachineView → Type 0
-HasCount m = (0 < m.count) × (m.count ≤ 64) × (length m.world.elements ≡ m.count)
-
--- the machine is one at the start of a graph that the schemas give a program, with inputs of the program
-pub record IsFreshMachine (m : MachineView) : Type 0 where
-  pub origin : Source
-  pub inputs : AreInputs origin.checked origin.inputs
-  pub schemas : Schemas origin.checked m.graph
-  pub some : 0 < m.count
-  pub few : m.count ≤ 64
-  pub world : m.world ≡ start m.graph origin.inputs m.count
-
--- deliveries to a machine, each in its turn, have come to an end: each element has handled at most so many messages
-pub record HasRun (old new : MachineView) (steps : ℕ) : Type 0 where
-  pub positions : List ℕ
-  pub same_graph : new.graph ≡ old.graph
-  pub same_count : new.count ≡ old.count
-  pub world : new.world ≡ run old.graph old.count positions old.world
-  pub turns : AreInTurn old.graph old.count steps first_turn positions old.world
-  pub few : All (λ s. length s.events ≤ steps) new.world.elements
-  pub ended : HasEnded old.graph old.count steps old.world positions
-
 -- the places of each report of such a run are at most so many bytes in
 abbrev pub AreReportsWithin : MachineView → ℕ → Bool → ℕ → Type 0
 AreReportsWithin m steps b size =
@@ -184,50 +149,6 @@ pub data PrintsMachine (m : MachineView) (text : List ℕ) (t : Bool) (steps : �
   reported : {result : Result ℕ EngineError} (n : MachineView) (r : Report) → HasRun m n steps → IsReportFrom n b r
       → PrintsRun text t b n.world r old new result → PrintsMachine m text t steps b old new result
   out_of_memory : new ≡ old → PrintsMachine m text t steps b old new (Err Memory)
-
--- the message at this position is held back
-abbrev pub IsHeldAt : ℕ → ℕ → World → ℕ → Type 0
-IsHeldAt count steps w k = (m : Message) → slice_get w.flight k ≡ Some m → IsHeldBack count steps w m
-
--- what is at hand is so of these messages: the position is not behind their end, and where none in front of it may be
--- of the context, none is
-pub record IsHand (ms : List Message) (h : Hand) : Type 0 where
-  pub within : h.position ≤ length ms
-  pub behind : IsFalse h.may_be_in_front → IsBehindOthers ms h.position (Some h.context)
-
--- behind what was at hand, this is at hand next
-pub record IsNextHand (ms : List Message) (old new : Hand) : Type 0 where
-  pub is : IsNext ms old.position (Some old.context) new.position
-  pub there : new.position < length ms
-  pub context : context_at ms new.position ≡ Some new.context
-  pub behind : IsFalse new.may_be_in_front → IsBehindOthers ms new.position (Some new.context)
-
--- the last of these messages is at hand
-pub record IsLastHand (ms : List Message) (h : Hand) : Type 0 where
-  pub last : h.position + 1 ≡ length ms
-  pub context : context_at ms h.position ≡ Some h.context
-  pub front : IsTrue h.may_be_in_front
-
--- delivering the message at this position makes an event, which is not stuck
-pub record HasEvent (m : MachineView) (k : ℕ) : Type 0 where
-  pub event : EventView
-  pub made : event_at m.graph m.count m.world k ≡ Some event
-  pub moves : event.step ≢ Stuck
-
--- the message at this position was delivered, and the event came to this
-pub record IsDelivery (position : ℕ) (old new : MachineView) (step : Step) : Type 0 where
-  pub event : EventView
-  pub made : event_at old.graph old.count old.world position ≡ Some event
-  pub step_is : event.step ≡ step
-  pub new_is : new ≡ record old { world = delivered old.graph old.count old.world position }
-
--- the message at this position was delivered, and whether the run goes on after its event, which was not stuck
-pub record IsDelivered (position : ℕ) (old new : MachineView) (goes : Bool) : Type 0 where
-  pub step : Step
-  pub delivery : IsDelivery position old new step
-  pub moves : step ≢ Stuck
-  pub went : IsTrue goes → step ≡ Went
-  pub failed : IsFalse goes → step ≢ Went
 
 -- why the facts of a round of a source are refused
 abbrev pub AreRefusedRounds : Source → ℕ → EngineError → Type 0

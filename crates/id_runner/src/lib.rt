@@ -6,8 +6,7 @@
 //! Not here: what comes of a text (`id_compile`), machines (`id_core`), other commands and requests (`id_engine`).
 #![tactic(auto)]
 
-mod prepared;
 mod run;
 
-pub use prepared::{Prepared, prepare};
+pub use id_compile::{Prepared, prepare};
 pub use run::{MAX_STEPS, engine, printed_alike};

@@ -3,7 +3,8 @@ use Rattle.std.proofs.Common.{◌≡◌, ◌∙◌, IfOk, ap, map, subst}
 use Rattle.std.specs.List.{filter_map, flat_map}
 use Rattle.std.specs.Prelude.{option_and_then, slice_get}
 use Rattle.id_slot.specs.Cells.{cells_of, deferred_of}
-use Rattle.id_observed.specs.Observed.{answer_in, ask_of, cell_value_of, cell_values_in, source_value}
+use Rattle.id_observed.specs.Observed.{answer_in, ask_of, cell_value_of, cell_values_in}
+use Rattle.id_paths.specs.Sourced.{source_value}
 use Rattle.id_paths.specs.Paths.{answers, events_of, path_in, structure_by, structure_in}
 use Rattle.id_paths.specs.Paths.{path_by}
 use Rattle.id_observed.proofs.ObservedLemmas.{cell_values-from_puts}

@@ -1,9 +1,9 @@
 -- What went well shows no fault.
 use Rattle.std.proofs.Common.{◌++◌, append-nil, ap, sym, ◌∙◌}
-use Rattle.id_observed.specs.Observed.{faults_of}
+use Rattle.id_paths.specs.Sourced.{faults_of}
 use Rattle.id_paths.specs.Paths.{structure_by}
 use Rattle.id_paths.specs.Paths.{path_by}
-use Rattle.id_observed.proofs.FirstsLemmas.{went_none}
+use Rattle.id_paths.proofs.SourcedLemmas.{went_none}
 use Rattle.id_observed.proofs.observe.add_element_faults.Goals as goal
 
 pub returns-then-all_went : goal.returns-then-all_went

@@ -1,7 +1,7 @@
 -- One more event adds the fault that it shows, if it shows one.
 use Rattle.std.proofs.lemmas.Grind.{common_steps}
 use Rattle.std.proofs.Common.{append_assoc, arith}
-use Rattle.id_observed.specs.Observed.{fault_of}
+use Rattle.id_paths.specs.Sourced.{fault_of}
 use Rattle.id_paths.specs.Paths.{structure_by}
 use Rattle.id_paths.specs.Paths.{path_by}
 use Rattle.id_paths.proofs.WalksLemmas.{filter_map-next}

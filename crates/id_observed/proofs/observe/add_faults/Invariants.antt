@@ -1,6 +1,6 @@
 -- The faults of the events so far are there.
 use Rattle.std.proofs.Common.{◌≡◌, ◌++◌, take}
-use Rattle.id_observed.specs.Observed.{faults_of}
+use Rattle.id_paths.specs.Sourced.{faults_of}
 use Rattle.id_paths.specs.Paths.{structure_by}
 use Rattle.id_paths.specs.Paths.{path_by}
 use Rattle.id_observed.proofs.observe.add_faults.Given as goal

@@ -4,7 +4,7 @@ use Rattle.std.proofs.lemmas.List.{take_all}
 use Rattle.std.specs.Prelude.{slice_get}
 use Rattle.std.proofs.lemmas.Option.{slice_get_read}
 use Rattle.id_paths.specs.Paths.{events_of, structure_by}
-use Rattle.id_observed.specs.Observed.{fault_of, faults_of}
+use Rattle.id_paths.specs.Sourced.{fault_of, faults_of}
 use Rattle.id_paths.specs.Paths.{path_by}
 use Rattle.id_paths.proofs.WalksLemmas.{walk-next}
 use Rattle.id_desk.proofs.ShortLemmas.{if_err}

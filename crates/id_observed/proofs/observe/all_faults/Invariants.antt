@@ -1,7 +1,7 @@
 -- The faults of the records so far are there.
 use Rattle.std.proofs.Common.{◌≡◌, map, take}
 use Rattle.id_paths.specs.Paths.{events_of, structure_by}
-use Rattle.id_observed.specs.Observed.{faults_of}
+use Rattle.id_paths.specs.Sourced.{faults_of}
 use Rattle.id_paths.specs.Paths.{path_by}
 use Rattle.id_observed.proofs.observe.all_faults.Given as goal
 

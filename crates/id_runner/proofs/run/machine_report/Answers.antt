@@ -1,6 +1,6 @@
 use Rattle.std.proofs.Common.{refl, sym, subst}
 use Rattle.id_core.specs.Machines.{MachineView}
-use Rattle.id_runner.specs.Reports.{HasRun}
+use Rattle.id_turns.specs.Deliveries.{HasRun}
 use Rattle.id_compile.proofs.AnsweredLemmas.{on_ok}
 use Rattle.id_runner.proofs.run.machine_report.Goals as goal
 

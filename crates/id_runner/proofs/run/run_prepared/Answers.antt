@@ -3,7 +3,7 @@ use Rattle.id_source.specs.Sources.{Source, source}
 use Rattle.id_core.specs.Machines.{MachineView}
 use Rattle.id_runner.proofs.PlacedLemmas.{report_within}
 use Rattle.id_runner.proofs.PrintedLemmas.{IsTrueOf-ran, RunsSo-machine, RunsSo-memory}
-use Rattle.id_runner.proofs.StuckLemmas.{IsFreshMachine-start}
+use Rattle.id_turns.proofs.StuckLemmas.{IsFreshMachine-start}
 use Rattle.id_runner.proofs.run.run_prepared.Goals as goal
 
 pub machine_for-requires : goal.machine_for-requires

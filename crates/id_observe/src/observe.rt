@@ -1,0 +1,155 @@
+//! What a run shows: the answer, what binders have, structures and their cells, fetches that wait, and the faults
+//! (docs/MACHINE.md, "Observed").
+
+ghost use Rattle.std.specs.Prelude.{◌≡◌, ◌<◌, ◌-◌, map};
+ghost use Rattle.std.specs.Prelude.{slice_get};
+ghost use Rattle.std.specs.Prelude.{IfOk, option_and_then};
+ghost use Rattle.std.specs.List.{filter_map, flat_map};
+ghost use Rattle.id_slot.specs.Cells.{cells_of, deferred_of};
+ghost use Rattle.id_observed.specs.Observed.{answer_in, ask_of, cells_in};
+ghost use Rattle.id_paths.specs.Paths.{events_of};
+ghost use Rattle.id_paths.specs.Sourced.{faults_in, faults_of};
+ghost use Rattle.id_observed.specs.Observed.{first_value};
+ghost use Rattle.id_observed.specs.Observed.{names_in, names_of, put_of};
+ghost use Rattle.id_paths.specs.Sourced.{source_value};
+ghost use Rattle.id_observed.specs.Observed.{shape_at};
+ghost use Rattle.id_paths.specs.Paths.{structure_by};
+ghost use Rattle.id_observed.specs.Observed.{structures_in, waiting_in};
+ghost use Rattle.id_paths.specs.Paths.{path_by};
+
+use id_bank::Cells;
+use id_element::Element;
+use id_list::Sequence;
+use id_observed::{all_cells, all_faults, all_names, all_structures, all_waiting};
+use id_paths::{Paths, value_in};
+use id_source::{Ask, NameValue, Put, Shape, SourceFault, SourceValue};
+use id_valid::Valid;
+use std::alloc::{AllocError, Global};
+
+/// What a run shows, named by paths and places of the text alone.
+#[derive(Drop)]
+pub struct Observed {
+    /// The value of the first token that instruction 0 handled under main's tag.
+    pub answer: Option<SourceValue>,
+    /// For each token that a label handled, one element's record after another's: what its binder Has.
+    pub names: Sequence<NameValue>,
+    /// For each `alloc` that made one, one element's record after another's: the structure and its bounds.
+    pub structures: Sequence<Shape>,
+    /// For each cell that holds a value, one element's cells after another's: what is put into it, and by which store.
+    pub cells: Sequence<Put>,
+    /// For each reply that waits for a cell's value, one element's cells after another's: which fetch asks for which
+    /// cell.
+    pub waiting: Sequence<Ask>,
+    /// For each event that was a fault, one element's record after another's: what went wrong, and at which place.
+    pub faults: Sequence<SourceFault>,
+}
+
+/// What the records of these elements show: `Memory` aside there is always an answer.
+pub fn observe_records(
+    alloc: Global,
+    graph: &Valid,
+    elements: &[Element<'_>],
+) -> Result<Observed, AllocError>
+    ensures answer { IfOk result (λ o. o.answer ≡ answer_in graph.now (map (λ e. e.state) elements.now)) }
+    ensures names { IfOk result (λ o. o.names ≡ names_in graph.now (map (λ e. e.state) elements.now)) }
+    ensures structures { IfOk result (λ o. o.structures ≡ structures_in graph.now (map (λ e. e.state) elements.now)) }
+    ensures cells { IfOk result (λ o. o.cells ≡ cells_in graph.now (map (λ e. e.state) elements.now)) }
+    ensures waiting { IfOk result (λ o. o.waiting ≡ waiting_in graph.now (map (λ e. e.state) elements.now)) }
+    ensures faults { IfOk result (λ o. o.faults ≡ faults_in graph.now (map (λ e. e.state) elements.now)) }
+{
+    let paths = Paths::new(alloc, graph.graph(), elements)?;
+    shown_by(alloc, &paths, elements)
+}
+
+/// What the records of these elements show, by these paths and names.
+fn shown_by(
+    alloc: Global,
+    paths: &Paths<'_>,
+    elements: &[Element<'_>],
+) -> Result<Observed, AllocError>
+    ensures answer { IfOk result (λ o. o.answer
+        ≡ option_and_then (source_value (structure_by paths.now)) (slice_get paths.now.values.items 0)) }
+    ensures names { IfOk result (λ o. o.names
+        ≡ names_of paths.now.graph.now (path_by paths.now) (structure_by paths.now)
+        (events_of (map (λ e. e.state) elements.now))) }
+    ensures structures { IfOk result (λ o. o.structures
+        ≡ map (shape_at paths.now.graph.now (path_by paths.now)) paths.now.makings.items) }
+    ensures cells { IfOk result (λ o. o.cells
+        ≡ filter_map (put_of paths.now.graph.now (path_by paths.now) (structure_by paths.now))
+        (flat_map (λ e. cells_of e.cells) (map (λ e. e.state) elements.now))) }
+    ensures waiting { IfOk result (λ o. o.waiting
+        ≡ map (ask_of paths.now.graph.now (path_by paths.now) (structure_by paths.now))
+        (flat_map (λ e. deferred_of e.cells) (map (λ e. e.state) elements.now))) }
+    ensures faults { IfOk result (λ o. o.faults
+        ≡ faults_of paths.now.graph.now (path_by paths.now) (structure_by paths.now)
+        (events_of (map (λ e. e.state) elements.now))) }
+{
+    let told = told_by(alloc, paths, elements)?;
+    let held = held_by(alloc, paths, elements)?;
+    Ok(Observed {
+        answer: told.answer,
+        names: told.names,
+        structures: held.structures,
+        cells: held.cells,
+        waiting: held.waiting,
+        faults: told.faults,
+    })
+}
+
+/// The answer, what binders have, and the faults.
+#[derive(Drop)]
+struct Told {
+    answer: Option<SourceValue>,
+    names: Sequence<NameValue>,
+    faults: Sequence<SourceFault>,
+}
+
+/// The answer that the records of these elements show, what binders have, and their faults, by these paths and names.
+fn told_by(alloc: Global, paths: &Paths<'_>, elements: &[Element<'_>]) -> Result<Told, AllocError>
+    ensures answer { IfOk result (λ o. o.answer
+        ≡ option_and_then (source_value (structure_by paths.now)) (slice_get paths.now.values.items 0)) }
+    ensures names { IfOk result (λ o. o.names
+        ≡ names_of paths.now.graph.now (path_by paths.now) (structure_by paths.now)
+        (events_of (map (λ e. e.state) elements.now))) }
+    ensures faults { IfOk result (λ o. o.faults
+        ≡ faults_of paths.now.graph.now (path_by paths.now) (structure_by paths.now)
+        (events_of (map (λ e. e.state) elements.now))) }
+{
+    let names = all_names(alloc, paths, elements)?;
+    let faults = all_faults(alloc, paths, elements)?;
+    let answer = value_in(alloc, paths, paths.first_value())?;
+    Ok(Told {
+        answer,
+        names: Sequence::new(names),
+        faults: Sequence::new(faults),
+    })
+}
+
+/// Structures, what is put into their cells, and the fetches that wait.
+#[derive(Drop)]
+struct Held {
+    structures: Sequence<Shape>,
+    cells: Sequence<Put>,
+    waiting: Sequence<Ask>,
+}
+
+/// What these elements show of structures, by these paths and names.
+fn held_by(alloc: Global, paths: &Paths<'_>, elements: &[Element<'_>]) -> Result<Held, AllocError>
+    ensures structures { IfOk result (λ o. o.structures
+        ≡ map (shape_at paths.now.graph.now (path_by paths.now)) paths.now.makings.items) }
+    ensures cells { IfOk result (λ o. o.cells
+        ≡ filter_map (put_of paths.now.graph.now (path_by paths.now) (structure_by paths.now))
+        (flat_map (λ e. cells_of e.cells) (map (λ e. e.state) elements.now))) }
+    ensures waiting { IfOk result (λ o. o.waiting
+        ≡ map (ask_of paths.now.graph.now (path_by paths.now) (structure_by paths.now))
+        (flat_map (λ e. deferred_of e.cells) (map (λ e. e.state) elements.now))) }
+{
+    let structures = all_structures(alloc, paths)?;
+    let cells = all_cells(alloc, paths, elements)?;
+    let waiting = all_waiting(alloc, paths, elements)?;
+    Ok(Held {
+        structures: Sequence::new(structures),
+        cells: Sequence::new(cells),
+        waiting: Sequence::new(waiting),
+    })
+}

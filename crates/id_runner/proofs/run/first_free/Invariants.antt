@@ -1,6 +1,0 @@
-use Rattle.id_runner.specs.Runs.{AreHeldBefore}
-use Rattle.id_runner.proofs.run.first_free.Given as goal
-
--- all messages so far are held back
-abbrev pub invariant-loop-position : goal.invariant-loop-position
-invariant-loop-position l = AreHeldBefore l.count l.steps l.machine.world l.position

@@ -1,0 +1,4 @@
+pub mod StampsLemmas
+pub mod DeliveryLemmas
+pub mod StuckLemmas
+pub mod TurnLemmas
