@@ -34,6 +34,8 @@ use Rattle.id_compile.specs.declared.error.EngineError.TheVariants.{Memory, Writ
 use Rattle.id_turns.specs.Turns.{AreInTurn, after, first_turn}
 use Rattle.id_runner.specs.Runs.{IsTraceOf}
 use Rattle.id_runner.specs.Runs.{held_of}
+use Rattle.id_turns.specs.Turns.{HasEnded}
+use Rattle.id_turns.specs.Deliveries.{HasRun}
 
 -- the status of an ending
 abbrev pub status_of : Ending → ℕ

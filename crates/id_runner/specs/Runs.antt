@@ -21,6 +21,7 @@ use Rattle.id_print.specs.Texts.{quiet_text, stopped_text, fault_text}
 use Rattle.id_print.specs.Reports.{asked}
 use Rattle.id_trace.specs.Traces.{trace_text}
 use Rattle.id_compile.specs.Programs.{IsProgramOf}
+use Rattle.id_turns.specs.Turns.{after, IsHeldBack, first_turn, AreInTurn, EndsAt}
 
 -- the lines about structures and cells that a machine of so many elements shows
 abbrev pub held_of : Parts → ℕ → World → List Held

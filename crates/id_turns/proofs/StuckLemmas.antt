@@ -23,6 +23,19 @@ use Rattle.id_turns.proofs.DeliveryLemmas.{run-append}
 use Rattle.id_turns.specs.Turns.{IsFree, Turn}
 use Rattle.id_turns.specs.Deliveries.{Reaches}
 use Rattle.id_turns.proofs.DeliveryLemmas.{made_free}
+use Rattle.std.proofs.Common.{List}
+use Rattle.id_tag.specs.declared.Structure.{Structure}
+use Rattle.id_tag.specs.declared.Tag.{Tag}
+use Rattle.id_line.specs.declared.step.Step.TheVariants.{Went, Fault}
+use Rattle.id_line.specs.declared.step.Fault.TheVariants.{Operator, SecondStore}
+use Rattle.id_source.specs.declared.Path.{Path}
+use Rattle.id_source.specs.declared.Site.{Site}
+use Rattle.id_source.specs.declared.SourceFault.{SourceFault}
+use Rattle.id_core.specs.Machines.{IsQuiet}
+use Rattle.id_core.specs.Observed.{fault_of, faults, faults_of, path_in, structure_in}
+use Rattle.id_runs.proofs.RecordsOfRuns.{Recorded, filter_map_has}
+use Rattle.id_laws.proofs.ValidCounts.{all_among}
+use Rattle.id_list.proofs.AmongLemmas.{at-from_Among}
 
 -- the event of an element that takes a message is in its record afterwards
 taken_event : (g : Parts) (k : ℕ) (s : World) (m : Message) (n : ℕ) (e : State) (v : EventView) → slice_get s.elements n ≡ Some e → event_of g n e m ≡ v
@@ -88,3 +101,38 @@ pub IsFreshMachine-start : (S : Source) (g : Parts) (count : ℕ) (m : MachineVi
 IsFreshMachine-start S g count m some few is inputs schemas =
     let Q : MachineView → Type 0 = IsFreshMachine in
     subst Q (sym is) (record { origin = S; inputs = inputs; schemas = schemas; some = some; few = few; world = refl })
+
+-- ---- a run with nothing left
+
+went_of : (g : Parts) (p : Tag → Path) (m : Structure → Site) (x : Step) → fault_of g p m x ≡ None → x ≢ Stuck → x ≡ Went
+went_of g p m Went none stuck = refl
+went_of g p m (Fault (Operator f t)) none stuck = absurd cc
+went_of g p m (Fault (SecondStore c t u)) none stuck = absurd cc
+went_of g p m Stuck none stuck = absurd (stuck refl)
+
+no_fault : (g : Parts) (p : Tag → Path) (m : Structure → Site) (vs : List EventView) (v : EventView) → faults_of g p m vs ≡ [] → Among v vs
+    → fault_of g p m v.step ≡ None
+no_fault g p m vs v none among = go (fault_of g p m v.step) refl
+  where
+    go : (o : Option SourceFault) → fault_of g p m v.step ≡ o → o ≡ None
+    go None e = refl
+    go (Some f) e = let here = filter_map_has (λ (u : EventView). fault_of g p m u.step) vs v f among e in absurd (subst (Among f) none here)
+
+-- where nothing is in flight and no fault was shown, a run of a schemas' graph is quiet
+pub IsQuiet-from : NeverStuck → (S : Source) (g : Parts) (count : ℕ) (ks : List ℕ) → AreInputs S.checked S.inputs → Schemas S.checked g → (w : World)
+    → w ≡ run g count ks (start g S.inputs count) → faults g w ≡ [] → w.flight ≡ [] → IsQuiet w
+IsQuiet-from never S g count ks inputs schemas w is none empty =
+    let ok = never S g count ks inputs schemas in
+    let no : (v : EventView) → Among v (events_of w.elements) →
+    v.step ≢ Stuck = λ v a. ok.goes_on v (subst (λ (x : World). Among v (events_of x.elements)) is a) in
+    record {
+      empty = empty;
+      went = all_among _ w.elements (λ e a. all_among _ e.events (λ v b. (
+          let here = among_events w v (recorded_in w e v a b) in
+          let p = path_in g w.elements in
+          let m = structure_in g w.elements in
+          went_of g p m v.step (no_fault g p m (events_of w.elements) v none here) (no v here))));
+    }
+  where
+    recorded_in : (w : World) (e : State) (v : EventView) → Among e w.elements → Among v e.events → Recorded w v
+    recorded_in w e v a b = let k = at-from_Among e w.elements a in record { element = k.0; state = e; at = k.1; among = b }
