@@ -2,7 +2,7 @@
 use Rattle.std.specs.Prelude.{Bool, true, false, if◌then◌else◌, List, [], ◌∷◌, map}
 use Rattle.std.specs.Ordering.{is_lt}
 use Rattle.std.specs.List.Sorted.{IsSortedBy}
-use Rattle.id_core.specs.Observed.{CellValue}
+pub use Rattle.id_core.specs.Observed.{CellValue}
 use Rattle.id_source.specs.declared.Shape.{Shape}
 use Rattle.id_names.specs.declared.helds.Held.{Held}
 use Rattle.id_names.specs.declared.helds.Held.TheVariants.{Array, Cell}

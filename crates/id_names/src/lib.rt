@@ -12,6 +12,7 @@ mod reports;
 mod within;
 
 pub use helds::{Held, Helds, behind_first, has_lines, is_cell_first};
+pub use id_core::CellValue;
 pub use names::{sorted_asks, sorted_names};
 pub use reports::{Report, is_within, run_report};
 pub use within::{

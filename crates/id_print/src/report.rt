@@ -14,8 +14,7 @@ ghost use Rattle.id_names.specs.Within.{SecondWithin, FaultWithin, NameWithin};
 ghost use Rattle.id_names.specs.Within.{NamesWithin, HeldsWithin, AsksWithin, AnswerWithin};
 ghost use Rattle.id_names.specs.Within.{ReportWithin};
 
-use id_core::CellValue;
-use id_names::{Ending, Helds, Report, behind_first, has_lines, is_cell_first};
+use id_names::{CellValue, Ending, Helds, Report, behind_first, has_lines, is_cell_first};
 use id_sink::{
     Cursor, PrintError, Sink, put, put_ask, put_cell, put_content, put_point_value, put_shape,
     put_site, put_value,

@@ -12,7 +12,7 @@ use Rattle.id_tag.specs.declared.Payload.{Payload}
 use Rattle.id_tag.specs.declared.Payload.TheVariants.{Token, Read, Write}
 use Rattle.id_tag.specs.declared.Structure.{Structure}
 use Rattle.id_tag.specs.declared.Cell.{Cell}
-use Rattle.id_core.specs.Events.{EventView}
+use Rattle.id_line.specs.Events.{EventView}
 use Rattle.id_line.specs.declared.step.Step.{Step}
 use Rattle.id_line.specs.declared.step.Step.TheVariants.{Went, Fault, Stuck}
 

@@ -7,8 +7,9 @@ ghost use Rattle.id_trace.specs.Traces.{entry_text, goal_text, handled_text, mom
 ghost use Rattle.id_trace.specs.Traces.{port_text, tag_text, token_text, trace_text, turn_text};
 ghost use Rattle.id_trace.specs.Traces.{structure_text, cell_text, from_text, read_text, write_text};
 
-use id_core::{Event, Merged, Step};
 use id_instr::Port;
+use id_merge::Merged;
+use id_record::{Event, Step};
 use id_sink::{
     PrintError, Sink, put, put_index, put_int, put_long, put_number, put_numbers, truth_bytes,
 };

@@ -1,7 +1,7 @@
 -- Each step prints the first of the lines that are left.
 use Rattle.std.proofs.Common.{◌≡◌, ◌<◌, List, [], ◌∙◌, ◌∷◌, true, ap, arith, drop, length, refl, subst, sym}
 use Rattle.id_names.specs.declared.helds.Held.TheVariants.{Array, Cell}
-use Rattle.id_core.specs.Observed.{CellValue}
+use Rattle.id_names.specs.Helds.{CellValue}
 use Rattle.id_source.specs.declared.Shape.{Shape}
 use Rattle.id_names.specs.Helds.{is_cell_first, joined}
 use Rattle.id_sink.specs.Within.{FilledWithin, SiteWithin}
