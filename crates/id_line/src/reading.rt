@@ -157,6 +157,7 @@ fn fired_in(line: &Line, value: Value) -> Fired
     }
 }
 
+/// The reaction of an event that fired this and went well. Takes no memory.
 pub fn went(fired: Fired) -> Reaction
     ensures { result ≡ went fired }
 {

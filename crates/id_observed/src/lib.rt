@@ -1,4 +1,4 @@
-//! What the records and cells of elements show, one kind of thing each: names, structures, their cells, fetches, faults.
+//! What the records and cells of elements show, one kind of thing each: names, structures, cells, fetches and faults.
 //!
 //! Keeps: nothing beyond its values.
 //! Errors: want of memory alone.

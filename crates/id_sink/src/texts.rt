@@ -357,6 +357,7 @@ fn put_asked_cell<W: Sink>(
     put(sink, b"\n")
 }
 
+/// Writes a whole number in decimal, with its sign where it is below zero. Takes no memory.
 pub fn put_int<W: Sink>(sink: &mut W, n: i64) -> Result<(), PrintError>
     ensures { Prints (W.told sink.old) (W.told sink.new) (signed_decimal n) result }
 {

@@ -465,7 +465,10 @@ parse_loop-split-requires t c =
 pub parse_loop-parse_enclosed-requires : goal.parse_loop-parse_enclosed-requires
 parse_loop-parse_enclosed-requires t c = (
   grind (arith, common_steps),
-  (EndsOnce-behind c.split.ensures.whole (sym (ap second_kind c.in-Ok.ensures.whole) ∙ c.requires.loops) (λ q. cc) c.split.ensures.ends, omega (arith, c.in-Ok.ensures.fits)),
+  (
+    EndsOnce-behind c.split.ensures.whole (sym (ap second_kind c.in-Ok.ensures.whole) ∙ c.requires.loops) (λ q. cc) c.split.ensures.ends,
+    omega (arith, c.in-Ok.ensures.fits),
+  ),
 )
 
 pub parse_loop-parse_statements-requires : goal.parse_loop-parse_statements-requires
