@@ -24,7 +24,7 @@ use Rattle.id_ops.specs.Operators.{fired, fired_alloc, fired_enter}
 use Rattle.id_front.specs.Waiting.{Store, answer_of, offer_answer, pair_of, waits}
 use Rattle.id_front.specs.Ports.{other_port}
 use Rattle.id_slot.specs.Cells.{Cells}
-use Rattle.id_record.specs.Tellings.{is_number, makes}
+use Rattle.id_ledger.specs.Tellings.{is_number, makes}
 use Rattle.id_firing.specs.declared.step.Arrival.{Arrival}
 use Rattle.id_firing.specs.declared.step.Arrival.TheVariants.{Fires, Waits, Blocked}
 use Rattle.id_firing.specs.Steps.{arrival, arrival_of, arriving, at_instr, firing, outcome, waiting_after}

@@ -29,7 +29,7 @@ use Rattle.id_firing.specs.Steps.{State, answer_fired, event_of, fresh, next_num
 use Rattle.id_element.proofs.TellingsLemmas.{alloc-makes_nothing, enter-sends_nothing}
 use Rattle.id_line.specs.Events.{EventView, tag_of}
 use Rattle.id_record.specs.Sends.{numbered}
-use Rattle.id_record.specs.Tellings.{is_telling, makes, tells, told_at, telling_from}
+use Rattle.id_ledger.specs.Tellings.{is_telling, makes, tells, told_at, telling_from}
 use Rattle.id_record.proofs.EachLemmas.{each-append, each-weaker}
 use Rattle.id_paths.specs.Paths.{DoAlike, enter_in, enter_of, entered, entered_by, events_at, if_made, if_same}
 use Rattle.id_paths.specs.Paths.{is_alike, last_context, made, made_by, maker_in, maker_of, making_of, makings_of}

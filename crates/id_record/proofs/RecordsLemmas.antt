@@ -1,5 +1,5 @@
 -- Lemmas on specs/Records.antt: a record goes on by one event.
-use Rattle.std.proofs.Common.{◌≡◌, ℕ, zero, suc, ◌+◌, ◌<◌, List, [], ◌∷◌, ◌++◌, Some}
+use Rattle.std.proofs.Common.{Bool, ◌≡◌, ℕ, zero, suc, ◌+◌, ◌<◌, List, [], ◌∷◌, ◌++◌, Some}
 use Rattle.std.proofs.Common.{length, refl, sym, ap, subst, ◌∙◌, length-append, get_or, arith}
 use Rattle.std.specs.Prelude.{All, pos, ◌≤◌, ◌/◌, ◌^◌, drop, slice_get, option_map, take}
 use Rattle.std.specs.List.{AllByRecursion}
@@ -27,7 +27,9 @@ use Rattle.id_line.specs.Lines.{AreThere, Beside, IsKept, IsPacked, IsPackedBesi
 use Rattle.id_line.specs.Lines.{IsWithin, cell_in}
 use Rattle.id_line.specs.Lines.{index_of, no_replies, own, port_at}
 use Rattle.id_line.specs.Lines.{read, saying, tag_at, told, unpacked}
-use Rattle.id_record.specs.Records.{event_of_handled, events_from, replies_in, sent_by, sent_for}
+use Rattle.id_ledger.specs.Tellings.{is_telling, tells, told_at, telling_from}
+use Rattle.id_ledger.proofs.TellingsLemmas.{telling_from-push}
+use Rattle.id_record.specs.Records.{AreKept, event_of_handled, events_from, replies_in, sent_by, sent_for}
 use Rattle.id_record.proofs.EachLemmas.{each-append, each-weaker, each-get}
 use Rattle.id_line.proofs.LinesLemmas.{celled-read, celled-there}
 
@@ -262,6 +264,22 @@ kept_cell ts asides cells ls e l c packed there kept =
     let d : Beside = record { asides = asides; cells = cells ++ c ∷ [] } in
     let last : l.to < length (cells ++ c ∷ []) = omega (arith, packed.index, length-append cells (c ∷ [])) in
     kept_pushed ts b d ls e l (cell_goes b c) (celled-there d l l.kind packed.kind last) (cell_last asides cells c e l packed) there kept
+
+-- what a record keeps, it keeps with one more line, where its position is added if its event tells
+pub AreKept-push : (g : Parts) (n : ℕ) (ts : List Tag) (b d : Beside) (ls ms : List Line) (ps qs : List ℕ) (h : Handled) (t : Bool) (k : ℕ) →
+    AreKept g n ts b ls ps
+    → All (IsKept d ts) ms → events_from g n ts 0 d ms ≡ events_from g n ts 0 b ls ++ event_of_handled g n ts (length (events_from g n ts 0 b ls)) h ∷ []
+    → t ≡ is_telling h.message.payload h.reaction.fired → k ≡ length ls → qs ≡ ps ++ told_at t k → AreKept g n ts d ms qs
+AreKept-push g n ts b d ls ms ps qs h t k kept lines events is at added =
+    let es = events_from g n ts 0 b ls in
+    let e = event_of_handled g n ts (length es) h in
+    let last : k ≡ 0 + length es = omega (arith, at, length-events_from g n ts 0 b ls) in
+    record {
+      lines = lines;
+      telling =
+          added ∙ ap (λ us. us ++ told_at t k) kept.telling ∙ ap (λ s. telling_from 0 es ++ told_at s k) is
+          ∙ ap (λ j. telling_from 0 es ++ told_at (tells e) j) last ∙ sym (telling_from-push 0 es e) ∙ ap (telling_from 0) (sym events);
+    }
 
 -- the line at a position, as the code reads it
 pub line_kept : (b : Beside) (ts : List Tag) (ls : List Line) (k : ℕ) (l : Line) → All (IsKept b ts) ls → slice_get ls k ≡ Some l → IsKept b ts l

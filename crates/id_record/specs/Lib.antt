@@ -1,7 +1,3 @@
 -- What public clauses cite.
-pub mod Tellings
 pub mod Sends
 pub mod Records
--- For use inside.
-pub mod Ledgers
-pub mod Margins

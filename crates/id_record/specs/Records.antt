@@ -15,7 +15,7 @@ use Rattle.id_line.specs.declared.celled.Celled.{Celled}
 use Rattle.id_line.specs.Lines.{AreThere, Beside, IsKept, IsPacked, IsPackedBeside, unpacked}
 use Rattle.id_valid.specs.Roles.{op_at}
 use Rattle.id_record.specs.Sends.{numbered, replies, sent}
-use Rattle.id_record.specs.Tellings.{is_telling, telling_from}
+use Rattle.id_ledger.specs.Tellings.{is_telling, telling_from}
 
 -- the destinations of the instruction of this number on a side
 abbrev pub dests_at : Parts → ℕ → Bool → List Dest

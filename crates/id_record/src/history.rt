@@ -8,11 +8,9 @@ ghost use Rattle.id_record.specs.Records.{dests_at, replies_in};
 ghost use Rattle.id_valid.specs.Roles.{op_at};
 ghost use Rattle.id_instr.specs.Graph.{IsGraph};
 
-use crate::ledger::Ledger;
-use crate::margin::{Margin, add_beside, add_line, add_shot};
 use crate::outputs::{Envelope, Outputs, chosen};
-use crate::telling::is_telling;
 use id_instr::{Dest, Graph, Op};
+use id_ledger::{Ledger, Margin, add_beside, add_line, add_shot, is_telling};
 use id_line::{
     Celled, Fault, Handled, Handling, Line, NO_REPLIES, Reaction, Replies, Step, Verdict, packed,
     packed_beside, tag_of, value_of, whole,
@@ -92,7 +90,7 @@ impl<'a> Record<'a> {
     ghost use Rattle.id_shots.specs.Visits.{visiting};
     ghost use Rattle.id_ops.specs.Shots.{IsBrief, IsOwn};
     ghost use Rattle.id_record.specs.Records.{GoesOn, HasPlace, StandsBeside, StandsIn, event_of_handled};
-    ghost use Rattle.id_record.specs.Tellings.{telling_from};
+    ghost use Rattle.id_ledger.specs.Tellings.{telling_from};
 
     /// The empty record of the element of this number, which is alone or one of several: the record of one that is
     /// alone is smaller. Takes no memory.
@@ -482,7 +480,7 @@ impl<'a> Record<'a> {
 impl<'a> Events<'a> {
     ghost use Rattle.std.specs.Prelude.{◌≡◌, ◌<◌, ◌≤◌, length, option_map, slice_get, Some};
     ghost use Rattle.id_line.specs.Events.{AreUnmarked, IsMarkedAt, tag_of};
-    ghost use Rattle.id_record.specs.Tellings.{telling_from};
+    ghost use Rattle.id_ledger.specs.Tellings.{telling_from};
 
     /// How many events there are. Takes no memory.
     pub fn len(&self) -> usize

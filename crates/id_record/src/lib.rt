@@ -1,18 +1,15 @@
 //! The record of an element: what it handled, what that came to, and what it sent.
 //!
-//! Keeps: a record is a list of events; each stands in one line, of 40 bytes where its element is alone and else of
-//! 48, in one with a cell beside it, or whole aside. The positions of the events that tell of contexts, of structures
-//! or of the answer are kept beside.
+//! Keeps: a record is a list of events; each stands in one line, in one with a cell beside it, or whole aside. The
+//! positions of the events that tell of contexts, of structures or of the answer are kept beside.
 //! Errors: want of memory alone, and then nothing has changed.
 //! Read first: `specs/Events.antt`, then `Record`.
-//! Not here: handling a message (`id_element`), the records of several elements as one (`id_merge`).
+//! Not here: how lines are kept (`id_ledger`), handling a message (`id_element`), the records of several elements as
+//! one (`id_merge`).
 #![tactic(auto)]
 
 mod history;
-mod ledger;
-mod margin;
 mod outputs;
-mod telling;
 
 pub use history::{Event, Events, Record, full_step};
 pub use id_line::{

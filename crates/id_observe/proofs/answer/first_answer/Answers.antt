@@ -4,7 +4,7 @@ use Rattle.std.specs.Prelude.{All, slice_get}
 use Rattle.std.specs.List.{filter_map}
 use Rattle.std.proofs.lemmas.List.{take_all}
 use Rattle.id_line.specs.Events.{EventView}
-use Rattle.id_record.specs.Tellings.{telling_from}
+use Rattle.id_ledger.specs.Tellings.{telling_from}
 use Rattle.id_paths.specs.Paths.{events_at}
 use Rattle.id_paths.specs.Paths.{answers, brought}
 use Rattle.id_observed.specs.Observed.{brought_at}

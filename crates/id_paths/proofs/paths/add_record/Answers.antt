@@ -5,7 +5,7 @@ use Rattle.std.specs.Prelude.{All}
 use Rattle.std.specs.Option.{option_or}
 use Rattle.std.specs.HashMap.{get}
 use Rattle.id_tag.specs.Tags.{same_context, same_structure}
-use Rattle.id_record.specs.Tellings.{telling_from}
+use Rattle.id_ledger.specs.Tellings.{telling_from}
 use Rattle.id_paths.specs.Paths.{DoAlike, enter_in, events_at, maker_in, makings_of}
 use Rattle.id_paths.specs.Paths.{answers}
 use Rattle.id_paths.proofs.TellingsLemmas.{answers-told, enters-told, makers-told, makings-told, telling-within}

@@ -2,8 +2,7 @@
 use Rattle.std.proofs.Common.{Bool, true, false, ap, refl, sym, subst}
 use Rattle.std.specs.Prelude.{IsTrue, IsFalse}
 use Rattle.id_line.specs.Lines.{AreThere}
-use Rattle.id_record.proofs.RecordsLemmas.{pushed_line, kept_line}
-use Rattle.id_record.proofs.TellingsLemmas.{AreKept-push}
+use Rattle.id_record.proofs.RecordsLemmas.{AreKept-push, pushed_line, kept_line}
 use Rattle.id_record.proofs.history.Record.add_line.Goals as goal
 
 -- a test holds or does not

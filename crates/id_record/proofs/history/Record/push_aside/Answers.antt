@@ -4,8 +4,7 @@ use Rattle.id_tag.specs.declared.Tag.{Tag}
 use Rattle.id_line.specs.declared.line.Handled.{Handled}
 use Rattle.id_line.specs.Lines.{AreThere, beside}
 use Rattle.id_record.specs.Records.{RecordView}
-use Rattle.id_record.proofs.RecordsLemmas.{pushed_aside, kept_aside}
-use Rattle.id_record.proofs.TellingsLemmas.{AreKept-push}
+use Rattle.id_record.proofs.RecordsLemmas.{AreKept-push, pushed_aside, kept_aside}
 use Rattle.id_record.proofs.history.Record.push_aside.Goals as goal
 
 there : (ts : List Tag) (v : RecordView) (e : Handled) → ts ≡ v.replies → AreThere v.replies e.replies → AreThere ts e.replies

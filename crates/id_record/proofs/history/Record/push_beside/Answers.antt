@@ -1,5 +1,6 @@
 -- The record goes on by one event, in a line with a cell beside it.
-use Rattle.std.proofs.Common.{refl, subst}
+use Rattle.std.proofs.lemmas.Grind.{common_steps}
+use Rattle.std.proofs.Common.{refl, subst, arith}
 use Rattle.id_line.specs.Lines.{IsPackedBeside, handled}
 use Rattle.id_record.proofs.history.Record.push_beside.Goals as goal
 
@@ -18,3 +19,9 @@ returns-else-not-add_beside c =
     let x = c.in-Some.celled in
     c.if-not-add_beside.ensures.goes_on refl (handled c.args.event)
     (subst (λ i. IsPackedBeside (handled c.args.event) i x.line x.cell) c.count_cells.ensures c.in-Some.ensures)
+
+pub returns-then-not-add_beside : goal.returns-then-not-add_beside
+returns-then-not-add_beside c = grind (arith, common_steps)
+
+pub returns-in-None : goal.returns-in-None
+returns-in-None c = grind (arith, common_steps)

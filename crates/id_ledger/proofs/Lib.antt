@@ -1,0 +1,2 @@
+pub mod LedgersLemmas
+pub mod TellingsLemmas
