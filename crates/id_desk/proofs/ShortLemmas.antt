@@ -10,7 +10,6 @@ use Rattle.std.specs.Option.{option_map}
 use Rattle.id_instr.specs.declared.instr.Instr.{Instr}
 use Rattle.id_instr.specs.declared.instr.PortKind.{PortKind}
 use Rattle.id_instr.specs.Graph.{Parts, kind_at}
-use Rattle.id_slot.specs.Cells.{Cells}
 use Rattle.id_front.specs.Waiting.{Store}
 use Rattle.id_ops.specs.Operators.{fired}
 use Rattle.id_ops.specs.declared.shot.Shot.TheVariants as shot
@@ -168,15 +167,9 @@ pub err_as : {A E : Type 0} → (P : E → Type 0) (r : Result A E) (e : E) → 
 err_as P (Ok a) e is h = tt
 err_as P (Err x) e is h = subst P (sym is) h
 
-pub not_true : {Z : Type 0} → ◌≡◌ {A = Result Bool TakeError} (Ok false) (Ok true) → Z
-not_true e = cc
-
 -- the state with what waited before
 pub with_waiting : (d s : State) (w : Store) → w ≡ d.waiting → d ≡ s → ◌≡◌ {A = State} (record d { waiting = w }) s
 with_waiting d s w is same = ap (λ v. record d { waiting = v }) is ∙ same
-
-pub with_cells : (d s : State) (b : Cells) → b ≡ d.cells → d ≡ s → ◌≡◌ {A = State} (record d { cells = b }) s
-with_cells d s b is same = ap (λ v. record d { cells = v }) is ∙ same
 
 -- what is small stays small where the events and the number stay
 pub IsShort-kept : (d e : Desk) (most : ℕ) (t : PlainToken) (stamp : ℕ) → IsShort d most t stamp → e.log.events ≡ d.log.events

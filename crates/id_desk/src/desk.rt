@@ -86,47 +86,9 @@ impl<'a> Desk<'a> {
         }
     }
 
-    /// Handles a message that fits the graph, and says what it came to: the element step.
-    #[inline(never)]
-    pub fn take(
-        &mut self,
-        graph: &Graph,
-        message: &Message,
-        outputs: &mut Queue,
-    ) -> Result<Verdict, TakeError>
-        requires own { graph.now ≡ self.old.log.graph }
-        requires valid { IsValid graph.now }
-        requires counted { self.old.contexts ≤ self.old.stamp }
-        requires numbered { self.old.structures ≤ self.old.stamp }
-        requires fits { Fits graph.now message.now }
-
-        ensures step { IfOk result (λ v. full_step message.now.payload v
-            ≡ step_of graph.now self.old.log.element (state_of self.old) message.now) }
-        ensures state { OnOk result
-            (state_of self.new ≡ state_after graph.now self.old.log.element (state_of self.old) message.now) }
-        ensures outputs { OnOk result
-            (outputs.new.messages
-            ≡ outputs.old.messages ++ outputs_of graph.now self.old.log.element (state_of self.old) message.now) }
-        ensures number { self.new.log.element ≡ self.old.log.element }
-        ensures graph { self.new.log.graph ≡ self.old.log.graph }
-        ensures left { OnOk result (message.now.stamp < 2 ^ 64 - 1) }
-        ensures last_left { OnOk result (self.old.stamp < 2 ^ 64 - 1) }
-
-        ensures end { (result ≡ Err StampEnd) ↔ IsTrue (is_ended (state_of self.old) message.now) }
-        ensures err { OnErr result (state_of self.new ≡ state_of self.old) }
-        ensures err_outputs { OnErr result (outputs.new.messages ≡ outputs.old.messages) }
-    {
-        let stamp = next_stamp(self.stamp, message.stamp)?;
-        match message.payload {
-            Payload::Token { .. } => self.take_token(graph, message, stamp, outputs),
-            Payload::Read { .. } => self.take_read(message, stamp, outputs),
-            Payload::Write { .. } => self.take_write(message, stamp, outputs),
-        }
-    }
-
     /// Handles a token that fits the graph: the element step where a stamp is left, which is this one.
     #[inline(always)]
-    fn take_token(
+    pub fn take_token(
         &mut self,
         graph: &Graph,
         message: &Message,

@@ -1,13 +1,12 @@
-//! The desk of an element: its store, its cells, its record and its numbers, and how a message changes them.
+//! The desk of an element: its store, its cells, its record and its numbers, and how a token changes them.
 //!
 //! Keeps: what is in the store and the cells is what the record leads to.
 //! Errors: `TakeError`; after each of them nothing has changed.
-//! Read first: `specs/Desks.antt`, then `Desk::take`.
-//! Not here: what a message comes to (`id_firing`), matching (`id_match`), how events are kept (`id_record`), the
-//! element itself (`id_element`).
+//! Read first: `specs/Desks.antt`, then `Desk::take_token` and `Desk::take_plain`.
+//! Not here: what a message comes to (`id_firing`), matching (`id_match`), how events are kept (`id_record`), reads and
+//! writes of the cells (`id_visit`), the element itself (`id_element`).
 #![tactic(auto)]
 
-mod cells;
 mod desk;
 
 pub use desk::Desk;

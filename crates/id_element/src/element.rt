@@ -105,7 +105,7 @@ impl<'a> Element<'a> {
         ensures err_outputs { OnErr result (outputs.new.messages ≡ outputs.old.messages) }
     {
         let graph = self.desk.log.graph();
-        let verdict = self.desk.take(graph.graph(), message, outputs)?;
+        let verdict = id_visit::take(&mut self.desk, graph.graph(), message, outputs)?;
         let step = full_step(&message.payload, verdict);
         self.went = still_went(self.went, &step);
         Ok(step)
@@ -167,7 +167,7 @@ impl<'a> Element<'a> {
         ensures err { OnErr result (self.new ≡ self.old) }
         ensures err_outputs { OnErr result (outputs.new.messages ≡ outputs.old.messages) }
     {
-        let handled = self.desk.take_demand(demand, outputs)?;
+        let handled = id_visit::take_demand(&mut self.desk, demand, outputs)?;
         Ok(handled)
     }
 

@@ -20,3 +20,25 @@ returns-clause-events c =
     } in
     c.push_deed.ensures.events ∙ ap (λ e. log.events ++ e ∷ [])
     (event_at_instr log.graph log.element log.replies (length log.events) event c.args.instr.now t refl c.requires.own refl)
+
+-- what is recorded is as it was required
+pub send_deed-requires-clause-room : goal.send_deed-requires-clause-room
+send_deed-requires-clause-room c = c.requires.room_in_outputs
+
+pub send_deed-requires-clause-few : goal.send_deed-requires-clause-few
+send_deed-requires-clause-few c = c.requires.short.few
+
+pub push_deed-requires-clause-room : goal.push_deed-requires-clause-room
+push_deed-requires-clause-room c = c.requires.room
+
+pub push_deed-requires-clause-room_aside : goal.push_deed-requires-clause-room_aside
+push_deed-requires-clause-room_aside c = c.requires.room_aside
+
+pub push_deed-requires-clause-fits : goal.push_deed-requires-clause-fits
+push_deed-requires-clause-fits c = c.requires.short.line
+
+pub returns-clause-number : goal.returns-clause-number
+returns-clause-number c = c.push_deed.ensures.element
+
+pub returns-clause-graph : goal.returns-clause-graph
+returns-clause-graph c = c.push_deed.ensures.graph

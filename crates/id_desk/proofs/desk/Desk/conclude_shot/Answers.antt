@@ -19,3 +19,37 @@ returns-clause-events c =
     } in
     c.push_shot.ensures.events ∙ ap (λ e. log.events ++ e ∷ [])
     (event_at_instr log.graph log.element log.replies (length log.events) event c.args.instr.now (tag_in c.args.token.now) refl c.requires.own refl)
+
+-- what is sent and recorded is as it was required
+pub send_shot-requires-clause-room : goal.send_shot-requires-clause-room
+send_shot-requires-clause-room c = c.requires.room_in_outputs
+
+pub send_shot-requires-clause-few : goal.send_shot-requires-clause-few
+send_shot-requires-clause-few c = c.requires.short.few
+
+pub send_shot-requires-clause-brief : goal.send_shot-requires-clause-brief
+send_shot-requires-clause-brief c = c.requires.brief
+
+pub send_shot-requires-clause-iteration : goal.send_shot-requires-clause-iteration
+send_shot-requires-clause-iteration c = c.requires.short.iteration
+
+pub push_shot-requires-clause-room : goal.push_shot-requires-clause-room
+push_shot-requires-clause-room c = c.requires.room
+
+pub push_shot-requires-clause-room_aside : goal.push_shot-requires-clause-room_aside
+push_shot-requires-clause-room_aside c = c.requires.room_aside
+
+pub push_shot-requires-clause-fits : goal.push_shot-requires-clause-fits
+push_shot-requires-clause-fits c = c.requires.short.line
+
+pub push_shot-requires-clause-own : goal.push_shot-requires-clause-own
+push_shot-requires-clause-own c = c.requires.own_value
+
+pub push_shot-requires-clause-brief : goal.push_shot-requires-clause-brief
+push_shot-requires-clause-brief c = c.requires.brief
+
+pub returns-clause-number : goal.returns-clause-number
+returns-clause-number c = c.push_shot.ensures.element
+
+pub returns-clause-graph : goal.returns-clause-graph
+returns-clause-graph c = c.push_shot.ensures.graph

@@ -23,7 +23,7 @@ invariant_of-self-2 c =
     } in
     let is_for : IsFor c.self.inside.desk.log.graph c.self.inside.count c.self.inside.desk.log.element c.args.message.now =
     rw (ap (λ v. v.graph) c.self.view_is, ap (λ v. v.count) c.self.view_is, ap (λ v. v.number) c.self.view_is) c.requires in
-    let stepped : state_of c.take.new.self ≡ state_after c.self.inside.desk.log.graph c.self.inside.desk.log.element (state_of c.self.inside.desk)
+    let stepped : state_of c.take.new.desk ≡ state_after c.self.inside.desk.log.graph c.self.inside.desk.log.element (state_of c.self.inside.desk)
     c.args.message.now =
     c.in_ok-verdict.ensures.state ∙ ap (λ g. state_after g c.self.inside.desk.log.element (state_of c.self.inside.desk) c.args.message.now)
     (c.graph.ensures.value ∙ c.graph-graph.ensures) in
@@ -57,7 +57,7 @@ returns-clause-state c =
     let d = c.self.inside.desk in
     let m = c.args.message.now in
     let later = state_after d.log.graph d.log.element (state_of d) m in
-    let after : state_of c.take.new.self ≡ later =
+    let after : state_of c.take.new.desk ≡ later =
     c.in_ok-verdict.ensures.state ∙ ap (λ g. state_after g d.log.element (state_of d) m) (c.graph.ensures.value ∙ c.graph-graph.ensures) in
     rw (c.in_ok-verdict.ensures.number, c.in_ok-verdict.ensures.graph, after)
     (subst (λ (v : ElementView). record { number = d.log.element; count = c.self.inside.count; graph = d.log.graph; state = later }

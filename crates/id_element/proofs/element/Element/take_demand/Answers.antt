@@ -20,7 +20,7 @@ invariant_of-self-2 c =
     rw (ap (λ v. v.graph) c.self.view_is, ap (λ v. v.count) c.self.view_is, ap (λ v. v.number) c.self.view_is) c.requires in
     let does = c.in_ok-handled.ensures in
     rw (does.number, does.graph) (
-      IsKept-demand old m c.self.inside.went (state_of c.take_demand.new.self) c.in_ok-handled.handled is_for does.left does.last_left c.self.invariant.0
+      IsKept-demand old m c.self.inside.went (state_of c.take_demand.new.desk) c.in_ok-handled.handled is_for does.left does.last_left c.self.invariant.0
           (λ e. does.step (cc)) (λ e. does.state (cc)) (λ e. does.apart (cc)),
       c.self.invariant.1,
     )
@@ -37,7 +37,7 @@ returns-clause-state c = λ h.
     let d = c.self.inside.desk in
     let m = demanded c.args.demand.now in
     let later = state_after d.log.graph d.log.element (state_of d) m in
-    let after : state_of c.take_demand.new.self ≡ later = c.in_ok-handled.ensures.state (cc) in
+    let after : state_of c.take_demand.new.desk ≡ later = c.in_ok-handled.ensures.state (cc) in
     rw (c.in_ok-handled.ensures.number, c.in_ok-handled.ensures.graph, after)
     (subst (λ (v : ElementView). record { number = d.log.element; count = c.self.inside.count; graph = d.log.graph; state = later } ≡
     record v { state = state_after v.graph v.number v.state m }) c.self.view_is refl)

@@ -6,11 +6,11 @@ use Rattle.id_line.specs.Events.{EventView}
 use Rattle.id_line.specs.Lines.{no_replies}
 use Rattle.id_firing.specs.Steps.{State, answer_fired}
 use Rattle.id_firing.proofs.FiringsLemmas.{event_of_read}
-use Rattle.id_desk.proofs.desk.Desk.answer.Goals as goal
+use Rattle.id_visit.proofs.cells.answer_read.Goals as goal
 
 pub returns-clause-state : goal.returns-clause-state
 returns-clause-state c =
-    let d = c.args.self.now in
+    let d = c.args.desk.now in
     let log = d.log in
     let event : Handled = record {
       message = c.args.read.now;

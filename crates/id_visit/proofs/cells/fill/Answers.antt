@@ -9,11 +9,11 @@ use Rattle.id_record.specs.Records.{event_of_handled}
 use Rattle.id_record.specs.Sends.{numbered, replies}
 use Rattle.id_firing.specs.Steps.{State, fill_verdict, readers_of}
 use Rattle.id_record.proofs.RecordsLemmas.{event_of_fill}
-use Rattle.id_desk.proofs.desk.Desk.fill.Goals as goal
+use Rattle.id_visit.proofs.cells.fill.Goals as goal
 
 pub returns-clause-state : goal.returns-clause-state
 returns-clause-state c =
-    let d = c.args.self.now in
+    let d = c.args.desk.now in
     let log = d.log in
     let rs = c.readers_of-readers.result.now in
     let x = c.args.write.now.payload in

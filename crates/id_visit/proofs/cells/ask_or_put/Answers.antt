@@ -1,6 +1,6 @@
 -- after an error all is as it was
 use Rattle.id_desk.proofs.ShortLemmas.{not_ok, on_err, err_as}
-use Rattle.id_desk.proofs.desk.Desk.ask_or_put.Goals as goal
+use Rattle.id_visit.proofs.cells.ask_or_put.Goals as goal
 
 pub returns-in_err-ask-in-None-clause-step : goal.returns-in_err-ask-in-None-clause-step
 returns-in_err-ask-in-None-clause-step c = not_ok c.from_residual.result _ c.from_residual.ensures.0

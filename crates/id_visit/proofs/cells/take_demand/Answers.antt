@@ -1,6 +1,7 @@
 -- after an error all is as it was
-use Rattle.id_desk.proofs.ShortLemmas.{on_ok, not_ok, not_true, end_ok, end_if}
-use Rattle.id_desk.proofs.desk.Desk.take_demand.Goals as goal
+use Rattle.id_desk.proofs.ShortLemmas.{on_ok, not_ok, end_ok, end_if}
+use Rattle.id_visit.proofs.VisitsLemmas.{not_true}
+use Rattle.id_visit.proofs.cells.take_demand.Goals as goal
 
 pub returns-in_err-stamp-clause-step : goal.returns-in_err-stamp-clause-step
 returns-in_err-stamp-clause-step c = not_ok c.from_residual.result _ c.from_residual.ensures.0

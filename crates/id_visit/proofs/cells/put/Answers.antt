@@ -1,6 +1,7 @@
 -- after an error all is as it was
-use Rattle.id_desk.proofs.ShortLemmas.{not_ok, not_true, on_err, err_as}
-use Rattle.id_desk.proofs.desk.Desk.put.Goals as goal
+use Rattle.id_desk.proofs.ShortLemmas.{not_ok, on_err, err_as}
+use Rattle.id_visit.proofs.VisitsLemmas.{not_true}
+use Rattle.id_visit.proofs.cells.put.Goals as goal
 
 pub returns-in_err-put_first-in-Some-clause-step : goal.returns-in_err-put_first-in-Some-clause-step
 returns-in_err-put_first-in-Some-clause-step c = not_ok c.from_residual.result _ c.from_residual.ensures.0
