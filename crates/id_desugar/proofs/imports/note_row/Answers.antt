@@ -84,3 +84,9 @@ returns c = record {
   below = c.in_ok-note_used.ensures.below;
   marks = c.in_ok-note_used.ensures.marks;
 }
+
+pub bounds-lists-row : goal.bounds-lists-row
+bounds-lists-row c = omega (arith, c.requires.lists.many, c.requires.row.1, c.requires.within)
+
+pub overflow_add-result : goal.overflow_add-result
+overflow_add-result c = omega (arith, c.requires.row.1, c.requires.within, c.requires.few)
