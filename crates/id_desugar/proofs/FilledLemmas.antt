@@ -243,3 +243,10 @@ turned_all P n L end f =
     let low : h < length (rows P) = omega (arith, l, f.many) in
     f.imported h (omega (arith, low, end)) low ∙ sym (all_imports-at P h low)
     ))
+
+-- one more empty list
+pub none_more : (L : List (List ℕ)) → ((h : ℕ) → get_or L h [] ≡ []) → (h : ℕ) → get_or (L ++ [] ∷ []) h [] ≡ []
+none_more [] none zero = refl
+none_more [] none (suc h) = refl
+none_more (xs ∷ L) none zero = none 0
+none_more (xs ∷ L) none (suc h) = none_more L (λ i. none (suc i)) h

@@ -1,6 +1,6 @@
 -- Marks: which binders were noted.
 use Rattle.std.proofs.Common.{◌≡◌, ◌≢◌, ◌⊎◌, inl, inr, ℕ, zero, suc, ◌+◌, ◌-◌, ◌≤◌, ◌<◌, Bool, true, false, List, [], ◌∷◌, ◌++◌, Option, Some, None, refl, ap}
-use Rattle.std.proofs.Common.{sym, ◌∙◌, arith, length, get_or, slice_set}
+use Rattle.std.proofs.Common.{sym, ◌∙◌, arith, length, get_or, replicate, slice_set}
 use Rattle.std.specs.Prelude.{◌==◌, if◌then◌else◌, IfSome, take, unwrap_or}
 use Rattle.std.proofs.lemmas.Bool.{eqb-true}
 use Rattle.std.proofs.lemmas.Bool.Decides.{nat_tests}
@@ -143,3 +143,12 @@ pub among_at : (xs : List ℕ) (i : ℕ) → i < length xs → Among (get_or xs 
 among_at [] i l = absurd (omega arith)
 among_at (x ∷ xs) zero l = inl refl
 among_at (x ∷ xs) (suc i) l = inr (among_at xs i (omega (arith, l)))
+
+-- no mark is set at first
+pub AreBelow-zeros : (n : ℕ) (M : List ℕ) → M ≡ replicate n 0 → AreBelow 1 M
+AreBelow-zeros n M is b = let none : get_or M b 0 ≡ 0 = ap (λ (xs : List ℕ). get_or xs b 0) is ∙ zero_at n b in omega (arith, none)
+  where
+    zero_at : (n b : ℕ) → ◌≡◌ {A = ℕ} (get_or (replicate n 0) b 0) 0
+    zero_at zero b = refl
+    zero_at (suc n) zero = refl
+    zero_at (suc n) (suc b) = zero_at n b

@@ -1,8 +1,9 @@
 -- Each row is noted as an end.
-use Rattle.std.proofs.Common.{ap, arith, sym, ◌∙◌, if◌then◌else◌}
+use Rattle.std.proofs.Common.{ap, arith, sym, ◌∙◌, if◌then◌else◌, ◌≡◌, length, subst}
 use Rattle.std.specs.Prelude.{Some, None}
-use Rattle.id_desugar.specs.Ends.{begun_at, end_at, is_row}
+use Rattle.id_desugar.specs.Ends.{begun_at, end_at, is_row, AreFirst}
 use Rattle.id_desugar.proofs.EndsLemmas.{AreFirst-next, AreFirst-none}
+use Rattle.id_check.specs.Programs.{rows}
 use Rattle.id_desugar.proofs.ends.find_ends.Goals as goal
 
 pub loop-n-init : goal.loop-n-init
@@ -16,3 +17,11 @@ loop-n-preserved c =
     let begun = c.begun_at.ensures ∙ ap (λ r. begun_at r.node) c.row_at.ensures in
     AreFirst-next c.args.checked.now (end_at c.args.checked.now) n c.begun_at.result c.loop-n.ends c.note.new.noted
     (λ h. ap (λ b. if is_row h b then Some n else None) (sym begun)) c.note.ensures.long c.loop-n.invariant c.note.ensures.each
+
+pub note-requires : goal.note-requires
+note-requires c = omega (arith, c.loop-n-test.true, c.if-count-gt-MOST.false)
+
+pub returns : goal.returns
+returns c =
+    let end : c.loop-n.n ≡ length (rows c.args.checked.now) = omega (arith, c.loop-n-test.false, c.loop-n.auto.n-end, c.len-count.ensures) in
+    subst (λ n. AreFirst c.args.checked.now (end_at c.args.checked.now) n c.loop-n.ends) end c.loop-n.invariant

@@ -1,8 +1,9 @@
 -- Each row is noted as an end, and as a `next`.
-use Rattle.std.proofs.Common.{ap, arith, sym, ◌∙◌, if◌then◌else◌}
+use Rattle.std.proofs.Common.{ap, arith, sym, ◌∙◌, if◌then◌else◌, ◌≡◌, length, subst}
 use Rattle.std.specs.Prelude.{Some, None}
-use Rattle.id_desugar.specs.Ends.{begun_at, end_at, is_row, next_at}
+use Rattle.id_desugar.specs.Ends.{begun_at, end_at, is_row, next_at, AreFirst}
 use Rattle.id_desugar.proofs.EndsLemmas.{AreFirst-next, AreFirst-none}
+use Rattle.id_check.specs.Programs.{rows}
 use Rattle.id_desugar.proofs.ends.find_ends_and_nexts.Goals as goal
 
 pub loop-n-init : goal.loop-n-init
@@ -24,4 +25,22 @@ loop-n-preserved c =
       nexts = AreFirst-next P (next_at P) n c.variable_at.result c.loop-n.nexts c.note-in-loop-n.new.noted
           (λ h. ap (λ b. if is_row h b then Some n else None) (sym c.variable_at.ensures)) c.note-in-loop-n.ensures.long c.loop-n.invariant.nexts
           c.note-in-loop-n.ensures.each;
+    }
+
+pub note-requires : goal.note-requires
+note-requires c = omega (arith, c.loop-n-test.true, c.if-count-gt-MOST.false)
+
+pub note-requires-in-loop-n : goal.note-requires-in-loop-n
+note-requires-in-loop-n c = omega (arith, c.loop-n-test.true, c.if-count-gt-MOST.false)
+
+pub variable_at-requires : goal.variable_at-requires
+variable_at-requires c = record { count = omega (arith, c.len-count.ensures); within = omega (arith, c.loop-n-test.true, c.len-count.ensures) }
+
+pub returns : goal.returns
+returns c =
+    let P = c.args.checked.now in
+    let end : c.loop-n.n ≡ length (rows P) = omega (arith, c.loop-n-test.false, c.loop-n.auto.n-end, c.len-count.ensures) in
+    record {
+      ends = subst (λ n. AreFirst P (end_at P) n c.loop-n.ends) end c.loop-n.invariant.ends;
+      nexts = subst (λ n. AreFirst P (next_at P) n c.loop-n.nexts) end c.loop-n.invariant.nexts;
     }

@@ -16,3 +16,36 @@ loop-row-init c =
       subst (AreMarked c.args.span.mark c.args.marks.now.items) (sym c.new-list.ensures.items)
           (AreMarked-none c.args.span.mark c.args.marks.now.items c.requires.marks),
     )
+
+pub note_row-requires : goal.note_row-requires
+note_row-requires c =
+    let i = c.loop-row.invariant in
+    record {
+      ends = c.requires.ends;
+      few = c.requires.few;
+      within = c.requires.within;
+      row = (i.0, c.loop-row-test.true);
+      lists = c.requires.lists;
+      count = c.requires.count;
+      long = i.3 ∙ c.requires.long;
+      marks = i.4;
+      list = i.2;
+    }
+
+pub loop-row-preserved : goal.loop-row-preserved
+loop-row-preserved c =
+    let i = c.loop-row.invariant in
+    let row = c.in_ok-row.ensures.row in
+    (omega (arith, i.0, row.0), omega (arith, row.1), c.in_ok-row.ensures.list, c.in_ok-row.ensures.long ∙ i.3, c.in_ok-row.ensures.marks)
+
+pub returns : goal.returns
+returns c =
+    let i = c.loop-row.invariant in
+    let lo = c.args.span.lo in
+    let hi = c.args.span.hi in
+    let end : c.loop-row.row - lo ≡ hi - lo = omega (arith, i.0, i.1, c.loop-row-test.false) in
+    record {
+      list = subst (λ k. c.loop-row.list.items ≡ imports_by (used_in c.args.checked.now c.args.span.own) lo hi k) end i.2;
+      long = i.3;
+      marks = i.4.below;
+    }

@@ -40,3 +40,15 @@ pub returns-then-first-last : goal.returns-then-first-last
 returns-then-first-last c =
     let old = c.args.order.now.items in
     sym (ap (λ z. old ++ z) (ap (loops_by c.args.checked.now c.args.last) (sym c.if-first-last.true) ∙ c.first_loop-first.ensures.none) ∙ append-nil old)
+
+pub find_chains-requires : goal.find_chains-requires
+find_chains-requires c = record { few = c.requires.few; last = c.requires.last }
+
+pub push_block-requires : goal.push_block-requires
+push_block-requires c = record { last = c.requires.last; head = c.loop-head-test.true; chains = c.in_ok-chains.ensures }
+
+pub returns : goal.returns
+returns c =
+    let low = c.loop-head.auto.head-end c.first_loop-first.ensures.within in
+    let end : c.loop-head.head ≡ c.args.last = omega (arith, low, c.loop-head-test.false) in
+    subst (λ k. c.loop-head.order.items ≡ c.args.order.now.items ++ loops_by c.args.checked.now c.args.last k) end c.loop-head.invariant

@@ -1,5 +1,5 @@
 -- One more row.
-use Rattle.std.proofs.Common.{◌∷◌, ◌++◌, [], ap, sym, ◌∙◌, append_assoc}
+use Rattle.std.proofs.Common.{◌∷◌, ◌++◌, [], ap, sym, ◌∙◌, append_assoc, ◌≡◌, append-nil, arith, subst}
 use Rattle.id_desugar.specs.Regions.{in_procedure, those}
 use Rattle.id_desugar.proofs.OrderLemmas.{those-no, those-yes}
 use Rattle.id_desugar.proofs.order.push_procedures.Goals.{then-is_in_procedure+in_ok-push, else-is_in_procedure}
@@ -18,3 +18,11 @@ loop-row-preserved c =
           ap (λ o. o.items) w.order-is ∙ c.loop-row.invariant
           ∙ ap (λ z. old ++ z) (sym (those-no f row (sym c.is_in_procedure.ensures ∙ w.if-is_in_procedure.false)))
     ]
+
+pub loop-row-init : goal.loop-row-init
+loop-row-init c = sym (append-nil c.args.order.now.items)
+
+pub returns : goal.returns
+returns c =
+    let end : c.loop-row.row ≡ c.args.last = omega (arith, c.loop-row-test.false, c.loop-row.auto.row-end) in
+    subst (λ n. c.loop-row.order.items ≡ c.args.order.now.items ++ those (in_procedure c.args.checked.now) n) end c.loop-row.invariant
