@@ -13,7 +13,7 @@ use Rattle.id_tag.specs.declared.Payload.TheVariants.{Token}
 use Rattle.id_tag.specs.declared.Message.{Message}
 use Rattle.id_tag.specs.Kinds.{kind_of}
 use Rattle.id_firing.specs.Fits.{Fits, TokenFits, AddressFits, ContinuationFits}
-use Rattle.id_observed.specs.Observed.{main_tag}
+use Rattle.id_observe.specs.Observed.{main_tag}
 use Rattle.id_core.specs.Machines.{start_message, input_messages, AreTaken}
 use Rattle.id_desk.proofs.SentLemmas.{kind_at_op}
 

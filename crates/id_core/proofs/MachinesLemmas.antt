@@ -36,7 +36,7 @@ use Rattle.id_line.specs.declared.step.Step.{Step}
 use Rattle.id_core.specs.Machines.{came_of, world_of, taken_from, given_to, routed_to, delivered, event_of_given}
 use Rattle.id_core.specs.Machines.{event_of_routed, event_at, start_message, input_messages, block_messages, AreTaken}
 use Rattle.id_core.specs.Machines.{IsElement, AreElements, IsMachine, MachineView}
-use Rattle.id_observed.specs.Observed.{main_tag}
+use Rattle.id_observe.specs.Observed.{main_tag}
 use Rattle.id_desk.proofs.SentLemmas.{kind_at_op}
 use Rattle.id_core.proofs.InputsLemmas.{inputs_fit}
 

@@ -1,2 +1,2 @@
 -- The first fault that records show (docs/MACHINE.md, "Observed"): the definitions of `id_observe`.
-pub use Rattle.id_merge.specs.Firsts.{AreMergedOf, IsFirstFault}
+pub use Rattle.id_observe.specs.Firsts.{AreMergedOf, IsFirstFault}

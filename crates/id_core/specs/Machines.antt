@@ -6,7 +6,7 @@ use Rattle.id_instr.specs.declared.instr.Block.{Block}
 use Rattle.id_instr.specs.declared.dests.Port.TheVariants.{Zero}
 use Rattle.id_instr.specs.declared.instr.Op.TheVariants.{Merge}
 use Rattle.id_instr.specs.Graph.{Parts}
-pub use Rattle.id_observed.specs.Observed.{main_tag}
+pub use Rattle.id_observe.specs.Observed.{main_tag}
 use Rattle.id_value.specs.declared.Constant.{Constant}
 use Rattle.id_ops.specs.Operators.{constant_value}
 use Rattle.id_tag.specs.declared.Value.TheVariants as value

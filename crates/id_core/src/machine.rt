@@ -9,7 +9,7 @@ ghost use Rattle.id_line.specs.Events.{AllWent};
 ghost use Rattle.id_firing.specs.Fits.{Fits};
 ghost use Rattle.id_firing.specs.Steps.{fresh};
 ghost use Rattle.id_core.specs.Machines.{AreElements, TakesInputs, input_messages, start_message, start_messages};
-ghost use Rattle.id_observed.specs.Observed.{main_tag};
+ghost use Rattle.id_observe.specs.Observed.{main_tag};
 
 use id_element::{Element, Short, TakeError};
 use id_flight::{Demand, Queue};

@@ -38,7 +38,7 @@ use Rattle.id_source.specs.Sources.{Source, AreInputs}
 use Rattle.id_source.specs.Rounds.{Holds, IsWaiting}
 use Rattle.id_pieces.specs.Rows.{node}
 use Rattle.id_pieces.specs.Schemas.{Numbered}
-use Rattle.id_observed.specs.Observed.{name_by}
+use Rattle.id_paths.specs.Paths.{name_by}
 use Rattle.id_runs.specs.Activations.{tag_in}
 use Rattle.id_runs.specs.Cells.{WrittenBy, cell_at}
 use Rattle.id_runs.specs.Events.{Event, Looked, Wrote}

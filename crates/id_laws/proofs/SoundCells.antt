@@ -36,7 +36,7 @@ use Rattle.id_source.specs.Rounds.{Holds}
 use Rattle.id_pieces.specs.Rows.{op_by}
 use Rattle.id_pieces.specs.Schemas.{Numbered}
 use Rattle.id_paths.specs.Paths.{made}
-use Rattle.id_observed.specs.Observed.{name_by}
+use Rattle.id_paths.specs.Paths.{name_by}
 use Rattle.id_runs.specs.Activations.{activation_of}
 use Rattle.id_runs.specs.Cells.{cell_at}
 use Rattle.id_runs.specs.Events.{Event, FiresAs, fired_event, payload_of}
