@@ -1,3 +1,5 @@
 -- What public clauses cite.
 pub mod Desks
 pub mod Replays
+-- For use inside.
+pub mod Concluded

@@ -51,6 +51,7 @@ impl<'a> Desk<'a> {
     ghost use Rattle.id_record.specs.Sends.{numbered, sent};
     ghost use Rattle.id_valid.specs.Validator.{IsValid};
     ghost use Rattle.id_desk.specs.Desks.{state_of, IsShort, IsToken, fired_by};
+    ghost use Rattle.id_desk.specs.Concluded.{IsConcluded, IsUnchanged};
     ghost use Rattle.id_firing.specs.Shorts.{IsHandled, step_in};
     ghost use Rattle.id_firing.specs.declared.step.Short.{Short};
     ghost use Rattle.id_front.specs.Waiting.{Store};
@@ -232,21 +233,15 @@ impl<'a> Desk<'a> {
         requires counted { self.old.contexts + 1 < 2 ^ 64 }
         requires numbered { self.old.structures + 1 < 2 ^ 64 }
 
-        ensures step { IfOk result (λ short. IsHandled short → step_in short (tag_in token.now)
-            ≡ step_of self.old.log.graph self.old.log.element (state_of self.old) (message_of token.now)) }
-        ensures state { IfOk result (λ short. IsHandled short → state_of self.new
-            ≡ state_after self.old.log.graph self.old.log.element (state_of self.old) (message_of token.now)) }
-        ensures outputs { IfOk result (λ short. IsHandled short → outputs.new.messages
-            ≡ outputs.old.messages
-            ++ outputs_of self.old.log.graph self.old.log.element (state_of self.old) (message_of token.now)) }
-        ensures apart { result ≡ Ok Short.Apart → state_of self.new ≡ state_of self.old }
-        ensures apart_outputs { result ≡ Ok Short.Apart → outputs.new.messages ≡ outputs.old.messages }
+        ensures handled { IfOk result (λ short. IsHandled short → IsConcluded self.old self.new outputs.old.messages
+            outputs.new.messages self.old.waiting token.now short) }
+        ensures apart { result ≡ Ok Short.Apart
+            → IsUnchanged self.old self.new outputs.old.messages outputs.new.messages }
         ensures number { self.new.log.element ≡ self.old.log.element }
         ensures graph { self.new.log.graph ≡ self.old.log.graph }
 
         ensures memory { IfErr result (λ e. e ≡ TakeError.Memory) }
-        ensures err { OnErr result (state_of self.new ≡ state_of self.old) }
-        ensures err_outputs { OnErr result (outputs.new.messages ≡ outputs.old.messages) }
+        ensures err { OnErr result (IsUnchanged self.old self.new outputs.old.messages outputs.new.messages) }
     {
         self.reserve(most, 0, outputs)?;
         let reacted = react_plain(&mut self.waiting, instr.op, token)?;
@@ -276,18 +271,10 @@ impl<'a> Desk<'a> {
         requires counted { self.old.contexts + 1 < 2 ^ 64 }
         requires numbered { self.old.structures + 1 < 2 ^ 64 }
 
-        ensures step { (w : Store) → IsReaction instr.now.op w self.old.waiting token.now reacted → IsHandled result
-            → step_in result (tag_in token.now) ≡ step_of self.old.log.graph self.old.log.element
-            (record (state_of self.old) { waiting = w }) (message_of token.now) }
-        ensures state { (w : Store) → IsReaction instr.now.op w self.old.waiting token.now reacted → IsHandled result
-            → state_of self.new ≡ state_after self.old.log.graph self.old.log.element
-            (record (state_of self.old) { waiting = w }) (message_of token.now) }
-        ensures outputs { (w : Store) → IsReaction instr.now.op w self.old.waiting token.now reacted → IsHandled result
-            → outputs.new.messages ≡ outputs.old.messages ++ outputs_of self.old.log.graph self.old.log.element
-            (record (state_of self.old) { waiting = w }) (message_of token.now) }
-        ensures apart { result ≡ Short.Apart → reacted ≡ Reacted.Apart }
-        ensures apart_state { result ≡ Short.Apart → state_of self.new ≡ state_of self.old }
-        ensures apart_outputs { result ≡ Short.Apart → outputs.new.messages ≡ outputs.old.messages }
+        ensures handled { (w : Store) → IsReaction instr.now.op w self.old.waiting token.now reacted → IsHandled result
+            → IsConcluded self.old self.new outputs.old.messages outputs.new.messages w token.now result }
+        ensures apart { result ≡ Short.Apart
+            → (reacted ≡ Reacted.Apart) × IsUnchanged self.old self.new outputs.old.messages outputs.new.messages }
         ensures number { self.new.log.element ≡ self.old.log.element }
         ensures graph { self.new.log.graph ≡ self.old.log.graph }
     {

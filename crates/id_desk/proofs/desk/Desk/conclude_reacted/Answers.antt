@@ -1,5 +1,5 @@
 -- What is recorded is the element step, by what came of the token.
-use Rattle.std.proofs.Common.{sym, ◌∙◌}
+use Rattle.std.proofs.Common.{refl, sym, ◌∙◌}
 use Rattle.id_front.specs.Waiting.{Store}
 use Rattle.id_firing.specs.declared.step.Reacted.TheVariants.{Waits, One, Two, Fires}
 use Rattle.id_desk.specs.Desks.{state_of}
@@ -42,94 +42,69 @@ fires c w comes =
     step_on c.args.self.now.log.graph c.args.self.now.log.element (record (state_of c.args.self.now) { waiting = w }) c.args.token.now
     c.args.instr.now c.args.self.now.waiting c.args.reacted (Fires c.in-Fires.operands) c.requires.own comes c.in-Fires.is
 
-pub returns-in-Waits-clause-step : goal.returns-in-Waits-clause-step
-returns-in-Waits-clause-step c = λ w comes handled. sym (waits c w comes).step
-
-pub returns-in-Waits-clause-state : goal.returns-in-Waits-clause-state
-returns-in-Waits-clause-state c = λ w comes handled.
+pub returns-in-Waits-clause-handled : goal.returns-in-Waits-clause-handled
+returns-in-Waits-clause-handled c = λ w comes handled.
     let done = c.conclude_shot.ensures in
-    after_by _ _ _ _ _ _ _ (waits c w comes) c.requires.stamp done.waiting done.cells done.stamp done.contexts done.structures done.events
-
-pub returns-in-Waits-clause-outputs : goal.returns-in-Waits-clause-outputs
-returns-in-Waits-clause-outputs c = λ w comes handled. outputs_by _ _ _ _ _ _ _ _ (waits c w comes) c.requires.stamp c.conclude_shot.ensures.outputs
+    let by = waits c w comes in
+    record {
+      step = sym by.step;
+      state = after_by _ _ _ _ _ _ _ by c.requires.stamp done.waiting done.cells done.stamp done.contexts done.structures done.events;
+      outputs = outputs_by _ _ _ _ _ _ _ _ by c.requires.stamp done.outputs;
+    }
 
 pub returns-in-Waits-clause-apart : goal.returns-in-Waits-clause-apart
 returns-in-Waits-clause-apart c = went_apart
 
-pub returns-in-Waits-clause-apart_state : goal.returns-in-Waits-clause-apart_state
-returns-in-Waits-clause-apart_state c = went_apart
-
-pub returns-in-Waits-clause-apart_outputs : goal.returns-in-Waits-clause-apart_outputs
-returns-in-Waits-clause-apart_outputs c = went_apart
-
-pub returns-in-One-clause-step : goal.returns-in-One-clause-step
-returns-in-One-clause-step c = λ w comes handled. sym (one c w comes).step
-
-pub returns-in-One-clause-state : goal.returns-in-One-clause-state
-returns-in-One-clause-state c = λ w comes handled.
+pub returns-in-One-clause-handled : goal.returns-in-One-clause-handled
+returns-in-One-clause-handled c = λ w comes handled.
     let done = c.conclude_shot-in-One.ensures in
-    after_by _ _ _ _ _ _ _ (one c w comes) c.requires.stamp done.waiting done.cells done.stamp done.contexts done.structures done.events
-
-pub returns-in-One-clause-outputs : goal.returns-in-One-clause-outputs
-returns-in-One-clause-outputs c = λ w comes handled. outputs_by _ _ _ _ _ _ _ _ (one c w comes) c.requires.stamp c.conclude_shot-in-One.ensures.outputs
+    let by = one c w comes in
+    record {
+      step = sym by.step;
+      state = after_by _ _ _ _ _ _ _ by c.requires.stamp done.waiting done.cells done.stamp done.contexts done.structures done.events;
+      outputs = outputs_by _ _ _ _ _ _ _ _ by c.requires.stamp done.outputs;
+    }
 
 pub returns-in-One-clause-apart : goal.returns-in-One-clause-apart
 returns-in-One-clause-apart c = went_apart
 
-pub returns-in-One-clause-apart_state : goal.returns-in-One-clause-apart_state
-returns-in-One-clause-apart_state c = went_apart
-
-pub returns-in-One-clause-apart_outputs : goal.returns-in-One-clause-apart_outputs
-returns-in-One-clause-apart_outputs c = went_apart
-
-pub returns-in-Two-clause-step : goal.returns-in-Two-clause-step
-returns-in-Two-clause-step c = λ w comes handled. sym (two c w comes).step
-
-pub returns-in-Two-clause-state : goal.returns-in-Two-clause-state
-returns-in-Two-clause-state c = λ w comes handled.
+pub returns-in-Two-clause-handled : goal.returns-in-Two-clause-handled
+returns-in-Two-clause-handled c = λ w comes handled.
     let done = c.conclude_shot-in-Two.ensures in
-    after_by _ _ _ _ _ _ _ (two c w comes) c.requires.stamp done.waiting done.cells done.stamp done.contexts done.structures done.events
-
-pub returns-in-Two-clause-outputs : goal.returns-in-Two-clause-outputs
-returns-in-Two-clause-outputs c = λ w comes handled. outputs_by _ _ _ _ _ _ _ _ (two c w comes) c.requires.stamp c.conclude_shot-in-Two.ensures.outputs
+    let by = two c w comes in
+    record {
+      step = sym by.step;
+      state = after_by _ _ _ _ _ _ _ by c.requires.stamp done.waiting done.cells done.stamp done.contexts done.structures done.events;
+      outputs = outputs_by _ _ _ _ _ _ _ _ by c.requires.stamp done.outputs;
+    }
 
 pub returns-in-Two-clause-apart : goal.returns-in-Two-clause-apart
 returns-in-Two-clause-apart c = went_apart
 
-pub returns-in-Two-clause-apart_state : goal.returns-in-Two-clause-apart_state
-returns-in-Two-clause-apart_state c = went_apart
-
-pub returns-in-Two-clause-apart_outputs : goal.returns-in-Two-clause-apart_outputs
-returns-in-Two-clause-apart_outputs c = went_apart
-
-pub returns-in-Fires-clause-step : goal.returns-in-Fires-clause-step
-returns-in-Fires-clause-step c = λ w comes handled. c.conclude_plain.ensures.verdict ∙ sym (fires c w comes).step
-
-pub returns-in-Fires-clause-state : goal.returns-in-Fires-clause-state
-returns-in-Fires-clause-state c = λ w comes handled.
+pub returns-in-Fires-clause-handled : goal.returns-in-Fires-clause-handled
+returns-in-Fires-clause-handled c = λ w comes handled.
     let done = c.conclude_plain.ensures in
-    after_by _ _ _ _ _ _ _ (fires c w comes) c.requires.stamp done.waiting done.cells done.stamp done.contexts done.structures done.events
-
-pub returns-in-Fires-clause-outputs : goal.returns-in-Fires-clause-outputs
-returns-in-Fires-clause-outputs c = λ w comes handled. outputs_by _ _ _ _ _ _ _ _ (fires c w comes) c.requires.stamp c.conclude_plain.ensures.outputs
+    let by = fires c w comes in
+    record {
+      step = done.verdict ∙ sym by.step;
+      state = after_by _ _ _ _ _ _ _ by c.requires.stamp done.waiting done.cells done.stamp done.contexts done.structures done.events;
+      outputs = outputs_by _ _ _ _ _ _ _ _ by c.requires.stamp done.outputs;
+    }
 
 pub returns-in-Fires-clause-apart : goal.returns-in-Fires-clause-apart
 returns-in-Fires-clause-apart c = handled_apart c.conclude_plain.result c.conclude_plain.ensures.handled
 
-pub returns-in-Fires-clause-apart_state : goal.returns-in-Fires-clause-apart_state
-returns-in-Fires-clause-apart_state c = handled_apart c.conclude_plain.result c.conclude_plain.ensures.handled
+pub returns-in-Apart-clause-handled : goal.returns-in-Apart-clause-handled
+returns-in-Apart-clause-handled c = λ w comes handled. absurd handled
 
-pub returns-in-Fires-clause-apart_outputs : goal.returns-in-Fires-clause-apart_outputs
-returns-in-Fires-clause-apart_outputs c = handled_apart c.conclude_plain.result c.conclude_plain.ensures.handled
+pub returns-in-Apart-clause-apart : goal.returns-in-Apart-clause-apart
+returns-in-Apart-clause-apart c = λ is. (c.in-Apart.is, record { state = refl; outputs = refl })
 
-pub returns-in-Apart-clause-step : goal.returns-in-Apart-clause-step
-returns-in-Apart-clause-step c = λ w comes handled. absurd handled
+pub returns-in-Apart-clause-number : goal.returns-in-Apart-clause-number
+returns-in-Apart-clause-number c = refl
 
-pub returns-in-Apart-clause-state : goal.returns-in-Apart-clause-state
-returns-in-Apart-clause-state c = λ w comes handled. absurd handled
-
-pub returns-in-Apart-clause-outputs : goal.returns-in-Apart-clause-outputs
-returns-in-Apart-clause-outputs c = λ w comes handled. absurd handled
+pub returns-in-Apart-clause-graph : goal.returns-in-Apart-clause-graph
+returns-in-Apart-clause-graph c = refl
 
 pub conclude_shot-requires-clause-own_value : goal.conclude_shot-requires-clause-own_value
 conclude_shot-requires-clause-own_value c = (shot_of_none _ _ _ _ _ c.requires.came.1 c.in-Waits.is).own

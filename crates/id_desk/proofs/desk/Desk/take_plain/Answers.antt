@@ -1,7 +1,7 @@
 -- After an error all is as it was, and where the token is short, what is made of it is the element step.
-use Rattle.std.proofs.Common.{◌≡◌, ◌++◌, refl, subst, sym}
+use Rattle.std.proofs.Common.{◌≡◌, ◌++◌, Result, Ok, Err, refl, subst, sym}
 use Rattle.std.proofs.Math.Nat.{le_refl}
-use Rattle.std.specs.Prelude.{IfOk}
+use Rattle.std.specs.Prelude.{IfOk, OnErr}
 use Rattle.id_instr.specs.Graph.{IsGraph, Parts}
 use Rattle.id_tag.specs.Plains.{message_of, tag_in}
 use Rattle.id_valid.specs.Validator.{IsValid}
@@ -11,31 +11,43 @@ use Rattle.id_firing.specs.Steps.{outputs_of, state_after, step_of}
 use Rattle.id_desk.proofs.ShortLemmas.{if_err, on_ok, on_went, not_ok, on_err, end_if, end_ok, within, one_left, own_at}
 use Rattle.id_desk.proofs.desk.Desk.take_plain.Goals as goal
 
+-- what follows from what a result says
+if_ok : {A E : Type 0} → {P Q : A → Type 0} → (r : Result A E) → IfOk r P → ((a : A) → P a → Q a) → IfOk r Q
+if_ok (Ok a) h f = f a h
+if_ok (Err e) h f = tt
+
+err_so : {A E P Q : Type 0} → (r : Result A E) → OnErr r P → (P → Q) → OnErr r Q
+err_so (Ok a) h f = tt
+err_so (Err e) h f = f h
+
 -- where it is short, the element step was made by the graph that is its own
 pub returns-clause-step : goal.returns-clause-step
 returns-clause-step c =
     let m = message_of c.args.token.now in
     subst (λ (g : Parts). IfOk c.take_short.result (λ short. IsHandled short → step_in short (tag_in c.args.token.now)
-    ≡ step_of g c.args.self.now.log.element (state_of c.args.self.now) m)) (sym c.requires.own) c.take_short.ensures.step
+    ≡ step_of g c.args.self.now.log.element (state_of c.args.self.now) m)) (sym c.requires.own)
+    (if_ok c.take_short.result c.take_short.ensures.handled (λ s h handled. (h handled).step))
 
 pub returns-clause-state : goal.returns-clause-state
 returns-clause-state c =
     let m = message_of c.args.token.now in
     subst (λ (g : Parts). IfOk c.take_short.result (λ short. IsHandled short → state_of c.take_short.new.self
-    ≡ state_after g c.args.self.now.log.element (state_of c.args.self.now) m)) (sym c.requires.own) c.take_short.ensures.state
+    ≡ state_after g c.args.self.now.log.element (state_of c.args.self.now) m)) (sym c.requires.own)
+    (if_ok c.take_short.result c.take_short.ensures.handled (λ s h handled. (h handled).state))
 
 pub returns-clause-outputs : goal.returns-clause-outputs
 returns-clause-outputs c =
     let m = message_of c.args.token.now in
     subst (λ (g : Parts). IfOk c.take_short.result (λ short. IsHandled short → c.take_short.new.outputs.messages
     ≡ c.args.outputs.now.messages ++ outputs_of g c.args.self.now.log.element (state_of c.args.self.now) m))
-    (sym c.requires.own) c.take_short.ensures.outputs
+    (sym c.requires.own)
+    (if_ok c.take_short.result c.take_short.ensures.handled (λ s h handled. (h handled).outputs))
 
 pub returns-clause-apart : goal.returns-clause-apart
-returns-clause-apart c = c.take_short.ensures.apart
+returns-clause-apart c = λ is. (c.take_short.ensures.apart is).state
 
 pub returns-clause-apart_outputs : goal.returns-clause-apart_outputs
-returns-clause-apart_outputs c = c.take_short.ensures.apart_outputs
+returns-clause-apart_outputs c = λ is. (c.take_short.ensures.apart is).outputs
 
 pub returns-clause-end : goal.returns-clause-end
 returns-clause-end c = end_if c.take_short.result _ c.take_short.ensures.memory (rw c.from.ensures at c.in_ok-stamp.ensures.left)
@@ -47,10 +59,10 @@ pub returns-clause-last_left : goal.returns-clause-last_left
 returns-clause-last_left c = on_went c.take_short.result c.in_ok-stamp.ensures.last_below
 
 pub returns-clause-err : goal.returns-clause-err
-returns-clause-err c = c.take_short.ensures.err
+returns-clause-err c = err_so c.take_short.result c.take_short.ensures.err (λ u. u.state)
 
 pub returns-clause-err_outputs : goal.returns-clause-err_outputs
-returns-clause-err_outputs c = c.take_short.ensures.err_outputs
+returns-clause-err_outputs c = err_so c.take_short.result c.take_short.ensures.err (λ u. u.outputs)
 
 pub returns-clause-number : goal.returns-clause-number
 returns-clause-number c = c.take_short.ensures.number

@@ -15,47 +15,43 @@ pub conclude_reacted-requires-clause-came : goal.conclude_reacted-requires-claus
 conclude_reacted-requires-clause-came c = (c.reserve.new.self.waiting, c.in_ok-reacted.ensures.reaction)
 
 -- what is concluded is the element step, as what was reserved left the state, the number and the graph
-pub returns-clause-step : goal.returns-clause-step
-returns-clause-step c = λ handled.
-    let m = message_of c.args.token.now in
-    let same = c.in_ok-reserve.ensures in
-    c.conclude_reacted.ensures.step c.reserve.new.self.waiting c.in_ok-reacted.ensures.reaction handled
-    ∙ ap (λ g. step_of g c.reserve.new.self.log.element (state_of c.reserve.new.self) m) same.graph
-    ∙ ap (λ e. step_of c.args.self.now.log.graph e (state_of c.reserve.new.self) m) same.number
-    ∙ ap (λ s. step_of c.args.self.now.log.graph c.args.self.now.log.element s m) same.state
-
-pub returns-clause-state : goal.returns-clause-state
-returns-clause-state c = λ handled.
-    let m = message_of c.args.token.now in
-    let same = c.in_ok-reserve.ensures in
-    c.conclude_reacted.ensures.state c.reserve.new.self.waiting c.in_ok-reacted.ensures.reaction handled
-    ∙ ap (λ g. state_after g c.reserve.new.self.log.element (state_of c.reserve.new.self) m) same.graph
-    ∙ ap (λ e. state_after c.args.self.now.log.graph e (state_of c.reserve.new.self) m) same.number
-    ∙ ap (λ s. state_after c.args.self.now.log.graph c.args.self.now.log.element s m) same.state
-
-pub returns-clause-outputs : goal.returns-clause-outputs
-returns-clause-outputs c = λ handled.
+pub returns-clause-handled : goal.returns-clause-handled
+returns-clause-handled c = λ handled.
     let m = message_of c.args.token.now in
     let g = c.args.self.now.log.graph in
     let same = c.in_ok-reserve.ensures in
-    c.conclude_reacted.ensures.outputs c.reserve.new.self.waiting c.in_ok-reacted.ensures.reaction handled
-    ∙ ap (λ xs. xs ++ outputs_of c.reserve.new.self.log.graph c.reserve.new.self.log.element (state_of c.reserve.new.self) m) same.messages
-    ∙ ap (λ h. c.args.outputs.now.messages ++ outputs_of h c.reserve.new.self.log.element (state_of c.reserve.new.self) m) same.graph
-    ∙ ap (λ e. c.args.outputs.now.messages ++ outputs_of g e (state_of c.reserve.new.self) m) same.number
-    ∙ ap (λ s. c.args.outputs.now.messages ++ outputs_of g c.args.self.now.log.element s m) same.state
+    let there = c.reserve.new.self in
+    let done = c.conclude_reacted.ensures.handled there.waiting c.in_ok-reacted.ensures.reaction handled in
+    record {
+      step =
+          done.step
+          ∙ ap (λ h. step_of h there.log.element (state_of there) m) same.graph
+          ∙ ap (λ e. step_of g e (state_of there) m) same.number
+          ∙ ap (λ s. step_of g c.args.self.now.log.element s m) same.state;
+      state =
+          done.state
+          ∙ ap (λ h. state_after h there.log.element (state_of there) m) same.graph
+          ∙ ap (λ e. state_after g e (state_of there) m) same.number
+          ∙ ap (λ s. state_after g c.args.self.now.log.element s m) same.state;
+      outputs =
+          done.outputs
+          ∙ ap (λ xs. xs ++ outputs_of there.log.graph there.log.element (state_of there) m) same.messages
+          ∙ ap (λ h. c.args.outputs.now.messages ++ outputs_of h there.log.element (state_of there) m) same.graph
+          ∙ ap (λ e. c.args.outputs.now.messages ++ outputs_of g e (state_of there) m) same.number
+          ∙ ap (λ s. c.args.outputs.now.messages ++ outputs_of g c.args.self.now.log.element s m) same.state;
+    }
 
 -- where it is not handled, what waits is what did
 pub returns-clause-apart : goal.returns-clause-apart
 returns-clause-apart c = λ is.
     let apart : c.conclude_reacted.result ≡ Apart = cc in
+    let left = c.conclude_reacted.ensures.apart apart in
     let stays : c.react_plain.new.waiting ≡ c.reserve.new.self.waiting =
-    stays_apart _ _ _ _ _ c.in_ok-reacted.ensures.reaction (c.conclude_reacted.ensures.apart apart) in
-    c.conclude_reacted.ensures.apart_state apart ∙ with_waiting (state_of c.reserve.new.self) _ _ stays c.in_ok-reserve.ensures.state
-
-pub returns-clause-apart_outputs : goal.returns-clause-apart_outputs
-returns-clause-apart_outputs c = λ is.
-    let apart : c.conclude_reacted.result ≡ Apart = cc in
-    c.conclude_reacted.ensures.apart_outputs apart ∙ c.in_ok-reserve.ensures.messages
+    stays_apart _ _ _ _ _ c.in_ok-reacted.ensures.reaction left.0 in
+    record {
+      state = left.1.state ∙ with_waiting (state_of c.reserve.new.self) _ _ stays c.in_ok-reserve.ensures.state;
+      outputs = left.1.outputs ∙ c.in_ok-reserve.ensures.messages;
+    }
 
 pub returns-clause-number : goal.returns-clause-number
 returns-clause-number c = c.conclude_reacted.ensures.number ∙ c.in_ok-reserve.ensures.number
@@ -69,24 +65,12 @@ returns-clause-memory c = tt
 pub returns-clause-err : goal.returns-clause-err
 returns-clause-err c = tt
 
-pub returns-clause-err_outputs : goal.returns-clause-err_outputs
-returns-clause-err_outputs c = tt
-
 -- after an error all is as it was
-pub returns-in_err-reserve-clause-step : goal.returns-in_err-reserve-clause-step
-returns-in_err-reserve-clause-step c = if_err _ c.from_residual.result c.from_residual.ensures.0
-
-pub returns-in_err-reserve-clause-state : goal.returns-in_err-reserve-clause-state
-returns-in_err-reserve-clause-state c = if_err _ c.from_residual.result c.from_residual.ensures.0
-
-pub returns-in_err-reserve-clause-outputs : goal.returns-in_err-reserve-clause-outputs
-returns-in_err-reserve-clause-outputs c = if_err _ c.from_residual.result c.from_residual.ensures.0
+pub returns-in_err-reserve-clause-handled : goal.returns-in_err-reserve-clause-handled
+returns-in_err-reserve-clause-handled c = if_err _ c.from_residual.result c.from_residual.ensures.0
 
 pub returns-in_err-reserve-clause-apart : goal.returns-in_err-reserve-clause-apart
 returns-in_err-reserve-clause-apart c = not_ok c.from_residual.result _ c.from_residual.ensures.0
-
-pub returns-in_err-reserve-clause-apart_outputs : goal.returns-in_err-reserve-clause-apart_outputs
-returns-in_err-reserve-clause-apart_outputs c = not_ok c.from_residual.result _ c.from_residual.ensures.0
 
 pub returns-in_err-reserve-clause-number : goal.returns-in_err-reserve-clause-number
 returns-in_err-reserve-clause-number c = c.in_err-reserve.ensures.number
@@ -98,25 +82,15 @@ pub returns-in_err-reserve-clause-memory : goal.returns-in_err-reserve-clause-me
 returns-in_err-reserve-clause-memory c = err_if _ c.from_residual.result c.from_residual.ensures.1
 
 pub returns-in_err-reserve-clause-err : goal.returns-in_err-reserve-clause-err
-returns-in_err-reserve-clause-err c = on_err c.from_residual.result c.in_err-reserve.ensures.state
+returns-in_err-reserve-clause-err c =
+    on_err c.from_residual.result
+    (record { state = c.in_err-reserve.ensures.state; outputs = c.in_err-reserve.ensures.messages })
 
-pub returns-in_err-reserve-clause-err_outputs : goal.returns-in_err-reserve-clause-err_outputs
-returns-in_err-reserve-clause-err_outputs c = on_err c.from_residual.result c.in_err-reserve.ensures.messages
-
-pub returns-in_err-reacted-clause-step : goal.returns-in_err-reacted-clause-step
-returns-in_err-reacted-clause-step c = if_err _ c.from_residual-in_err-reacted.result c.from_residual-in_err-reacted.ensures.0
-
-pub returns-in_err-reacted-clause-state : goal.returns-in_err-reacted-clause-state
-returns-in_err-reacted-clause-state c = if_err _ c.from_residual-in_err-reacted.result c.from_residual-in_err-reacted.ensures.0
-
-pub returns-in_err-reacted-clause-outputs : goal.returns-in_err-reacted-clause-outputs
-returns-in_err-reacted-clause-outputs c = if_err _ c.from_residual-in_err-reacted.result c.from_residual-in_err-reacted.ensures.0
+pub returns-in_err-reacted-clause-handled : goal.returns-in_err-reacted-clause-handled
+returns-in_err-reacted-clause-handled c = if_err _ c.from_residual-in_err-reacted.result c.from_residual-in_err-reacted.ensures.0
 
 pub returns-in_err-reacted-clause-apart : goal.returns-in_err-reacted-clause-apart
 returns-in_err-reacted-clause-apart c = not_ok c.from_residual-in_err-reacted.result _ c.from_residual-in_err-reacted.ensures.0
-
-pub returns-in_err-reacted-clause-apart_outputs : goal.returns-in_err-reacted-clause-apart_outputs
-returns-in_err-reacted-clause-apart_outputs c = not_ok c.from_residual-in_err-reacted.result _ c.from_residual-in_err-reacted.ensures.0
 
 pub returns-in_err-reacted-clause-number : goal.returns-in_err-reacted-clause-number
 returns-in_err-reacted-clause-number c = c.in_ok-reserve.ensures.number
@@ -129,11 +103,10 @@ returns-in_err-reacted-clause-memory c = err_if _ c.from_residual-in_err-reacted
 
 pub returns-in_err-reacted-clause-err : goal.returns-in_err-reacted-clause-err
 returns-in_err-reacted-clause-err c =
-    on_err c.from_residual-in_err-reacted.result
-    (with_waiting (state_of c.reserve.new.self) _ _ c.in_err-reacted.ensures.err c.in_ok-reserve.ensures.state)
-
-pub returns-in_err-reacted-clause-err_outputs : goal.returns-in_err-reacted-clause-err_outputs
-returns-in_err-reacted-clause-err_outputs c = on_err c.from_residual-in_err-reacted.result c.in_ok-reserve.ensures.messages
+    on_err c.from_residual-in_err-reacted.result (record {
+      state = with_waiting (state_of c.reserve.new.self) _ _ c.in_err-reacted.ensures.err c.in_ok-reserve.ensures.state;
+      outputs = c.in_ok-reserve.ensures.messages;
+    })
 
 -- there is room, and the rest is as it was required
 pub conclude_reacted-requires-clause-room : goal.conclude_reacted-requires-clause-room
