@@ -379,18 +379,6 @@ tells_kept h short room o none roomy = record {
   full = λ e. cc;
 }
 
--- no frame has changed
-pub stayed : (keys : List (Name × ℕ)) (frames : Slab Frame) (more : List (Name × ℕ)) (slab : Slab Frame) (t : Tag) → IsFramed keys frames
-    → more ≡ keys → slab.slots ≡ frames.slots → Holds keys frames more slab t (rear_half keys frames t)
-stayed keys frames more slab t was same slots =
-    subst (λ l. Holds keys frames l slab t (rear_half keys frames t)) (sym same)
-    (subst (λ l. Holds keys frames keys (record { slots = l; vacant_key = slab.vacant_key; capacity = slab.capacity }) t (rear_half keys frames t))
-    (sym slots) (record {
-      framed = record { unique = was.unique; held = was.held; apart = was.apart; single = was.single };
-      here = refl;
-      there = λ u apart. refl;
-    }))
-
 module _ (keys : List (Name × ℕ)) (frames : Slab Frame) (was : IsFramed keys frames) (t : Tag) (n : Name) (own : n ≡ name_of t) where
   -- what waits under a tag whose name the table has not
   pub none_in : lookup (same_name n) keys ≡ None → rear_half keys frames t ≡ None

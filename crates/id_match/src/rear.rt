@@ -2,11 +2,12 @@
 //!
 //! It waits in frames, one for each context and iteration. The frames stand in a slab, and a table tells the key of
 //! each by its name. A frame is made when a value comes to wait in it, and given back when its last value leaves; a
-//! value finds its frame, and in it its partner, by one look-up in the table.
+//! value finds its frame, and in it its partner, by one look-up in the table, and where its frame is made or given back
+//! by two.
 
 ghost use Rattle.std.specs.Prelude.{◌≡◌, ◌≢◌, ◌+◌, ◌<◌, ◌↔◌, ◌≤◌, ◌^◌, ◌++◌, true, false, None, Some, IsTrue};
 ghost use Rattle.std.specs.Prelude.{IsPermutation, IsSortedByKey, IfOk, IfSome, OnOk, OnErr, is_some, length, nat_eq};
-ghost use Rattle.std.specs.Prelude.{IsSome, [], ℕ, slice_index_or, map as map_list, ◌*◌, ◌-◌};
+ghost use Rattle.std.specs.Prelude.{Bool, IsSome, [], ◌∷◌, ℕ, slice_index_or, map as map_list, ◌*◌, ◌-◌};
 ghost use Rattle.std.specs.FinMap as map;
 ghost use Rattle.std.specs.Map.{lookup};
 ghost use Rattle.id_tag.specs.Tags.{same_tag, tag_cmp};
@@ -21,8 +22,8 @@ ghost use Rattle.id_front.specs.Waiting.{entry_at, pair_of};
 ghost use Rattle.id_front.specs.Halves.{answer_at, half_after};
 ghost use Rattle.id_front.specs.Meetings.{told};
 ghost use Rattle.id_match.specs.Rear.{IsFramed, IsOffered, IsOfferedAt, Sets, after_came, frame_entries, halves_in};
-ghost use Rattle.id_match.specs.Rear.{MakesFrame, TellsOf, WritesFrame, name_of, rear_entries, rear_half, said, tag_at};
-ghost use Rattle.slab.specs.Slab.{ContainsKey, Updates, get};
+ghost use Rattle.id_match.specs.Rear.{TellsOf, WritesFrame, name_of, rear_entries, rear_half, said, same_name, tag_at};
+ghost use Rattle.slab.specs.Slab.{ContainsKey, HasRoomFor, Updates, get};
 ghost use Rattle.id_tag.specs.Plains.{tag_in, whole};
 
 use id_front::{Entry, Half, Met, Offered, pair};
@@ -31,7 +32,6 @@ use id_tag::{Context, NearHasher, Plain, PlainToken, Tag, Value, plain_of};
 use slab::Slab;
 use std::alloc::{AllocError, Global};
 use std::collections::HashMap;
-use std::collections::hash_map::Entry as Place;
 use std::marker::Model;
 
 /// The name of a frame.
@@ -185,17 +185,18 @@ fn leaving(partner: Value, short: bool) -> Option<Came>
     }
 }
 
-// Makes a frame for a value, if there is to be room for it. Memory is had before any change.
-fn make_frame(
+// A frame in which a value alone waits, if there is to be room for one more.
+fn new_frame(
     alloc: Global,
     frames: &mut Slab<Frame>,
     instr: u32,
     half: Half,
     room: bool,
-) -> Result<usize, AllocError>
-    ensures makes { IfOk result (λ key. MakesFrame frames.old frames.new key instr half) }
+) -> Result<Frame, AllocError>
+    ensures only { IfOk result (λ f. f.halves.items ≡ (instr, half) ∷ []) }
+    ensures has_room { OnOk result (HasRoomFor frames.new 1) }
     ensures room { OnOk result (IsTrue room) }
-    ensures err { OnErr result (frames.new.slots ≡ frames.old.slots) }
+    ensures same { frames.new ≡ record (frames.old) { capacity = frames.new.capacity } }
 {
     if !room {
         return Err(AllocError);
@@ -203,7 +204,7 @@ fn make_frame(
     frames.reserve(1)?;
     let mut halves = Vec::new(alloc);
     halves.push((instr, half))?;
-    Ok(frames.insert_reserved(Frame { halves }))
+    Ok(Frame { halves })
 }
 
 // Offers a value to the frame with this key.
@@ -254,7 +255,60 @@ fn offer_at(
     (came, is_left)
 }
 
-// An offer to the frames, in one look-up. Room is made where the name is new, and only there, before any change.
+// Keeps a value under a name that the table has not, if there is to be room for it. Memory is had before any change.
+fn keep_first(
+    alloc: Global,
+    keys: &mut HashMap<Name, usize, NearHasher>,
+    frames: &mut Slab<Frame>,
+    name: Name,
+    tag: Tag,
+    half: Half,
+    room: bool,
+) -> Result<Came, AllocError>
+    requires framed { IsFramed keys.old.entries frames.old }
+    requires own { name ≡ name_of tag }
+    requires absent { lookup (same_name name) keys.old.entries ≡ None }
+    ensures { (short : Bool)
+        → IsOffered keys.old.entries frames.old keys.new.entries frames.new tag half short room result }
+{
+    match new_frame(alloc, frames, tag.instr, half, room) {
+        Err(e) => Err(e),
+        Ok(frame) => match keys.insert(name, frames.vacant_key()) {
+            Err(_) => Err(AllocError),
+            Ok(_) => {
+                frames.insert_reserved(frame);
+                Ok(Came::Kept)
+            }
+        },
+    }
+}
+
+// An offer to the frame of a name, which leaves the table once nothing waits in it.
+#[inline(always)]
+fn offer_held(
+    keys: &mut HashMap<Name, usize, NearHasher>,
+    frames: &mut Slab<Frame>,
+    name: Name,
+    key: usize,
+    tag: Tag,
+    half: Half,
+    short: bool,
+    room: bool,
+) -> Result<Came, AllocError>
+    requires framed { IsFramed keys.old.entries frames.old }
+    requires own { name ≡ name_of tag }
+    requires found { lookup (same_name name) keys.old.entries ≡ Some key }
+    ensures { IsOffered keys.old.entries frames.old keys.new.entries frames.new tag half short room result }
+{
+    let (came, is_left) = offer_at(frames, key, tag.instr, half, short, room);
+    if is_left {
+        keys.remove(&name);
+    }
+    came
+}
+
+// An offer to the frames. The name is looked up once, and once more where its frame is made or given back. Room is made
+// where the name is new, and only there, before any change.
 fn offer_to(
     alloc: Global,
     keys: &mut HashMap<Name, usize, NearHasher>,
@@ -267,23 +321,10 @@ fn offer_to(
     requires { IsFramed keys.old.entries frames.old }
     ensures { IsOffered keys.old.entries frames.old keys.new.entries frames.new tag half short room result }
 {
-    match keys.entry(name_of(tag)) {
-        Err(_) => Err(AllocError),
-        Ok(Place::Vacant(place)) => match make_frame(alloc, frames, tag.instr, half, room) {
-            Err(e) => Err(e),
-            Ok(key) => {
-                place.insert(key);
-                Ok(Came::Kept)
-            }
-        },
-        Ok(Place::Occupied(place)) => {
-            let key = *place.get();
-            let (came, is_left) = offer_at(frames, key, tag.instr, half, short, room);
-            if is_left {
-                place.remove();
-            }
-            came
-        }
+    let name = name_of(tag);
+    match keys.get(&name).copied() {
+        Some(key) => offer_held(keys, frames, name, key, tag, half, short, room),
+        None => keep_first(alloc, keys, frames, name, tag, half, room),
     }
 }
 
