@@ -10,7 +10,7 @@ ghost use Rattle.id_paths.specs.Paths.{structure_by};
 ghost use Rattle.id_observed.specs.Observed.{waiting_in};
 ghost use Rattle.id_paths.specs.Paths.{path_by};
 
-use crate::answer::answer;
+use crate::answered::answer;
 use id_bank::{Cells, Filled};
 use id_element::Element;
 use id_instr::Graph;

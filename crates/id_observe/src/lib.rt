@@ -7,11 +7,11 @@
 //!     (`id_paths`), each kind of thing that is shown (`id_observed`), how what is shown is printed (`id_print`).
 #![tactic(auto)]
 
-mod answer;
+mod answered;
 mod holdings;
 mod observe;
 
-pub use answer::answer;
+pub use answered::answer;
 pub use holdings::{Holdings, observe_holdings};
 pub use id_merge::{Merged, first_fault, merge_records};
 pub use id_observed::CellValue;

@@ -5,7 +5,7 @@ use Rattle.id_line.specs.Events.{tag_of}
 use Rattle.id_paths.specs.Paths.{brought}
 use Rattle.id_paths.proofs.WalksLemmas.{element-from_part}
 use Rattle.id_paths.proofs.SkippedLemmas.{brought-elsewhere}
-use Rattle.id_observe.proofs.answer.brought_at.Goals as goal
+use Rattle.id_observe.proofs.answered.brought_at.Goals as goal
 
 pub returns-then-instr-eq0 : goal.returns-then-instr-eq0
 returns-then-instr-eq0 c =

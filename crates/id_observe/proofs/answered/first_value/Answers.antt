@@ -4,7 +4,7 @@ use Rattle.std.specs.Prelude.{slice_get}
 use Rattle.std.proofs.lemmas.Option.{slice_get_read}
 use Rattle.id_paths.specs.Paths.{answers}
 use Rattle.id_observe.proofs.AnswerLemmas.{value-found, value-missed}
-use Rattle.id_observe.proofs.answer.first_value.Goals as goal
+use Rattle.id_observe.proofs.answered.first_value.Goals as goal
 
 pub returns-then-is_some : goal.returns-then-is_some
 returns-then-is_some c =

@@ -4,7 +4,7 @@ use Rattle.std.specs.Prelude.{option_and_then}
 use Rattle.id_observed.specs.Observed.{first_value}
 use Rattle.id_paths.specs.Sourced.{source_value}
 use Rattle.id_paths.specs.Paths.{structure_in}
-use Rattle.id_observe.proofs.answer.answer.Goals as goal
+use Rattle.id_observe.proofs.answered.answer.Goals as goal
 
 pub returns-in-Some : goal.returns-in-Some
 returns-in-Some c =

@@ -10,7 +10,7 @@ use Rattle.id_paths.specs.Paths.{answers, brought}
 use Rattle.id_observed.specs.Observed.{brought_at}
 use Rattle.id_paths.proofs.WalksLemmas.{filter_map-found, filter_map-nothing}
 use Rattle.id_paths.proofs.TellingsLemmas.{answers-told, position-at, telling-within, walk-positions}
-use Rattle.id_observe.proofs.answer.first_answer.Goals as goal
+use Rattle.id_observe.proofs.answered.first_answer.Goals as goal
 
 -- events that do not tell brought none
 all-told : (es : List EventView) (ks : List ℕ) → ks ≡ telling_from 0 es → filter_map (brought_at es) ks ≡ answers es
