@@ -8,7 +8,7 @@ ghost use Rattle.id_graph.specs.Dot.{arrow_text, arrows_text, box_text, boxes_te
 ghost use Rattle.id_graph.specs.Dot.{links_text, named_text, names_text, opening, ports_text, reply_text};
 ghost use Rattle.id_graph.specs.Dot.{sent_text, sides_text, start_text};
 
-use crate::listing::{port_number, put_in_order, write_op};
+use crate::listing::{port_number, put, put_in_order, write_op};
 use id_instr::{Block, Dest, Graph, Instr, Op, Port};
 use std::alloc::{AllocError, Global};
 
@@ -42,10 +42,9 @@ fn write_all(
 {
     write_opening(out)?;
     write_boxes(out, marks, graph)?;
-    out.push_str("}\n")?;
+    put(out, "}\n")?;
     write_links(alloc, out, graph.instrs())?;
-    out.push_str("}\n")?;
-    Ok(())
+    put(out, "}\n")
 }
 
 /// Whether a block begins there, for each number below `count`.
@@ -72,8 +71,8 @@ fn mark(marks: &mut [bool], number: u32)
 fn write_opening(out: &mut String) -> Result<(), AllocError>
     ensures { OnOk result (string_bytes out.new ≡ string_bytes out.old ++ opening) }
 {
-    out.push_str("digraph {\ngraph [nodesep=0.15, ranksep=0.25];\nedge [arrowsize=0.5];\n")?;
-    out.push_str("node [shape=record, fontsize=10, height=0.2, margin=\"0.05,0.02\"];\n{\n")
+    put(out, "digraph {\ngraph [nodesep=0.15, ranksep=0.25];\nedge [arrowsize=0.5];\n")?;
+    put(out, "node [shape=record, fontsize=10, height=0.2, margin=\"0.05,0.02\"];\n{\n")
 }
 
 /// Appends the boxes in the clusters of their blocks, which begin where there is a mark.
