@@ -4,10 +4,9 @@ ghost use Rattle.std.specs.Prelude.{◌≡◌, ◌<◌, ◌≤◌, ◌^◌, ◌+
 ghost use Rattle.std.specs.List.{flat_map};
 ghost use Rattle.std.specs.Fmt.{decimal, signed_decimal};
 ghost use Rattle.id_instr.specs.Graph.{arcs_on};
-ghost use Rattle.id_graph.specs.Listing.{arithmetic_name, comparison_name, constant_text, dest_text, dests_text};
-ghost use Rattle.id_graph.specs.Listing.{dyadic_name, false_text, head_text, in_order, kind_name, line_text};
-ghost use Rattle.id_graph.specs.Listing.{lines_text, listing, op_name, op_text, place_text, port_number};
-ghost use Rattle.id_graph.specs.Listing.{truth_name, unary_name};
+ghost use Rattle.id_graph.specs.Listing.{constant_text, dest_text, dests_text, dyadic_name, false_text};
+ghost use Rattle.id_graph.specs.Listing.{head_text, in_order, kind_name, line_text, lines_text, listing, op_name};
+ghost use Rattle.id_graph.specs.Listing.{op_text, place_text, port_number, unary_name};
 
 use id_instr::{Dest, Dyadic, Graph, Instr, Op, Port, PortKind};
 use id_text::{Lines, MAX_BYTES};
@@ -266,45 +265,21 @@ fn dyadic_name(operator: Dyadic) -> &'static str
     ensures { result.now ≡ dyadic_name operator }
 {
     match operator {
-        Dyadic::Arithmetic(operator) => arithmetic_name(operator),
-        Dyadic::Comparison(operator) => comparison_name(operator),
-        Dyadic::Truth(operator) => truth_name(operator),
-    }
-}
-
-fn arithmetic_name(operator: Arithmetic) -> &'static str
-    ensures { result.now ≡ arithmetic_name operator }
-{
-    match operator {
-        Arithmetic::Add => "add",
-        Arithmetic::Sub => "sub",
-        Arithmetic::Mul => "mul",
-        Arithmetic::Div => "div",
-        Arithmetic::Rem => "rem",
-    }
-}
-
-fn comparison_name(operator: Comparison) -> &'static str
-    ensures { result.now ≡ comparison_name operator }
-{
-    match operator {
-        Comparison::Lt => "lt",
-        Comparison::Le => "le",
-        Comparison::Gt => "gt",
-        Comparison::Ge => "ge",
-        Comparison::Eq => "eq",
-        Comparison::Ne => "ne",
-    }
-}
-
-fn truth_name(operator: Truth) -> &'static str
-    ensures { result.now ≡ truth_name operator }
-{
-    match operator {
-        Truth::Eqb => "eqb",
-        Truth::Neb => "neb",
-        Truth::And => "and",
-        Truth::Or => "or",
+        Dyadic::Arithmetic(Arithmetic::Add) => "add",
+        Dyadic::Arithmetic(Arithmetic::Sub) => "sub",
+        Dyadic::Arithmetic(Arithmetic::Mul) => "mul",
+        Dyadic::Arithmetic(Arithmetic::Div) => "div",
+        Dyadic::Arithmetic(Arithmetic::Rem) => "rem",
+        Dyadic::Comparison(Comparison::Lt) => "lt",
+        Dyadic::Comparison(Comparison::Le) => "le",
+        Dyadic::Comparison(Comparison::Gt) => "gt",
+        Dyadic::Comparison(Comparison::Ge) => "ge",
+        Dyadic::Comparison(Comparison::Eq) => "eq",
+        Dyadic::Comparison(Comparison::Ne) => "ne",
+        Dyadic::Truth(Truth::Eqb) => "eqb",
+        Dyadic::Truth(Truth::Neb) => "neb",
+        Dyadic::Truth(Truth::And) => "and",
+        Dyadic::Truth(Truth::Or) => "or",
     }
 }
 
