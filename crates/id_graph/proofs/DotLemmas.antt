@@ -10,3 +10,7 @@ five_joined a b c d e = grind (arith, common_steps)
 pub eight_joined : (out mid late end a b c d e f g h : List ℕ) → mid ≡ out ++ a ++ b ++ c ++ d ++ e → late ≡ mid ++ f → end ≡ late ++ g ++ h
     → end ≡ out ++ (a ++ b ++ c ++ d ++ e ++ f ++ g ++ h)
 eight_joined out mid late end a b c d e f g h first second third = grind (arith, common_steps)
+
+-- nine pieces
+pub nine_joined : (a b c d e f g h i : List ℕ) → a ++ (b ++ (c ++ (d ++ (e ++ (f ++ (g ++ (h ++ i))))))) ≡ a ++ b ++ c ++ d ++ e ++ f ++ g ++ h ++ i
+nine_joined a b c d e f g h i = grind (arith, common_steps)

@@ -1,2 +1,3 @@
 pub mod ListingLemmas
+pub mod PieceLemmas
 pub mod DotLemmas

@@ -1,16 +1,30 @@
 //! The picture of a graph, in the language of Graphviz (docs/GRAPH.md, "Picture").
 
-ghost use Rattle.std.specs.Prelude.{◌≡◌, ◌<◌, ◌++◌, ◌==◌, length, IfOk, OnOk, codes, string_bytes};
+ghost use Rattle.std.specs.Prelude.{[], ◌≡◌, ◌<◌, ◌++◌, ◌==◌, length, IfOk, OnOk, codes, string_bytes};
 ghost use Rattle.std.specs.Fmt.{decimal};
 ghost use Rattle.std.specs.List.{flat_map};
+ghost use Rattle.id_instr.specs.declared.dests.Port.TheVariants.{Zero};
 ghost use Rattle.id_graph.specs.Begun.{Marks, TellsBegun};
 ghost use Rattle.id_graph.specs.Dot.{arrow_text, arrows_text, box_text, boxes_text, cluster_text, dot_text};
-ghost use Rattle.id_graph.specs.Dot.{links_text, named_text, names_text, opening, ports_text, reply_text};
+ghost use Rattle.id_graph.specs.Dot.{links_text, names_text, ports_text};
 ghost use Rattle.id_graph.specs.Dot.{sent_text, sides_text, start_text};
 
-use crate::listing::{port_number, put_in_order, write_op};
+use crate::listing::{port_number, put, put_in_order, write_op};
 use id_instr::{Block, Dest, Graph, Instr, Op, Port};
 use std::alloc::{AllocError, Global};
+
+/// What goes before all.
+const OPENING: &str = "digraph {\n\
+    graph [nodesep=0.15, ranksep=0.25];\n\
+    edge [arrowsize=0.5];\n\
+    node [shape=record, fontsize=10, height=0.2, margin=\"0.05,0.02\"];\n\
+    {\n";
+
+/// The style of an arrow to an instruction that is above or below as it falls.
+const NAMED: &str = "dotted, constraint=false";
+
+/// The style of an arrow down to the instruction that replies come to.
+const REPLY: &str = "dotted";
 
 /// The picture of a graph: a box for each instruction, a cluster for each block, an arrow for each destination.
 pub fn draw(alloc: Global, graph: &Graph) -> Result<String, AllocError>
@@ -40,12 +54,11 @@ fn write_all(
     requires { TellsBegun graph.now.blocks (length graph.now.instrs) marks.now }
     ensures { OnOk result (string_bytes out.new ≡ string_bytes out.old ++ dot_text graph.now) }
 {
-    write_opening(out)?;
+    put(out, OPENING)?;
     write_boxes(out, marks, graph)?;
-    out.push_str("}\n")?;
+    put(out, "}\n")?;
     write_links(alloc, out, graph.instrs())?;
-    out.push_str("}\n")?;
-    Ok(())
+    put(out, "}\n")
 }
 
 /// Whether a block begins there, for each number below `count`.
@@ -66,14 +79,6 @@ fn mark(marks: &mut [bool], number: u32)
     if (number as usize) < marks.len() {
         marks[number as usize] = true;
     }
-}
-
-/// Appends what goes before all.
-fn write_opening(out: &mut String) -> Result<(), AllocError>
-    ensures { OnOk result (string_bytes out.new ≡ string_bytes out.old ++ opening) }
-{
-    out.push_str("digraph {\ngraph [nodesep=0.15, ranksep=0.25];\nedge [arrowsize=0.5];\n")?;
-    out.push_str("node [shape=record, fontsize=10, height=0.2, margin=\"0.05,0.02\"];\n{\n")
 }
 
 /// Appends the boxes in the clusters of their blocks, which begin where there is a mark.
@@ -234,21 +239,12 @@ fn write_arrow(
     ensures { OnOk result
         (string_bytes out.new ≡ string_bytes out.old ++ arrow_text number field.now style.now dest) }
 {
-    write!(
+    writeln!(
         out,
-        "{number}{field} -> {}:{}",
+        "{number}{field} -> {}:{} [style={style}];",
         dest.instr,
         port_number(dest.port)
-    )?;
-    write_style(out, style)
-}
-
-/// Appends the style of an arrow.
-fn write_style(out: &mut String, style: &str) -> Result<(), AllocError>
-    ensures { OnOk result
-        (string_bytes out.new ≡ string_bytes out.old ++ codes " [style=" ++ style.now ++ codes "];\n") }
-{
-    writeln!(out, " [style={style}];")
+    )
 }
 
 /// Appends dotted arrows to the instructions that an operator names.
@@ -257,33 +253,28 @@ fn write_names(out: &mut String, number: usize, op: Op) -> Result<(), AllocError
 {
     match op {
         Op::Enter { block, reply } => {
-            write_named(out, number, block)?;
-            write_reply(out, number, reply)
+            write_named(out, number, NAMED, block)?;
+            write_named(out, number, REPLY, reply)
         }
-        Op::Send { target, .. } => write_named(out, number, target),
-        Op::Fetch { reply } => write_reply(out, number, reply),
+        Op::Send { target, .. } => write_named(out, number, NAMED, target),
+        Op::Fetch { reply } => write_named(out, number, REPLY, reply),
         _ => Ok(()),
     }
 }
 
-/// Appends a dotted arrow to the instruction of this number, which is above or below as it falls.
-fn write_named(out: &mut String, number: usize, named: u32) -> Result<(), AllocError>
-    ensures { OnOk result (string_bytes out.new ≡ string_bytes out.old ++ named_text number named) }
+/// Appends an arrow in this style to the left port of the instruction of this number.
+fn write_named(
+    out: &mut String,
+    number: usize,
+    style: &str,
+    named: u32,
+) -> Result<(), AllocError>
+    ensures { OnOk result (string_bytes out.new
+        ≡ string_bytes out.old ++ arrow_text number [] style.now (record { instr = named; port = Zero })) }
 {
     let dest = Dest {
         instr: named,
         port: Port::Zero,
     };
-    write_arrow(out, number, "", "dotted, constraint=false", dest)
-}
-
-/// Appends a dotted arrow down to the instruction that replies come to.
-fn write_reply(out: &mut String, number: usize, reply: u32) -> Result<(), AllocError>
-    ensures { OnOk result (string_bytes out.new ≡ string_bytes out.old ++ reply_text number reply) }
-{
-    let dest = Dest {
-        instr: reply,
-        port: Port::Zero,
-    };
-    write_arrow(out, number, "", "dotted", dest)
+    write_arrow(out, number, "", style, dest)
 }

@@ -4,10 +4,9 @@ ghost use Rattle.std.specs.Prelude.{◌≡◌, ◌<◌, ◌≤◌, ◌^◌, ◌+
 ghost use Rattle.std.specs.List.{flat_map};
 ghost use Rattle.std.specs.Fmt.{decimal, signed_decimal};
 ghost use Rattle.id_instr.specs.Graph.{arcs_on};
-ghost use Rattle.id_graph.specs.Listing.{arithmetic_name, comparison_name, constant_text, dest_text, dests_text};
-ghost use Rattle.id_graph.specs.Listing.{dyadic_name, false_text, head_text, in_order, kind_name, line_text};
-ghost use Rattle.id_graph.specs.Listing.{lines_text, listing, op_name, op_text, place_text, port_number};
-ghost use Rattle.id_graph.specs.Listing.{truth_name, unary_name};
+ghost use Rattle.id_graph.specs.Listing.{constant_text, dest_text, dests_text, dyadic_name, false_text};
+ghost use Rattle.id_graph.specs.Listing.{head_text, in_order, kind_name, line_text, lines_text, listing, op_name};
+ghost use Rattle.id_graph.specs.Listing.{op_text, place_text, port_number, unary_name};
 
 use id_instr::{Dest, Dyadic, Graph, Instr, Op, Port, PortKind};
 use id_text::{Lines, MAX_BYTES};
@@ -83,11 +82,10 @@ fn write_arcs(out: &mut String, row: &mut Vec<Dest>, instr: &Instr) -> Result<()
     ensures { OnOk result (string_bytes out.new ≡ string_bytes out.old
         ++ codes " ->" ++ dests_text (arcs_on true instr.now) ++ false_text instr.now ++ codes "\n") }
 {
-    out.push_str(" ->")?;
+    put(out, " ->")?;
     write_sorted(out, row, instr.dests.as_slice())?;
     write_false(out, row, instr)?;
-    out.push_str("\n")?;
-    Ok(())
+    put(out, "\n")
 }
 
 /// Appends the destinations on the false side after a space and `|`, where there are two sides.
@@ -96,7 +94,7 @@ fn write_false(out: &mut String, row: &mut Vec<Dest>, instr: &Instr) -> Result<(
         (string_bytes out.new ≡ string_bytes out.old ++ false_text instr.now) }
 {
     if instr.op.two_sides() {
-        out.push_str(" |")?;
+        put(out, " |")?;
         write_sorted(out, row, instr.others.as_slice())?;
     }
     Ok(())
@@ -115,10 +113,9 @@ fn write_head(
         (string_bytes out.new ≡ string_bytes out.old ++ head_text lines.now number instr.now) }
 {
     write_number(out, number as u64)?;
-    out.push_str(" ")?;
+    put(out, " ")?;
     write_op(out, instr.op)?;
-    write_place(out, near, lines, instr.place)?;
-    Ok(())
+    write_place(out, near, lines, instr.place)
 }
 
 /// Appends a place after a space and `@`; `near` is the line of the last place, and then of this one.
@@ -144,7 +141,7 @@ fn write_after(out: &mut String, before: &str, number: u32) -> Result<(), AllocE
     ensures { OnOk result
         (string_bytes out.new ≡ string_bytes out.old ++ before.now ++ decimal number) }
 {
-    out.push_str(before)?;
+    put(out, before)?;
     write_number(out, number as u64)
 }
 
@@ -154,7 +151,15 @@ fn write_number(out: &mut String, number: u64) -> Result<(), AllocError>
     ensures { OnOk result (string_bytes out.new ≡ string_bytes out.old ++ decimal number) }
 {
     let mut buffer = Buffer::new();
-    out.push_str(buffer.format(number))
+    put(out, buffer.format(number))
+}
+
+/// Appends a text.
+#[inline(always)]
+pub fn put(out: &mut String, text: &str) -> Result<(), AllocError>
+    ensures { OnOk result (string_bytes out.new ≡ string_bytes out.old ++ text.now) }
+{
+    out.push_str(text)
 }
 
 /// Appends an operator with its parameters.
@@ -170,7 +175,7 @@ pub fn write_op(out: &mut String, op: Op) -> Result<(), AllocError>
             write_kind(out, op_name(op), kind)
         }
         Op::Unary(_) | Op::Binary(_) | Op::Alloc | Op::Address | Op::Store => {
-            out.push_str(op_name(op))
+            put(out, op_name(op))
         }
     }
 }
@@ -201,8 +206,8 @@ fn write_kind(out: &mut String, name: &str, kind: PortKind) -> Result<(), AllocE
     ensures { OnOk result
         (string_bytes out.new ≡ string_bytes out.old ++ name.now ++ kind_name kind) }
 {
-    out.push_str(name)?;
-    out.push_str(kind_name(kind))
+    put(out, name)?;
+    put(out, kind_name(kind))
 }
 
 /// Appends an `enter` with its two instructions.
@@ -230,8 +235,8 @@ fn write_const(out: &mut String, constant: Constant) -> Result<(), AllocError>
 {
     match constant {
         Constant::Int(number) => write_int(out, number),
-        Constant::Bool(true) => out.push_str("const true"),
-        Constant::Bool(false) => out.push_str("const false"),
+        Constant::Bool(true) => put(out, "const true"),
+        Constant::Bool(false) => put(out, "const false"),
     }
 }
 
@@ -241,8 +246,8 @@ fn write_int(out: &mut String, number: i64) -> Result<(), AllocError>
         (string_bytes out.new ≡ string_bytes out.old ++ codes "const " ++ signed_decimal number) }
 {
     let mut buffer = Buffer::new();
-    out.push_str("const ")?;
-    out.push_str(buffer.format(number))
+    put(out, "const ")?;
+    put(out, buffer.format(number))
 }
 
 /// The name of an operator on one value.
@@ -260,45 +265,21 @@ fn dyadic_name(operator: Dyadic) -> &'static str
     ensures { result.now ≡ dyadic_name operator }
 {
     match operator {
-        Dyadic::Arithmetic(operator) => arithmetic_name(operator),
-        Dyadic::Comparison(operator) => comparison_name(operator),
-        Dyadic::Truth(operator) => truth_name(operator),
-    }
-}
-
-fn arithmetic_name(operator: Arithmetic) -> &'static str
-    ensures { result.now ≡ arithmetic_name operator }
-{
-    match operator {
-        Arithmetic::Add => "add",
-        Arithmetic::Sub => "sub",
-        Arithmetic::Mul => "mul",
-        Arithmetic::Div => "div",
-        Arithmetic::Rem => "rem",
-    }
-}
-
-fn comparison_name(operator: Comparison) -> &'static str
-    ensures { result.now ≡ comparison_name operator }
-{
-    match operator {
-        Comparison::Lt => "lt",
-        Comparison::Le => "le",
-        Comparison::Gt => "gt",
-        Comparison::Ge => "ge",
-        Comparison::Eq => "eq",
-        Comparison::Ne => "ne",
-    }
-}
-
-fn truth_name(operator: Truth) -> &'static str
-    ensures { result.now ≡ truth_name operator }
-{
-    match operator {
-        Truth::Eqb => "eqb",
-        Truth::Neb => "neb",
-        Truth::And => "and",
-        Truth::Or => "or",
+        Dyadic::Arithmetic(Arithmetic::Add) => "add",
+        Dyadic::Arithmetic(Arithmetic::Sub) => "sub",
+        Dyadic::Arithmetic(Arithmetic::Mul) => "mul",
+        Dyadic::Arithmetic(Arithmetic::Div) => "div",
+        Dyadic::Arithmetic(Arithmetic::Rem) => "rem",
+        Dyadic::Comparison(Comparison::Lt) => "lt",
+        Dyadic::Comparison(Comparison::Le) => "le",
+        Dyadic::Comparison(Comparison::Gt) => "gt",
+        Dyadic::Comparison(Comparison::Ge) => "ge",
+        Dyadic::Comparison(Comparison::Eq) => "eq",
+        Dyadic::Comparison(Comparison::Ne) => "ne",
+        Dyadic::Truth(Truth::Eqb) => "eqb",
+        Dyadic::Truth(Truth::Neb) => "neb",
+        Dyadic::Truth(Truth::And) => "and",
+        Dyadic::Truth(Truth::Or) => "or",
     }
 }
 
@@ -346,7 +327,7 @@ fn write_dests(out: &mut String, dests: &[Dest]) -> Result<(), AllocError>
 {
     for dest in dests {
         write_after(out, " ", dest.instr)?;
-        out.push_str(port_text(dest.port))?;
+        put(out, port_text(dest.port))?;
     }
     Ok(())
 }
