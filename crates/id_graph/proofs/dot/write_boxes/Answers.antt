@@ -19,8 +19,8 @@ loop-number-preserved c =
     let k = c.loop-number.number in
     let below = rw c.instrs-instr-items.ensures.value at c.loop-number-test.true in
     let start = rw (c.requires.at k false below) at c.in_ok-write_start.ensures in
-    walk_on (boxes_text bs) (λ n i. start_text (is_begun bs n) n ++ box_text n i.op) (λ n i is. refl) k c.instrs-instr-items.result.now c.instr-item.result _ _ _
-    c.loop-number-test.true c.instr-item.is c.loop-number.invariant
+    walk_on (boxes_text bs) (λ n i. start_text (is_begun bs n) n ++ box_text n i.op) (λ n i is. refl) k c.instrs-instr-items.result.now c.instr-item.result
+    _ _ _ c.loop-number-test.true c.instr-item.is c.loop-number.invariant
     (two_by_one _ _ _ (start_text (is_begun bs k) k) (box_text k c.instr-item.result.op) start c.in_ok-write_box.ensures)
 
 pub returns : goal.returns

@@ -15,9 +15,11 @@ returns-in_ok-write_named-in-Enter c =
 pub returns-in-Send : goal.returns-in-Send
 returns-in-Send c =
     subst (λ (o : Op). OnOk c.write_named-in-Send.result
-    (string_bytes c.write_named-in-Send.new.out ≡ string_bytes c.args.out.now ++ names_text c.args.number o)) (sym c.in-Send.is) c.write_named-in-Send.ensures
+    (string_bytes c.write_named-in-Send.new.out ≡ string_bytes c.args.out.now ++ names_text c.args.number o)) (sym c.in-Send.is)
+    c.write_named-in-Send.ensures
 
 pub returns-in-Fetch : goal.returns-in-Fetch
 returns-in-Fetch c =
     subst (λ (o : Op). OnOk c.write_named-in-Fetch.result
-    (string_bytes c.write_named-in-Fetch.new.out ≡ string_bytes c.args.out.now ++ names_text c.args.number o)) (sym c.in-Fetch.is) c.write_named-in-Fetch.ensures
+    (string_bytes c.write_named-in-Fetch.new.out ≡ string_bytes c.args.out.now ++ names_text c.args.number o)) (sym c.in-Fetch.is)
+    c.write_named-in-Fetch.ensures
