@@ -13,19 +13,6 @@ use crate::listing::{port_number, put, put_in_order, write_op};
 use id_instr::{Block, Dest, Graph, Instr, Op, Port};
 use std::alloc::{AllocError, Global};
 
-/// What goes before all.
-const OPENING: &str = "digraph {\n\
-    graph [nodesep=0.15, ranksep=0.25];\n\
-    edge [arrowsize=0.5];\n\
-    node [shape=record, fontsize=10, height=0.2, margin=\"0.05,0.02\"];\n\
-    {\n";
-
-/// The style of an arrow to an instruction that is above or below as it falls.
-const NAMED: &str = "dotted, constraint=false";
-
-/// The style of an arrow down to the instruction that replies come to.
-const REPLY: &str = "dotted";
-
 /// The picture of a graph: a box for each instruction, a cluster for each block, an arrow for each destination.
 pub fn draw(alloc: Global, graph: &Graph) -> Result<String, AllocError>
     ensures { IfOk result (λ s. string_bytes s ≡ dot_text graph.now) }
@@ -54,7 +41,14 @@ fn write_all(
     requires { TellsBegun graph.now.blocks (length graph.now.instrs) marks.now }
     ensures { OnOk result (string_bytes out.new ≡ string_bytes out.old ++ dot_text graph.now) }
 {
-    put(out, OPENING)?;
+    put(
+        out,
+        "digraph {\n\
+        graph [nodesep=0.15, ranksep=0.25];\n\
+        edge [arrowsize=0.5];\n\
+        node [shape=record, fontsize=10, height=0.2, margin=\"0.05,0.02\"];\n\
+        {\n",
+    )?;
     write_boxes(out, marks, graph)?;
     put(out, "}\n")?;
     write_links(alloc, out, graph.instrs())?;
@@ -253,22 +247,17 @@ fn write_names(out: &mut String, number: usize, op: Op) -> Result<(), AllocError
 {
     match op {
         Op::Enter { block, reply } => {
-            write_named(out, number, NAMED, block)?;
-            write_named(out, number, REPLY, reply)
+            write_named(out, number, "dotted, constraint=false", block)?;
+            write_named(out, number, "dotted", reply)
         }
-        Op::Send { target, .. } => write_named(out, number, NAMED, target),
-        Op::Fetch { reply } => write_named(out, number, REPLY, reply),
+        Op::Send { target, .. } => write_named(out, number, "dotted, constraint=false", target),
+        Op::Fetch { reply } => write_named(out, number, "dotted", reply),
         _ => Ok(()),
     }
 }
 
 /// Appends an arrow in this style to the left port of the instruction of this number.
-fn write_named(
-    out: &mut String,
-    number: usize,
-    style: &str,
-    named: u32,
-) -> Result<(), AllocError>
+fn write_named(out: &mut String, number: usize, style: &str, named: u32) -> Result<(), AllocError>
     ensures { OnOk result (string_bytes out.new
         ≡ string_bytes out.old ++ arrow_text number [] style.now (record { instr = named; port = Zero })) }
 {
