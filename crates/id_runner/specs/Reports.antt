@@ -1,4 +1,4 @@
--- The report of a run of a text's program, and deliveries to a machine.
+-- The report of a run of a text's program, and how it is printed.
 use Rattle.std.specs.Prelude.{◌≡◌, ◌≤◌, ◌<◌, ◌+◌, ◌⊎◌, ℕ, Bool, IsTrue, IsFalse, List, [], ◌++◌, All, length}
 use Rattle.std.specs.Prelude.{Option, IfSome, Result, Ok, Err}
 use Rattle.id_check.specs.declared.checked.Checked.{Checked}

@@ -1,4 +1,4 @@
--- Runs of the engine: which messages are delivered, and what is printed of them (docs/PROMISES.md, "The run").
+-- Runs of the engine: how they end, and what is printed of them (docs/PROMISES.md, "The run").
 use Rattle.std.specs.Prelude.{◌≡◌, ◌≢◌, ◌≤◌, ◌+◌, ℕ, Bool, IsTrue, IsFalse, List, [], ◌++◌}
 use Rattle.std.specs.Prelude.{All, length}
 use Rattle.std.specs.Prelude.{Option, Ok}
