@@ -8,5 +8,5 @@
 
 mod run;
 
-pub use id_compile::{Prepared, prepare};
+pub use id_prepare::{Prepared, prepare};
 pub use run::{MAX_STEPS, engine, printed_alike};

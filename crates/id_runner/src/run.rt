@@ -19,9 +19,10 @@ ghost use Rattle.id_runner.specs.Reports.{IsReportFrom, PrintsRun, RunsSo};
 ghost use Rattle.id_runner.specs.Reports.{AreReportsWithin, PrintsEvents, PrintsMachine, status_of};
 ghost use Rattle.id_runner.specs.Runs.{IsTraceOf, Ran};
 
-use id_compile::{EngineError, Prepared, prepare};
+use id_compile::EngineError;
 use id_core::{MAX_ELEMENTS, Machine, MachineError, Merged, merge_records};
 use id_inputs::Inputs;
+use id_prepare::{Prepared, prepare};
 use id_print::{Ending, PrintError, Report, Sink, run_report, write_report, write_trace};
 use id_turns::run_machine;
 use id_valid::Valid;

@@ -5,7 +5,7 @@ use Rattle.id_compile.specs.Programs.{CompiledView, IsPlacedWithin, IsProgramOf}
 use Rattle.id_compile.specs.Refusals.{AreRefusedFor, IsInsideOf, IsRefusedSource}
 use Rattle.id_compile.specs.Refusals.IsRefusedSource.{by_text, by_words}
 use Rattle.id_compile.proofs.AnsweredLemmas.{if_err, if_ok, late_words, on_ok}
-use Rattle.id_compile.proofs.prepared.prepare.Goals as goal
+use Rattle.id_prepare.proofs.prepared.prepare.Goals as goal
 
 pub returns-in-Ok : goal.returns-in-Ok
 returns-in-Ok c = record {

@@ -3,7 +3,7 @@ use Rattle.id_check.specs.declared.checked.Checked.{Checked}
 use Rattle.id_source.specs.Sources.{AreInputs}
 use Rattle.id_inputs.specs.Inputs.{AreInputsOf}
 use Rattle.id_compile.specs.Refusals.{AreRefusedFor}
-use Rattle.id_compile.proofs.prepared.with_inputs.Goals as goal
+use Rattle.id_prepare.proofs.prepared.with_inputs.Goals as goal
 
 pub returns-in-Ok-clause-inputs : goal.returns-in-Ok-clause-inputs
 returns-in-Ok-clause-inputs c =

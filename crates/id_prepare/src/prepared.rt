@@ -7,9 +7,8 @@ ghost use Rattle.id_pieces.specs.Rows.{size};
 ghost use Rattle.id_compile.specs.Programs.{IsPlacedWithin, IsProgramOf};
 ghost use Rattle.id_compile.specs.Refusals.{AreRefusedFor, IsInsideOf, IsRefusedSource};
 
-use crate::compiled::{Compiled, compile};
-use crate::error::EngineError;
 use id_check::Checked;
+use id_compile::{Compiled, EngineError, compile};
 use id_inputs::{InputError, Inputs, param_name, read_inputs};
 use std::alloc::Global;
 
