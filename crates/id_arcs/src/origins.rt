@@ -1,7 +1,7 @@
 //! Where values come from (docs/GRAPH.md, "Sources").
 
 ghost use Rattle.std.specs.Prelude.{◌≡◌, ◌<◌, ◌^◌};
-ghost use Rattle.id_pieces.specs.Rows.{handed_by, name_in, named_in, node, origin, origin_of, output, reply};
+ghost use Rattle.id_pieces.specs.Rows.{handed_by, name_in, named_in, node, origin, output, reply};
 ghost use Rattle.id_pieces.specs.Rows.{same_region, trigger_of};
 ghost use Rattle.id_pieces.specs.Slots.{AreSlots};
 

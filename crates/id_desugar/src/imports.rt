@@ -2,7 +2,7 @@
 //! inner one is found before that of the one round it, which takes it over. A loop's own first values are among it,
 //! since what is round the loop uses them; they are no imports of the loop, which are gathered after that.
 
-ghost use Rattle.std.specs.Prelude.{◌≡◌, ◌↔◌, IsTrue, ◌≤◌, ◌<◌, ◌+◌, ◌-◌, ◌⊎◌, ◌++◌, true, [], length, get_or};
+ghost use Rattle.std.specs.Prelude.{◌≡◌, ◌↔◌, IsTrue, ◌≤◌, ◌<◌, ◌+◌, ◌-◌, ◌⊎◌, true, [], length, get_or};
 ghost use Rattle.std.specs.Prelude.{replicate, IfOk, IfSome, OnOk, Some, None};
 ghost use Rattle.id_check.specs.Programs as programs;
 ghost use Rattle.id_desugar.specs.Ends.{AreEnds, AreNexts, end_row};

@@ -1,6 +1,6 @@
 //! The commands that run nothing: whether a text is accepted, its graph, its facts.
 
-ghost use Rattle.std.specs.Prelude.{◌≡◌, ◌≢◌, ◌≤◌, length, map, IfOk, IfErr, OnOk, Some, string_bytes};
+ghost use Rattle.std.specs.Prelude.{◌≡◌, ◌≢◌, ◌≤◌, length, map, IfOk, IfErr, OnOk, string_bytes};
 ghost use Rattle.id_pieces.specs.Schemas.{Schemas};
 ghost use Rattle.id_source.specs.Computed.{AreFacts};
 ghost use Rattle.id_source.specs.Sources.{AreInputs, source};

@@ -59,7 +59,7 @@ impl Model for Ledger {
 }
 
 impl Ledger {
-    ghost use Rattle.std.specs.Prelude.{◌≡◌, ◌<◌, ◌%◌, ◌^◌, ◌++◌, ◌∷◌, [], length, slice_get};
+    ghost use Rattle.std.specs.Prelude.{◌≡◌, ◌<◌, ◌++◌, ◌∷◌, [], length, slice_get};
     ghost use Rattle.std.specs.Prelude.{IfSome, IsFalse, IsTrue, None, OnOk, Some};
     ghost use Rattle.id_ops.specs.Shots.{IsBrief, IsOwn};
     ghost use Rattle.id_line.specs.Lines.{IsPacked};

@@ -1,9 +1,9 @@
 //! Which rows' facts lead to facts of which rows (docs/MEANING.md, "Rules").
 
-ghost use Rattle.std.specs.Prelude.{◌≡◌, ◌<◌, [], ◌∷◌, ◌++◌, length, IfOk, OnOk};
+ghost use Rattle.std.specs.Prelude.{◌≡◌, ◌<◌, [], ◌∷◌, ◌++◌, IfOk, OnOk};
 ghost use Rattle.id_table.specs.Rows.{at};
 ghost use Rattle.id_check.specs.Programs.{binder, rows};
-ghost use Rattle.id_links.specs.Links.{AreArgs, AreOpen, AreReads, AreTurns, Gains, GainsFrom, GainsTo, Statements};
+ghost use Rattle.id_links.specs.Links.{AreArgs, AreReads, AreTurns, Gains, GainsFrom, GainsTo, Statements};
 ghost use Rattle.id_links.specs.Links.{StatementsRise, TakesAll, asker_of, awaited, beyond, far, far_from, index_of};
 ghost use Rattle.id_links.specs.Links.{linked_of, nexts_turned, parts_turned, some_row, store_parts, switches_of};
 ghost use Rattle.id_links.specs.Links.{target_of, test_of};

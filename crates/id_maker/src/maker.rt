@@ -1,6 +1,6 @@
 //! The maker of the table: the row of each form, behind those of its parts.
 
-ghost use Rattle.std.specs.Prelude.{ℕ, ◌≡◌, ◌+◌, ◌∷◌, [], codes, length, true, IfOk, OnOk};
+ghost use Rattle.std.specs.Prelude.{◌≡◌, ◌+◌, ◌∷◌, [], codes, length, true, IfOk, OnOk};
 ghost use Rattle.id_grammar.specs.Tree.{literal, name as name_tree, params_tree};
 ghost use Rattle.id_table.specs.Names.{number_of, with_name};
 ghost use Rattle.id_table.specs.Rows.{arm, in_top, value_of, with_row, add, naming};

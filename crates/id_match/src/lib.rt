@@ -18,7 +18,6 @@ ghost use Rattle.id_instr.specs.declared.dests.Port.{Port};
 ghost use Rattle.id_tag.specs.declared.plain.Plain.{Plain};
 ghost use Rattle.id_front.specs.declared.Met.TheVariants as meeting;
 ghost use Rattle.id_front.specs.declared.Offered.TheVariants.{Kept, Taken, Pair as Both};
-ghost use Rattle.id_front.specs.Waiting.{pair_of};
 ghost use Rattle.id_front.specs.Halves.{answer_at, half_after};
 ghost use Rattle.id_front.specs.Meetings.{told};
 ghost use Rattle.id_tag.specs.Plains.{tag_in, whole};

@@ -19,7 +19,6 @@ ghost use Rattle.id_front.specs.declared.Offered.TheVariants.{Kept, Taken};
 ghost use Rattle.id_match.specs.declared.rear.Came.TheVariants as coming;
 ghost use Rattle.id_front.specs.Front.{half_entry};
 ghost use Rattle.id_front.specs.Waiting.{entry_at, pair_of};
-ghost use Rattle.id_front.specs.Halves.{answer_at, half_after};
 ghost use Rattle.id_front.specs.Meetings.{told};
 ghost use Rattle.id_match.specs.Rear.{IsFramed, IsOffered, IsOfferedAt, Sets, after_came, frame_entries, halves_in};
 ghost use Rattle.id_match.specs.Rear.{TellsOf, WritesFrame, name_of, rear_entries, rear_half, said, same_name, tag_at};

@@ -52,83 +52,13 @@ pub fn run_report(alloc: Global, machine: &Machine<'_>, named: bool) -> Result<R
         (λ r. AreApartBy OfOneFetch (waiting machine.now.graph machine.now.world) → Rises WaitBefore r.waiting) }
 {
     let ending = ending_of(alloc, machine)?;
-    report_with(alloc, machine, named, ending)
-}
-
-/// The report of a run that ended so.
-fn report_with(
-    alloc: Global,
-    machine: &Machine<'_>,
-    named: bool,
-    ending: Ending,
-) -> Result<Report, AllocError>
-    ensures ending { IfOk result (λ r. r.ending ≡ ending) }
-    ensures answer { IfOk result (λ r. r.answer ≡ answer machine.now.graph machine.now.world) }
-    ensures names { IfOk result (λ r. IsTrue named → IsSortedOf r.names (names machine.now.graph machine.now.world)) }
-    ensures rise { IfOk result
-        (λ r. IsTrue named → AreApart (names machine.now.graph machine.now.world) → NamesRise r.names) }
-    ensures none { IfOk result (λ r. IsFalse named → r.names ≡ []) }
-    ensures held { IfOk result (λ r. IsOrderOf HeldBefore r.structures (held_lines machine.now)) }
-    ensures held_rise { IfOk result
-        (λ r. AreApartBy OfOneThing (held_lines machine.now) → Rises HeldBefore r.structures) }
-    ensures waiting { IfOk result
-        (λ r. IsOrderOf WaitBefore r.waiting (waiting machine.now.graph machine.now.world)) }
-    ensures waiting_rise { IfOk result
-        (λ r. AreApartBy OfOneFetch (waiting machine.now.graph machine.now.world) → Rises WaitBefore r.waiting) }
-{
-    let lists = lists_of(alloc, machine, named)?;
-    Ok(report_of(ending, lists))
-}
-
-/// The report of a run that ended so and shows these.
-fn report_of(ending: Ending, lists: Lists) -> Report
-    ensures { result ≡ record {
-      ending = ending;
-      answer = lists.answer;
-      names = lists.names;
-      structures = lists.lines;
-      waiting = lists.waiting;
-    } }
-{
-    Report {
-        ending,
-        answer: lists.answer,
-        names: lists.names,
-        structures: lists.lines,
-        waiting: lists.waiting,
-    }
-}
-
-/// The answer, what binders have, the lines of structures and cells, and the fetches that wait, in order.
-#[derive(Drop)]
-struct Lists {
-    answer: Option<SourceValue>,
-    names: Sequence<NameValue>,
-    lines: Helds,
-    waiting: Sequence<Ask>,
-}
-
-/// What a run shows, in order, of what binders have where that is asked for.
-fn lists_of(alloc: Global, machine: &Machine<'_>, named: bool) -> Result<Lists, AllocError>
-    ensures answer { IfOk result (λ r. r.answer ≡ answer machine.now.graph machine.now.world) }
-    ensures names { IfOk result (λ r. IsTrue named → IsSortedOf r.names (names machine.now.graph machine.now.world)) }
-    ensures rise { IfOk result
-        (λ r. IsTrue named → AreApart (names machine.now.graph machine.now.world) → NamesRise r.names) }
-    ensures none { IfOk result (λ r. IsFalse named → r.names ≡ []) }
-    ensures held { IfOk result (λ r. IsOrderOf HeldBefore r.lines (held_lines machine.now)) }
-    ensures held_rise { IfOk result
-        (λ r. AreApartBy OfOneThing (held_lines machine.now) → Rises HeldBefore r.lines) }
-    ensures waiting { IfOk result
-        (λ r. IsOrderOf WaitBefore r.waiting (waiting machine.now.graph machine.now.world)) }
-    ensures waiting_rise { IfOk result
-        (λ r. AreApartBy OfOneFetch (waiting machine.now.graph machine.now.world) → Rises WaitBefore r.waiting) }
-{
     let names = asked_names(alloc, machine, named)?;
     let held = machine_held(alloc, machine)?;
-    Ok(Lists {
+    Ok(Report {
+        ending,
         answer: held.answer,
         names,
-        lines: held.lines,
+        structures: held.lines,
         waiting: held.waiting,
     })
 }

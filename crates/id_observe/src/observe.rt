@@ -17,7 +17,6 @@ ghost use Rattle.id_paths.specs.Paths.{structure_by};
 ghost use Rattle.id_observed.specs.Observed.{structures_in, waiting_in};
 ghost use Rattle.id_paths.specs.Paths.{path_by};
 
-use id_bank::Cells;
 use id_element::Element;
 use id_list::Sequence;
 use id_observed::{all_cells, all_faults, all_names, all_structures, all_waiting};

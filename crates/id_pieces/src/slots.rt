@@ -1,12 +1,12 @@
 //! Where an import stands among those of its head: by a look through the list where it is short, and else by one
 //! look-up for each use (docs/GRAPH.md, "Sources").
 
-ghost use Rattle.std.specs.Prelude.{◌≡◌, ◌<◌, ◌^◌, ◌==◌, None, if◌then◌else◌, nat_lt, IfErr, IfOk, OnOk};
+ghost use Rattle.std.specs.Prelude.{◌≡◌, ◌<◌, ◌^◌, ◌==◌, None, IfErr, IfOk, OnOk};
 ghost use Rattle.std.specs.HashMap.{get};
 ghost use Rattle.std.specs.Option.{option_or};
 ghost use Rattle.id_desugar.specs.Regions as regions;
 ghost use Rattle.id_pieces.specs.Rows.{slot_of};
-ghost use Rattle.id_pieces.specs.Slots.{AreColumns, AreShort, AreSlots, found, noted, noted_all, same_import};
+ghost use Rattle.id_pieces.specs.Slots.{AreColumns, AreShort, AreSlots, noted, noted_all, same_import};
 
 use crate::columns::Columns;
 use crate::error::BuildError;
