@@ -21,6 +21,7 @@ use Rattle.id_ops.specs.declared.Fired.TheVariants.{Out}
 use Rattle.id_line.specs.Events.{EventView, tag_of}
 use Rattle.id_paths.specs.declared.paths.Making.{Making}
 use Rattle.id_paths.specs.declared.paths.Paths.{Paths}
+use Rattle.id_paths.specs.declared.paths.Tables.{Tables}
 use Rattle.id_source.specs.declared.Path.{Path}
 use Rattle.id_source.specs.declared.PathStep.{PathStep}
 use Rattle.std.specs.Prelude.{unwrap_or}
@@ -175,6 +176,21 @@ DoAlike g h = (n : ℕ) → is_alike (op_at g n) (op_at h n) ≡ true
 -- the events at these positions
 abbrev pub events_at : List EventView → List ℕ → List EventView
 events_at es ks = filter_map (slice_get es) ks
+
+-- the tables tell what these events do
+pub record AreTold (g : Parts) (es : List EventView) (t : Tables) : Type 0 where
+  pub enters : (c : Context) → get same_context t.enters c ≡ enter_in g es c
+  pub makers : (s : Structure) → get same_structure t.makers s ≡ maker_in g es s
+  pub makings : t.makings.items ≡ makings_of g es
+  pub values : t.values.items ≡ answers es
+
+-- and what they tell was added to the old tables
+pub record Adds (g : Parts) (es : List EventView) (old new : Tables) : Type 0 where
+  pub enters : (c : Context) → get same_context new.enters c ≡ option_or (enter_in g es c) (get same_context old.enters c)
+  pub makers : (s : Structure)
+      → get same_structure new.makers s ≡ option_or (maker_in g es s) (get same_structure old.makers s)
+  pub makings : new.makings.items ≡ old.makings.items ++ makings_of g es
+  pub values : new.values.items ≡ old.values.items ++ answers es
 
 -- the path of a tag, where these tables tell under which tag each context was entered, and how many steps it has at
 -- most

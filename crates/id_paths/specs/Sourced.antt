@@ -1,5 +1,5 @@
 -- What values and steps are in the source, where each tag has a path and each structure a name.
-use Rattle.std.specs.Prelude.{Bool, List, Option, Some, None}
+use Rattle.std.specs.Prelude.{List, Option, Some, None}
 use Rattle.std.specs.Prelude.{ℤ}
 use Rattle.std.specs.declared.cmp.Ordering.{Ordering}
 use Rattle.std.specs.declared.cmp.Ordering.TheVariants.{Less, Equal, Greater}

@@ -8,11 +8,11 @@ ghost use Rattle.std.specs.HashMap.{get};
 ghost use Rattle.id_tag.specs.Tags.{same_context, same_structure};
 ghost use Rattle.id_line.specs.Events.{EventView, tag_of};
 ghost use Rattle.id_valid.specs.Roles.{op_at};
-ghost use Rattle.id_paths.specs.Paths.{answers, brought, events_of, main_tag, place_of};
-ghost use Rattle.id_paths.specs.Paths.{enter_in, entered, entered_by, enters_loop, if_made, if_same, last_context};
+ghost use Rattle.id_paths.specs.Paths.{Adds, AreTold, brought, events_of, main_tag, place_of};
+ghost use Rattle.id_paths.specs.Paths.{entered, entered_by, enters_loop, if_made, if_same, last_context};
 ghost use Rattle.id_paths.specs.Paths.{DoAlike, events_at, is_alike};
-ghost use Rattle.id_paths.specs.Paths.{enter_of, is_alloc, is_enter, made_by, maker_in, maker_of};
-ghost use Rattle.id_paths.specs.Paths.{making_of, makings_of, step_of, steps_to};
+ghost use Rattle.id_paths.specs.Paths.{enter_of, is_alloc, is_enter, made_by, maker_of};
+ghost use Rattle.id_paths.specs.Paths.{making_of, step_of, steps_to};
 
 use id_element::{Element, op_at};
 use id_instr::{Graph, Op};
@@ -31,42 +31,26 @@ pub struct Making {
     pub tag: Tag,
 }
 
-/// Adds the tags under which the events of an element entered contexts and made structures, those structures, and the
-/// values that they brought to the answer. Where the element's graph does so by the same instructions, which is this
-/// graph mostly, only the events that tell are looked at.
-fn add_record(
-    graph: &Graph,
-    element: &Element<'_>,
-    enters: &mut HashMap<Context, Tag, NearHasher>,
-    makers: &mut HashMap<Structure, Tag, NearHasher>,
-    makings: &mut Vec<Making>,
-    values: &mut Vec<Value>,
-) -> Result<(), AllocError>
-    ensures enters { OnOk result
-        ((c : Context)
-        → get same_context enters.new c
-        ≡ option_or (enter_in graph.now element.now.state.events c) (get same_context enters.old c)) }
-    ensures makers { OnOk result
-        ((s : Structure)
-        → get same_structure makers.new s
-        ≡ option_or (maker_in graph.now element.now.state.events s) (get same_structure makers.old s)) }
-    ensures makings { OnOk result
-        (makings.new.items ≡ makings.old.items ++ makings_of graph.now element.now.state.events) }
-    ensures values { OnOk result (values.new.items ≡ values.old.items ++ answers element.now.state.events) }
+/// What events tell: under which tag each context was entered and each structure was made, those structures, and the
+/// values that came to the answer.
+#[derive(Drop)]
+struct Tables {
+    enters: HashMap<Context, Tag, NearHasher>,
+    makers: HashMap<Structure, Tag, NearHasher>,
+    makings: Vec<Making>,
+    values: Vec<Value>,
+}
+
+/// Adds what the events of an element tell. Where the element's graph enters contexts and makes structures by the same
+/// instructions, which is this graph mostly, only the events that tell are looked at.
+fn add_record(graph: &Graph, element: &Element<'_>, tables: &mut Tables) -> Result<(), AllocError>
+    ensures { OnOk result (Adds graph.now element.now.state.events tables.old tables.new) }
 {
     let events = element.events();
     if does_alike(graph, element.graph().graph()) {
-        add_events(
-            graph,
-            &events,
-            events.telling(),
-            enters,
-            makers,
-            makings,
-            values,
-        )
+        add_events(graph, &events, events.telling(), tables)
     } else {
-        add_each(graph, &events, enters, makers, makings, values)
+        add_each(graph, &events, tables)
     }
 }
 
@@ -101,26 +85,11 @@ fn is_alike(op: Option<Op>, other: Option<Op>) -> bool
 }
 
 /// Adds what these events tell, of which each is looked at.
-fn add_each(
-    graph: &Graph,
-    events: &Events<'_>,
-    enters: &mut HashMap<Context, Tag, NearHasher>,
-    makers: &mut HashMap<Structure, Tag, NearHasher>,
-    makings: &mut Vec<Making>,
-    values: &mut Vec<Value>,
-) -> Result<(), AllocError>
-    ensures enters { OnOk result
-        ((c : Context)
-        → get same_context enters.new c ≡ option_or (enter_in graph.now events.now c) (get same_context enters.old c)) }
-    ensures makers { OnOk result
-        ((s : Structure)
-        → get same_structure makers.new s
-        ≡ option_or (maker_in graph.now events.now s) (get same_structure makers.old s)) }
-    ensures makings { OnOk result (makings.new.items ≡ makings.old.items ++ makings_of graph.now events.now) }
-    ensures values { OnOk result (values.new.items ≡ values.old.items ++ answers events.now) }
+fn add_each(graph: &Graph, events: &Events<'_>, tables: &mut Tables) -> Result<(), AllocError>
+    ensures { OnOk result (Adds graph.now events.now tables.old tables.new) }
 {
     for position in 0..events.len() {
-        add_events(graph, events, &[position], enters, makers, makings, values)?;
+        add_events(graph, events, &[position], tables)?;
     }
     Ok(())
 }
@@ -130,30 +99,24 @@ fn add_events(
     graph: &Graph,
     events: &Events<'_>,
     positions: &[usize],
-    enters: &mut HashMap<Context, Tag, NearHasher>,
-    makers: &mut HashMap<Structure, Tag, NearHasher>,
-    makings: &mut Vec<Making>,
-    values: &mut Vec<Value>,
+    tables: &mut Tables,
 ) -> Result<(), AllocError>
     requires { All (λ k. k < length events.now) positions.now }
-    ensures enters { OnOk result
-        ((c : Context)
-        → get same_context enters.new c
-        ≡ option_or (enter_in graph.now (events_at events.now positions.now) c) (get same_context enters.old c)) }
-    ensures makers { OnOk result
-        ((s : Structure)
-        → get same_structure makers.new s
-        ≡ option_or (maker_in graph.now (events_at events.now positions.now) s) (get same_structure makers.old s)) }
-    ensures makings { OnOk result
-        (makings.new.items ≡ makings.old.items ++ makings_of graph.now (events_at events.now positions.now)) }
-    ensures values { OnOk result (values.new.items ≡ values.old.items ++ answers (events_at events.now positions.now)) }
+    ensures { OnOk result (Adds graph.now (events_at events.now positions.now) tables.old tables.new) }
 {
     for position in positions {
         let number = events.instr(*position);
         let op = op_at(graph, number);
-        add_enter_at(graph, op, events, *position, enters)?;
-        add_maker_at(graph, op, events, *position, makers, makings)?;
-        add_value_at(number, events, *position, values)?;
+        add_enter_at(graph, op, events, *position, &mut tables.enters)?;
+        add_maker_at(
+            graph,
+            op,
+            events,
+            *position,
+            &mut tables.makers,
+            &mut tables.makings,
+        )?;
+        add_value_at(number, events, *position, &mut tables.values)?;
     }
     Ok(())
 }
@@ -413,15 +376,15 @@ impl<'a> Paths<'a> {
         ensures values { IfOk result
             (λ p. p.values.items ≡ answers (events_of (map (λ e. e.state) elements.now))) }
     {
-        let (enters, makers, makings, values) = all_records(alloc, graph, elements)?;
+        let tables = all_records(alloc, graph, elements)?;
         let most = count_events(elements);
         Ok(Paths {
             graph,
-            enters,
-            makers,
-            makings,
+            enters: tables.enters,
+            makers: tables.makers,
+            makings: tables.makings,
             most,
-            values,
+            values: tables.values,
         })
     }
 
@@ -472,46 +435,20 @@ impl<'a> Paths<'a> {
     }
 }
 
-/// The tags under which the records of these elements tell that contexts were entered, those under which structures
-/// were made, those structures, and the values that came to the answer, one record after another.
-fn all_records(
-    alloc: Global,
-    graph: &Graph,
-    elements: &[Element<'_>],
-) -> Result<
-    (
-        HashMap<Context, Tag, NearHasher>,
-        HashMap<Structure, Tag, NearHasher>,
-        Vec<Making>,
-        Vec<Value>,
-    ),
-    AllocError,
->
-    ensures enters { IfOk result
-        (λ m. (c : Context)
-        → get same_context m.0 c ≡ enter_in graph.now (events_of (map (λ e. e.state) elements.now)) c) }
-    ensures makers { IfOk result
-        (λ m. (s : Structure)
-        → get same_structure m.1 s ≡ maker_in graph.now (events_of (map (λ e. e.state) elements.now)) s) }
-    ensures makings { IfOk result
-        (λ m. m.2.items ≡ makings_of graph.now (events_of (map (λ e. e.state) elements.now))) }
-    ensures values { IfOk result (λ m. m.3.items ≡ answers (events_of (map (λ e. e.state) elements.now))) }
+/// What the records of these elements tell, one record after another.
+fn all_records(alloc: Global, graph: &Graph, elements: &[Element<'_>]) -> Result<Tables, AllocError>
+    ensures { IfOk result (AreTold graph.now (events_of (map (λ e. e.state) elements.now))) }
 {
-    let mut enters = HashMap::with_hasher(alloc, NearHasher::new());
-    let mut makers = HashMap::with_hasher(alloc, NearHasher::new());
-    let mut makings = Vec::new(alloc);
-    let mut values = Vec::new(alloc);
+    let mut tables = Tables {
+        enters: HashMap::with_hasher(alloc, NearHasher::new()),
+        makers: HashMap::with_hasher(alloc, NearHasher::new()),
+        makings: Vec::new(alloc),
+        values: Vec::new(alloc),
+    };
     for element in elements {
-        add_record(
-            graph,
-            element,
-            &mut enters,
-            &mut makers,
-            &mut makings,
-            &mut values,
-        )?;
+        add_record(graph, element, &mut tables)?;
     }
-    Ok((enters, makers, makings, values))
+    Ok(tables)
 }
 
 /// How many events these elements have in their records. 128 bits hold the sum of as many lengths as a slice can have.

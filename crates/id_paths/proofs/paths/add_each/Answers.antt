@@ -15,10 +15,10 @@ use Rattle.id_paths.proofs.paths.add_each.Goals as goal
 
 pub loop-position-init : goal.loop-position-init
 loop-position-init c = record {
-  enters = λ d. ap (λ o. option_or o (get same_context c.args.enters.now d)) (sym (enter_in-none c.args.graph.now d));
-  makers = λ d. ap (λ o. option_or o (get same_structure c.args.makers.now d)) (sym (maker_in-none c.args.graph.now d));
-  makings = sym (append-nil c.args.makings.now.items);
-  values = sym (append-nil c.args.values.now.items);
+  enters = λ d. ap (λ o. option_or o (get same_context c.args.tables.now.enters d)) (sym (enter_in-none c.args.graph.now d));
+  makers = λ d. ap (λ o. option_or o (get same_structure c.args.tables.now.makers d)) (sym (maker_in-none c.args.graph.now d));
+  makings = sym (append-nil c.args.tables.now.makings.items);
+  values = sym (append-nil c.args.tables.now.values.items);
 }
 
 pub loop-position-preserved : goal.loop-position-preserved
@@ -32,13 +32,13 @@ loop-position-preserved c =
     let more = take-next es i e there.1 in
     record {
       enters = λ d.
-          c.in_ok-add_events.ensures.enters d ∙ ap (λ xs. option_or (enter_in g xs d) (get same_context c.loop-position.enters d)) one
-          ∙ ap (λ o. option_or o (get same_context c.loop-position.enters d)) (enter_in-one g e d)
-          ∙ ap (option_or (enter_of g e d)) (c.loop-position.invariant.enters d) ∙ sym (enter_in-more g _ _ e d (get same_context c.args.enters.now d) more);
+          c.in_ok-add_events.ensures.enters d ∙ ap (λ xs. option_or (enter_in g xs d) (get same_context c.loop-position.tables.enters d)) one
+          ∙ ap (λ o. option_or o (get same_context c.loop-position.tables.enters d)) (enter_in-one g e d)
+          ∙ ap (option_or (enter_of g e d)) (c.loop-position.invariant.enters d) ∙ sym (enter_in-more g _ _ e d (get same_context c.args.tables.now.enters d) more);
       makers = λ d.
-          c.in_ok-add_events.ensures.makers d ∙ ap (λ xs. option_or (maker_in g xs d) (get same_structure c.loop-position.makers d)) one
-          ∙ ap (λ o. option_or o (get same_structure c.loop-position.makers d)) (maker_in-one g e d)
-          ∙ ap (option_or (maker_of g e d)) (c.loop-position.invariant.makers d) ∙ sym (maker_in-more g _ _ e d (get same_structure c.args.makers.now d) more);
+          c.in_ok-add_events.ensures.makers d ∙ ap (λ xs. option_or (maker_in g xs d) (get same_structure c.loop-position.tables.makers d)) one
+          ∙ ap (λ o. option_or o (get same_structure c.loop-position.tables.makers d)) (maker_in-one g e d)
+          ∙ ap (option_or (maker_of g e d)) (c.loop-position.invariant.makers d) ∙ sym (maker_in-more g _ _ e d (get same_structure c.args.tables.now.makers d) more);
       makings =
           rw (c.in_ok-add_events.ensures.makings, one, c.loop-position.invariant.makings, filter_map-next (making_of g) es i e there.1, append_assoc);
       values =
@@ -53,20 +53,15 @@ loop-position-preserved c =
 
 -- an error tells nothing
 pub returns-in_err-add_events : goal.returns-in_err-add_events
-returns-in_err-add_events c = record {
-  enters = on_ok _ c.from_residual.result c.from_residual.ensures.0;
-  makers = on_ok _ c.from_residual.result c.from_residual.ensures.0;
-  makings = on_ok _ c.from_residual.result c.from_residual.ensures.0;
-  values = on_ok _ c.from_residual.result c.from_residual.ensures.0;
-}
+returns-in_err-add_events c = on_ok _ c.from_residual.result c.from_residual.ensures.0
 
 pub returns : goal.returns
 returns c =
     let g = c.args.graph.now in
     let all = take_all c.loop-position.position c.args.events.now (omega (arith, c.loop-position-test.false, c.len-position-end.ensures)) in
     record {
-      enters = λ d. c.loop-position.invariant.enters d ∙ ap (λ es. option_or (enter_in g es d) (get same_context c.args.enters.now d)) all;
-      makers = λ d. c.loop-position.invariant.makers d ∙ ap (λ es. option_or (maker_in g es d) (get same_structure c.args.makers.now d)) all;
-      makings = c.loop-position.invariant.makings ∙ ap (λ es. c.args.makings.now.items ++ makings_of g es) all;
-      values = c.loop-position.invariant.values ∙ ap (λ es. c.args.values.now.items ++ answers es) all;
+      enters = λ d. c.loop-position.invariant.enters d ∙ ap (λ es. option_or (enter_in g es d) (get same_context c.args.tables.now.enters d)) all;
+      makers = λ d. c.loop-position.invariant.makers d ∙ ap (λ es. option_or (maker_in g es d) (get same_structure c.args.tables.now.makers d)) all;
+      makings = c.loop-position.invariant.makings ∙ ap (λ es. c.args.tables.now.makings.items ++ makings_of g es) all;
+      values = c.loop-position.invariant.values ∙ ap (λ es. c.args.tables.now.values.items ++ answers es) all;
     }

@@ -16,10 +16,10 @@ use Rattle.id_paths.proofs.paths.add_events.Goals as goal
 
 pub loop-position-init : goal.loop-position-init
 loop-position-init c = record {
-  enters = λ d. ap (λ o. option_or o (get same_context c.args.enters.now d)) (sym (enter_in-none c.args.graph.now d));
-  makers = λ d. ap (λ o. option_or o (get same_structure c.args.makers.now d)) (sym (maker_in-none c.args.graph.now d));
-  makings = sym (append-nil c.args.makings.now.items);
-  values = sym (append-nil c.args.values.now.items);
+  enters = λ d. ap (λ o. option_or o (get same_context c.args.tables.now.enters d)) (sym (enter_in-none c.args.graph.now d));
+  makers = λ d. ap (λ o. option_or o (get same_structure c.args.tables.now.makers d)) (sym (maker_in-none c.args.graph.now d));
+  makings = sym (append-nil c.args.tables.now.makings.items);
+  values = sym (append-nil c.args.tables.now.values.items);
 }
 
 pub loop-position-preserved : goal.loop-position-preserved
@@ -32,10 +32,10 @@ loop-position-preserved c =
     record {
       enters = λ d.
           c.in_ok-add_enter_at.ensures e there.1 d ∙ ap (option_or (enter_of g e d)) (c.loop-position.invariant.enters d)
-          ∙ sym (enter_in-more g _ _ e d (get same_context c.args.enters.now d) more);
+          ∙ sym (enter_in-more g _ _ e d (get same_context c.args.tables.now.enters d) more);
       makers = λ d.
           c.in_ok-add_maker_at.ensures.makers e there.1 d ∙ ap (option_or (maker_of g e d)) (c.loop-position.invariant.makers d)
-          ∙ sym (maker_in-more g _ _ e d (get same_structure c.args.makers.now d) more);
+          ∙ sym (maker_in-more g _ _ e d (get same_structure c.args.tables.now.makers d) more);
       makings =
           rw (c.in_ok-add_maker_at.ensures.makings e there.1, c.loop-position.invariant.makings, filter_map-more (making_of g) _ _ e more, append_assoc);
       values =
@@ -50,28 +50,13 @@ loop-position-preserved c =
 -- an error tells nothing
 
 pub returns-in_err-add_enter_at : goal.returns-in_err-add_enter_at
-returns-in_err-add_enter_at c = record {
-  enters = on_ok _ c.from_residual.result c.from_residual.ensures.0;
-  makers = on_ok _ c.from_residual.result c.from_residual.ensures.0;
-  makings = on_ok _ c.from_residual.result c.from_residual.ensures.0;
-  values = on_ok _ c.from_residual.result c.from_residual.ensures.0;
-}
+returns-in_err-add_enter_at c = on_ok _ c.from_residual.result c.from_residual.ensures.0
 
 pub returns-in_err-add_maker_at : goal.returns-in_err-add_maker_at
-returns-in_err-add_maker_at c = record {
-  enters = on_ok _ c.from_residual-in_err-add_maker_at.result c.from_residual-in_err-add_maker_at.ensures.0;
-  makers = on_ok _ c.from_residual-in_err-add_maker_at.result c.from_residual-in_err-add_maker_at.ensures.0;
-  makings = on_ok _ c.from_residual-in_err-add_maker_at.result c.from_residual-in_err-add_maker_at.ensures.0;
-  values = on_ok _ c.from_residual-in_err-add_maker_at.result c.from_residual-in_err-add_maker_at.ensures.0;
-}
+returns-in_err-add_maker_at c = on_ok _ c.from_residual-in_err-add_maker_at.result c.from_residual-in_err-add_maker_at.ensures.0
 
 pub returns-in_err-add_value_at : goal.returns-in_err-add_value_at
-returns-in_err-add_value_at c = record {
-  enters = on_ok _ c.from_residual-in_err-add_value_at.result c.from_residual-in_err-add_value_at.ensures.0;
-  makers = on_ok _ c.from_residual-in_err-add_value_at.result c.from_residual-in_err-add_value_at.ensures.0;
-  makings = on_ok _ c.from_residual-in_err-add_value_at.result c.from_residual-in_err-add_value_at.ensures.0;
-  values = on_ok _ c.from_residual-in_err-add_value_at.result c.from_residual-in_err-add_value_at.ensures.0;
-}
+returns-in_err-add_value_at c = on_ok _ c.from_residual-in_err-add_value_at.result c.from_residual-in_err-add_value_at.ensures.0
 
 -- the events at these positions are there, and are of the instructions that are asked
 pub instr-number-requires : goal.instr-number-requires
@@ -102,8 +87,8 @@ returns c =
     let vs = c.args.events.now in
     let all = take_all c.loop-position.position-index c.args.positions.now c.loop-position-test.false in
     record {
-      enters = λ d. c.loop-position.invariant.enters d ∙ ap (λ ks. option_or (enter_in g (events_at vs ks) d) (get same_context c.args.enters.now d)) all;
-      makers = λ d. c.loop-position.invariant.makers d ∙ ap (λ ks. option_or (maker_in g (events_at vs ks) d) (get same_structure c.args.makers.now d)) all;
-      makings = c.loop-position.invariant.makings ∙ ap (λ ks. c.args.makings.now.items ++ makings_of g (events_at vs ks)) all;
-      values = c.loop-position.invariant.values ∙ ap (λ ks. c.args.values.now.items ++ answers (events_at vs ks)) all;
+      enters = λ d. c.loop-position.invariant.enters d ∙ ap (λ ks. option_or (enter_in g (events_at vs ks) d) (get same_context c.args.tables.now.enters d)) all;
+      makers = λ d. c.loop-position.invariant.makers d ∙ ap (λ ks. option_or (maker_in g (events_at vs ks) d) (get same_structure c.args.tables.now.makers d)) all;
+      makings = c.loop-position.invariant.makings ∙ ap (λ ks. c.args.tables.now.makings.items ++ makings_of g (events_at vs ks)) all;
+      values = c.loop-position.invariant.values ∙ ap (λ ks. c.args.tables.now.values.items ++ answers (events_at vs ks)) all;
     }

@@ -16,42 +16,43 @@ add_events-requires c =
     let es = c.events-events.result in
     subst (All (λ k. k < length es)) (sym c.telling.ensures) (telling-within es)
 
-pub returns-then-does_alike-clause-enters : goal.returns-then-does_alike-clause-enters
-returns-then-does_alike-clause-enters c =
+pub returns-then-does_alike : goal.returns-then-does_alike
+returns-then-does_alike c =
     let g = c.args.graph.now in
+    let old = c.args.tables.now in
+    let element = c.args.element.now in
     let alike = subst (DoAlike g) (c.graph-2.ensures.value ∙ c.graph.ensures) (c.if-does_alike.ensures refl) in
-    on_ok_weaker c.add_events.result (λ told d.
-    let old = get same_context c.args.enters.now d in
-    told d
-    ∙ ap (λ ks. option_or (enter_in g (events_at c.events-events.result ks) d) old) c.telling.ensures
-    ∙ ap (λ es. option_or (enter_in g (events_at es (telling_from 0 es)) d) old) c.events-events.ensures.value
-    ∙ ap (λ o. option_or o old) (enters-told g c.args.element.now d alike c.events-events.ensures.kept)) c.add_events.ensures.enters
+    on_ok_weaker c.add_events.result (λ told. record {
+      enters = λ d.
+          told.enters d
+          ∙ ap (λ ks. option_or (enter_in g (events_at c.events-events.result ks) d) (get same_context old.enters d)) c.telling.ensures
+          ∙ ap (λ es. option_or (enter_in g (events_at es (telling_from 0 es)) d) (get same_context old.enters d)) c.events-events.ensures.value
+          ∙ ap (λ o. option_or o (get same_context old.enters d)) (enters-told g element d alike c.events-events.ensures.kept);
+      makers = λ s.
+          told.makers s
+          ∙ ap (λ ks. option_or (maker_in g (events_at c.events-events.result ks) s) (get same_structure old.makers s)) c.telling.ensures
+          ∙ ap (λ es. option_or (maker_in g (events_at es (telling_from 0 es)) s) (get same_structure old.makers s)) c.events-events.ensures.value
+          ∙ ap (λ o. option_or o (get same_structure old.makers s)) (makers-told g element s alike c.events-events.ensures.kept);
+      makings =
+          told.makings
+          ∙ ap (λ ks. old.makings.items ++ makings_of g (events_at c.events-events.result ks)) c.telling.ensures
+          ∙ ap (λ es. old.makings.items ++ makings_of g (events_at es (telling_from 0 es))) c.events-events.ensures.value
+          ∙ ap (λ ms. old.makings.items ++ ms) (makings-told g element alike c.events-events.ensures.kept);
+      values =
+          told.values
+          ∙ ap (λ ks. old.values.items ++ answers (events_at c.events-events.result ks)) c.telling.ensures
+          ∙ ap (λ es. old.values.items ++ answers (events_at es (telling_from 0 es))) c.events-events.ensures.value
+          ∙ ap (λ vs. old.values.items ++ vs) (answers-told element.state.events);
+    }) c.add_events.ensures
 
-pub returns-then-does_alike-clause-makers : goal.returns-then-does_alike-clause-makers
-returns-then-does_alike-clause-makers c =
+pub returns-else-does_alike : goal.returns-else-does_alike
+returns-else-does_alike c =
     let g = c.args.graph.now in
-    let alike = subst (DoAlike g) (c.graph-2.ensures.value ∙ c.graph.ensures) (c.if-does_alike.ensures refl) in
-    on_ok_weaker c.add_events.result (λ told s.
-    let old = get same_structure c.args.makers.now s in
-    told s
-    ∙ ap (λ ks. option_or (maker_in g (events_at c.events-events.result ks) s) old) c.telling.ensures
-    ∙ ap (λ es. option_or (maker_in g (events_at es (telling_from 0 es)) s) old) c.events-events.ensures.value
-    ∙ ap (λ o. option_or o old) (makers-told g c.args.element.now s alike c.events-events.ensures.kept)) c.add_events.ensures.makers
-
-pub returns-then-does_alike-clause-makings : goal.returns-then-does_alike-clause-makings
-returns-then-does_alike-clause-makings c =
-    let g = c.args.graph.now in
-    let old = c.args.makings.now.items in
-    let alike = subst (DoAlike g) (c.graph-2.ensures.value ∙ c.graph.ensures) (c.if-does_alike.ensures refl) in
-    on_ok_weaker c.add_events.result (λ told. told
-    ∙ ap (λ ks. old ++ makings_of g (events_at c.events-events.result ks)) c.telling.ensures
-    ∙ ap (λ es. old ++ makings_of g (events_at es (telling_from 0 es))) c.events-events.ensures.value
-    ∙ ap (λ ms. old ++ ms) (makings-told g c.args.element.now alike c.events-events.ensures.kept)) c.add_events.ensures.makings
-
-pub returns-then-does_alike-clause-values : goal.returns-then-does_alike-clause-values
-returns-then-does_alike-clause-values c =
-    let old = c.args.values.now.items in
-    on_ok_weaker c.add_events.result (λ told. told
-    ∙ ap (λ ks. old ++ answers (events_at c.events-events.result ks)) c.telling.ensures
-    ∙ ap (λ es. old ++ answers (events_at es (telling_from 0 es))) c.events-events.ensures.value
-    ∙ ap (λ vs. old ++ vs) (answers-told c.args.element.now.state.events)) c.add_events.ensures.values
+    let old = c.args.tables.now in
+    let same = c.events-events.ensures.value in
+    on_ok_weaker c.add_each.result (λ told. record {
+      enters = λ d. told.enters d ∙ ap (λ es. option_or (enter_in g es d) (get same_context old.enters d)) same;
+      makers = λ s. told.makers s ∙ ap (λ es. option_or (maker_in g es s) (get same_structure old.makers s)) same;
+      makings = told.makings ∙ ap (λ es. old.makings.items ++ makings_of g es) same;
+      values = told.values ∙ ap (λ es. old.values.items ++ answers es) same;
+    }) c.add_each.ensures

@@ -16,8 +16,8 @@ pub loop-element-init : goal.loop-element-init
 loop-element-init c = record {
   enters = λ d. let none = enter_in-none c.args.graph.now d in grind (arith, common_steps, none);
   makers = λ d. let none = maker_in-none c.args.graph.now d in grind (arith, common_steps, none);
-  makings = c.new-makings.ensures.items;
-  values = c.new-values.ensures.items;
+  makings = c.new-3.ensures.items;
+  values = c.new-4.ensures.items;
 }
 
 pub loop-element-preserved : goal.loop-element-preserved
@@ -41,12 +41,7 @@ loop-element-preserved c =
     }
 
 pub returns-in_err-add_record : goal.returns-in_err-add_record
-returns-in_err-add_record c = record {
-  enters = if_err _ c.from_residual.result c.from_residual.ensures.0;
-  makers = if_err _ c.from_residual.result c.from_residual.ensures.0;
-  makings = if_err _ c.from_residual.result c.from_residual.ensures.0;
-  values = if_err _ c.from_residual.result c.from_residual.ensures.0;
-}
+returns-in_err-add_record c = if_err _ c.from_residual.result c.from_residual.ensures.0
 
 -- the records so far are all
 pub returns : goal.returns

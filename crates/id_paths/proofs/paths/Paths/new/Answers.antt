@@ -9,14 +9,14 @@ pub returns-clause-structures : goal.returns-clause-structures
 returns-clause-structures c =
     let g = c.args.graph.now in
     let es = events_of (map (λ e. e.state) c.args.elements.now) in
-    let told = c.in_ok-enters.ensures in
+    let told = c.in_ok-tables.ensures in
     let p : Paths =
     record {
       graph = c.args.graph;
-      enters = c.in_ok-enters.enters;
-      makers = c.in_ok-enters.makers;
-      makings = c.in_ok-enters.makings;
+      enters = c.in_ok-tables.tables.enters;
+      makers = c.in_ok-tables.tables.makers;
+      makings = c.in_ok-tables.tables.makings;
       most = c.count_events-most.result;
-      values = c.in_ok-enters.values;
+      values = c.in_ok-tables.tables.values;
     } in
     structure_by-same g es p refl (path_by-same g es p refl told.enters c.count_events-most.ensures) told.makers
