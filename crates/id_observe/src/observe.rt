@@ -19,7 +19,8 @@ ghost use Rattle.id_paths.specs.Paths.{path_by};
 
 use id_element::Element;
 use id_list::Sequence;
-use id_observed::{all_cells, all_faults, all_names, all_structures, all_waiting};
+use id_merge::all_faults;
+use id_observed::{all_cells, all_names, all_structures, all_waiting};
 use id_paths::{Paths, value_in};
 use id_source::{Ask, NameValue, Put, Shape, SourceFault, SourceValue};
 use id_valid::Valid;

@@ -1,4 +1,4 @@
-//! What binders have, structures and their cells, fetches that wait, and the faults, as records and cells show them
+//! What binders have, structures and their cells, and fetches that wait, as records and cells show them
 //! (docs/MACHINE.md, "Observed").
 
 ghost use Rattle.std.specs.Prelude.{◌≡◌, ◌==◌, ◌&&◌, ◌<◌, ◌+◌, ◌-◌, ◌^◌, ◌++◌, [], ℕ, false, count_by, map};
@@ -10,7 +10,6 @@ ghost use Rattle.id_slot.specs.Cells.{cells_of, deferred_of};
 ghost use Rattle.id_valid.specs.Validator.{is_value};
 ghost use Rattle.id_observed.specs.Observed.{ask_of, claims};
 ghost use Rattle.id_paths.specs.Paths.{events_of};
-ghost use Rattle.id_paths.specs.Sourced.{faults_of};
 ghost use Rattle.id_observed.specs.Observed.{is_label, is_next, is_value_merge};
 ghost use Rattle.id_observed.specs.Observed.{label_marks, name_at, name_in, names_of, put_of};
 ghost use Rattle.id_paths.specs.Sourced.{source_value};
@@ -21,9 +20,9 @@ ghost use Rattle.id_paths.specs.Paths.{path_by, place_of};
 use id_bank::{Cells, Filled, Reader};
 use id_element::Element;
 use id_instr::{Graph, Instr, Op, PortKind};
-use id_paths::{Making, Paths, place_of, source_fault, source_value};
+use id_paths::{Making, Paths, place_of, source_value};
 use id_record::Events;
-use id_source::{Ask, NameValue, Put, Shape, Site, SourceFault, SourceValue};
+use id_source::{Ask, NameValue, Put, Shape, Site, SourceValue};
 use id_tag::{Context, Payload, Structure, Tag, Value};
 use std::alloc::{AllocError, Global};
 use std::collections::HashMap;
@@ -380,72 +379,4 @@ fn ask_of(alloc: Global, paths: &Paths<'_>, reader: Reader) -> Result<Ask, Alloc
         name: paths.name(alloc, reader.cell.structure)?,
         index: reader.cell.index,
     })
-}
-
-/// The faults that these records show.
-pub fn all_faults(
-    alloc: Global,
-    paths: &Paths<'_>,
-    elements: &[Element<'_>],
-) -> Result<Vec<SourceFault>, AllocError>
-    ensures { IfOk result
-        (λ v. v.items
-        ≡ faults_of paths.now.graph.now (path_by paths.now) (structure_by paths.now)
-        (events_of (map (λ e. e.state) elements.now))) }
-{
-    let mut faults = Vec::new(alloc);
-    for element in elements {
-        add_element_faults(alloc, paths, element, &mut faults)?;
-    }
-    Ok(faults)
-}
-
-/// Adds the faults that the record of an element shows. Where each event went well, that takes no look at it.
-fn add_element_faults(
-    alloc: Global,
-    paths: &Paths<'_>,
-    element: &Element<'_>,
-    faults: &mut Vec<SourceFault>,
-) -> Result<(), AllocError>
-    ensures { OnOk result
-        (faults.new.items ≡ faults.old.items
-        ++ faults_of paths.now.graph.now (path_by paths.now) (structure_by paths.now) element.now.state.events) }
-{
-    if element.all_went() {
-        Ok(())
-    } else {
-        add_faults(alloc, paths, &element.events(), faults)?;
-        Ok(())
-    }
-}
-
-/// Adds the faults that these events show.
-fn add_faults(
-    alloc: Global,
-    paths: &Paths<'_>,
-    events: &Events<'_>,
-    faults: &mut Vec<SourceFault>,
-) -> Result<(), AllocError>
-    ensures { OnOk result
-        (faults.new.items ≡ faults.old.items
-        ++ faults_of paths.now.graph.now (path_by paths.now) (structure_by paths.now) events.now) }
-{
-    for position in 0..events.len() {
-        let event = events.event(position);
-        add_fault(source_fault(alloc, paths, event.step)?, faults)?;
-    }
-    Ok(())
-}
-
-/// Adds the fault, if there is one.
-fn add_fault(fault: Option<SourceFault>, faults: &mut Vec<SourceFault>) -> Result<(), AllocError>
-    ensures { OnOk result (faults.new.items ≡ faults.old.items ++ cons_option fault []) }
-{
-    match fault {
-        Some(fault) => {
-            faults.push(fault)?;
-            Ok(())
-        }
-        None => Ok(()),
-    }
 }

@@ -13,10 +13,19 @@ use id_inputs::{InputError, Inputs, param_name, read_inputs};
 use std::alloc::Global;
 
 /// A program with its graph and the inputs of its `main`.
-#[derive(Drop)]
 pub struct Prepared {
     pub compiled: Compiled,
     pub inputs: Inputs,
+}
+
+/// A drop of its own, so that who holds a text with its inputs lets it go by one call.
+impl Drop for Prepared {
+    fn drop(self) {
+        let Prepared {
+            compiled: _,
+            inputs: _,
+        } = self;
+    }
 }
 
 /// The inputs that these words give a program.

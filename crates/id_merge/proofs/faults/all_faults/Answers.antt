@@ -8,7 +8,7 @@ use Rattle.id_paths.specs.Sourced.{fault_of, faults_of}
 use Rattle.id_paths.specs.Paths.{path_by}
 use Rattle.id_paths.proofs.WalksLemmas.{walk-next}
 use Rattle.id_desk.proofs.ShortLemmas.{if_err}
-use Rattle.id_observed.proofs.observe.all_faults.Goals as goal
+use Rattle.id_merge.proofs.faults.all_faults.Goals as goal
 
 pub loop-element-preserved : goal.loop-element-preserved
 loop-element-preserved c =

@@ -3,7 +3,7 @@ use Rattle.std.proofs.Common.{◌≡◌, map, take}
 use Rattle.id_paths.specs.Paths.{events_of, structure_by}
 use Rattle.id_paths.specs.Sourced.{faults_of}
 use Rattle.id_paths.specs.Paths.{path_by}
-use Rattle.id_observed.proofs.observe.all_faults.Given as goal
+use Rattle.id_merge.proofs.faults.all_faults.Given as goal
 
 abbrev pub invariant-loop-element : goal.invariant-loop-element
 invariant-loop-element l = l.faults.items ≡ faults_of l.paths.graph.now (path_by l.paths) (structure_by l.paths)

@@ -5,7 +5,7 @@ use Rattle.id_paths.specs.Sourced.{fault_of}
 use Rattle.id_paths.specs.Paths.{structure_by}
 use Rattle.id_paths.specs.Paths.{path_by}
 use Rattle.id_paths.proofs.WalksLemmas.{filter_map-next}
-use Rattle.id_observed.proofs.observe.add_faults.Goals as goal
+use Rattle.id_merge.proofs.faults.add_faults.Goals as goal
 
 pub loop-position-preserved : goal.loop-position-preserved
 loop-position-preserved c =

@@ -4,7 +4,7 @@ use Rattle.id_paths.specs.Sourced.{faults_of}
 use Rattle.id_paths.specs.Paths.{structure_by}
 use Rattle.id_paths.specs.Paths.{path_by}
 use Rattle.id_paths.proofs.SourcedLemmas.{went_none}
-use Rattle.id_observed.proofs.observe.add_element_faults.Goals as goal
+use Rattle.id_merge.proofs.faults.add_element_faults.Goals as goal
 
 pub returns-then-all_went : goal.returns-then-all_went
 returns-then-all_went c =
