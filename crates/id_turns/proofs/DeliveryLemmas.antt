@@ -39,7 +39,7 @@ use Rattle.id_turns.specs.Turns.{at_fault, at_rest}
 use Rattle.id_turns.specs.Deliveries.{HasCount, HasEvent, HasRun, IsDelivered, IsDelivery, IsFreshMachine, IsHand, IsHeldAt, IsNextHand}
 use Rattle.id_turns.specs.declared.turns.Hand.{Hand}
 use Rattle.id_flight.specs.Queues.{context_of}
-use Rattle.id_turns.specs.Deliveries.{AreStamped, GoesOn, HasHandled, Reaches, turn_after}
+use Rattle.id_turns.specs.Deliveries.{AreStamped, GoesOn, HasFree, HasHandled, Reaches, turn_after}
 use Rattle.id_turns.proofs.StampsLemmas.{AreStamped-after, AreStamped-start}
 
 -- ---- what an event came to
@@ -675,6 +675,11 @@ module _ (a b c : MachineView) (steps n : ℕ) (h next : Hand) (step : Step) (ha
 pub IsFree-next : (a b : MachineView) (steps n : ℕ) (h next : Hand) → IsFreshMachine a → HasHand a b steps n h → n * 2 < steps → steps ≤ 100000000
     → IsNextHand b.world.flight h next → IsFree a.count steps b.world next.position
 IsFree-next a b steps n h next fresh has young few is = IsFree-young a b steps (turn_of n h) next.position fresh has.reaches (omega (arith, young)) few is.there
+
+-- and it is so of the machine that is as it was
+pub HasFree-same : (m n : MachineView) (count steps k : ℕ) → m.count ≡ count → IsFree count steps m.world k → n ≡ m → HasFree n steps
+HasFree-same m n count steps k is free same =
+    subst (λ (x : MachineView). HasFree x steps) (sym same) (record { position = k; free = subst (λ (j : ℕ). IsFree j steps m.world k) (sym is) free })
 
 -- a run that has something at hand
 pub HasHandled-hand : (a b : MachineView) (steps n most : ℕ) (h : Hand) → HasHand a b steps n h → n ≡ most → HasHandled a b steps most

@@ -13,7 +13,8 @@ use Rattle.id_core.specs.Events.{EventView}
 use Rattle.id_core.specs.Machines.{World, MachineView, delivered, event_at, run, start}
 use Rattle.id_core.specs.Observed.{events_of, faults}
 use Rattle.id_core.specs.Steps.{State}
-use Rattle.id_turns.specs.Turns.{AreInTurn, HasEnded, IsBehindOthers, IsHeldBack, IsNext, Turn, first_turn, next_turn}
+use Rattle.id_turns.specs.Turns.{AreInTurn, HasEnded, IsBehindOthers, IsFree, IsHeldBack, IsNext, Turn}
+use Rattle.id_turns.specs.Turns.{first_turn, next_turn}
 use Rattle.id_turns.specs.declared.turns.Hand.{Hand}
 
 -- the elements of a machine are so many
@@ -61,6 +62,11 @@ pub record IsLastHand (ms : List Message) (h : Hand) : Type 0 where
   pub last : h.position + 1 ≡ length ms
   pub context : context_at ms h.position ≡ Some h.context
   pub front : IsTrue h.may_be_in_front
+
+-- a message is in flight that is not held back
+pub record HasFree (m : MachineView) (steps : ℕ) : Type 0 where
+  pub position : ℕ
+  pub free : IsFree m.count steps m.world position
 
 -- delivering the message at this position makes an event, which is not stuck
 pub record HasEvent (m : MachineView) (k : ℕ) : Type 0 where

@@ -3,7 +3,7 @@
 ghost use Rattle.std.specs.Prelude.{◌≡◌, ◌≢◌, ◌<◌, ◌≤◌, ◌+◌, ◌-◌, ◌/◌, ◌↔◌, ◌⊎◌, length, slice_get};
 ghost use Rattle.std.specs.Prelude.{IfErr, IfOk, IsFalse, IsTrue, OnOk, Some};
 ghost use Rattle.id_core.specs.Steps.{is_ended};
-ghost use Rattle.id_turns.specs.Deliveries.{HasCount, HasEvent, HasRun, IsDelivered, IsFreshMachine};
+ghost use Rattle.id_turns.specs.Deliveries.{HasCount, HasEvent, HasFree, HasRun, IsDelivered, IsFreshMachine};
 ghost use Rattle.id_turns.specs.Deliveries.{IsHand, IsHeldAt, IsLastHand, IsNextHand};
 ghost use Rattle.id_flight.specs.Queues.{context_at};
 ghost use Rattle.id_tag.specs.Routes.{route_of};
@@ -187,6 +187,7 @@ fn run_early(machine: &mut Machine<'_>, steps: u64) -> Result<bool, AllocError>
     requires few { steps ≤ 100000000 }
     ensures handled { IfOk result (λ b. IsTrue b → HasHandled machine.old machine.new steps ((steps + 1) / 2)) }
     ensures run { IfOk result (λ b. IsFalse b → HasRun machine.old machine.new steps) }
+    ensures memory { IfErr result (λ e. HasFree machine.new steps) }
 {
     id_laws::never_stuck();
     let mut hand = Hand {
@@ -218,7 +219,8 @@ fn run_late(machine: &mut Machine<'_>, count: u32, steps: u64) -> Result<(), All
     requires begun { HasBegun machine.old steps }
     requires count { machine.old.count ≡ count }
     requires few { steps ≤ 100000000 }
-    ensures { OnOk result (EndsRun machine.old machine.new steps) }
+    ensures ended { OnOk result (EndsRun machine.old machine.new steps) }
+    ensures memory { IfErr result (λ e. HasFree machine.new steps) }
 {
     id_laws::never_stuck();
     let half = (steps + 1) / 2;
@@ -238,12 +240,14 @@ fn run_late(machine: &mut Machine<'_>, count: u32, steps: u64) -> Result<(), All
     Ok(())
 }
 
-/// Delivers messages until there is none that is not held back, or at the first fault.
+/// Delivers messages until there is none that is not held back, or at the first fault. Errors: want of memory, where a
+/// message that is not held back is still in flight, so that no end of a run is told as one.
 pub fn run_machine(machine: &mut Machine<'_>, count: u32, steps: u64) -> Result<(), AllocError>
     requires fresh { IsFreshMachine machine.old }
     requires count { machine.old.count ≡ count }
     requires few { steps ≤ 100000000 }
-    ensures { OnOk result (HasRun machine.old machine.new steps) }
+    ensures run { OnOk result (HasRun machine.old machine.new steps) }
+    ensures memory { IfErr result (λ e. HasFree machine.new steps) }
 {
     let early = run_early(machine, steps)?;
     if early {

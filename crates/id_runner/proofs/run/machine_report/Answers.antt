@@ -8,7 +8,7 @@ pub returns-in-Ok : goal.returns-in-Ok
 returns-in-Ok c =
     let told = c.report_of.ensures in
     record {
-      run = on_ok c.report_of.result _ (subst (λ (m : MachineView). HasRun c.args.machine.now m c.args.steps) (sym told.same) c.in-Ok.ensures);
+      run = on_ok c.report_of.result _ (subst (λ (m : MachineView). HasRun c.args.machine.now m c.args.steps) (sym told.same) c.in-Ok.ensures.run);
       report = told.report;
       memory = told.memory;
     }

@@ -1,6 +1,6 @@
 use Rattle.std.proofs.Common.{◌≡◌, ◌+◌, ◌/◌, IsFalse, refl, arith}
 use Rattle.id_turns.specs.Turns.{early}
-use Rattle.id_turns.proofs.DeliveryLemmas.{HasHand-none, HasHand-went, HasHandled-hand, HasRun-empty, HasRun-fault, IsFree-next, early_half, turn_of}
+use Rattle.id_turns.proofs.DeliveryLemmas.{HasFree-same, HasHand-none, HasHand-went, HasHandled-hand, HasRun-empty, HasRun-fault, IsFree-next, early_half, turn_of}
 use Rattle.id_turns.proofs.StuckLemmas.{HasEvent-free}
 use Rattle.id_turns.proofs.turns.run_early.Goals as goal
 
@@ -14,6 +14,7 @@ returns-then-not-turn c =
     record {
       handled = λ so. absurd cc;
       run = λ _. HasRun-empty c.args.machine.now k.machine c.args.steps (turn_of k.handled k.hand) (k.invariant).reaches (c.turn.ensures.none none);
+      memory = tt;
     }
 
 pub deliver-requires-clause-event : goal.deliver-requires-clause-event
@@ -37,7 +38,18 @@ returns-in-Ok-false c =
       handled = λ so. absurd cc;
       run = λ _. HasRun-fault a k.machine c.deliver.new.machine c.args.steps (turn_of k.handled k.hand) c.turn.new.hand.position d.step (k.invariant).reaches
           (early young next.is) free d.delivery (d.failed c.in-Ok-false.field-0-test) d.moves;
+      memory = tt;
     }
+
+-- what could not be delivered is still in flight
+pub returns-in-Err-clause-memory : goal.returns-in-Err-clause-memory
+returns-in-Err-clause-memory c =
+    let k = c.loop-handled in
+    let a = c.args.machine.now in
+    let next = c.turn.ensures.some c.if-not-turn.false in
+    let young = early_half c.args.steps k.handled c.loop-handled-test.true in
+    HasFree-same k.machine c.deliver.new.machine a.count c.args.steps c.turn.new.hand.position ((k.invariant).reaches).same_count
+    (IsFree-next a k.machine c.args.steps k.handled k.hand c.turn.new.hand c.requires.fresh k.invariant young c.requires.few next) c.in-Err.ensures.same
 
 pub loop-handled-preserved : goal.loop-handled-preserved
 loop-handled-preserved c =
@@ -57,4 +69,5 @@ returns c =
     record {
       handled = λ _. HasHandled-hand c.args.machine.now k.machine c.args.steps k.handled _ k.hand k.invariant half;
       run = λ no. absurd cc;
+      memory = tt;
     }

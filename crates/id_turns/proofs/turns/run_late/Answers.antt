@@ -1,6 +1,6 @@
 use Rattle.std.proofs.Common.{◌≡◌, ◌≢◌, ◌<◌, ◌*◌, ℕ, length, sym, subst, ap, ◌∙◌, arith}
 use Rattle.id_turns.specs.Turns.{late, AreHeldBefore, IsFree}
-use Rattle.id_turns.proofs.DeliveryLemmas.{HasCount-reaches, HasRun-fault, HasRun-limit, HasRun-rest, HoldsBefore-none, HoldsBefore-went}
+use Rattle.id_turns.proofs.DeliveryLemmas.{HasCount-reaches, HasFree-same, HasRun-fault, HasRun-limit, HasRun-rest, HoldsBefore-none, HoldsBefore-went}
 use Rattle.id_turns.proofs.DeliveryLemmas.{IsFree-young, half_within, late_half}
 use Rattle.id_turns.proofs.StuckLemmas.{HasEvent-free}
 use Rattle.id_turns.proofs.turns.run_late.Goals as goal
@@ -41,8 +41,8 @@ deliver-requires-clause-event c =
 
 -- ---- the run, of whatever fresh machine it began
 
-pub returns-then-position-len : goal.returns-then-position-len
-returns-then-position-len c a fresh has =
+pub returns-then-position-len-clause-ended : goal.returns-then-position-len-clause-ended
+returns-then-position-len-clause-ended c a fresh has =
     let l = c.loop-handled in
     let is = l.invariant.0 a fresh has in
     let count : a.count ≡ c.args.count = sym (has.reaches).same_count ∙ c.requires.count in
@@ -51,8 +51,8 @@ returns-then-position-len c a fresh has =
     let all : q ≡ length l.machine.world.flight = c.if-position-len.true ∙ c.len.ensures ∙ ap length c.in_flight.ensures.value in
     HasRun-rest a l.machine c.args.steps is.turn q is.reaches held all
 
-pub returns-in-Ok-false : goal.returns-in-Ok-false
-returns-in-Ok-false c a fresh has =
+pub returns-in-Ok-false-clause-ended : goal.returns-in-Ok-false-clause-ended
+returns-in-Ok-false-clause-ended c a fresh has =
     let l = c.loop-handled in
     let is = l.invariant.0 a fresh has in
     let count : a.count ≡ c.args.count = sym (has.reaches).same_count ∙ c.requires.count in
@@ -65,6 +65,18 @@ returns-in-Ok-false c a fresh has =
     let old = l.invariant.1 in
     HasRun-fault a l.machine c.deliver.new.machine c.args.steps is.turn q d.step is.reaches (late (omega (arith, many, old)) held) free d.delivery
     (d.failed c.in-Ok-false.field-0-test) d.moves
+
+-- what could not be delivered is still in flight
+pub returns-in-Err-clause-memory : goal.returns-in-Err-clause-memory
+returns-in-Err-clause-memory c =
+    let l = c.loop-handled in
+    let a = c.requires.begun.0 in
+    let is = l.invariant.0 a c.requires.begun.1 c.requires.begun.2 in
+    let count : a.count ≡ c.args.count = sym ((c.requires.begun.2).reaches).same_count ∙ c.requires.count in
+    let q = c.next_free-position.result in
+    let some : q ≢ length l.machine.world.flight = λ e. c.if-position-len.false (e ∙ sym (c.len.ensures ∙ ap length c.in_flight.ensures.value)) in
+    HasFree-same l.machine c.deliver.new.machine c.args.count c.args.steps q ((is.reaches).same_count ∙ count) (c.next_free-position.ensures.free some)
+    c.in-Err.ensures.same
 
 pub loop-handled-preserved : goal.loop-handled-preserved
 loop-handled-preserved c =
@@ -83,8 +95,8 @@ loop-handled-preserved c =
       omega (arith, old),
     )
 
-pub returns : goal.returns
-returns c a fresh has =
+pub returns-clause-ended : goal.returns-clause-ended
+returns-clause-ended c a fresh has =
     let l = c.loop-handled in
     let is = l.invariant.0 a fresh has in
     let count : a.count ≡ c.args.count = sym (has.reaches).same_count ∙ c.requires.count in

@@ -9,9 +9,12 @@ run_late-requires c = record {
   few = c.requires.few;
 }
 
-pub returns-then-early : goal.returns-then-early
-returns-then-early c =
-    on_ok_from c.run_late.result _ _ (λ e. e c.args.machine.now c.requires.fresh (c.in_ok-early.ensures.handled c.if-early.true)) c.run_late.ensures
+pub returns-then-early-clause-run : goal.returns-then-early-clause-run
+returns-then-early-clause-run c =
+    on_ok_from c.run_late.result _ _ (λ e. e c.args.machine.now c.requires.fresh (c.in_ok-early.ensures.handled c.if-early.true)) c.run_late.ensures.ended
 
-pub returns-else-early : goal.returns-else-early
-returns-else-early c = c.in_ok-early.ensures.run c.if-early.false
+pub returns-then-early-clause-memory : goal.returns-then-early-clause-memory
+returns-then-early-clause-memory c = c.run_late.ensures.memory
+
+pub returns-else-early-clause-run : goal.returns-else-early-clause-run
+returns-else-early-clause-run c = c.in_ok-early.ensures.run c.if-early.false
