@@ -22,19 +22,10 @@ use std::alloc::Global;
 use std::marker::Model;
 
 /// A program with its graph, which is one that the schemas give it.
+#[derive(Drop)]
 pub struct Compiled {
     checked: Checked,
     valid: Valid,
-}
-
-/// A drop of its own, so that who holds a program with its graph lets it go by one call.
-impl Drop for Compiled {
-    fn drop(self) {
-        let Compiled {
-            checked: _,
-            valid: _,
-        } = self;
-    }
 }
 
 impl Model for Compiled {
