@@ -3,3 +3,5 @@ pub mod Endings
 pub mod Helds
 pub mod Names
 pub mod Within
+-- For use inside.
+pub mod Lists

@@ -5,6 +5,7 @@ ghost use Rattle.id_core.specs.Observed.{answer, faults, names, waiting};
 ghost use Rattle.id_source.specs.Orders.{NamesRise, Rises};
 ghost use Rattle.id_names.specs.declared.helds.Held.TheVariants as held;
 ghost use Rattle.id_names.specs.Endings.{EndsSo};
+ghost use Rattle.id_names.specs.Lists.{AreListsOf};
 ghost use Rattle.id_names.specs.Names.{IsOrderOf, IsSortedOf, AreApart, AreApartBy, HeldBefore, WaitBefore};
 ghost use Rattle.id_names.specs.Names.{OfOneThing, OfOneFetch, held_lines};
 ghost use Rattle.id_names.specs.Within.{ReportWithin};
@@ -52,13 +53,35 @@ pub fn run_report(alloc: Global, machine: &Machine<'_>, named: bool) -> Result<R
         (λ r. AreApartBy OfOneFetch (waiting machine.now.graph machine.now.world) → Rises WaitBefore r.waiting) }
 {
     let ending = ending_of(alloc, machine)?;
-    let names = asked_names(alloc, machine, named)?;
-    let held = machine_held(alloc, machine)?;
+    let lists = lists_of(alloc, machine, named)?;
     Ok(Report {
         ending,
+        answer: lists.answer,
+        names: lists.names,
+        structures: lists.lines,
+        waiting: lists.waiting,
+    })
+}
+
+/// The answer, what binders have, the lines of structures and cells, and the fetches that wait, in order.
+#[derive(Drop)]
+struct Lists {
+    answer: Option<SourceValue>,
+    names: Sequence<NameValue>,
+    lines: Helds,
+    waiting: Sequence<Ask>,
+}
+
+/// What a run shows, in order, of what binders have where that is asked for.
+fn lists_of(alloc: Global, machine: &Machine<'_>, named: bool) -> Result<Lists, AllocError>
+    ensures { IfOk result (AreListsOf machine.now named) }
+{
+    let names = asked_names(alloc, machine, named)?;
+    let held = machine_held(alloc, machine)?;
+    Ok(Lists {
         answer: held.answer,
         names,
-        structures: held.lines,
+        lines: held.lines,
         waiting: held.waiting,
     })
 }
