@@ -3,8 +3,8 @@
 //! Keeps: nothing beyond its values.
 //! Errors: want of memory alone.
 //! Read first: `specs/Observed.antt`, then `all_names`.
-//! Not here: what a run shows in all (`id_observe`), faults (`id_merge`), the elements (`id_element`), the paths of tags
-//!     and what values are in the source (`id_paths`).
+//! Not here: what a run shows in all (`id_observe`), faults (`id_merge`), the elements (`id_element`), the paths of
+//!     tags and what values are in the source (`id_paths`).
 #![tactic(auto)]
 
 mod observe;

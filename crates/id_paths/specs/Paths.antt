@@ -186,7 +186,8 @@ pub record AreTold (g : Parts) (es : List EventView) (t : Tables) : Type 0 where
 
 -- and what they tell was added to the old tables
 pub record Adds (g : Parts) (es : List EventView) (old new : Tables) : Type 0 where
-  pub enters : (c : Context) → get same_context new.enters c ≡ option_or (enter_in g es c) (get same_context old.enters c)
+  pub enters : (c : Context)
+      → get same_context new.enters c ≡ option_or (enter_in g es c) (get same_context old.enters c)
   pub makers : (s : Structure)
       → get same_structure new.makers s ≡ option_or (maker_in g es s) (get same_structure old.makers s)
   pub makings : new.makings.items ≡ old.makings.items ++ makings_of g es

@@ -18,7 +18,8 @@ bounds-instrs-number c = c.loop-number-test.true
 pub write_line-requires : goal.write_line-requires
 write_line-requires c =
     let all = All-get_or (λ (i : Instr). i.place ≤ length c.args.lines.now) c.args.instrs.now c.loop-number.number in
-    subst (λ (i : Instr). i.place ≤ length c.args.lines.now) (sym c.index-instrs-number.is) (all c.index-instrs-number.result c.loop-number-test.true c.requires)
+    subst (λ (i : Instr). i.place ≤ length c.args.lines.now) (sym c.index-instrs-number.is)
+    (all c.index-instrs-number.result c.loop-number-test.true c.requires)
 
 pub loop-number-preserved : goal.loop-number-preserved
 loop-number-preserved c =

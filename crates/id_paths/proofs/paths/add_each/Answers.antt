@@ -34,11 +34,13 @@ loop-position-preserved c =
       enters = λ d.
           c.in_ok-add_events.ensures.enters d ∙ ap (λ xs. option_or (enter_in g xs d) (get same_context c.loop-position.tables.enters d)) one
           ∙ ap (λ o. option_or o (get same_context c.loop-position.tables.enters d)) (enter_in-one g e d)
-          ∙ ap (option_or (enter_of g e d)) (c.loop-position.invariant.enters d) ∙ sym (enter_in-more g _ _ e d (get same_context c.args.tables.now.enters d) more);
+          ∙ ap (option_or (enter_of g e d)) (c.loop-position.invariant.enters d)
+          ∙ sym (enter_in-more g _ _ e d (get same_context c.args.tables.now.enters d) more);
       makers = λ d.
           c.in_ok-add_events.ensures.makers d ∙ ap (λ xs. option_or (maker_in g xs d) (get same_structure c.loop-position.tables.makers d)) one
           ∙ ap (λ o. option_or o (get same_structure c.loop-position.tables.makers d)) (maker_in-one g e d)
-          ∙ ap (option_or (maker_of g e d)) (c.loop-position.invariant.makers d) ∙ sym (maker_in-more g _ _ e d (get same_structure c.args.tables.now.makers d) more);
+          ∙ ap (option_or (maker_of g e d)) (c.loop-position.invariant.makers d)
+          ∙ sym (maker_in-more g _ _ e d (get same_structure c.args.tables.now.makers d) more);
       makings =
           rw (c.in_ok-add_events.ensures.makings, one, c.loop-position.invariant.makings, filter_map-next (making_of g) es i e there.1, append_assoc);
       values =

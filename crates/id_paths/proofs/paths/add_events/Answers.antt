@@ -87,8 +87,10 @@ returns c =
     let vs = c.args.events.now in
     let all = take_all c.loop-position.position-index c.args.positions.now c.loop-position-test.false in
     record {
-      enters = λ d. c.loop-position.invariant.enters d ∙ ap (λ ks. option_or (enter_in g (events_at vs ks) d) (get same_context c.args.tables.now.enters d)) all;
-      makers = λ d. c.loop-position.invariant.makers d ∙ ap (λ ks. option_or (maker_in g (events_at vs ks) d) (get same_structure c.args.tables.now.makers d)) all;
+      enters = λ d. c.loop-position.invariant.enters d
+          ∙ ap (λ ks. option_or (enter_in g (events_at vs ks) d) (get same_context c.args.tables.now.enters d)) all;
+      makers = λ d. c.loop-position.invariant.makers d
+          ∙ ap (λ ks. option_or (maker_in g (events_at vs ks) d) (get same_structure c.args.tables.now.makers d)) all;
       makings = c.loop-position.invariant.makings ∙ ap (λ ks. c.args.tables.now.makings.items ++ makings_of g (events_at vs ks)) all;
       values = c.loop-position.invariant.values ∙ ap (λ ks. c.args.tables.now.values.items ++ answers (events_at vs ks)) all;
     }

@@ -1,6 +1,7 @@
 use Rattle.std.proofs.Common.{◌≡◌, ◌+◌, ◌/◌, IsFalse, refl, arith}
 use Rattle.id_turns.specs.Turns.{early}
-use Rattle.id_turns.proofs.DeliveryLemmas.{HasFree-same, HasHand-none, HasHand-went, HasHandled-hand, HasRun-empty, HasRun-fault, IsFree-next, early_half, turn_of}
+use Rattle.id_turns.proofs.DeliveryLemmas.{HasFree-same, HasHand-none, HasHand-went, HasHandled-hand, HasRun-empty}
+use Rattle.id_turns.proofs.DeliveryLemmas.{HasRun-fault, IsFree-next, early_half, turn_of}
 use Rattle.id_turns.proofs.StuckLemmas.{HasEvent-free}
 use Rattle.id_turns.proofs.turns.run_early.Goals as goal
 
