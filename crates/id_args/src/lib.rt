@@ -6,6 +6,7 @@
 //! Not here: what is done with a request (`id_engine`).
 #![tactic(auto)]
 
+use clap::builder::ValueParser;
 use clap::error::ErrorKind;
 use clap::{Arg, ArgAction, ArgMatches, Command, Error, value_parser};
 use id_request::{Request, Unasked};
@@ -80,48 +81,42 @@ fn inputs_argument<'a>(alloc: Global) -> Arg<'a> {
         .help("A value for the parameter of main with that name")
 }
 
-/// The argument for the number of elements.
-fn elements_argument<'a>(alloc: Global) -> Arg<'a> {
-    Arg::new(alloc, "elements")
-        .long("elements")
+/// An option with a number.
+fn number_option<'a>(
+    alloc: Global,
+    name: &'a str,
+    parser: ValueParser<'a>,
+    default: &'a str,
+    help: &'a str,
+) -> Arg<'a> {
+    Arg::new(alloc, name)
+        .long(name)
         .value_name("N")
-        .value_parser(value_parser!(u32).range(1..=MAX_ELEMENTS))
-        .default_value(DEFAULT_ELEMENTS)
-        .help("How many elements the machine has")
+        .value_parser(parser)
+        .default_value(default)
+        .help(help)
 }
 
-/// The argument that asks for the trace.
-fn trace_argument<'a>(alloc: Global) -> Arg<'a> {
-    Arg::new(alloc, "trace")
-        .long("trace")
+/// The option for the number of elements.
+fn elements_option<'a>(alloc: Global) -> Arg<'a> {
+    let parser = value_parser!(u32).range(1..=MAX_ELEMENTS).into();
+    let help = "How many elements the machine has";
+    number_option(alloc, "elements", parser, DEFAULT_ELEMENTS, help)
+}
+
+/// The option for the limit of steps.
+fn steps_option<'a>(alloc: Global) -> Arg<'a> {
+    let parser = value_parser!(u64).range(1..=MAX_STEPS).into();
+    let help = "The most messages that each element handles";
+    number_option(alloc, "steps", parser, DEFAULT_STEPS, help)
+}
+
+/// An option without a value.
+fn flag<'a>(alloc: Global, name: &'a str, help: &'a str) -> Arg<'a> {
+    Arg::new(alloc, name)
+        .long(name)
         .action(ArgAction::SetTrue)
-        .help("Prints each event before the answer")
-}
-
-/// The argument for the limit of steps.
-fn steps_argument<'a>(alloc: Global) -> Arg<'a> {
-    Arg::new(alloc, "steps")
-        .long("steps")
-        .value_name("N")
-        .value_parser(value_parser!(u64).range(1..=MAX_STEPS))
-        .default_value(DEFAULT_STEPS)
-        .help("The most messages that each element handles")
-}
-
-/// The argument that asks for names.
-fn names_argument<'a>(alloc: Global) -> Arg<'a> {
-    Arg::new(alloc, "names")
-        .long("names")
-        .action(ArgAction::SetTrue)
-        .help("Prints the value of each name")
-}
-
-/// The argument that asks for the picture.
-fn dot_argument<'a>(alloc: Global) -> Arg<'a> {
-    Arg::new(alloc, "dot")
-        .long("dot")
-        .action(ArgAction::SetTrue)
-        .help("Prints it in the language of Graphviz")
+        .help(help)
 }
 
 /// The argument for the round.
@@ -132,83 +127,93 @@ fn rounds_argument<'a>(alloc: Global) -> Arg<'a> {
         .help("How often the rules are used")
 }
 
-/// A command on a file.
-fn file_command<'a>(
+/// A command with these arguments.
+fn command_with<'a>(
     alloc: Global,
     name: &'a str,
     bin_name: &'a str,
     about: &'a str,
+    arguments: Vec<Arg<'a>>,
 ) -> Result<Command<'a>, AllocError> {
     Command::new(alloc, name)
         .bin_name(bin_name)?
         .about(about)
-        .arg(file_argument(alloc))
+        .args(arguments)
 }
 
 /// The command `check`.
 fn check_command<'a>(alloc: Global) -> Result<Command<'a>, AllocError> {
-    file_command(
-        alloc,
-        "check",
-        "idc check",
-        "Says whether a program is accepted",
-    )
+    let about = "Says whether a program is accepted";
+    let arguments = vec![in alloc; file_argument(alloc)]?;
+    command_with(alloc, "check", "idc check", about, arguments)
 }
 
 /// The command `graph`.
 fn graph_command<'a>(alloc: Global) -> Result<Command<'a>, AllocError> {
     let about = "Prints the tagged-token graph of a program";
-    file_command(alloc, "graph", "idc graph", about)?.arg(dot_argument(alloc))
+    let dot = flag(alloc, "dot", "Prints it in the language of Graphviz");
+    let arguments = vec![in alloc; file_argument(alloc), dot]?;
+    command_with(alloc, "graph", "idc graph", about, arguments)
+}
+
+/// The arguments of `run`.
+fn run_arguments<'a>(alloc: Global) -> Result<Vec<Arg<'a>>, AllocError> {
+    let arguments = vec![in alloc;
+        file_argument(alloc),
+        inputs_argument(alloc),
+        elements_option(alloc),
+        steps_option(alloc),
+        flag(alloc, "names", "Prints the value of each name"),
+        flag(alloc, "trace", "Prints each event before the answer"),
+    ]?;
+    Ok(arguments)
 }
 
 /// The command `run`.
 fn run_command<'a>(alloc: Global) -> Result<Command<'a>, AllocError> {
     let about = "Runs a program and prints its answer or its fault";
-    file_command(alloc, "run", "idc run", about)?
-        .after_help(STATUSES)
-        .arg(inputs_argument(alloc))?
-        .arg(elements_argument(alloc))?
-        .arg(steps_argument(alloc))?
-        .arg(names_argument(alloc))?
-        .arg(trace_argument(alloc))
+    let command = command_with(alloc, "run", "idc run", about, run_arguments(alloc)?)?;
+    Ok(command.after_help(STATUSES))
 }
 
 /// The command `facts`.
 fn facts_command<'a>(alloc: Global) -> Result<Command<'a>, AllocError> {
     let about = "Prints the facts that the rules of the language give a program";
-    file_command(alloc, "facts", "idc facts", about)?
-        .arg(rounds_argument(alloc))?
-        .arg(inputs_argument(alloc))
+    let arguments = vec![in alloc;
+        file_argument(alloc),
+        rounds_argument(alloc),
+        inputs_argument(alloc),
+    ]?;
+    command_with(alloc, "facts", "idc facts", about, arguments)
 }
 
-/// The command line without its commands.
-fn bare_command<'a>(alloc: Global) -> Command<'a> {
+/// Puts a command behind these, unless it could not be made.
+fn put<'a>(
+    commands: &mut Vec<Command<'a>>,
+    command: Result<Command<'a>, AllocError>,
+) -> Result<(), AllocError> {
+    commands.push(command?)?;
+    Ok(())
+}
+
+/// Puts the commands behind these, in the order of help.
+fn put_all<'a>(alloc: Global, commands: &mut Vec<Command<'a>>) -> Result<(), AllocError> {
+    put(commands, check_command(alloc))?;
+    put(commands, graph_command(alloc))?;
+    put(commands, run_command(alloc))?;
+    put(commands, facts_command(alloc))
+}
+
+/// The whole command line.
+fn command<'a>(alloc: Global) -> Result<Command<'a>, AllocError> {
+    let mut commands = Vec::new(alloc);
+    put_all(alloc, &mut commands)?;
     Command::new(alloc, "idc")
         .about("Compiles a lenient dataflow program to a tagged-token graph and runs it")
         .after_help(OVERVIEW)
         .no_binary_name(true)
         .subcommand_required(true)
-}
-
-/// The command with one more below it, unless that could not be made.
-fn add_command<'a>(
-    command: Command<'a>,
-    below: Result<Command<'a>, AllocError>,
-) -> Result<Command<'a>, AllocError> {
-    command.subcommand(below?)
-}
-
-/// The command line with its first two commands.
-fn first_commands<'a>(alloc: Global) -> Result<Command<'a>, AllocError> {
-    let command = add_command(bare_command(alloc), check_command(alloc))?;
-    add_command(command, graph_command(alloc))
-}
-
-/// The whole command line.
-fn command<'a>(alloc: Global) -> Result<Command<'a>, AllocError> {
-    let first = first_commands(alloc)?;
-    let command = add_command(first, run_command(alloc))?;
-    add_command(command, facts_command(alloc))
+        .subcommands(commands)
 }
 
 /// What the parser's error tells the user.
