@@ -2,6 +2,5 @@
 pub mod Endings
 pub mod Helds
 pub mod Names
+pub mod Reports
 pub mod Within
--- For use inside.
-pub mod Lists

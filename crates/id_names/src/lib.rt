@@ -2,7 +2,7 @@
 //!
 //! Keeps: nothing beyond its values.
 //! Errors: want of memory alone.
-//! Read first: `specs/Endings.antt`, `specs/Names.antt`, `specs/Within.antt`, then `run_report`.
+//! Read first: `specs/Endings.antt`, `specs/Names.antt`, `specs/Reports.antt`, `specs/Within.antt`, then `run_report`.
 //! Not here: how they are printed (`id_print`), runs (`id_core`), sinks and the texts of values (`id_sink`).
 #![tactic(auto)]
 

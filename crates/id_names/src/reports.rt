@@ -1,13 +1,13 @@
 //! Reports of runs: how a run ended, and what it has shown, in order.
 
-ghost use Rattle.std.specs.Prelude.{◌≡◌, ◌↔◌, ◌++◌, [], map, IsTrue, IsFalse, IfOk};
+ghost use Rattle.std.specs.Prelude.{◌≡◌, ◌↔◌, ◌++◌, [], false, map, IsTrue, IsFalse, IfOk};
 ghost use Rattle.id_core.specs.Observed.{answer, faults, names, waiting};
 ghost use Rattle.id_source.specs.Orders.{NamesRise, Rises};
 ghost use Rattle.id_names.specs.declared.helds.Held.TheVariants as held;
 ghost use Rattle.id_names.specs.Endings.{EndsSo};
-ghost use Rattle.id_names.specs.Lists.{AreListsOf};
 ghost use Rattle.id_names.specs.Names.{IsOrderOf, IsSortedOf, AreApart, AreApartBy, HeldBefore, WaitBefore};
 ghost use Rattle.id_names.specs.Names.{OfOneThing, OfOneFetch, held_lines};
+ghost use Rattle.id_names.specs.Reports.{IsReportFrom};
 ghost use Rattle.id_names.specs.Within.{ReportWithin};
 
 use crate::helds::Helds;
@@ -34,56 +34,12 @@ pub struct Report {
 /// The report of a run: it ended at its first fault, by stamp and then by element, where there is one, else it is quiet
 /// or it was stopped. What binders have is looked up only where `named` asks for it: else the report has no names.
 pub fn run_report(alloc: Global, machine: &Machine<'_>, named: bool) -> Result<Report, AllocError>
-    ensures answer { IfOk result (λ r. r.answer ≡ answer machine.now.graph machine.now.world) }
-    ensures ending { IfOk result (λ r. EndsSo machine.now r.ending) }
-
-    // What binders have is all there, in order; where the run shows no name twice, each comes before the next.
-    ensures names { IfOk result (λ r. IsTrue named → IsSortedOf r.names (names machine.now.graph machine.now.world)) }
-    ensures rise { IfOk result
-        (λ r. IsTrue named → AreApart (names machine.now.graph machine.now.world) → NamesRise r.names) }
-    ensures none { IfOk result (λ r. IsFalse named → r.names ≡ []) }
-
-    // So are the structures with their cells, and the fetches that wait.
-    ensures held { IfOk result (λ r. IsOrderOf HeldBefore r.structures (held_lines machine.now)) }
-    ensures held_rise { IfOk result
-        (λ r. AreApartBy OfOneThing (held_lines machine.now) → Rises HeldBefore r.structures) }
-    ensures waiting { IfOk result
-        (λ r. IsOrderOf WaitBefore r.waiting (waiting machine.now.graph machine.now.world)) }
-    ensures waiting_rise { IfOk result
-        (λ r. AreApartBy OfOneFetch (waiting machine.now.graph machine.now.world) → Rises WaitBefore r.waiting) }
-{
-    let ending = ending_of(alloc, machine)?;
-    let lists = lists_of(alloc, machine, named)?;
-    Ok(Report {
-        ending,
-        answer: lists.answer,
-        names: lists.names,
-        structures: lists.lines,
-        waiting: lists.waiting,
-    })
-}
-
-/// The answer, what binders have, the lines of structures and cells, and the fetches that wait, in order.
-#[derive(Drop)]
-struct Lists {
-    answer: Option<SourceValue>,
-    names: Sequence<NameValue>,
-    lines: Helds,
-    waiting: Sequence<Ask>,
-}
-
-/// What a run shows, in order, of what binders have where that is asked for.
-fn lists_of(alloc: Global, machine: &Machine<'_>, named: bool) -> Result<Lists, AllocError>
-    ensures { IfOk result (AreListsOf machine.now named) }
+    ensures { IfOk result (IsReportFrom machine.now named) }
 {
     let names = asked_names(alloc, machine, named)?;
-    let held = machine_held(alloc, machine)?;
-    Ok(Lists {
-        answer: held.answer,
-        names,
-        lines: held.lines,
-        waiting: held.waiting,
-    })
+    let mut report = unnamed_report(alloc, machine)?;
+    report.names = names;
+    Ok(report)
 }
 
 /// What binders have where that is asked for, and else no names.
@@ -102,6 +58,21 @@ fn asked_names(
     } else {
         Ok(Sequence::new(Vec::new(alloc)))
     }
+}
+
+/// The report of a run without what binders have.
+fn unnamed_report(alloc: Global, machine: &Machine<'_>) -> Result<Report, AllocError>
+    ensures { IfOk result (IsReportFrom machine.now false) }
+{
+    let ending = ending_of(alloc, machine)?;
+    let held = machine_held(alloc, machine)?;
+    Ok(Report {
+        ending,
+        answer: held.answer,
+        names: Sequence::new(Vec::new(alloc)),
+        structures: held.lines,
+        waiting: held.waiting,
+    })
 }
 
 /// The answer, the lines of structures and cells, and the fetches that wait, in order.

@@ -16,7 +16,8 @@ use Rattle.id_print.specs.Reports.{report_text}
 use Rattle.id_trace.specs.Traces.{trace_text}
 use Rattle.id_compile.specs.declared.error.EngineError.{EngineError}
 use Rattle.id_compile.specs.declared.error.EngineError.TheVariants.{Memory, Write}
-use Rattle.id_runner.specs.Reports.{AreAllowed, IsReportFrom, IsTrueOf, IsUnallowed, PrintsEvents}
+use Rattle.id_names.specs.Reports.{IsReportFrom}
+use Rattle.id_runner.specs.Reports.{AreAllowed, IsTrueOf, IsUnallowed, PrintsEvents}
 use Rattle.id_turns.specs.Deliveries.{HasRun}
 use Rattle.id_runner.specs.Reports.{PrintsMachine, PrintsRun, RunsSo, ran, unallowed, status_of}
 use Rattle.id_runner.specs.Reports.PrintsEvents.{all_out, front_out}

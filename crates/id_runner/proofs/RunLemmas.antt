@@ -23,7 +23,8 @@ use Rattle.id_names.specs.Names.{WaitBefore}
 use Rattle.id_source.specs.Orders.{Rises}
 use Rattle.id_turns.specs.Turns.{after}
 use Rattle.id_turns.specs.Deliveries.{HasRun}
-use Rattle.id_runner.specs.Reports.{IsReportFrom, IsReportOfRun, IsTrueOf, SaysSome, SaysTruly}
+use Rattle.id_names.specs.Reports.{IsReportFrom}
+use Rattle.id_runner.specs.Reports.{IsReportOfRun, IsTrueOf, SaysSome, SaysTruly}
 use Rattle.id_runner.proofs.HeldLemmas.{AreApartBy-held, AreApartBy-waiting, AreHeld-complete, AreSomeHeld-sound, AreWaiting-complete}
 use Rattle.id_runner.proofs.NamesLemmas.{among_sorted, AreApart-sound, AreSomeNames-sound, AreSomeNames-none, AreNames-complete}
 

@@ -22,6 +22,7 @@ use Rattle.id_names.specs.declared.reports.Report.{Report}
 use Rattle.id_sink.specs.declared.sink.PrintError.{PrintError}
 use Rattle.id_sink.specs.Told.{Told, Prints}
 use Rattle.id_names.specs.Endings.{EndsSo}
+use Rattle.id_names.specs.Reports.{IsReportFrom}
 use Rattle.id_names.specs.Within.{ReportWithin}
 use Rattle.id_print.specs.Reports.{report_text}
 use Rattle.id_trace.specs.Traces.{trace_text}
@@ -68,18 +69,6 @@ SaysTruly S b r (Fault f) = Faulty S f
 pub record IsTrueOf (S : Source) (b : Bool) (r : Report) : Type 0 where
   pub says : SaysTruly S b r r.ending
   pub some : SaysSome S r
-
--- the report is what the machine shows, with names where they are asked for
-pub record IsReportFrom (m : MachineView) (b : Bool) (r : Report) : Type 0 where
-  pub answer_is : r.answer ≡ answer m.graph m.world
-  pub sorted : IsTrue b → IsSortedOf r.names (names m.graph m.world)
-  pub rise : IsTrue b → AreApart (names m.graph m.world) → NamesRise r.names
-  pub none : IsFalse b → r.names ≡ []
-  pub held : IsOrderOf HeldBefore r.structures (held_lines m)
-  pub held_rise : AreApartBy OfOneThing (held_lines m) → Rises HeldBefore r.structures
-  pub waits : IsOrderOf WaitBefore r.waiting (waiting m.graph m.world)
-  pub waits_rise : AreApartBy OfOneFetch (waiting m.graph m.world) → Rises WaitBefore r.waiting
-  pub ends : EndsSo m r.ending
 
 -- the report, with names where they are asked for, is that of a run that has ended, on so many elements, each of which
 -- has handled at most so many messages

@@ -8,6 +8,7 @@ ghost use Rattle.id_source.specs.Sources.{AreInputs};
 ghost use Rattle.id_print.specs.Reports.{report_text};
 ghost use Rattle.id_sink.specs.Told.{Prints};
 ghost use Rattle.id_trace.specs.Traces.{trace_text};
+ghost use Rattle.id_names.specs.Reports.{IsReportFrom};
 ghost use Rattle.id_names.specs.Within.{ReportWithin};
 ghost use Rattle.id_runner.specs.Alike.{PrintedAlike};
 ghost use Rattle.id_runner.specs.Commands.{Run, ShowsAll, ShowsFront};
@@ -15,8 +16,7 @@ ghost use Rattle.id_compile.specs.Programs.{IsPlacedWithin};
 ghost use Rattle.id_compile.specs.Refusals.{IsInsideOf, IsRefusedRun, IsTakenRun};
 ghost use Rattle.id_runner.specs.Reports.{AreAllowed};
 ghost use Rattle.id_turns.specs.Deliveries.{HasRun, IsFreshMachine};
-ghost use Rattle.id_runner.specs.Reports.{IsReportFrom, PrintsRun, RunsSo};
-ghost use Rattle.id_runner.specs.Reports.{AreReportsWithin, PrintsEvents, PrintsMachine, status_of};
+ghost use Rattle.id_runner.specs.Reports.{AreReportsWithin, PrintsEvents, PrintsMachine, PrintsRun, RunsSo, status_of};
 ghost use Rattle.id_runner.specs.Runs.{IsTraceOf, Ran};
 
 use id_compile::EngineError;
