@@ -1,5 +1,5 @@
 -- The report of a run of a text's program, and how it is printed.
-use Rattle.std.specs.Prelude.{◌≡◌, ◌≤◌, ◌<◌, ◌+◌, ◌⊎◌, ℕ, Bool, IsTrue, IsFalse, List, [], ◌++◌, All, length}
+use Rattle.std.specs.Prelude.{◌≡◌, ◌≤◌, ◌<◌, ◌⊎◌, ℕ, Bool, IsTrue, List, [], ◌++◌, All, length}
 use Rattle.std.specs.Prelude.{Option, IfSome, Result, Ok, Err}
 use Rattle.id_check.specs.declared.checked.Checked.{Checked}
 use Rattle.id_value.specs.declared.Constant.{Constant}
@@ -9,7 +9,6 @@ use Rattle.id_source.specs.declared.Ask.{Ask}
 use Rattle.id_source.specs.declared.Fact.TheVariants as fact
 use Rattle.id_source.specs.Rounds.{Answers, Holds, IsAnswer, Faulty, FaultFree}
 use Rattle.id_source.specs.Names.{AreNames, AreSomeNames, AreWaiting}
-use Rattle.id_source.specs.Orders.{NamesRise, Rises}
 use Rattle.id_pieces.specs.Schemas.{Schemas}
 use Rattle.id_pieces.specs.Rows.{size}
 use Rattle.id_instr.specs.Graph.{Parts}
@@ -26,8 +25,8 @@ use Rattle.id_names.specs.Reports.{IsReportFrom}
 use Rattle.id_names.specs.Within.{ReportWithin}
 use Rattle.id_print.specs.Reports.{report_text}
 use Rattle.id_trace.specs.Traces.{trace_text}
-use Rattle.id_names.specs.Names.{IsOrderOf, IsSortedOf, AreApart, AreApartBy, HeldBefore, WaitBefore}
-use Rattle.id_names.specs.Names.{OfOneThing, OfOneFetch, AreHeld, AreSomeHeld, held_lines}
+use Rattle.id_names.specs.Names.{IsOrderOf, IsSortedOf, HeldBefore, WaitBefore}
+use Rattle.id_names.specs.Names.{AreHeld, AreSomeHeld}
 use Rattle.id_source.specs.Computed.{HasMoreFacts}
 use Rattle.id_compile.specs.declared.error.EngineError.{EngineError}
 use Rattle.id_compile.specs.declared.error.EngineError.TheVariants.{BadElements, BadSteps, BadRounds, TooManyFacts}

@@ -1,5 +1,5 @@
 -- Runs of the engine: how they end, and what is printed of them (docs/PROMISES.md, "The run").
-use Rattle.std.specs.Prelude.{◌≡◌, ◌≢◌, ◌≤◌, ◌+◌, ℕ, Bool, IsTrue, IsFalse, List, [], ◌++◌}
+use Rattle.std.specs.Prelude.{◌≡◌, ◌≢◌, ◌≤◌, ℕ, Bool, IsTrue, IsFalse, List, [], ◌++◌}
 use Rattle.std.specs.Prelude.{All, length}
 use Rattle.std.specs.Prelude.{Option, Ok}
 use Rattle.id_check.specs.declared.checked.Checked.{Checked}
