@@ -3,10 +3,10 @@
 use crate::graphs::countdown;
 use crate::rows::{Expected, deliver, is_traced};
 use id_core::{Machine, takes_inputs};
-use id_graph::{Constant, list};
+use id_graph::{Constant, Graph, list};
 use id_inputs::Inputs;
 use id_list::Sequence;
-use id_print::{is_within, run_report, write_report};
+use id_print::{Report, is_within, run_report, write_report};
 use id_valid::Valid;
 use std::alloc::{AllocError, Global};
 use std::process::Abort;
@@ -35,32 +35,36 @@ const LISTING: &str = "0 merge int @1:5 ->
 18 reset int @1:25 -> 8.1
 ";
 
+/// Whether the graph is listed so.
+fn is_listed(rt: &impl Abort, alloc: Global, graph: &Graph) -> Result<bool, AllocError> {
+    assert!(rt; TEXT.len() <= 1_000_000);
+    assert!(rt; graph.instrs().iter().all(|instr| instr.place <= TEXT.len()));
+    let listing = list(alloc, graph, TEXT)?;
+    Ok(listing.as_str() == LISTING)
+}
+
 #[test]
 fn the_loop_is_listed(rt: HostRuntime) -> Result<(), Fail> {
     let graph = countdown(&rt, rt.alloc())?;
-    let fits = TEXT.len() <= 1_000_000;
-    assert!(rt; fits);
-    assert!(rt;
-        graph
-            .graph()
-            .instrs()
-            .iter()
-            .all(|instr| instr.place <= TEXT.len())
-    );
-    let listing = list(rt.alloc(), graph.graph(), TEXT)?;
-    assert!(rt; listing.as_str() == LISTING);
+    let listed = is_listed(&rt, rt.alloc(), graph.graph())?;
+    assert!(rt; listed);
     Ok(())
 }
 
-/// The machine of one element at its start, where `n` is 1.
-fn counting<'a>(rt: &impl Abort, alloc: Global, graph: &'a Valid) -> Result<Machine<'a>, Fail> {
-    let mut values = Vec::new(alloc);
-    values.push(Constant::Int(1))?;
+/// The machine of so many elements at its start, for this `n`.
+pub(crate) fn counting<'a>(
+    rt: &impl Abort,
+    alloc: Global,
+    graph: &'a Valid,
+    n: i64,
+    count: u32,
+) -> Result<Machine<'a>, AllocError> {
+    let values = vec![in alloc; Constant::Int(n)]?;
     let inputs = Inputs {
         values: Sequence::new(values),
     };
     assert!(rt; takes_inputs(graph, &inputs));
-    Ok(Machine::new(alloc, graph, &inputs, 1).map_err(|_| AllocError)?)
+    Machine::new(alloc, graph, &inputs, count).map_err(|_| AllocError)
 }
 
 const TRACE: &str = "1 0 token c0.0#0 1.0 signal
@@ -106,15 +110,20 @@ name /1:25#0@1:42 = 1
 name /1:25#1@1:42 = 0
 ";
 
-/// Whether the names of the run are printed so.
-fn is_reported(rt: &impl Abort, alloc: Global, machine: &Machine<'_>) -> Result<bool, Fail> {
-    let report = run_report(alloc, machine, true)?;
+/// Whether the report is printed so.
+fn is_printed(rt: &impl Abort, report: &Report) -> bool {
     assert!(rt; TEXT.len() <= 1_000_000);
-    assert!(rt; is_within(&report, TEXT.len()));
+    assert!(rt; is_within(report, TEXT.len()));
     let mut sink = Expected {
         rest: REPORT.as_bytes(),
     };
-    Ok(write_report(&report, TEXT, true, &mut sink).is_ok() && sink.rest.is_empty())
+    write_report(report, TEXT, true, &mut sink).is_ok() && sink.rest.is_empty()
+}
+
+/// Whether the names of the run are printed so.
+fn is_reported(rt: &impl Abort, alloc: Global, machine: &Machine<'_>) -> Result<bool, AllocError> {
+    let report = run_report(alloc, machine, true)?;
+    Ok(is_printed(rt, &report))
 }
 
 /// Whether 35 deliveries make the machine quiet, with the trace and the report of the run.
@@ -125,11 +134,16 @@ fn is_run_so(rt: &impl Abort, alloc: Global, machine: &mut Machine<'_>) -> Resul
     Ok(quiet && traced && reported)
 }
 
+/// Whether a machine of the graph runs so.
+fn is_counted_down(rt: &impl Abort, alloc: Global, graph: &Valid) -> Result<bool, Fail> {
+    let mut machine = counting(rt, alloc, graph, 1, 1)?;
+    is_run_so(rt, alloc, &mut machine)
+}
+
 #[test]
 fn the_loop_counts_down(rt: HostRuntime) -> Result<(), Fail> {
     let graph = countdown(&rt, rt.alloc())?;
-    let mut machine = counting(&rt, rt.alloc(), &graph)?;
-    let run = is_run_so(&rt, rt.alloc(), &mut machine)?;
+    let run = is_counted_down(&rt, rt.alloc(), &graph)?;
     assert!(rt; run);
     Ok(())
 }

@@ -4,13 +4,12 @@
 
 ghost use Rattle.std.specs.Prelude.{◌<◌};
 
+use crate::countdown::counting;
 use crate::graphs::countdown;
 use crate::rows::main_tag;
 use id_bank::{Bank, ReadAnswer, WriteAnswer};
-use id_core::{Machine, takes_inputs};
-use id_graph::{Constant, Port};
-use id_inputs::Inputs;
-use id_list::Sequence;
+use id_core::Machine;
+use id_graph::Port;
 use id_match::{Offered, Waiting};
 use id_tag::{Cell, Structure, Tag, Value};
 use id_valid::Valid;
@@ -105,17 +104,6 @@ fn a_read_or_write_that_memory_refuses_changes_nothing(rt: HostRuntime) {
     }
 }
 
-/// The machine of two elements at its start, where `n` is 20.
-fn counting<'a>(rt: &impl Abort, alloc: Global, graph: &'a Valid) -> Result<Machine<'a>, Fail> {
-    let mut values = Vec::new(alloc);
-    values.push(Constant::Int(20))?;
-    let inputs = Inputs {
-        values: Sequence::new(values),
-    };
-    assert!(rt; takes_inputs(graph, &inputs));
-    Ok(Machine::new(alloc, graph, &inputs, 2).map_err(|_| AllocError)?)
-}
-
 /// How many messages are in flight, and how many each of two elements has handled.
 fn counts(machine: &Machine<'_>) -> (usize, usize, usize) {
     match machine.elements() {
@@ -140,14 +128,22 @@ fn is_delivered(machine: &mut Machine<'_>) -> bool {
     }
 }
 
+/// Whether so many deliveries make a machine of the graph on two elements quiet, where `n` is 20.
+fn is_quiet_after(
+    rt: &impl Abort,
+    alloc: Global,
+    graph: &Valid,
+    deliveries: u32,
+) -> Result<bool, AllocError> {
+    let mut machine = counting(rt, alloc, graph, 20, 2)?;
+    Ok((0..deliveries).all(|_| is_delivered(&mut machine)) && machine.is_quiet())
+}
+
 #[test]
 fn a_delivery_that_memory_refuses_changes_nothing(rt: HostRuntime) -> Result<(), Fail> {
     let graph = countdown(&rt, rt.alloc())?;
-    let mut machine = counting(&rt, rt.alloc(), &graph)?;
     // 14 messages for each iteration, and 21 for the rest.
-    for _ in 0..301 {
-        assert!(rt; is_delivered(&mut machine));
-    }
-    assert!(rt; machine.is_quiet());
+    let quiet = is_quiet_after(&rt, rt.alloc(), &graph, 301)?;
+    assert!(rt; quiet);
     Ok(())
 }

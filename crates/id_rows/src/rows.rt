@@ -328,13 +328,22 @@ fn is_refused(rt: &impl Abort, alloc: Global, graph: &Valid, count: u32) -> bool
     )
 }
 
+/// Whether five deliveries make a machine of so many elements quiet.
+fn is_quiet_on(
+    rt: &impl Abort,
+    alloc: Global,
+    graph: &Valid,
+    count: u32,
+) -> Result<bool, TakeError> {
+    let mut machine = started(rt, alloc, graph, count)?;
+    deliver(&mut machine, 5)
+}
+
 #[test]
 fn a_machine_has_1_to_64_elements(rt: HostRuntime) -> Result<(), Fail> {
     let graph = seven(&rt, rt.alloc())?;
-    assert!(rt; is_refused(&rt, rt.alloc(), &graph, 0));
-    assert!(rt; is_refused(&rt, rt.alloc(), &graph, 65));
-    let mut machine = started(&rt, rt.alloc(), &graph, 64)?;
-    let quiet = deliver(&mut machine, 5)?;
+    assert!(rt; is_refused(&rt, rt.alloc(), &graph, 0) && is_refused(&rt, rt.alloc(), &graph, 65));
+    let quiet = is_quiet_on(&rt, rt.alloc(), &graph, 64)?;
     assert!(rt; quiet);
     Ok(())
 }
@@ -402,11 +411,16 @@ fn is_run_to_seven(alloc: Global, machine: &mut Machine<'_>) -> Result<bool, Fai
     Ok(quiet && recorded && seven)
 }
 
+/// Whether a machine of one element runs to 7.
+fn is_seven_on_one(rt: &impl Abort, alloc: Global, graph: &Valid) -> Result<bool, Fail> {
+    let mut machine = started(rt, alloc, graph, 1)?;
+    is_run_to_seven(alloc, &mut machine)
+}
+
 #[test]
 fn five_deliveries_bring_7(rt: HostRuntime) -> Result<(), Fail> {
     let graph = seven(&rt, rt.alloc())?;
-    let mut machine = started(&rt, rt.alloc(), &graph, 1)?;
-    let run = is_run_to_seven(rt.alloc(), &mut machine)?;
+    let run = is_seven_on_one(&rt, rt.alloc(), &graph)?;
     assert!(rt; run);
     Ok(())
 }

@@ -63,8 +63,21 @@ fn cache_blocks(alloc: Global) -> Result<(), AllocError> {
     Ok(())
 }
 
-/// Does what the words of the process ask for, and answers the status. The parts of a line gather in a buffer on their
-/// way to standard output.
+/// Does what the words of the process ask for, and answers the status.
+fn serve_words<S: Source, O: Sink, E: Sink>(
+    rt: &HostRuntime,
+    source: &mut S,
+    out: &mut O,
+    err: &mut E,
+) -> u8 {
+    match arguments(rt) {
+        Ok(words) => run(rt.alloc(), words.as_slice(), source, out, err),
+        Err(unasked) => drive(rt.alloc(), &Err(unasked), source, out, err),
+    }
+}
+
+/// Answers the words of the process on its streams. The parts of a line gather in a buffer on their way to standard
+/// output.
 fn serve_process(rt: &HostRuntime) -> u8 {
     let alloc = rt.alloc();
     let mut source = Disk { rt };
@@ -74,23 +87,15 @@ fn serve_process(rt: &HostRuntime) -> u8 {
     match BufWriter::new(alloc, rt.stdout()) {
         Ok(writer) => {
             let mut out = Stream { writer };
-            let status = match arguments(rt) {
-                Ok(words) => run(alloc, words.as_slice(), &mut source, &mut out, &mut err),
-                Err(unasked) => drive(alloc, &Err(unasked), &mut source, &mut out, &mut err),
-            };
+            let status = serve_words(rt, &mut source, &mut out, &mut err);
             settle(&mut out, &mut err, status)
         }
         Err(_) => {
             let mut out = Stream {
                 writer: rt.stdout(),
             };
-            drive(
-                alloc,
-                &Err(Unasked::Memory),
-                &mut source,
-                &mut out,
-                &mut err,
-            )
+            let refused = Err(Unasked::Memory);
+            drive(alloc, &refused, &mut source, &mut out, &mut err)
         }
     }
 }

@@ -34,6 +34,16 @@ impl<R: Abort> Sink for Telling<'_, R> {
     }
 }
 
+/// A sink that has taken nothing, with room for so many bytes.
+fn with_room<R: Abort + AllocGlobal>(rt: &R, room: usize) -> Telling<'_, R> {
+    Telling {
+        rt,
+        room,
+        bytes: Vec::new(rt.alloc()),
+        failures: 0,
+    }
+}
+
 /// A source with one text, named `text.id`.
 #[derive(Drop)]
 struct OneText<'a> {
@@ -74,18 +84,8 @@ fn print<R: Abort + AllocGlobal>(
         words.push(word)?;
     }
     let mut source = OneText { text };
-    let mut out = Telling {
-        rt,
-        room,
-        bytes: Vec::new(alloc),
-        failures: 0,
-    };
-    let mut err = Telling {
-        rt,
-        room: 1_000_000,
-        bytes: Vec::new(alloc),
-        failures: 0,
-    };
+    let mut out = with_room(rt, room);
+    let mut err = with_room(rt, 1_000_000);
     let status = run(alloc, words.as_slice(), &mut source, &mut out, &mut err);
     Ok(Printed {
         out: out.bytes,
@@ -115,41 +115,55 @@ run|text.id / refused 11 WrongCount at 1:19 / def main(): int = main(1);
 run|other.id / refused 4 File / def main(): int = 1;
 ";
 
-/// Checks that one line was printed where it belongs.
-fn expect(rt: &impl Abort, got: &Printed, line: &str, words: &str) {
-    if line.starts_with("refused") {
-        assert_eq!(rt; got.err.as_slice(), line.as_bytes(), "{words}");
-        assert!(rt; got.out.is_empty() && got.status > 1, "{words}");
+/// Whether this line was printed where it belongs, and nothing else.
+fn is_line(got: &Printed, line: &[u8]) -> bool {
+    if line.starts_with("refused".as_bytes()) {
+        got.err.as_slice() == line && got.out.is_empty() && got.status > 1
     } else {
-        assert_eq!(rt; got.out.as_slice(), line.as_bytes(), "{words}");
-        assert!(rt; got.err.is_empty() && got.status < 2, "{words}");
+        got.out.as_slice() == line && got.err.is_empty() && got.status < 2
     }
+}
+
+/// Whether a row's words print its line of its text.
+fn is_row<R: Abort + AllocGlobal>(rt: &R, row: &str) -> Result<bool, Fail> {
+    let mut parts = row.split(" / ");
+    let (Some(words), Some(line), Some(text)) = (parts.next(), parts.next(), parts.next()) else {
+        return Ok(false);
+    };
+    let got = print(rt, text, words, 1_000_000)?;
+    let line = format!(in rt.alloc(); "{line}\n")?;
+    Ok(is_line(&got, line.as_bytes()))
 }
 
 #[test]
 fn does_what_the_rows_say(rt: HostRuntime) -> Result<(), Fail> {
     let mut rows = 0usize;
     for row in ROWS.lines() {
-        let mut parts = row.split(" / ");
-        if let (Some(words), Some(line), Some(text)) = (parts.next(), parts.next(), parts.next()) {
-            let got = print(&rt, text, words, 1_000_000)?;
-            let line = format!(in rt.alloc(); "{line}\n")?;
-            expect(&rt, &got, line.as_str(), words);
-            rows = rows.saturating_add(1);
-        }
+        let printed = is_row(&rt, row)?;
+        assert!(&rt; printed, "{row}");
+        rows = rows.saturating_add(1);
     }
     assert_eq!(&rt; rows, 16);
     Ok(())
 }
 
+/// Whether a write to standard output failed, which alone was said.
+fn is_cut(got: &Printed) -> bool {
+    got.err.as_slice() == "refused Write\n".as_bytes() && got.status == 5
+}
+
+#[test]
+fn prints_its_help(rt: HostRuntime) -> Result<(), Fail> {
+    let got = print(&rt, "", "run|--help", 1_000_000)?;
+    let ends = got.out.as_slice().ends_with("--steps 1000\n".as_bytes());
+    assert!(&rt; ends && got.err.is_empty() && got.status == 0);
+    Ok(())
+}
+
 #[test]
 fn refuses_a_help_that_is_not_written(rt: HostRuntime) -> Result<(), Fail> {
-    let whole = print(&rt, "", "run|--help", 1_000_000)?;
-    assert!(&rt; whole.status == 0 && whole.err.is_empty());
-    assert!(&rt; whole.out.as_slice().ends_with("--steps 1000\n".as_bytes()));
-    let cut = print(&rt, "", "run|--help", 10)?;
-    assert_eq!(&rt; cut.err.as_slice(), "refused Write\n".as_bytes());
-    assert_eq!(&rt; cut.status, 5);
+    let got = print(&rt, "", "run|--help", 10)?;
+    assert!(&rt; is_cut(&got));
     Ok(())
 }
 
@@ -193,29 +207,30 @@ fn says_what_the_system_says(rt: HostRuntime) {
     assert!(&rt; whole.is_err(), "a write that takes nothing fails");
 }
 
+/// Whether a failed write is told once, whatever the status was.
+fn is_settled<R: Abort>(
+    out: &mut Stream<BufWriter<Halting>>,
+    err: &mut Telling<'_, R>,
+    status: u8,
+) -> bool {
+    settle(out, err, status) == 5 && err.bytes.as_slice() == "refused Write\n".as_bytes()
+}
+
 #[test]
 fn refuses_once_what_a_buffer_cannot_send_on(rt: HostRuntime) -> Result<(), Fail> {
     let mut out = Stream {
         writer: BufWriter::new(rt.alloc(), Halting { turn: 3 })?,
     };
-    let mut err = Telling {
-        rt: &rt,
-        room: 100,
-        bytes: Vec::new(rt.alloc()),
-        failures: 0,
-    };
+    let mut err = with_room(&rt, 100);
     let gathered = put(&mut out, "answer 1\n".as_bytes());
     assert!(&rt; gathered.is_ok());
-    for status in [0, 5] {
-        let settled = settle(&mut out, &mut err, status);
-        assert_eq!(&rt; settled, 5);
-        assert_eq!(&rt; err.bytes.as_slice(), "refused Write\n".as_bytes());
-    }
+    let settled = is_settled(&mut out, &mut err, 0) && is_settled(&mut out, &mut err, 5);
+    assert!(&rt; settled);
     Ok(())
 }
 
-/// Checks that a run on so many elements, each for at most so many messages, is refused with this line.
-fn expect_refusal<R: Abort + AllocGlobal>(rt: &R, count: u32, steps: u64, line: &str) {
+/// Whether a run on so many elements, each for at most so many messages, is refused with this line.
+fn is_refused<R: Abort + AllocGlobal>(rt: &R, count: u32, steps: u64, line: &str) -> bool {
     let alloc = rt.alloc();
     let asked = Ok(Request::Run {
         file: "text.id",
@@ -231,19 +246,13 @@ fn expect_refusal<R: Abort + AllocGlobal>(rt: &R, count: u32, steps: u64, line: 
     let mut out = Stream {
         writer: Halting { turn: 0 },
     };
-    let mut err = Telling {
-        rt,
-        room: 100,
-        bytes: Vec::new(alloc),
-        failures: 0,
-    };
+    let mut err = with_room(rt, 100);
     let status = drive(alloc, &asked, &mut source, &mut out, &mut err);
-    assert_eq!(rt; status, 4);
-    assert_eq!(rt; err.bytes.as_slice(), line.as_bytes());
+    status == 4 && err.bytes.as_slice() == line.as_bytes()
 }
 
 #[test]
-fn allows_a_million_steps_on_one_element_and_refuses_none(rt: HostRuntime) {
+fn allows_a_million_steps_on_one_element(rt: HostRuntime) {
     let words = ["run", "text.id"];
     let read = read_words(rt.alloc(), &words);
     let defaults = matches!(
@@ -257,9 +266,13 @@ fn allows_a_million_steps_on_one_element_and_refuses_none(rt: HostRuntime) {
         })
     );
     assert!(&rt; defaults);
-    expect_refusal(&rt, 1, 0, "refused 20 BadSteps\n");
-    expect_refusal(&rt, 0, 0, "refused 19 BadElements\n");
-    expect_refusal(&rt, 65, 1, "refused 19 BadElements\n");
+}
+
+#[test]
+fn refuses_no_steps_and_elements_beyond_64(rt: HostRuntime) {
+    assert!(&rt; is_refused(&rt, 1, 0, "refused 20 BadSteps\n"));
+    assert!(&rt; is_refused(&rt, 0, 0, "refused 19 BadElements\n"));
+    assert!(&rt; is_refused(&rt, 65, 1, "refused 19 BadElements\n"));
 }
 
 /// The trace of `def main(): int = 7;`, and its answer.
@@ -274,17 +287,19 @@ answer 7
 
 #[test]
 fn prints_the_trace_before_the_answer(rt: HostRuntime) -> Result<(), Fail> {
-    let whole = print(
+    let got = print(
         &rt,
         "def main(): int = 7;",
         "run|text.id|--trace",
         1_000_000,
     )?;
-    assert_eq!(&rt; whole.out.as_slice(), TRACED.as_bytes());
-    assert_eq!(&rt; whole.status, 0);
-    let cut = print(&rt, "def main(): int = 7;", "run|text.id|--trace", 40)?;
-    assert!(&rt; TRACED.as_bytes().starts_with(cut.out.as_slice()));
-    assert_eq!(&rt; cut.err.as_slice(), "refused Write\n".as_bytes());
-    assert_eq!(&rt; cut.status, 5);
+    assert!(&rt; got.out.as_slice() == TRACED.as_bytes() && got.err.is_empty() && got.status == 0);
+    Ok(())
+}
+
+#[test]
+fn refuses_a_trace_that_is_not_written(rt: HostRuntime) -> Result<(), Fail> {
+    let got = print(&rt, "def main(): int = 7;", "run|text.id|--trace", 40)?;
+    assert!(&rt; TRACED.as_bytes().starts_with(got.out.as_slice()) && is_cut(&got));
     Ok(())
 }
