@@ -36,8 +36,8 @@ fn others(alloc: Global, arcs: &[(u32, Port)]) -> Result<Others, AllocError> {
     Ok(others)
 }
 
-fn instrs(alloc: Global, rows: &[Row<'_>]) -> Result<Vec<Instr>, AllocError> {
-    let mut list = Vec::new(alloc);
+/// Puts the instructions of these rows behind the list.
+fn add(alloc: Global, list: &mut Vec<Instr>, rows: &[Row<'_>]) -> Result<(), AllocError> {
     for (op, first, second, place) in rows {
         list.push(Instr {
             op: *op,
@@ -46,6 +46,12 @@ fn instrs(alloc: Global, rows: &[Row<'_>]) -> Result<Vec<Instr>, AllocError> {
             place: *place,
         })?;
     }
+    Ok(())
+}
+
+fn instrs(alloc: Global, rows: &[Row<'_>]) -> Result<Vec<Instr>, AllocError> {
+    let mut list = Vec::new(alloc);
+    add(alloc, &mut list, rows)?;
     Ok(list)
 }
 
@@ -109,13 +115,19 @@ pub(crate) fn call(alloc: Global, enter: Op, send: Op) -> Result<Vec<Instr>, All
     let merge = Op::Merge(PortKind::Int);
     let trigger = Op::Merge(PortKind::Signal);
     let back = Op::Back(PortKind::Int);
-    instrs(
+    let mut list = instrs(
         alloc,
         &[
             (merge, &[], &[], 28),
             (trigger, &[], &[], 4),
             (back, &[], &[], 4),
             (merge, &[(2, Port::One)], &[], 6),
+        ],
+    )?;
+    add(
+        alloc,
+        &mut list,
+        &[
             (trigger, &[(6, Port::Zero), (7, Port::Zero)], &[], 28),
             (back, &[], &[], 28),
             (enter, &[(8, Port::Zero)], &[], 42),
@@ -123,56 +135,72 @@ pub(crate) fn call(alloc: Global, enter: Op, send: Op) -> Result<Vec<Instr>, All
             (send, &[], &[], 42),
             (merge, &[(5, Port::One)], &[], 42),
         ],
-    )
+    )?;
+    Ok(list)
 }
 
 /// The instructions of `def main(n: int): int = { while n > 0 do next n = n - 1; finally n };`, as docs/GRAPH.md has
 /// them. The block of main is 1 to 6, that of the loop 7 to 18, where 9 is its variable.
 fn count_down(alloc: Global) -> Result<Vec<Instr>, AllocError> {
+    let mut list = before_loop(alloc)?;
+    add_predicate(alloc, &mut list)?;
+    add_turns(alloc, &mut list)?;
+    Ok(list)
+}
+
+/// 0 to 6, the answer and the block of main.
+fn before_loop(alloc: Global) -> Result<Vec<Instr>, AllocError> {
     let merge = Op::Merge(PortKind::Int);
-    let trigger = Op::Merge(PortKind::Signal);
-    let back = Op::Back(PortKind::Int);
     let enter = Op::Enter { block: 7, reply: 6 };
     let send = Op::Send {
         kind: PortKind::Int,
         target: 9,
     };
-    let greater = Op::Binary(Dyadic::Comparison(Comparison::Gt));
-    let less_one = Op::Binary(Dyadic::Arithmetic(Arithmetic::Sub));
     instrs(
         alloc,
         &[
             (merge, &[], &[], 4),
-            (trigger, &[(4, Port::Zero)], &[], 4),
-            (back, &[], &[], 4),
+            (Op::Merge(PortKind::Signal), &[(4, Port::Zero)], &[], 4),
+            (Op::Back(PortKind::Int), &[], &[], 4),
             (merge, &[(5, Port::One)], &[], 9),
             (enter, &[(5, Port::Zero)], &[], 24),
             (send, &[], &[], 24),
             (merge, &[(2, Port::One)], &[], 24),
-            (trigger, &[(10, Port::Zero), (12, Port::One)], &[], 24),
-            (back, &[], &[], 24),
-            (merge, &[(11, Port::Zero), (13, Port::One)], &[], 41),
-            (number(0), &[(11, Port::One)], &[], 36),
-            (greater, &[(12, Port::Zero), (13, Port::Zero)], &[], 34),
-            (
-                Op::Switch(PortKind::Signal),
-                &[(14, Port::Zero), (15, Port::Zero)],
-                &[],
-                24,
-            ),
-            (
-                Op::Switch(PortKind::Int),
-                &[(16, Port::Zero)],
-                &[(18, Port::Zero)],
-                24,
-            ),
-            (Op::Next(PortKind::Signal), &[(7, Port::Zero)], &[], 24),
-            (number(1), &[(16, Port::One)], &[], 54),
-            (less_one, &[(17, Port::Zero)], &[], 52),
-            (Op::Next(PortKind::Int), &[(9, Port::Zero)], &[], 41),
-            (Op::Reset(PortKind::Int), &[(8, Port::One)], &[], 24),
         ],
     )
+}
+
+/// 7 to 13, what a turn of the loop begins with, its predicate, and the switches on that.
+fn add_predicate(alloc: Global, list: &mut Vec<Instr>) -> Result<(), AllocError> {
+    let trigger = [(10, Port::Zero), (12, Port::One)];
+    let variable = [(11, Port::Zero), (13, Port::One)];
+    let greater = Op::Binary(Dyadic::Comparison(Comparison::Gt));
+    let signals = Op::Switch(PortKind::Signal);
+    let numbers = Op::Switch(PortKind::Int);
+    let within = [(14, Port::Zero), (15, Port::Zero)];
+    let rows: [Row<'_>; 7] = [
+        (Op::Merge(PortKind::Signal), &trigger, &[], 24),
+        (Op::Back(PortKind::Int), &[], &[], 24),
+        (Op::Merge(PortKind::Int), &variable, &[], 41),
+        (number(0), &[(11, Port::One)], &[], 36),
+        (greater, &[(12, Port::Zero), (13, Port::Zero)], &[], 34),
+        (signals, &within, &[], 24),
+        (numbers, &[(16, Port::Zero)], &[(18, Port::Zero)], 24),
+    ];
+    add(alloc, list, &rows)
+}
+
+/// 14 to 18, what goes to the next turn, and what leaves the loop.
+fn add_turns(alloc: Global, list: &mut Vec<Instr>) -> Result<(), AllocError> {
+    let less_one = Op::Binary(Dyadic::Arithmetic(Arithmetic::Sub));
+    let rows: [Row<'_>; 5] = [
+        (Op::Next(PortKind::Signal), &[(7, Port::Zero)], &[], 24),
+        (number(1), &[(16, Port::One)], &[], 54),
+        (less_one, &[(17, Port::Zero)], &[], 52),
+        (Op::Next(PortKind::Int), &[(9, Port::Zero)], &[], 41),
+        (Op::Reset(PortKind::Int), &[(8, Port::One)], &[], 24),
+    ];
+    add(alloc, list, &rows)
 }
 
 /// The blocks that begin at these numbers, each with its one entry.

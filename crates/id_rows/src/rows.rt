@@ -145,24 +145,30 @@ fn are_put_off(alloc: Global, bank: &mut Bank) -> Result<bool, AllocError> {
     Ok(late && bank.readers(cell) == 2 && are_two_readers(waiting.as_slice()))
 }
 
-/// Whether the write, and what comes after it, have the answers of the row.
-fn is_kept(alloc: Global, bank: &mut Bank) -> Result<bool, AllocError> {
+/// Whether the write, and a read after it, have the answers of the row.
+fn is_filled(bank: &mut Bank) -> Result<bool, AllocError> {
     let cell = first_cell();
     let filled = is_for_two(bank.write(cell, Value::Int(5), main_tag(7))?);
     let read = bank.read(cell, main_tag(8))?;
     let now = matches!(read, ReadAnswer::Now(Value::Int(5))) && bank.readers(cell) == 0;
-    let again = bank.write(cell, Value::Int(5), main_tag(9))?;
+    Ok(filled && now)
+}
+
+/// Whether a second write has the answer of the row, and changes nothing.
+fn is_kept(alloc: Global, bank: &mut Bank) -> Result<bool, AllocError> {
+    let again = bank.write(first_cell(), Value::Int(5), main_tag(9))?;
     let second = matches!(again, WriteAnswer::Second(first) if first == main_tag(7));
     let cells = bank.cells(alloc)?;
-    Ok(filled && now && second && is_five(cells))
+    Ok(second && is_five(cells))
 }
 
 #[test]
 fn a_cell_is_stored_into_once_and_may_be_read_before(rt: HostRuntime) -> Result<(), Fail> {
     let mut bank = Bank::new(rt.alloc());
     let late = are_put_off(rt.alloc(), &mut bank)?;
+    let filled = is_filled(&mut bank)?;
     let kept = is_kept(rt.alloc(), &mut bank)?;
-    assert!(rt; late && kept);
+    assert!(rt; late && filled && kept);
     Ok(())
 }
 
@@ -252,31 +258,55 @@ fn both_lists_of_a_switch_are_looked_at(rt: HostRuntime) -> Result<(), Fail> {
     Ok(())
 }
 
-// 1 is the first of a block, 3 its entry, both merges; 7 is no merge, 9 a merge and no entry, 10 past the end.
+// In the graph of a call 1 is the first of a block, 3 its entry, both merges; 7 is no merge, 9 a merge and no entry, 10
+// past the end.
+
+/// The first faulty instruction of the graph of a call with these operators, if there is one.
+fn faulty_call(
+    rt: &impl Abort,
+    alloc: Global,
+    enter: Op,
+    send: Op,
+) -> Result<Option<u64>, AllocError> {
+    let list = call(alloc, enter, send)?;
+    faulty(rt, alloc, called_blocks(alloc)?, list)
+}
+
 #[test]
-fn enters_and_sends_name_what_is_there(rt: HostRuntime) -> Result<(), Fail> {
+fn an_enter_names_a_block_and_a_merge(rt: HostRuntime) -> Result<(), Fail> {
+    let send = Op::Send {
+        kind: PortKind::Int,
+        target: 3,
+    };
     let table = [
-        (1, 9, PortKind::Int, 3, None),
-        (4, 9, PortKind::Int, 3, None),
-        (0, 9, PortKind::Int, 3, Some(6)),
-        (3, 9, PortKind::Int, 3, Some(6)),
-        (10, 9, PortKind::Int, 3, Some(6)),
-        (1, 1, PortKind::Int, 3, Some(6)),
-        (1, 7, PortKind::Int, 3, Some(6)),
-        (1, 10, PortKind::Int, 3, Some(6)),
-        (1, 3, PortKind::Int, 3, Some(9)),
-        (1, 9, PortKind::Bool, 3, Some(7)),
-        (1, 9, PortKind::Int, 1, Some(8)),
-        (1, 9, PortKind::Int, 9, Some(8)),
-        (1, 9, PortKind::Int, 10, Some(8)),
+        (1, 9, None),
+        (4, 9, None),
+        (0, 9, Some(6)),
+        (3, 9, Some(6)),
+        (10, 9, Some(6)),
+        (1, 1, Some(6)),
+        (1, 7, Some(6)),
+        (1, 10, Some(6)),
     ];
-    for (first, reply, kind, target, wanted) in table {
-        let enter = Op::Enter {
-            block: first,
-            reply,
-        };
-        let list = call(rt.alloc(), enter, Op::Send { kind, target })?;
-        let found = faulty(&rt, rt.alloc(), called_blocks(rt.alloc())?, list)?;
+    for (block, reply, wanted) in table {
+        let found = faulty_call(&rt, rt.alloc(), Op::Enter { block, reply }, send)?;
+        assert!(rt; found == wanted);
+    }
+    Ok(())
+}
+
+#[test]
+fn a_send_names_an_entry_of_its_kind(rt: HostRuntime) -> Result<(), Fail> {
+    let table = [
+        (3, PortKind::Int, 3, Some(9)),
+        (9, PortKind::Bool, 3, Some(7)),
+        (9, PortKind::Int, 1, Some(8)),
+        (9, PortKind::Int, 9, Some(8)),
+        (9, PortKind::Int, 10, Some(8)),
+    ];
+    for (reply, kind, target, wanted) in table {
+        let enter = Op::Enter { block: 1, reply };
+        let found = faulty_call(&rt, rt.alloc(), enter, Op::Send { kind, target })?;
         assert!(rt; found == wanted);
     }
     Ok(())
@@ -487,6 +517,12 @@ fn an_element_takes_what_fits(rt: HostRuntime) -> Result<(), Fail> {
     for (first, second, wanted) in table {
         assert!(rt; second_taken(&rt, rt.alloc(), &graph, first, second) == wanted);
     }
+    Ok(())
+}
+
+#[test]
+fn a_number_does_not_fit_where_a_continuation_goes(rt: HostRuntime) -> Result<(), Fail> {
+    let graph = seven(&rt, rt.alloc())?;
     assert!(rt; !fits(&graph, &token(Port::Zero)));
     Ok(())
 }
