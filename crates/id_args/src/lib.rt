@@ -131,21 +131,17 @@ fn rounds_argument<'a>(alloc: Global) -> Arg<'a> {
 fn command_with<'a>(
     alloc: Global,
     name: &'a str,
-    bin_name: &'a str,
     about: &'a str,
     arguments: Vec<Arg<'a>>,
 ) -> Result<Command<'a>, AllocError> {
-    Command::new(alloc, name)
-        .bin_name(bin_name)?
-        .about(about)
-        .args(arguments)
+    Command::new(alloc, name).about(about).args(arguments)
 }
 
 /// The command `check`.
 fn check_command<'a>(alloc: Global) -> Result<Command<'a>, AllocError> {
     let about = "Says whether a program is accepted";
     let arguments = vec![in alloc; file_argument(alloc)]?;
-    command_with(alloc, "check", "idc check", about, arguments)
+    command_with(alloc, "check", about, arguments)
 }
 
 /// The command `graph`.
@@ -153,7 +149,7 @@ fn graph_command<'a>(alloc: Global) -> Result<Command<'a>, AllocError> {
     let about = "Prints the tagged-token graph of a program";
     let dot = flag(alloc, "dot", "Prints it in the language of Graphviz");
     let arguments = vec![in alloc; file_argument(alloc), dot]?;
-    command_with(alloc, "graph", "idc graph", about, arguments)
+    command_with(alloc, "graph", about, arguments)
 }
 
 /// The arguments of `run`.
@@ -172,7 +168,7 @@ fn run_arguments<'a>(alloc: Global) -> Result<Vec<Arg<'a>>, AllocError> {
 /// The command `run`.
 fn run_command<'a>(alloc: Global) -> Result<Command<'a>, AllocError> {
     let about = "Runs a program and prints its answer or its fault";
-    let command = command_with(alloc, "run", "idc run", about, run_arguments(alloc)?)?;
+    let command = command_with(alloc, "run", about, run_arguments(alloc)?)?;
     Ok(command.after_help(STATUSES))
 }
 
@@ -184,7 +180,7 @@ fn facts_command<'a>(alloc: Global) -> Result<Command<'a>, AllocError> {
         rounds_argument(alloc),
         inputs_argument(alloc),
     ]?;
-    command_with(alloc, "facts", "idc facts", about, arguments)
+    command_with(alloc, "facts", about, arguments)
 }
 
 /// Puts a command behind these, unless it could not be made.
@@ -204,16 +200,21 @@ fn put_all<'a>(alloc: Global, commands: &mut Vec<Command<'a>>) -> Result<(), All
     put(commands, facts_command(alloc))
 }
 
-/// The whole command line.
-fn command<'a>(alloc: Global) -> Result<Command<'a>, AllocError> {
-    let mut commands = Vec::new(alloc);
-    put_all(alloc, &mut commands)?;
+/// The command line without its commands.
+fn bare_command<'a>(alloc: Global) -> Result<Command<'a>, AllocError> {
     Command::new(alloc, "idc")
         .about("Compiles a lenient dataflow program to a tagged-token graph and runs it")
         .after_help(OVERVIEW)
         .no_binary_name(true)
         .subcommand_required(true)
-        .subcommands(commands)
+        .bin_name("idc")
+}
+
+/// The whole command line.
+fn command<'a>(alloc: Global) -> Result<Command<'a>, AllocError> {
+    let mut commands = Vec::new(alloc);
+    put_all(alloc, &mut commands)?;
+    bare_command(alloc)?.subcommands(commands)
 }
 
 /// What the parser's error tells the user.

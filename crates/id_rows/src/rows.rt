@@ -162,13 +162,19 @@ fn is_kept(alloc: Global, bank: &mut Bank) -> Result<bool, AllocError> {
     Ok(second && is_five(cells))
 }
 
+/// Whether two reads, two writes and a read between these have the answers of the row.
+fn is_stored_once(alloc: Global, bank: &mut Bank) -> Result<bool, AllocError> {
+    let late = are_put_off(alloc, bank)?;
+    let filled = is_filled(bank)?;
+    let kept = is_kept(alloc, bank)?;
+    Ok(late && filled && kept)
+}
+
 #[test]
 fn a_cell_is_stored_into_once_and_may_be_read_before(rt: HostRuntime) -> Result<(), Fail> {
     let mut bank = Bank::new(rt.alloc());
-    let late = are_put_off(rt.alloc(), &mut bank)?;
-    let filled = is_filled(&mut bank)?;
-    let kept = is_kept(rt.alloc(), &mut bank)?;
-    assert!(rt; late && filled && kept);
+    let stored = is_stored_once(rt.alloc(), &mut bank)?;
+    assert!(rt; stored);
     Ok(())
 }
 
