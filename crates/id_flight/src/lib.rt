@@ -7,9 +7,11 @@
 #![tactic(auto)]
 
 mod demand;
+mod letter;
 mod parcel;
 mod queue;
 mod row;
 
 pub use demand::Demand;
+pub use letter::Letter;
 pub use queue::Queue;

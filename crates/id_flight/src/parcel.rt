@@ -26,8 +26,8 @@ use id_tag::{
 /// the parcel says.
 #[derive(Clone, Copy)]
 pub(crate) struct Parcel {
-    token: PlainToken,
-    what: What,
+    pub(crate) token: PlainToken,
+    pub(crate) what: What,
 }
 
 const _: () = prove!(size_of::<Parcel>() == 64);
@@ -37,7 +37,7 @@ const _: () = prove!(size_of::<Parcel>() == 64);
 /// by its element, serial number and bounds, and a cell of it by the index too, which is the token's value. The cell of
 /// a write is told in small numbers, the name of its structure and its place.
 #[derive(Clone, Copy)]
-enum What {
+pub(crate) enum What {
     Plain,
     Structure(u8, u32, i64, i64),
     Address(u8, u32, i64, i64),
