@@ -3,6 +3,7 @@
 
 ghost use Rattle.std.specs.Prelude.{◌≡◌};
 
+use crate::gate::Gate;
 use id_bank::Bank;
 use id_firing::{
     PlainOperands, Reacted, Short, TakeError, allocated_by, allocated_by_deed, deed_of,
@@ -89,12 +90,13 @@ impl<'a> Desk<'a> {
 
     /// Handles a token that fits the graph: the element step where a stamp is left, which is this one.
     #[inline(always)]
-    pub fn take_token(
+    pub fn take_token<G: Gate>(
         &mut self,
         graph: &Graph,
         message: &Message,
         stamp: u64,
         outputs: &mut Queue,
+        gate: &G,
     ) -> Result<Verdict, TakeError>
         requires is { IsToken message.now.payload }
         requires stamp { stamp ≡ next_stamp (state_of self.old) message.now }
@@ -123,6 +125,7 @@ impl<'a> Desk<'a> {
         };
         let instr = &graph.instrs()[tag.instr as usize];
         let reaction = self.react_with_room(instr, tag, port, value, outputs)?;
+        self.hold(gate);
         Ok(self.conclude(instr, tag, message, stamp, &reaction, outputs))
     }
 
@@ -173,12 +176,13 @@ impl<'a> Desk<'a> {
     /// instruction sends more than the most, which is large too where the number of the element or those of the
     /// instructions are.
     #[inline(always)]
-    pub fn take_plain(
+    pub fn take_plain<G: Gate>(
         &mut self,
         graph: &Graph,
         token: &PlainToken,
         most: usize,
         outputs: &mut Queue,
+        gate: &G,
     ) -> Result<Short, TakeError>
         requires own { graph.now ≡ self.old.log.graph }
         requires valid { IsValid graph.now }
@@ -210,19 +214,20 @@ impl<'a> Desk<'a> {
         let Some(room) = self.short_bound(graph, instr, most, token, stamp) else {
             return Ok(Short::Apart);
         };
-        self.take_short(instr, token, room, stamp as u32, outputs)
+        self.take_short(instr, token, room, stamp as u32, outputs, gate)
     }
 
     /// Handles a plain token at its instruction and at this stamp, which is the next, where all numbers of its event,
     /// which sends at most so many messages, are small: the element step.
     #[inline(always)]
-    fn take_short(
+    fn take_short<G: Gate>(
         &mut self,
         instr: &Instr,
         token: &PlainToken,
         most: usize,
         stamp: u32,
         outputs: &mut Queue,
+        gate: &G,
     ) -> Result<Short, TakeError>
         requires own { slice_get self.old.log.graph.instrs token.now.instr ≡ Some instr.now }
         requires stamp { stamp ≡ next_stamp (state_of self.old) (message_of token.now) }
@@ -245,7 +250,16 @@ impl<'a> Desk<'a> {
     {
         self.reserve(most, 0, outputs)?;
         let reacted = react_plain(&mut self.waiting, instr.op, token)?;
+        self.hold_here(&reacted, gate);
         Ok(self.conclude_reacted(instr, token, stamp, reacted, outputs))
+    }
+
+    /// Lets the gate hold the handling of a plain token, unless it is to be handled apart. Takes no memory.
+    #[inline(always)]
+    fn hold_here<G: Gate>(&self, reacted: &Reacted, gate: &G) {
+        if !matches!(reacted, Reacted::Apart) {
+            self.hold(gate);
+        }
     }
 
     /// Sends what came of a plain token, and records the event, unless it is to be handled apart: the element step at

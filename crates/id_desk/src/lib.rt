@@ -8,5 +8,7 @@
 #![tactic(auto)]
 
 mod desk;
+mod gate;
 
 pub use desk::Desk;
+pub use gate::{Gate, Handling, Open};

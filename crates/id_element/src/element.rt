@@ -7,7 +7,7 @@ ghost use Rattle.id_firing.specs.declared.step.Short.{Short};
 ghost use Rattle.id_tag.specs.declared.Tag.{Tag};
 
 use id_bank::{Cells, Reader};
-use id_desk::Desk;
+use id_desk::{Desk, Gate, Open};
 use id_firing::{Short, TakeError, bound};
 use id_flight::{Demand, Queue};
 use id_record::{Events, Step, full_step};
@@ -104,20 +104,49 @@ impl<'a> Element<'a> {
         ensures err { OnErr result (self.new ≡ self.old) }
         ensures err_outputs { OnErr result (outputs.new.messages ≡ outputs.old.messages) }
     {
+        self.take_held(message, outputs, &Open)
+    }
+
+    /// Handles a message as `take` does, and calls the gate's `hold` once, after the last growth and before the event is
+    /// recorded: its implementation is the caller's and is assumed to return. A call that answers an error makes none.
+    #[inline(always)]
+    pub fn take_held<G: Gate>(
+        &mut self,
+        message: &Message,
+        outputs: &mut Queue,
+        gate: &G,
+    ) -> Result<Step, TakeError>
+        requires { IsFor self.old.graph self.old.count self.old.number message.now }
+
+        ensures step { IfOk result (λ step. step ≡ step_of self.old.graph self.old.number self.old.state message.now) }
+        ensures state { OnOk result (self.new
+            ≡ record self.old { state = state_after self.old.graph self.old.number self.old.state message.now }) }
+        ensures outputs { OnOk result
+            (outputs.new.messages
+            ≡ outputs.old.messages ++ outputs_of self.old.graph self.old.number self.old.state message.now) }
+        // What is sent fits, so that the element it is routed to can take it.
+        ensures fits { OnOk result
+            (All (Fits self.old.graph) (outputs_of self.old.graph self.old.number self.old.state message.now)) }
+
+        ensures end { (result ≡ Err StampEnd) ↔ IsTrue (is_ended self.old.state message.now) }
+        ensures err { OnErr result (self.new ≡ self.old) }
+        ensures err_outputs { OnErr result (outputs.new.messages ≡ outputs.old.messages) }
+    {
         let graph = self.desk.log.graph();
-        let verdict = id_visit::take(&mut self.desk, graph.graph(), message, outputs)?;
+        let verdict = id_visit::take(&mut self.desk, graph.graph(), message, outputs, gate)?;
         let step = full_step(&message.payload, verdict);
         self.went = still_went(self.went, &step);
         Ok(step)
     }
 
-    /// Handles a plain token that is for this element, as `take` does, where that is short, and says what became of it.
-    /// After an error, and where it is not short, nothing has changed.
+    /// Handles a plain token that is for this element, as `take_held` does, where that is short, and says what became of
+    /// it. After an error, and where it is not short, nothing has changed and the gate was not called.
     #[inline(always)]
-    pub fn take_plain(
+    pub fn take_plain_held<G: Gate>(
         &mut self,
         token: &PlainToken,
         outputs: &mut Queue,
+        gate: &G,
     ) -> Result<Short, TakeError>
         requires { IsFor self.old.graph self.old.count self.old.number (message_of token.now) }
 
@@ -140,15 +169,21 @@ impl<'a> Element<'a> {
         let graph = self.desk.log.graph();
         let short = self
             .desk
-            .take_plain(graph.graph(), token, self.most, outputs)?;
+            .take_plain(graph.graph(), token, self.most, outputs, gate)?;
         note_short(&mut self.went, short);
         Ok(short)
     }
 
-    /// Handles a read or a write of a cell that is for this element, as `take` does, where that is short, and answers
-    /// whether it did: all goes well then. After an error, and where it is not short, nothing has changed.
+    /// Handles a read or a write of a cell that is for this element, as `take_held` does, where that is short, and
+    /// answers whether it did: all goes well then. After an error, and where it is not short, nothing has changed and the
+    /// gate was not called.
     #[inline(always)]
-    pub fn take_demand(&mut self, demand: &Demand, outputs: &mut Queue) -> Result<bool, TakeError>
+    pub fn take_demand_held<G: Gate>(
+        &mut self,
+        demand: &Demand,
+        outputs: &mut Queue,
+        gate: &G,
+    ) -> Result<bool, TakeError>
         requires { IsFor self.old.graph self.old.count self.old.number (demanded demand.now) }
 
         ensures step { result ≡ Ok true →
@@ -167,7 +202,7 @@ impl<'a> Element<'a> {
         ensures err { OnErr result (self.new ≡ self.old) }
         ensures err_outputs { OnErr result (outputs.new.messages ≡ outputs.old.messages) }
     {
-        let handled = id_visit::take_demand(&mut self.desk, demand, outputs)?;
+        let handled = id_visit::take_demand(&mut self.desk, demand, outputs, gate)?;
         Ok(handled)
     }
 

@@ -10,4 +10,5 @@
 mod element;
 
 pub use element::Element;
+pub use id_desk::{Gate, Handling, Open};
 pub use id_firing::{Short, TakeError, fits, op_at};

@@ -4,10 +4,12 @@ use Rattle.id_tag.specs.declared.Context.{Context}
 use Rattle.id_tag.specs.declared.Message.{Message}
 use Rattle.id_flight.specs.Queues.{context_at}
 
--- the messages, in the order in which they were sent, and how many of them stand before the gap
+-- the messages, in the order in which they were sent, how many of them stand before the gap, and for how many more
+-- there is room at the end
 pub record FlightView : Type 0 where
   pub messages : List Message
   pub gap : ℕ
+  pub room : ℕ
 
 -- the gap is in front of the message at this position, or behind it
 abbrev pub IsBeside : ℕ → ℕ → Type 0

@@ -2,7 +2,7 @@
 
 ghost use Rattle.std.specs.Prelude.{◌≡◌, ◌+◌, ◌++◌, ◌≤◌, ◌↔◌, length, OnOk, IsTrue, true};
 
-use id_element::{Element, Short, TakeError};
+use id_element::{Element, Gate, Short, TakeError};
 use id_flight::{Demand, Queue};
 use id_line::Step;
 use id_tag::{Context, Message, PlainToken};
@@ -27,12 +27,13 @@ impl Model for InFlight {
     ghost view = { λ f. record {
       messages = f.before.messages ++ f.after.messages;
       gap = length f.before.messages;
+      room = f.after.room;
     } };
 }
 
 impl InFlight {
-    ghost use Rattle.std.specs.Prelude.{◌≡◌, ◌<◌, ◌≤◌, ◌++◌, ◌==◌, ◌↔◌, All, length, slice_get};
-    ghost use Rattle.std.specs.Prelude.{Some, IfOk, IfSome, OnOk, OnErr};
+    ghost use Rattle.std.specs.Prelude.{◌≡◌, ◌<◌, ◌≤◌, ◌+◌, ◌++◌, ◌∷◌, [], ◌==◌, ◌↔◌, All, length, slice_get};
+    ghost use Rattle.std.specs.Prelude.{Some, IfOk, IfSome, OnOk, OnErr, IsSome, option_to_list};
     ghost use Rattle.std.specs.Prelude.{IsTrue, MatchOption};
     ghost use Rattle.std.specs.List.{remove};
     ghost use Rattle.id_flight.specs.Queues.{context_at};
@@ -199,11 +200,12 @@ impl InFlight {
 
     /// Gives the message at a position to an element, as `give_next` does, wherever the gap is.
     #[inline(always)]
-    pub fn give_at(
+    pub fn give_at<G: Gate>(
         &mut self,
         position: usize,
         message: &Message,
         element: &mut Element<'_>,
+        gate: &G,
     ) -> Result<Step, TakeError>
         requires next { slice_get self.old.messages position ≡ Some message.now }
         requires is_for { IsFor element.old.graph element.old.count element.old.number message.now }
@@ -227,17 +229,18 @@ impl InFlight {
             return Err(TakeError::StampEnd);
         }
         self.open(position)?;
-        self.give_next(position, message, element)
+        self.give_next(position, message, element, gate)
     }
 
     /// Gives the message at a position beside the gap to an element: it leaves the list, which closes up, and what is
     /// sent goes to the end. After an error nothing has changed.
     #[inline(always)]
-    fn give_next(
+    fn give_next<G: Gate>(
         &mut self,
         position: usize,
         message: &Message,
         element: &mut Element<'_>,
+        gate: &G,
     ) -> Result<Step, TakeError>
         requires gap { IsBeside self.old.gap position }
         requires next { slice_get self.old.messages position ≡ Some message.now }
@@ -259,18 +262,19 @@ impl InFlight {
         ensures err_messages { OnErr result (self.new.messages ≡ self.old.messages) }
     {
         let is_behind = position == self.before.len();
-        let step = element.take(message, &mut self.after)?;
+        let step = element.take_held(message, &mut self.after, gate)?;
         self.drop_at(position, is_behind);
         Ok(step)
     }
 
     /// Gives the plain token at a position to an element, as `give_plain` does, wherever the gap is.
     #[inline(always)]
-    pub fn give_plain_at(
+    pub fn give_plain_at<G: Gate>(
         &mut self,
         position: usize,
         token: &PlainToken,
         element: &mut Element<'_>,
+        gate: &G,
     ) -> Result<Short, TakeError>
         requires next { slice_get self.old.messages position ≡ Some (message_of token.now) }
         requires is_for { IsFor element.old.graph element.old.count element.old.number (message_of token.now) }
@@ -296,16 +300,17 @@ impl InFlight {
             return Err(TakeError::StampEnd);
         }
         self.open(position)?;
-        self.give_plain(position, token, element)
+        self.give_plain(position, token, element, gate)
     }
 
     /// Gives the plain token at a position beside the gap to an element, as `give_next` does, where that is short.
     #[inline(always)]
-    fn give_plain(
+    fn give_plain<G: Gate>(
         &mut self,
         position: usize,
         token: &PlainToken,
         element: &mut Element<'_>,
+        gate: &G,
     ) -> Result<Short, TakeError>
         requires gap { IsBeside self.old.gap position }
         requires next { slice_get self.old.messages position ≡ Some (message_of token.now) }
@@ -330,7 +335,7 @@ impl InFlight {
     {
         // Asked first, while it is known.
         let is_behind = position == self.before.len();
-        let short = element.take_plain(token, &mut self.after)?;
+        let short = element.take_plain_held(token, &mut self.after, gate)?;
         if let Short::Apart = short {
             return Ok(short);
         }
@@ -340,11 +345,12 @@ impl InFlight {
 
     /// Gives the read or the write at a position to an element, as `give_demand` does, wherever the gap is.
     #[inline(always)]
-    pub fn give_demand_at(
+    pub fn give_demand_at<G: Gate>(
         &mut self,
         position: usize,
         demand: &Demand,
         element: &mut Element<'_>,
+        gate: &G,
     ) -> Result<bool, TakeError>
         requires next { slice_get self.old.messages position ≡ Some (demanded demand.now) }
         requires is_for { IsFor element.old.graph element.old.count element.old.number (demanded demand.now) }
@@ -370,17 +376,18 @@ impl InFlight {
             return Err(TakeError::StampEnd);
         }
         self.open(position)?;
-        self.give_demand(position, demand, element)
+        self.give_demand(position, demand, element, gate)
     }
 
     /// Gives the read or the write at a position beside the gap to an element, as `give_next` does, where that is
     /// short, and answers whether it was.
     #[inline(always)]
-    fn give_demand(
+    fn give_demand<G: Gate>(
         &mut self,
         position: usize,
         demand: &Demand,
         element: &mut Element<'_>,
+        gate: &G,
     ) -> Result<bool, TakeError>
         requires gap { IsBeside self.old.gap position }
         requires next { slice_get self.old.messages position ≡ Some (demanded demand.now) }
@@ -404,11 +411,153 @@ impl InFlight {
         ensures err_messages { OnErr result (self.new.messages ≡ self.old.messages) }
     {
         let is_behind = position == self.before.len();
-        let taken = element.take_demand(demand, &mut self.after);
+        let taken = element.take_demand_held(demand, &mut self.after, gate);
         if was_handled(&taken) {
             self.drop_at(position, is_behind);
         }
         taken
+    }
+
+    /// Passes the message at a position to an element: it leaves the list, which closes up, and what is sent goes to the
+    /// end of the queue that is lent. After an error nothing has changed.
+    #[inline(always)]
+    pub fn pass_at<G: Gate>(
+        &mut self,
+        position: usize,
+        message: &Message,
+        element: &mut Element<'_>,
+        out: &mut Queue,
+        gate: &G,
+    ) -> Result<Step, TakeError>
+        requires next { slice_get self.old.messages position ≡ Some message.now }
+        requires is_for { IsFor element.old.graph element.old.count element.old.number message.now }
+
+        ensures messages { OnOk result (self.new.messages ≡ remove self.old.messages position) }
+        ensures outputs { OnOk result (out.new.messages ≡ out.old.messages
+            ++ outputs_of element.old.graph element.old.number element.old.state message.now) }
+        ensures state { OnOk result (element.new ≡ record element.old {
+          state = state_after element.old.graph element.old.number element.old.state message.now;
+        }) }
+        ensures step { IfOk result
+            (λ step. step ≡ step_of element.old.graph element.old.number element.old.state message.now) }
+        ensures fits { OnOk result
+            (All (Fits element.old.graph)
+            (outputs_of element.old.graph element.old.number element.old.state message.now)) }
+
+        ensures end { (result ≡ Err StampEnd) ↔ IsTrue (is_ended element.old.state message.now) }
+        ensures err { OnErr result (element.new ≡ element.old) }
+        ensures err_messages { OnErr result (self.new.messages ≡ self.old.messages) }
+        ensures err_outputs { OnErr result (out.new.messages ≡ out.old.messages) }
+    {
+        if element.is_ended(message) {
+            return Err(TakeError::StampEnd);
+        }
+        self.open(position)?;
+        let step = element.take_held(message, out, gate)?;
+        self.close(position);
+        Ok(step)
+    }
+
+    /// Passes the plain token at a position to an element, as `pass_at` does, where that is short.
+    #[inline(always)]
+    pub fn pass_plain_at<G: Gate>(
+        &mut self,
+        position: usize,
+        token: &PlainToken,
+        element: &mut Element<'_>,
+        out: &mut Queue,
+        gate: &G,
+    ) -> Result<Short, TakeError>
+        requires next { slice_get self.old.messages position ≡ Some (message_of token.now) }
+        requires is_for { IsFor element.old.graph element.old.count element.old.number (message_of token.now) }
+
+        ensures messages { IfOk result (λ short. IsHandled short → self.new.messages
+            ≡ remove self.old.messages position) }
+        ensures outputs { IfOk result (λ short. IsHandled short → out.new.messages ≡ out.old.messages
+            ++ outputs_of element.old.graph element.old.number element.old.state (message_of token.now)) }
+        ensures state { IfOk result (λ short. IsHandled short → element.new ≡ record element.old {
+          state = state_after element.old.graph element.old.number element.old.state (message_of token.now);
+        }) }
+        ensures step { IfOk result (λ short. IsHandled short → step_in short (tag_in token.now)
+            ≡ step_of element.old.graph element.old.number element.old.state (message_of token.now)) }
+        ensures fits { OnOk result (All (Fits element.old.graph)
+            (outputs_of element.old.graph element.old.number element.old.state (message_of token.now))) }
+        ensures apart { IfOk result (λ short. short ≡ Apart → element.new ≡ element.old) }
+        ensures apart_messages { IfOk result (λ short. short ≡ Apart → self.new.messages ≡ self.old.messages) }
+        ensures apart_outputs { IfOk result (λ short. short ≡ Apart → out.new.messages ≡ out.old.messages) }
+
+        ensures end { (result ≡ Err StampEnd) ↔ IsTrue (is_ended element.old.state (message_of token.now)) }
+        ensures err { OnErr result (element.new ≡ element.old) }
+        ensures err_messages { OnErr result (self.new.messages ≡ self.old.messages) }
+        ensures err_outputs { OnErr result (out.new.messages ≡ out.old.messages) }
+    {
+        if element.is_ended_at(u64::from(token.stamp)) {
+            return Err(TakeError::StampEnd);
+        }
+        self.open(position)?;
+        let short = element.take_plain_held(token, out, gate)?;
+        match short {
+            Short::Apart => Ok(short),
+            _ => {
+                self.close(position);
+                Ok(short)
+            }
+        }
+    }
+
+    /// Passes the read or the write at a position to an element, as `pass_at` does, where that is short, and answers
+    /// whether it was.
+    #[inline(always)]
+    pub fn pass_demand_at<G: Gate>(
+        &mut self,
+        position: usize,
+        demand: &Demand,
+        element: &mut Element<'_>,
+        out: &mut Queue,
+        gate: &G,
+    ) -> Result<bool, TakeError>
+        requires next { slice_get self.old.messages position ≡ Some (demanded demand.now) }
+        requires is_for { IsFor element.old.graph element.old.count element.old.number (demanded demand.now) }
+
+        ensures messages { result ≡ Ok true → self.new.messages ≡ remove self.old.messages position }
+        ensures outputs { result ≡ Ok true → out.new.messages ≡ out.old.messages
+            ++ outputs_of element.old.graph element.old.number element.old.state (demanded demand.now) }
+        ensures state { result ≡ Ok true → element.new ≡ record element.old {
+          state = state_after element.old.graph element.old.number element.old.state (demanded demand.now);
+        } }
+        ensures step { result ≡ Ok true →
+            step_of element.old.graph element.old.number element.old.state (demanded demand.now) ≡ Went }
+        ensures fits { OnOk result (All (Fits element.old.graph)
+            (outputs_of element.old.graph element.old.number element.old.state (demanded demand.now))) }
+        ensures apart { result ≡ Ok false → element.new ≡ element.old }
+        ensures apart_messages { result ≡ Ok false → self.new.messages ≡ self.old.messages }
+        ensures apart_outputs { result ≡ Ok false → out.new.messages ≡ out.old.messages }
+
+        ensures end { (result ≡ Err StampEnd) ↔ IsTrue (is_ended element.old.state (demanded demand.now)) }
+        ensures err { OnErr result (element.new ≡ element.old) }
+        ensures err_messages { OnErr result (self.new.messages ≡ self.old.messages) }
+        ensures err_outputs { OnErr result (out.new.messages ≡ out.old.messages) }
+    {
+        if element.is_ended_at(u64::from(demand.like.stamp)) {
+            return Err(TakeError::StampEnd);
+        }
+        self.open(position)?;
+        let taken = element.take_demand_held(demand, out, gate);
+        if was_handled(&taken) {
+            self.close(position);
+        }
+        taken
+    }
+
+    /// Drops the message at a position beside the gap: the list closes up. Takes no memory.
+    #[inline(always)]
+    fn close(&mut self, position: usize)
+        requires gap { IsBeside self.old.gap position }
+        requires there { position < length self.old.messages }
+        ensures { self.new.messages ≡ remove self.old.messages position }
+    {
+        let is_behind = position == self.before.len();
+        self.drop_at(position, is_behind);
     }
 
     /// Drops the message at a position beside the gap, which is behind it or in front of it: the list closes up. Takes
@@ -424,6 +573,48 @@ impl InFlight {
             self.after.drop_front();
         } else {
             self.before.pop_back();
+        }
+    }
+
+    /// Makes room for so many messages more at the end.
+    #[inline(always)]
+    pub fn reserve(&mut self, more: usize) -> Result<(), AllocError>
+        ensures messages { self.new.messages ≡ self.old.messages }
+        ensures room { OnOk result (more ≤ self.new.room) }
+    {
+        self.after.reserve(more)
+    }
+
+    /// Adds a message at the end, for which there is room. Takes no memory.
+    #[inline(always)]
+    pub fn push_back_reserved(&mut self, message: Message)
+        requires { 0 < self.old.room }
+        ensures messages { self.new.messages ≡ self.old.messages ++ message ∷ [] }
+        ensures room { self.old.room ≤ self.new.room + 1 }
+    {
+        self.after.push_back_reserved(message);
+    }
+
+    /// Adds a plain token at the end, for which there is room. Takes no memory.
+    #[inline(always)]
+    pub fn push_plain_reserved(&mut self, token: &PlainToken)
+        requires { 0 < self.old.room }
+        ensures messages { self.new.messages ≡ self.old.messages ++ message_of token.now ∷ [] }
+        ensures room { self.old.room ≤ self.new.room + 1 }
+    {
+        self.after.push_plain_reserved(token);
+    }
+
+    /// Takes out the last message, if there is one. Takes no memory.
+    #[inline(always)]
+    pub fn pop_back(&mut self) -> Option<Message>
+        ensures messages { self.old.messages ≡ self.new.messages ++ option_to_list result }
+        ensures variant { IsSome result ↔ (0 < length self.old.messages) }
+    {
+        if self.after.is_empty() {
+            self.before.pop_back()
+        } else {
+            self.after.pop_back()
         }
     }
 }

@@ -24,7 +24,7 @@ ghost use Rattle.id_desk.specs.Desks.{state_of, IsShort};
 ghost use Rattle.id_visit.specs.Visited.{IsRead, IsWrite, visit_of};
 
 use id_bank::{ReadAnswer, WriteAnswer};
-use id_desk::Desk;
+use id_desk::{Desk, Gate};
 use id_firing::{TakeError, answer_fired, fill_verdict, next_stamp, send_replies};
 use id_flight::{Demand, Queue};
 use id_instr::Port;
@@ -37,11 +37,12 @@ use id_tag::{Cell, Message, Payload, Plain, PlainToken, Tag, Value};
 
 /// Handles a read: the element step where a stamp is left, which is this one.
 #[inline(never)]
-pub fn take_read(
+pub fn take_read<G: Gate>(
     desk: &mut Desk<'_>,
     read: &Message,
     stamp: u64,
     outputs: &mut Queue,
+    gate: &G,
 ) -> Result<Verdict, TakeError>
     requires is { IsRead read.now.payload }
     requires stamp { stamp ≡ next_stamp (state_of desk.old) read.now }
@@ -65,16 +66,18 @@ pub fn take_read(
     };
     desk.reserve(1, 0, outputs)?;
     let answer = desk.cells.read(cell, reply)?;
+    desk.hold(gate);
     Ok(answer_read(desk, read, stamp, answer, outputs))
 }
 
 /// Handles a write: the element step where a stamp is left, which is this one.
 #[inline(never)]
-pub fn take_write(
+pub fn take_write<G: Gate>(
     desk: &mut Desk<'_>,
     write: &Message,
     stamp: u64,
     outputs: &mut Queue,
+    gate: &G,
 ) -> Result<Verdict, TakeError>
     requires is { IsWrite write.now.payload }
     requires stamp { stamp ≡ next_stamp (state_of desk.old) write.now }
@@ -103,16 +106,18 @@ pub fn take_write(
     };
     let readers = desk.cells.readers(cell);
     let answer = write_cell(desk, cell, value, origin, readers, outputs)?;
+    desk.hold(gate);
     Ok(fill(desk, write, stamp, &answer, outputs))
 }
 
 /// Handles a read or a write of a cell, where that is short, and answers whether it did: all goes well then. It is the
 /// element step.
 #[inline(always)]
-pub fn take_demand(
+pub fn take_demand<G: Gate>(
     desk: &mut Desk<'_>,
     demand: &Demand,
     outputs: &mut Queue,
+    gate: &G,
 ) -> Result<bool, TakeError>
     ensures step { result ≡ Ok true → step_of desk.old.log.graph desk.old.log.element (state_of desk.old)
         (demanded demand.now) ≡ Went }
@@ -135,17 +140,18 @@ pub fn take_demand(
     if !desk.is_short(1, &demand.like, stamp) {
         return Ok(false);
     }
-    ask_or_put(desk, demand, stamp as u32, outputs)
+    ask_or_put(desk, demand, stamp as u32, outputs, gate)
 }
 
 /// Handles a read in small numbers, and a write where it is the first: the element step at this stamp, which is the
 /// next. It answers whether it did.
 #[inline(always)]
-fn ask_or_put(
+fn ask_or_put<G: Gate>(
     desk: &mut Desk<'_>,
     demand: &Demand,
     stamp: u32,
     outputs: &mut Queue,
+    gate: &G,
 ) -> Result<bool, TakeError>
     requires stamp { stamp ≡ next_stamp (state_of desk.old) (demanded demand.now) }
     requires short { IsShort desk.old 1 demand.now.like stamp }
@@ -167,16 +173,22 @@ fn ask_or_put(
 {
     match demand.number {
         None => {
-            ask(desk, demand, stamp, outputs)?;
+            ask(desk, demand, stamp, outputs, gate)?;
             Ok(true)
         }
-        Some(number) => put(desk, demand, number, stamp, outputs),
+        Some(number) => put(desk, demand, number, stamp, outputs, gate),
     }
 }
 
 /// Handles a read in small numbers: the element step at this stamp, which is the next.
 #[inline(always)]
-fn ask(desk: &mut Desk<'_>, read: &Demand, stamp: u32, outputs: &mut Queue) -> Result<(), TakeError>
+fn ask<G: Gate>(
+    desk: &mut Desk<'_>,
+    read: &Demand,
+    stamp: u32,
+    outputs: &mut Queue,
+    gate: &G,
+) -> Result<(), TakeError>
     requires is { read.now.number ≡ None }
     requires stamp { stamp ≡ next_stamp (state_of desk.old) (demanded read.now) }
     requires short { IsShort desk.old 1 read.now.like stamp }
@@ -195,6 +207,7 @@ fn ask(desk: &mut Desk<'_>, read: &Demand, stamp: u32, outputs: &mut Queue) -> R
 {
     desk.reserve(1, 0, outputs)?;
     let answer = desk.cells.read(read.cell, read.like.tag())?;
+    desk.hold(gate);
     answer_demand(desk, read, stamp, answer, outputs);
     Ok(())
 }
@@ -291,12 +304,13 @@ fn answer_full(
 /// Handles a write of this number in small numbers, where it is the first: the element step at this stamp, which is the
 /// next. It answers whether it did.
 #[inline(always)]
-fn put(
+fn put<G: Gate>(
     desk: &mut Desk<'_>,
     write: &Demand,
     number: i64,
     stamp: u32,
     outputs: &mut Queue,
+    gate: &G,
 ) -> Result<bool, TakeError>
     requires is { write.now.number ≡ Some number }
     requires stamp { stamp ≡ next_stamp (state_of desk.old) (demanded write.now) }
@@ -319,7 +333,7 @@ fn put(
 {
     match desk.cells.expected(write.cell) {
         Some(readers) => {
-            put_first(desk, write, number, readers, stamp, outputs)?;
+            put_first(desk, write, number, readers, stamp, outputs, gate)?;
             Ok(true)
         }
         None => Ok(false),
@@ -329,13 +343,14 @@ fn put(
 /// Handles a write of this number in small numbers, the first to its cell, for whose value so many replies wait: the
 /// element step at this stamp, which is the next.
 #[inline(always)]
-fn put_first(
+fn put_first<G: Gate>(
     desk: &mut Desk<'_>,
     write: &Demand,
     number: i64,
     readers: usize,
     stamp: u32,
     outputs: &mut Queue,
+    gate: &G,
 ) -> Result<(), TakeError>
     requires is { write.now.number ≡ Some number }
     requires first { count_expected (map.get desk.old.cells write.now.cell) ≡ Some readers }
@@ -356,6 +371,7 @@ fn put_first(
 {
     let tag = write.like.tag();
     let answer = write_cell(desk, write.cell, Value::Int(number), tag, readers, outputs)?;
+    desk.hold(gate);
     fill_demand(desk, write, number, stamp, &answer, outputs);
     Ok(())
 }

@@ -9,7 +9,7 @@ ghost use Rattle.id_valid.specs.Validator.{IsValid};
 ghost use Rattle.id_desk.specs.Desks.{state_of};
 
 use crate::cells::{take_read, take_write};
-use id_desk::Desk;
+use id_desk::{Desk, Gate};
 use id_firing::{TakeError, next_stamp};
 use id_flight::Queue;
 use id_instr::Graph;
@@ -18,11 +18,12 @@ use id_tag::{Message, Payload};
 
 /// Handles a message that fits the graph, and says what it came to: the element step.
 #[inline(never)]
-pub fn take(
+pub fn take<G: Gate>(
     desk: &mut Desk<'_>,
     graph: &Graph,
     message: &Message,
     outputs: &mut Queue,
+    gate: &G,
 ) -> Result<Verdict, TakeError>
     requires own { graph.now ≡ desk.old.log.graph }
     requires valid { IsValid graph.now }
@@ -48,8 +49,8 @@ pub fn take(
 {
     let stamp = next_stamp(desk.stamp, message.stamp)?;
     match message.payload {
-        Payload::Token { .. } => desk.take_token(graph, message, stamp, outputs),
-        Payload::Read { .. } => take_read(desk, message, stamp, outputs),
-        Payload::Write { .. } => take_write(desk, message, stamp, outputs),
+        Payload::Token { .. } => desk.take_token(graph, message, stamp, outputs, gate),
+        Payload::Read { .. } => take_read(desk, message, stamp, outputs, gate),
+        Payload::Write { .. } => take_write(desk, message, stamp, outputs, gate),
     }
 }

@@ -9,7 +9,7 @@ use Rattle.id_gap.proofs.FlightLemmas.{end_memory, ended}
 use Rattle.id_gap.proofs.in_flight.InFlight.give_at.Goals as goal
 
 pub returns-then-is_ended : goal.returns-then-is_ended
-returns-then-is_ended c = record {
+returns-then-is_ended g c = record {
   messages = tt;
   state = tt;
   step = tt;
@@ -20,10 +20,10 @@ returns-then-is_ended c = record {
 }
 
 pub open-requires : goal.open-requires
-open-requires c = slice_get_within c.args.self.now.messages c.args.position _ c.requires.next
+open-requires g c = slice_get_within c.args.self.now.messages c.args.position _ c.requires.next
 
 pub returns-in_err-open : goal.returns-in_err-open
-returns-in_err-open c = record {
+returns-in_err-open g c = record {
   messages = on_ok _ c.from_residual.result c.from_residual.ensures.0;
   state = on_ok _ c.from_residual.result c.from_residual.ensures.0;
   step = if_err _ c.from_residual.result c.from_residual.ensures.0;
@@ -34,10 +34,10 @@ returns-in_err-open c = record {
 }
 
 pub give_next-requires-clause-next : goal.give_next-requires-clause-next
-give_next-requires-clause-next c = ap (λ ms. slice_get ms c.args.position) c.open.ensures.messages ∙ c.requires.next
+give_next-requires-clause-next g c = ap (λ ms. slice_get ms c.args.position) c.open.ensures.messages ∙ c.requires.next
 
 pub returns : goal.returns
-returns c = record {
+returns g c = record {
   messages =
       let sent = outputs_of c.args.element.now.graph c.args.element.now.number c.args.element.now.state c.args.message.now in
       subst (λ ms. OnOk c.give_next.result (c.give_next.new.self.messages ≡ remove ms c.args.position ++ sent)) c.open.ensures.messages

@@ -8,25 +8,25 @@ use Rattle.id_gap.specs.Flights.{FlightView, IsBeside}
 use Rattle.id_gap.proofs.FlightLemmas.{is_behind, leaves_before, no_err, not_both, not_so, stays_there}
 use Rattle.id_gap.proofs.in_flight.InFlight.give_demand.Goals as goal
 
-pub take_demand-taken-requires : goal.take_demand-taken-requires
-take_demand-taken-requires c = c.requires.is_for
+pub take_demand_held-taken-requires : goal.take_demand_held-taken-requires
+take_demand_held-taken-requires g c = c.requires.is_for
 
 pub drop_at-requires-clause-gap : goal.drop_at-requires-clause-gap
-drop_at-requires-clause-gap c = subst (λ (v : FlightView). IsBeside v.gap c.args.position) (sym c.self.view_is) c.requires.gap
+drop_at-requires-clause-gap g c = subst (λ (v : FlightView). IsBeside v.gap c.args.position) (sym c.self.view_is) c.requires.gap
 
 pub drop_at-requires-clause-behind : goal.drop_at-requires-clause-behind
-drop_at-requires-clause-behind c = is_behind c.args.position c.len.result _ c.len.ensures.len
+drop_at-requires-clause-behind g c = is_behind c.args.position c.len.result _ c.len.ensures.len
 
 pub drop_at-requires-clause-there : goal.drop_at-requires-clause-there
-drop_at-requires-clause-there c =
-    stays_there c.args.self.now.messages c.self.inside.before.messages c.self.inside.after.messages c.take_demand-taken.new.outputs.messages _
+drop_at-requires-clause-there g c =
+    stays_there c.args.self.now.messages c.self.inside.before.messages c.self.inside.after.messages c.take_demand_held-taken.new.outputs.messages _
     (demanded c.args.demand.now) c.args.position (ap (λ v. v.messages) c.self.view_is) c.requires.next
-    (c.take_demand-taken.ensures.outputs (c.was_handled.ensures.0 c.if-was_handled.true))
+    (c.take_demand_held-taken.ensures.outputs (c.was_handled.ensures.0 c.if-was_handled.true))
 
 pub returns-then-was_handled : goal.returns-then-was_handled
-returns-then-was_handled c =
-    let told = c.take_demand-taken.ensures in
-    let is : c.take_demand-taken.result ≡ Ok true = c.was_handled.ensures.0 c.if-was_handled.true in
+returns-then-was_handled g c =
+    let told = c.take_demand_held-taken.ensures in
+    let is : c.take_demand_held-taken.result ≡ Ok true = c.was_handled.ensures.0 c.if-was_handled.true in
     record {
       messages = λ h.
           let xs = c.self.inside.before.messages in
@@ -39,17 +39,17 @@ returns-then-was_handled c =
       step = told.step;
       fits = told.fits;
       apart = told.apart;
-      apart_messages = λ h. not_both c.take_demand-taken.result is h;
+      apart_messages = λ h. not_both c.take_demand_held-taken.result is h;
       end = told.end;
       err = told.err;
-      err_messages = no_err _ c.take_demand-taken.result true is;
+      err_messages = no_err _ c.take_demand_held-taken.result true is;
     }
 
 pub returns-else-was_handled : goal.returns-else-was_handled
-returns-else-was_handled c =
-    let told = c.take_demand-taken.ensures in
+returns-else-was_handled g c =
+    let told = c.take_demand_held-taken.ensures in
     let xs = c.self.inside.before.messages in
-    let ms = c.take_demand-taken.new.outputs.messages in
+    let ms = c.take_demand_held-taken.new.outputs.messages in
     let Kept : TakeError → Type 0 = λ _. ms ≡ c.self.inside.after.messages in
     let Stays : TakeError → Type 0 = λ _. xs ++ ms ≡ c.args.self.now.messages in
     let at = ap (λ v. v.messages) c.self.view_is in
@@ -62,5 +62,5 @@ returns-else-was_handled c =
       apart_messages = λ h. ap (λ ys. xs ++ ys) (told.apart_outputs h) ∙ at;
       end = told.end;
       err = told.err;
-      err_messages = IfErr-weaker c.take_demand-taken.result Kept Stays (λ _ same. ap (λ ys. xs ++ ys) same ∙ at) told.err_outputs;
+      err_messages = IfErr-weaker c.take_demand_held-taken.result Kept Stays (λ _ same. ap (λ ys. xs ++ ys) same ∙ at) told.err_outputs;
     }

@@ -11,7 +11,7 @@ use Rattle.id_gap.proofs.FlightLemmas.{end_memory, ended, is_ended-asked}
 use Rattle.id_gap.proofs.in_flight.InFlight.give_demand_at.Goals as goal
 
 pub returns-then-is_ended_at : goal.returns-then-is_ended_at
-returns-then-is_ended_at c = record {
+returns-then-is_ended_at g c = record {
   messages = λ h. cc;
   state = λ h. cc;
   step = λ h. cc;
@@ -26,10 +26,10 @@ returns-then-is_ended_at c = record {
 }
 
 pub open-requires : goal.open-requires
-open-requires c = slice_get_within c.args.self.now.messages c.args.position _ c.requires.next
+open-requires g c = slice_get_within c.args.self.now.messages c.args.position _ c.requires.next
 
 pub returns-in_err-open : goal.returns-in_err-open
-returns-in_err-open c = record {
+returns-in_err-open g c = record {
   messages = not_ok c.from_residual.result true c.from_residual.ensures.0;
   state = not_ok c.from_residual.result true c.from_residual.ensures.0;
   step = not_ok c.from_residual.result true c.from_residual.ensures.0;
@@ -44,10 +44,10 @@ returns-in_err-open c = record {
 }
 
 pub give_demand-requires-clause-next : goal.give_demand-requires-clause-next
-give_demand-requires-clause-next c = ap (λ ms. slice_get ms c.args.position) c.open.ensures.messages ∙ c.requires.next
+give_demand-requires-clause-next g c = ap (λ ms. slice_get ms c.args.position) c.open.ensures.messages ∙ c.requires.next
 
 pub returns : goal.returns
-returns c = record {
+returns g c = record {
   messages = λ h.
       let sent = outputs_of c.args.element.now.graph c.args.element.now.number c.args.element.now.state (demanded c.args.demand.now) in
       subst (λ ms. c.give_demand.new.self.messages ≡ remove ms c.args.position ++ sent) c.open.ensures.messages (c.give_demand.ensures.messages h);

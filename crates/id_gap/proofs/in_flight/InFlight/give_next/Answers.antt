@@ -7,7 +7,7 @@ use Rattle.id_gap.proofs.FlightLemmas.{gives_end, is_behind, leaves_before, stay
 use Rattle.id_gap.proofs.in_flight.InFlight.give_next.Goals as goal
 
 pub returns : goal.returns
-returns c = record {
+returns g c = record {
   messages =
       let xs = c.self.inside.before.messages in
       let ys = c.self.inside.after.messages in
@@ -22,11 +22,11 @@ returns c = record {
   err_messages = tt;
 }
 
-pub take-requires : goal.take-requires
-take-requires c = c.requires.is_for
+pub take_held-requires : goal.take_held-requires
+take_held-requires g c = c.requires.is_for
 
 pub returns-in_err-step : goal.returns-in_err-step
-returns-in_err-step c = record {
+returns-in_err-step g c = record {
   step = if_err _ c.from_residual.result c.from_residual.ensures.0;
   end = gives_end c.from_residual.result c.in_err-step.field-0.0 _ c.from_residual.ensures.1 c.in_err-step.ensures.end;
   err = on_err c.from_residual.result c.in_err-step.ensures.err;
@@ -38,11 +38,11 @@ returns-in_err-step c = record {
 }
 
 pub drop_at-requires-clause-gap : goal.drop_at-requires-clause-gap
-drop_at-requires-clause-gap c = subst (λ (v : FlightView). IsBeside v.gap c.args.position) (sym c.self.view_is) c.requires.gap
+drop_at-requires-clause-gap g c = subst (λ (v : FlightView). IsBeside v.gap c.args.position) (sym c.self.view_is) c.requires.gap
 
 pub drop_at-requires-clause-behind : goal.drop_at-requires-clause-behind
-drop_at-requires-clause-behind c = is_behind c.args.position c.len.result _ c.len.ensures.len
+drop_at-requires-clause-behind g c = is_behind c.args.position c.len.result _ c.len.ensures.len
 
 pub drop_at-requires-clause-there : goal.drop_at-requires-clause-there
-drop_at-requires-clause-there c = stays_there c.args.self.now.messages c.self.inside.before.messages c.self.inside.after.messages c.take.new.outputs.messages
+drop_at-requires-clause-there g c = stays_there c.args.self.now.messages c.self.inside.before.messages c.self.inside.after.messages c.take_held.new.outputs.messages
     _ c.args.message.now c.args.position (ap (λ v. v.messages) c.self.view_is) c.requires.next c.in_ok-step.ensures.outputs

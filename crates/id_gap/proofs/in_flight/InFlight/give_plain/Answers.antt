@@ -8,7 +8,7 @@ use Rattle.id_gap.proofs.FlightLemmas.{gives_end, is_behind, is_handled, leaves_
 use Rattle.id_gap.proofs.in_flight.InFlight.give_plain.Goals as goal
 
 pub returns : goal.returns
-returns c = record {
+returns g c = record {
   messages = λ h.
       let xs = c.self.inside.before.messages in
       let ys = c.self.inside.after.messages in
@@ -25,11 +25,11 @@ returns c = record {
   err_messages = tt;
 }
 
-pub take_plain-requires : goal.take_plain-requires
-take_plain-requires c = c.requires.is_for
+pub take_plain_held-requires : goal.take_plain_held-requires
+take_plain_held-requires g c = c.requires.is_for
 
 pub returns-in_err-short : goal.returns-in_err-short
-returns-in_err-short c = record {
+returns-in_err-short g c = record {
   messages = if_err _ c.from_residual.result c.from_residual.ensures.0;
   state = if_err _ c.from_residual.result c.from_residual.ensures.0;
   step = if_err _ c.from_residual.result c.from_residual.ensures.0;
@@ -43,18 +43,18 @@ returns-in_err-short c = record {
 }
 
 pub drop_at-requires-clause-gap : goal.drop_at-requires-clause-gap
-drop_at-requires-clause-gap c = subst (λ (v : FlightView). IsBeside v.gap c.args.position) (sym c.self.view_is) c.requires.gap
+drop_at-requires-clause-gap g c = subst (λ (v : FlightView). IsBeside v.gap c.args.position) (sym c.self.view_is) c.requires.gap
 
 pub drop_at-requires-clause-behind : goal.drop_at-requires-clause-behind
-drop_at-requires-clause-behind c = is_behind c.args.position c.len.result _ c.len.ensures.len
+drop_at-requires-clause-behind g c = is_behind c.args.position c.len.result _ c.len.ensures.len
 
 pub drop_at-requires-clause-there : goal.drop_at-requires-clause-there
-drop_at-requires-clause-there c = stays_there c.args.self.now.messages c.self.inside.before.messages c.self.inside.after.messages
-    c.take_plain.new.outputs.messages _ (message_of c.args.token.now) c.args.position (ap (λ v. v.messages) c.self.view_is) c.requires.next
+drop_at-requires-clause-there g c = stays_there c.args.self.now.messages c.self.inside.before.messages c.self.inside.after.messages
+    c.take_plain_held.new.outputs.messages _ (message_of c.args.token.now) c.args.position (ap (λ v. v.messages) c.self.view_is) c.requires.next
     (c.in_ok-short.ensures.outputs (is_handled c.in_ok-short.short c.in_default.not-Apart))
 
 pub returns-in-Apart : goal.returns-in-Apart
-returns-in-Apart c = record {
+returns-in-Apart g c = record {
   state = c.in_ok-short.ensures.state;
   step = c.in_ok-short.ensures.step;
   fits = c.in_ok-short.ensures.fits;

@@ -12,7 +12,7 @@ use Rattle.id_gap.proofs.FlightLemmas.{end_memory, ended, is_ended-asked}
 use Rattle.id_gap.proofs.in_flight.InFlight.give_plain_at.Goals as goal
 
 pub returns-then-is_ended_at : goal.returns-then-is_ended_at
-returns-then-is_ended_at c = record {
+returns-then-is_ended_at g c = record {
   messages = tt;
   state = tt;
   step = tt;
@@ -27,10 +27,10 @@ returns-then-is_ended_at c = record {
 }
 
 pub open-requires : goal.open-requires
-open-requires c = slice_get_within c.args.self.now.messages c.args.position _ c.requires.next
+open-requires g c = slice_get_within c.args.self.now.messages c.args.position _ c.requires.next
 
 pub returns-in_err-open : goal.returns-in_err-open
-returns-in_err-open c = record {
+returns-in_err-open g c = record {
   messages = if_err _ c.from_residual.result c.from_residual.ensures.0;
   state = if_err _ c.from_residual.result c.from_residual.ensures.0;
   step = if_err _ c.from_residual.result c.from_residual.ensures.0;
@@ -45,10 +45,10 @@ returns-in_err-open c = record {
 }
 
 pub give_plain-requires-clause-next : goal.give_plain-requires-clause-next
-give_plain-requires-clause-next c = ap (λ ms. slice_get ms c.args.position) c.open.ensures.messages ∙ c.requires.next
+give_plain-requires-clause-next g c = ap (λ ms. slice_get ms c.args.position) c.open.ensures.messages ∙ c.requires.next
 
 pub returns : goal.returns
-returns c = record {
+returns g c = record {
   messages =
       let sent = outputs_of c.args.element.now.graph c.args.element.now.number c.args.element.now.state (message_of c.args.token.now) in
       subst (λ ms. IfOk c.give_plain.result (λ short. IsHandled short → c.give_plain.new.self.messages ≡ remove ms c.args.position ++ sent))

@@ -9,10 +9,10 @@ use Rattle.id_firing.specs.Steps.{outputs_of, state_after, step_of}
 use Rattle.id_desk.specs.Replays.{ElementView}
 use Rattle.id_desk.proofs.ShortLemmas.{IsKept-demand, on_ok, not_ok, on_err}
 use Rattle.id_desk.proofs.OutcomeLemmas.{demand_outputs_fit}
-use Rattle.id_element.proofs.element.Element.take_demand.Goals as goal
+use Rattle.id_element.proofs.element.Element.take_demand_held.Goals as goal
 
 pub invariant_of-self-2 : goal.invariant_of-self-2
-invariant_of-self-2 c =
+invariant_of-self-2 g c =
     let d = c.self.inside.desk in
     let m = demanded c.args.demand.now in
     let old : ElementView = record { number = d.log.element; count = c.self.inside.count; graph = d.log.graph; state = state_of d } in
@@ -26,14 +26,14 @@ invariant_of-self-2 c =
     )
 
 pub returns-clause-fits : goal.returns-clause-fits
-returns-clause-fits c =
+returns-clause-fits g c =
     rw (← ap (λ v. v.graph) c.self.view_is, ← ap (λ v. v.number) c.self.view_is, ← ap (λ v. v.state) c.self.view_is)
     (demand_outputs_fit c.self.inside.desk.log.graph c.self.inside.desk.log.element (state_of c.self.inside.desk) c.args.demand.now
     c.self.invariant.0.replays.cells (rw (ap (λ v. v.graph) c.self.view_is) c.requires.fits))
 
 -- the state is the one after the message
 pub returns-clause-state : goal.returns-clause-state
-returns-clause-state c = λ h.
+returns-clause-state g c = λ h.
     let d = c.self.inside.desk in
     let m = demanded c.args.demand.now in
     let later = state_after d.log.graph d.log.element (state_of d) m in
@@ -44,60 +44,60 @@ returns-clause-state c = λ h.
 
 -- and the outputs are its outputs
 pub returns-clause-outputs : goal.returns-clause-outputs
-returns-clause-outputs c = λ h.
+returns-clause-outputs g c = λ h.
     let m = demanded c.args.demand.now in
     let before = c.args.outputs.now.messages in
     c.in_ok-handled.ensures.outputs (cc) ∙ ap (λ (v : ElementView). before ++ outputs_of v.graph v.number v.state m) c.self.view_is
 
 -- after an error all is as it was
 pub invariant_of-self : goal.invariant_of-self
-invariant_of-self c = rw (c.in_err-handled.ensures.number, c.in_err-handled.ensures.graph, c.in_err-handled.ensures.err) c.self.invariant
+invariant_of-self g c = rw (c.in_err-handled.ensures.number, c.in_err-handled.ensures.graph, c.in_err-handled.ensures.err) c.self.invariant
 
 pub returns-in_err-handled-clause-step : goal.returns-in_err-handled-clause-step
-returns-in_err-handled-clause-step c = not_ok c.from_residual.result _ c.from_residual.ensures.0
+returns-in_err-handled-clause-step g c = not_ok c.from_residual.result _ c.from_residual.ensures.0
 
 pub returns-in_err-handled-clause-state : goal.returns-in_err-handled-clause-state
-returns-in_err-handled-clause-state c = not_ok c.from_residual.result _ c.from_residual.ensures.0
+returns-in_err-handled-clause-state g c = not_ok c.from_residual.result _ c.from_residual.ensures.0
 
 pub returns-in_err-handled-clause-outputs : goal.returns-in_err-handled-clause-outputs
-returns-in_err-handled-clause-outputs c = not_ok c.from_residual.result _ c.from_residual.ensures.0
+returns-in_err-handled-clause-outputs g c = not_ok c.from_residual.result _ c.from_residual.ensures.0
 
 pub returns-in_err-handled-clause-apart : goal.returns-in_err-handled-clause-apart
-returns-in_err-handled-clause-apart c = not_ok c.from_residual.result _ c.from_residual.ensures.0
+returns-in_err-handled-clause-apart g c = not_ok c.from_residual.result _ c.from_residual.ensures.0
 
 pub returns-in_err-handled-clause-apart_outputs : goal.returns-in_err-handled-clause-apart_outputs
-returns-in_err-handled-clause-apart_outputs c = not_ok c.from_residual.result _ c.from_residual.ensures.0
+returns-in_err-handled-clause-apart_outputs g c = not_ok c.from_residual.result _ c.from_residual.ensures.0
 
 pub returns-in_err-handled-clause-fits : goal.returns-in_err-handled-clause-fits
-returns-in_err-handled-clause-fits c = on_ok _ c.from_residual.result c.from_residual.ensures.0
+returns-in_err-handled-clause-fits g c = on_ok _ c.from_residual.result c.from_residual.ensures.0
 
 pub returns-in_err-handled-clause-err : goal.returns-in_err-handled-clause-err
-returns-in_err-handled-clause-err c = on_err c.from_residual.result
+returns-in_err-handled-clause-err g c = on_err c.from_residual.result
     (rw (c.in_err-handled.ensures.number, c.in_err-handled.ensures.graph, c.in_err-handled.ensures.err) c.self.view_is)
 
 pub returns-in_err-handled-clause-err_outputs : goal.returns-in_err-handled-clause-err_outputs
-returns-in_err-handled-clause-err_outputs c = on_err c.from_residual.result c.in_err-handled.ensures.err_outputs
+returns-in_err-handled-clause-err_outputs g c = on_err c.from_residual.result c.in_err-handled.ensures.err_outputs
 
 -- the step is that of the desk, and so is the end of stamps
 pub returns-clause-step : goal.returns-clause-step
-returns-clause-step c = λ h.
+returns-clause-step g c = λ h.
     let m = demanded c.args.demand.now in
     ap (λ (v : ElementView). step_of v.graph v.number v.state m) (sym c.self.view_is) ∙ c.in_ok-handled.ensures.step (cc)
 
 pub returns-clause-apart : goal.returns-clause-apart
-returns-clause-apart c = λ h. rw (c.in_ok-handled.ensures.apart (cc), c.in_ok-handled.ensures.number, c.in_ok-handled.ensures.graph) c.self.view_is
+returns-clause-apart g c = λ h. rw (c.in_ok-handled.ensures.apart (cc), c.in_ok-handled.ensures.number, c.in_ok-handled.ensures.graph) c.self.view_is
 
 pub returns-clause-apart_outputs : goal.returns-clause-apart_outputs
-returns-clause-apart_outputs c = λ h. c.in_ok-handled.ensures.apart_outputs (cc)
+returns-clause-apart_outputs g c = λ h. c.in_ok-handled.ensures.apart_outputs (cc)
 
 pub returns-in_err-handled-clause-end : goal.returns-in_err-handled-clause-end
-returns-in_err-handled-clause-end c = grind (arith, common_steps)
+returns-in_err-handled-clause-end g c = grind (arith, common_steps)
 
 pub returns-clause-end : goal.returns-clause-end
-returns-clause-end c = rw (← ap (λ v. v.state) c.self.view_is) c.in_ok-handled.ensures.end
+returns-clause-end g c = rw (← ap (λ v. v.state) c.self.view_is) c.in_ok-handled.ensures.end
 
 pub returns-clause-err : goal.returns-clause-err
-returns-clause-err c = tt
+returns-clause-err g c = tt
 
 pub returns-clause-err_outputs : goal.returns-clause-err_outputs
-returns-clause-err_outputs c = tt
+returns-clause-err_outputs g c = tt

@@ -12,10 +12,10 @@ use Rattle.id_desk.specs.Desks.{state_of}
 use Rattle.id_desk.specs.Replays.{ElementView}
 use Rattle.id_desk.proofs.ShortLemmas.{IsKept-short, if_err, on_ok, not_ok, on_err}
 use Rattle.id_desk.proofs.OutcomeLemmas.{outputs_fit}
-use Rattle.id_element.proofs.element.Element.take_plain.Goals as goal
+use Rattle.id_element.proofs.element.Element.take_plain_held.Goals as goal
 
 pub invariant_of-self-2 : goal.invariant_of-self-2
-invariant_of-self-2 c =
+invariant_of-self-2 g c =
     let d = c.self.inside.desk in
     let m = message_of c.args.token.now in
     let s = c.in_ok-short.short in
@@ -35,7 +35,7 @@ invariant_of-self-2 c =
     )
 
 pub returns-clause-fits : goal.returns-clause-fits
-returns-clause-fits c =
+returns-clause-fits g c =
     rw (← ap (λ v. v.graph) c.self.view_is, ← ap (λ v. v.number) c.self.view_is, ← ap (λ v. v.state) c.self.view_is)
     (outputs_fit c.self.inside.desk.log.graph c.self.inside.desk.log.element (state_of c.self.inside.desk) (message_of c.args.token.now)
     (subst IsValid c.graph-graph.ensures c.graph.ensures.kept) c.self.invariant.0.replays.waiting c.self.invariant.0.replays.cells
@@ -43,7 +43,7 @@ returns-clause-fits c =
 
 -- the state is the one after the message
 pub returns-clause-state : goal.returns-clause-state
-returns-clause-state c = λ handled.
+returns-clause-state g c = λ handled.
     let d = c.self.inside.desk in
     let m = message_of c.args.token.now in
     let later = state_after d.log.graph d.log.element (state_of d) m in
@@ -56,7 +56,7 @@ returns-clause-state c = λ handled.
 
 -- and the outputs are its outputs
 pub returns-clause-outputs : goal.returns-clause-outputs
-returns-clause-outputs c = λ handled.
+returns-clause-outputs g c = λ handled.
     let d = c.self.inside.desk in
     let m = message_of c.args.token.now in
     let before = c.args.outputs.now.messages in
@@ -66,36 +66,36 @@ returns-clause-outputs c = λ handled.
 
 -- after an error all is as it was
 pub invariant_of-self : goal.invariant_of-self
-invariant_of-self c = rw (c.in_err-short.ensures.number, c.in_err-short.ensures.graph, c.in_err-short.ensures.err) c.self.invariant
+invariant_of-self g c = rw (c.in_err-short.ensures.number, c.in_err-short.ensures.graph, c.in_err-short.ensures.err) c.self.invariant
 
 pub returns-in_err-short-clause-step : goal.returns-in_err-short-clause-step
-returns-in_err-short-clause-step c = if_err _ c.from_residual.result c.from_residual.ensures.0
+returns-in_err-short-clause-step g c = if_err _ c.from_residual.result c.from_residual.ensures.0
 
 pub returns-in_err-short-clause-state : goal.returns-in_err-short-clause-state
-returns-in_err-short-clause-state c = if_err _ c.from_residual.result c.from_residual.ensures.0
+returns-in_err-short-clause-state g c = if_err _ c.from_residual.result c.from_residual.ensures.0
 
 pub returns-in_err-short-clause-outputs : goal.returns-in_err-short-clause-outputs
-returns-in_err-short-clause-outputs c = if_err _ c.from_residual.result c.from_residual.ensures.0
+returns-in_err-short-clause-outputs g c = if_err _ c.from_residual.result c.from_residual.ensures.0
 
 pub returns-in_err-short-clause-fits : goal.returns-in_err-short-clause-fits
-returns-in_err-short-clause-fits c = on_ok _ c.from_residual.result c.from_residual.ensures.0
+returns-in_err-short-clause-fits g c = on_ok _ c.from_residual.result c.from_residual.ensures.0
 
 pub returns-in_err-short-clause-apart : goal.returns-in_err-short-clause-apart
-returns-in_err-short-clause-apart c = not_ok c.from_residual.result _ c.from_residual.ensures.0
+returns-in_err-short-clause-apart g c = not_ok c.from_residual.result _ c.from_residual.ensures.0
 
 pub returns-in_err-short-clause-apart_outputs : goal.returns-in_err-short-clause-apart_outputs
-returns-in_err-short-clause-apart_outputs c = not_ok c.from_residual.result _ c.from_residual.ensures.0
+returns-in_err-short-clause-apart_outputs g c = not_ok c.from_residual.result _ c.from_residual.ensures.0
 
 pub returns-in_err-short-clause-err : goal.returns-in_err-short-clause-err
-returns-in_err-short-clause-err c =
+returns-in_err-short-clause-err g c =
     on_err c.from_residual.result (rw (c.in_err-short.ensures.number, c.in_err-short.ensures.graph, c.in_err-short.ensures.err) c.self.view_is)
 
 pub returns-in_err-short-clause-err_outputs : goal.returns-in_err-short-clause-err_outputs
-returns-in_err-short-clause-err_outputs c = on_err c.from_residual.result c.in_err-short.ensures.err_outputs
+returns-in_err-short-clause-err_outputs g c = on_err c.from_residual.result c.in_err-short.ensures.err_outputs
 
 -- the step is that of the desk, and so is the end of stamps
 pub returns-clause-step : goal.returns-clause-step
-returns-clause-step c = λ handled.
+returns-clause-step g c = λ handled.
     let d = c.self.inside.desk in
     let m = message_of c.args.token.now in
     c.in_ok-short.ensures.step handled
@@ -103,19 +103,19 @@ returns-clause-step c = λ handled.
     ∙ ap (λ (v : ElementView). step_of v.graph v.number v.state m) c.self.view_is
 
 pub returns-clause-apart : goal.returns-clause-apart
-returns-clause-apart c = λ is. rw (c.in_ok-short.ensures.apart is, c.in_ok-short.ensures.number, c.in_ok-short.ensures.graph) c.self.view_is
+returns-clause-apart g c = λ is. rw (c.in_ok-short.ensures.apart is, c.in_ok-short.ensures.number, c.in_ok-short.ensures.graph) c.self.view_is
 
 pub returns-clause-apart_outputs : goal.returns-clause-apart_outputs
-returns-clause-apart_outputs c = c.in_ok-short.ensures.apart_outputs
+returns-clause-apart_outputs g c = c.in_ok-short.ensures.apart_outputs
 
 pub returns-in_err-short-clause-end : goal.returns-in_err-short-clause-end
-returns-in_err-short-clause-end c = grind (arith, common_steps)
+returns-in_err-short-clause-end g c = grind (arith, common_steps)
 
 pub returns-clause-end : goal.returns-clause-end
-returns-clause-end c = rw (← ap (λ v. v.state) c.self.view_is) c.in_ok-short.ensures.end
+returns-clause-end g c = rw (← ap (λ v. v.state) c.self.view_is) c.in_ok-short.ensures.end
 
 pub returns-clause-err : goal.returns-clause-err
-returns-clause-err c = tt
+returns-clause-err g c = tt
 
 pub returns-clause-err_outputs : goal.returns-clause-err_outputs
-returns-clause-err_outputs c = tt
+returns-clause-err_outputs g c = tt

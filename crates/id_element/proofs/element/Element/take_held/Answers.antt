@@ -11,10 +11,10 @@ use Rattle.id_desk.specs.Replays.{ElementView}
 use Rattle.id_desk.proofs.ReplaysLemmas.{IsKept-take}
 use Rattle.id_desk.proofs.OutcomeLemmas.{outputs_fit}
 use Rattle.id_desk.proofs.ShortLemmas.{on_err}
-use Rattle.id_element.proofs.element.Element.take.Goals as goal
+use Rattle.id_element.proofs.element.Element.take_held.Goals as goal
 
 pub invariant_of-self-2 : goal.invariant_of-self-2
-invariant_of-self-2 c =
+invariant_of-self-2 g c =
     let old : ElementView = record {
       number = c.self.inside.desk.log.element;
       count = c.self.inside.count;
@@ -37,7 +37,7 @@ invariant_of-self-2 c =
     )
 
 pub returns-clause-fits : goal.returns-clause-fits
-returns-clause-fits c =
+returns-clause-fits g c =
     rw (← ap (λ v. v.graph) c.self.view_is, ← ap (λ v. v.number) c.self.view_is, ← ap (λ v. v.state) c.self.view_is)
     (outputs_fit c.self.inside.desk.log.graph c.self.inside.desk.log.element (state_of c.self.inside.desk) c.args.message.now
     (subst IsValid c.graph-graph.ensures c.graph.ensures.kept) c.self.invariant.0.replays.waiting c.self.invariant.0.replays.cells
@@ -45,7 +45,7 @@ returns-clause-fits c =
 
 -- the step, the state and the outputs are those of the desk
 pub returns-clause-step : goal.returns-clause-step
-returns-clause-step c =
+returns-clause-step g c =
     let d = c.self.inside.desk in
     let m = c.args.message.now in
     c.full_step-step.ensures ∙ c.in_ok-verdict.ensures.step
@@ -53,7 +53,7 @@ returns-clause-step c =
     ∙ ap (λ (v : ElementView). step_of v.graph v.number v.state m) c.self.view_is
 
 pub returns-clause-state : goal.returns-clause-state
-returns-clause-state c =
+returns-clause-state g c =
     let d = c.self.inside.desk in
     let m = c.args.message.now in
     let later = state_after d.log.graph d.log.element (state_of d) m in
@@ -64,7 +64,7 @@ returns-clause-state c =
     ≡ record v { state = state_after v.graph v.number v.state m }) c.self.view_is refl)
 
 pub returns-clause-outputs : goal.returns-clause-outputs
-returns-clause-outputs c =
+returns-clause-outputs g c =
     let d = c.self.inside.desk in
     let m = c.args.message.now in
     let before = c.args.outputs.now.messages in
@@ -74,19 +74,19 @@ returns-clause-outputs c =
 
 -- after an error all is as it was
 pub invariant_of-self : goal.invariant_of-self
-invariant_of-self c = rw (c.in_err-verdict.ensures.number, c.in_err-verdict.ensures.graph, c.in_err-verdict.ensures.err) c.self.invariant
+invariant_of-self g c = rw (c.in_err-verdict.ensures.number, c.in_err-verdict.ensures.graph, c.in_err-verdict.ensures.err) c.self.invariant
 
 pub returns-in_err-verdict-clause-err : goal.returns-in_err-verdict-clause-err
-returns-in_err-verdict-clause-err c =
+returns-in_err-verdict-clause-err g c =
     on_err c.from_residual.result
     (rw (c.in_err-verdict.ensures.number, c.in_err-verdict.ensures.graph, c.in_err-verdict.ensures.err) c.self.view_is)
 
 pub returns-in_err-verdict-clause-err_outputs : goal.returns-in_err-verdict-clause-err_outputs
-returns-in_err-verdict-clause-err_outputs c = on_err c.from_residual.result c.in_err-verdict.ensures.err_outputs
+returns-in_err-verdict-clause-err_outputs g c = on_err c.from_residual.result c.in_err-verdict.ensures.err_outputs
 
 -- and the end of stamps is the desk's
 pub returns-in_err-verdict-clause-end : goal.returns-in_err-verdict-clause-end
-returns-in_err-verdict-clause-end c = grind (arith, common_steps)
+returns-in_err-verdict-clause-end g c = grind (arith, common_steps)
 
 pub returns-clause-end : goal.returns-clause-end
-returns-clause-end c = grind (arith, common_steps)
+returns-clause-end g c = grind (arith, common_steps)
