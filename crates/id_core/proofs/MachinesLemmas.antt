@@ -33,7 +33,7 @@ use Rattle.id_firing.specs.Shorts.{IsHandled}
 use Rattle.id_desk.specs.Replays.{ElementView}
 use Rattle.id_line.specs.Events.{EventView}
 use Rattle.id_line.specs.declared.step.Step.{Step}
-use Rattle.id_core.specs.Machines.{came_of, world_of, taken_from, given_to, routed_to, delivered, event_of_given}
+use Rattle.id_core.specs.Machines.{world_of, taken_from, given_to, routed_to, delivered, event_of_given}
 use Rattle.id_core.specs.Machines.{event_of_routed, event_at, start_message, input_messages, block_messages, AreTaken}
 use Rattle.id_core.specs.Machines.{IsElement, AreElements, IsMachine, MachineView}
 use Rattle.id_observe.specs.Observed.{main_tag}
@@ -192,13 +192,6 @@ AreElements-rise g count es are k lt =
     let next : k + 1 < length es = omega (arith, lt, length-map es (λ e. e.number)) in
     omega (arith, number_at g count es k are (omega (arith, next)), number_at g count es (k + 1) are next)
 
--- what an event came to without its fault, from what it came to
-pub came_from : (o : Option EventView) (s : Step) → option_map (λ e. e.step) o ≡ Some s → option_map (λ e. came_of e.step) o ≡ Some (came_of s)
-came_from None s h = absurd cc
-came_from (Some v) s h =
-    let same : v.step ≡ s = cc in
-    ap (λ x. Some (came_of x)) same
-
 -- ---- what a delivery leaves, whatever it came to
 
 no_event : {X : Type 0} (o : Option X) (x : X) → o ≡ Some x → o ≡ None → ⊥
@@ -246,24 +239,6 @@ module _ {A : Type 0} {flight : List Message} {k : ℕ} {m : Message} {e later :
 pub always : {A E : Type 0} (P : A → Type 0) (r : Result A E) → IfOk r (λ a. ⊤ → P a) → IfOk r P
 always P (Ok a) told = told tt
 always P (Err e) told = tt
-
--- where it is handled if the answer is yes
-pub if_yes : {E : Type 0} (r : Result Bool E) (b : Bool) (P : Type 0) → (r ≡ Ok b → P) → IfOk r (λ c. c ≡ b → P)
-if_yes (Ok c) b P told = λ is. told (ap (λ x. Ok x) is)
-if_yes (Err e) b P told = tt
-
-pub yes_if : {E : Type 0} (r : Result Bool E) (b : Bool) (P : Type 0) → IfOk r (λ c. c ≡ b → P) → r ≡ Ok b → P
-yes_if (Ok c) b P told is = told cc
-yes_if (Err e) b P told is = cc
-
-pub either_way : (b : Bool) → (b ≡ true) ⊎ (b ≡ false)
-either_way true = inl refl
-either_way false = inr refl
-
-pub handled_or_apart : (s : Short) → IsHandled s ⊎ (s ≡ Apart)
-handled_or_apart Went = inl tt
-handled_or_apart (Failed f) = inl tt
-handled_or_apart Apart = inr refl
 
 -- what the delivery of the message at a position tells, as it is promised of a machine
 pub record IsTold {A : Type 0} (Done Apart : A → Type 0) (gives : A → Step) (k : ℕ) (v later : MachineView) (r : Result A TakeError) : Type 0 where

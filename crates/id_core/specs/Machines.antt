@@ -18,10 +18,6 @@ use Rattle.id_tag.specs.Kinds.{kind_of}
 use Rattle.id_tag.specs.Routes.{route_of}
 use Rattle.id_valid.specs.Roles.{has_main_place, op_at, IsMain}
 use Rattle.id_line.specs.Events.{EventView, AllWent}
-use Rattle.id_line.specs.declared.step.Step.{Step}
-use Rattle.id_line.specs.declared.step.Step.TheVariants as step
-use Rattle.id_core.specs.declared.machine.Came.{Came}
-use Rattle.id_core.specs.declared.machine.Came.TheVariants as came
 use Rattle.id_firing.specs.Fits.{Fits}
 use Rattle.id_desk.specs.Replays.{ElementView}
 use Rattle.id_firing.specs.Steps.{State, fresh, is_ended, outputs_of, event_of, state_after}
@@ -109,12 +105,6 @@ event_of_routed g count s (Some m) =
 -- the event that delivering the message at position k makes, if that is possible
 abbrev pub event_at : Parts → ℕ → World → ℕ → Option EventView
 event_at g count s k = event_of_routed g count s (slice_get s.flight k)
-
--- what an event came to, without its fault
-abbrev pub came_of : Step → Came
-came_of step.Went = came.Went
-came_of (step.Fault f) = came.Failed
-came_of step.Stuck = came.Stuck
 
 -- the machine after deliveries at these positions, one after another
 abbrev pub run : Parts → ℕ → List ℕ → World → World

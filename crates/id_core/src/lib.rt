@@ -10,8 +10,8 @@ mod entering;
 mod machine;
 
 pub use entering::takes_inputs;
-pub use id_element::{Element, TakeError, fits};
+pub use id_element::{Element, Gate, Handling, Open, TakeError, fits};
 pub use id_gap::Flight;
 pub use id_observe::{CellValue, Holdings, Merged, Observed, merge_records, observe_records};
 pub use id_record::{Event, Events, Fault, Outputs, Step};
-pub use machine::{Came, MAX_ELEMENTS, Machine, MachineError};
+pub use machine::{MAX_ELEMENTS, Machine, MachineError, start_flight};

@@ -10,8 +10,8 @@ ghost use Rattle.id_firing.specs.Steps.{fresh};
 ghost use Rattle.id_core.specs.Machines.{AreElements, TakesInputs, input_messages, start_message, start_messages};
 ghost use Rattle.id_observe.specs.Observed.{main_tag};
 
-use id_element::{Element, Short, TakeError};
-use id_flight::{Demand, Queue};
+use id_element::{Element, Open, TakeError};
+use id_flight::Queue;
 use id_gap::{Flight, InFlight};
 use id_inputs::Inputs;
 use id_instr::Port;
@@ -19,9 +19,9 @@ use id_observe::{
     Holdings, Observed, answer, first_fault, main_tag, observe_holdings, observe_records,
 };
 use id_ops::value_of;
-use id_record::{Fault, Step};
+use id_record::Step;
 use id_source::{SourceFault, SourceValue};
-use id_tag::{Message, Payload, PlainToken, Sender, Value, route, route_tag};
+use id_tag::{Message, Payload, Sender, Value, route};
 use id_valid::Valid;
 use id_value::Constant;
 use std::alloc::{AllocError, AllocFailed, Global};
@@ -61,14 +61,6 @@ impl<T: Drop> From<AllocFailed<T>> for MachineError {
     }
 }
 
-/// What an event came to, without its fault: small, since each event of a run hands one on.
-#[derive(Clone, Copy)]
-pub enum Came {
-    Went,
-    Failed,
-    Stuck,
-}
-
 /// A machine: 1 to 64 elements of one graph, and the messages in flight, in the order in which they were sent.
 #[derive(Drop)]
 pub struct Machine<'a> {
@@ -96,21 +88,16 @@ impl<'a> Model for Machine<'a> {
 }
 
 impl<'a> Machine<'a> {
-    ghost use Rattle.std.specs.Prelude.{◌≡◌, ◌<◌, ◌↔◌, ◌⊎◌, [], All, length, map, Some, None, option_map, slice_get};
+    ghost use Rattle.std.specs.Prelude.{◌≡◌, ◌<◌, ◌↔◌, ◌⊎◌, [], All, length, map, Some, None, option_map};
     ghost use Rattle.std.specs.Prelude.{IfOk, OnOk, OnErr, IsTrue, MatchOption};
     ghost use Rattle.std.specs.List.Sorted.{IsStrictlyIncreasing};
     ghost use Rattle.id_core.specs.Firsts.{IsFirstFault};
     ghost use Rattle.id_core.specs.declared.machine.MachineError.TheVariants.{BadElements};
     ghost use Rattle.id_firing.specs.declared.step.TakeError.TheVariants.{StampEnd};
     ghost use Rattle.id_firing.specs.Fits.{Fits};
-    ghost use Rattle.id_firing.specs.Shorts.{IsHandled, step_in};
-    ghost use Rattle.id_firing.specs.declared.step.Short.TheVariants.{Apart};
-    ghost use Rattle.id_tag.specs.Plains.{message_of, tag_in};
-    ghost use Rattle.std.specs.Prelude.{true, false};
-    ghost use Rattle.id_flight.specs.Demands.{demanded};
-    ghost use Rattle.id_line.specs.declared.step.Step.TheVariants.{Went};
     ghost use Rattle.id_core.specs.Observed.{answer, cell_values, cells, faults, names, structures, waiting};
-    ghost use Rattle.id_core.specs.Machines.{AreElements, IsQuiet, TakesInputs, came_of, delivered, event_at, start};
+    ghost use Rattle.id_core.specs.Machines.{AreElements, IsMachine, IsQuiet, TakesInputs};
+    ghost use Rattle.id_core.specs.Machines.{delivered, event_at, start};
     ghost use Rattle.id_core.specs.Machines.{world_of};
 
     /// The machine of so many elements at its start, with the start messages in flight: a signal to
@@ -139,121 +126,31 @@ impl<'a> Machine<'a> {
         })
     }
 
+    /// The machine of these elements, with these messages in flight. Takes no memory.
+    pub fn resume(
+        alloc: Global,
+        graph: &'a Valid,
+        elements: Vec<Element<'a>>,
+        flight: Queue,
+    ) -> Machine<'a>
+        requires { IsMachine graph.now elements.items flight.messages }
+        ensures { result ≡ record {
+          graph = graph.now;
+          count = length elements.entry.items;
+          world = world_of elements.entry.items flight.messages;
+        } }
+    {
+        Machine {
+            graph,
+            elements,
+            flight: InFlight::new(alloc, flight),
+        }
+    }
+
     /// Delivers the message at a position of the list of those in flight: it leaves, the list closes
     /// up, the element that it is for handles it, and what is sent goes to the end of the list. After an
     /// error nothing has changed.
-    #[inline(always)]
     pub fn deliver(&mut self, position: usize) -> Result<Step, TakeError>
-        requires { position < length self.old.world.flight }
-
-        ensures world { OnOk result
-            (self.new ≡ record self.old { world = delivered self.old.graph self.old.count self.old.world position }) }
-        ensures step { IfOk result
-            (λ step. option_map (λ e. e.step) (event_at self.old.graph self.old.count self.old.world position)
-            ≡ Some step) }
-
-        ensures end { (result ≡ Err StampEnd) ↔
-            (event_at self.old.graph self.old.count self.old.world position ≡ None) }
-        ensures err { OnErr result (self.new ≡ self.old) }
-    {
-        match self.flight.plain(position) {
-            Some(token) => {
-                let token = *token;
-                match self.deliver_plain(position, &token)? {
-                    Short::Went => Ok(Step::Went),
-                    Short::Failed(fault) => Ok(Step::Fault(Fault::Operator {
-                        fault,
-                        tag: token.tag(),
-                    })),
-                    Short::Apart => self.deliver_any(position),
-                }
-            }
-            None => self.deliver_any(position),
-        }
-    }
-
-    /// Delivers the message at a position, as `deliver` does, and says what its event came to without the fault.
-    #[tactic(auto, using(crate::proofs::MachinesLemmas::came_from))]
-    #[inline(always)]
-    pub fn advance(&mut self, position: usize) -> Result<Came, TakeError>
-        requires { position < length self.old.world.flight }
-
-        ensures world { OnOk result
-            (self.new ≡ record self.old { world = delivered self.old.graph self.old.count self.old.world position }) }
-        ensures step { IfOk result
-            (λ came. option_map (λ e. came_of e.step) (event_at self.old.graph self.old.count self.old.world position)
-            ≡ Some came) }
-
-        ensures end { (result ≡ Err StampEnd) ↔
-            (event_at self.old.graph self.old.count self.old.world position ≡ None) }
-        ensures err { OnErr result (self.new ≡ self.old) }
-    {
-        match self.flight.plain(position) {
-            Some(token) => {
-                let token = *token;
-                match self.deliver_plain(position, &token)? {
-                    Short::Went => Ok(Came::Went),
-                    Short::Failed(_) => Ok(Came::Failed),
-                    Short::Apart => self.advance_any(position),
-                }
-            }
-            None => self.advance_any(position),
-        }
-    }
-
-    /// Delivers any message at a position, as `advance` does.
-    #[tactic(auto, using(crate::proofs::MachinesLemmas::came_from))]
-    #[inline(never)]
-    fn advance_any(&mut self, position: usize) -> Result<Came, TakeError>
-        requires { position < length self.old.world.flight }
-
-        ensures world { OnOk result
-            (self.new ≡ record self.old { world = delivered self.old.graph self.old.count self.old.world position }) }
-        ensures step { IfOk result
-            (λ came. option_map (λ e. came_of e.step) (event_at self.old.graph self.old.count self.old.world position)
-            ≡ Some came) }
-
-        ensures end { (result ≡ Err StampEnd) ↔
-            (event_at self.old.graph self.old.count self.old.world position ≡ None) }
-        ensures err { OnErr result (self.new ≡ self.old) }
-    {
-        match self.flight.demand(position) {
-            Some(demand) => {
-                if self.deliver_demand(position, &demand)? {
-                    return Ok(Came::Went);
-                }
-                self.advance_full(position)
-            }
-            None => self.advance_full(position),
-        }
-    }
-
-    /// The same where it is handled in full.
-    #[tactic(auto, using(crate::proofs::MachinesLemmas::came_from))]
-    #[inline(never)]
-    fn advance_full(&mut self, position: usize) -> Result<Came, TakeError>
-        requires { position < length self.old.world.flight }
-
-        ensures world { OnOk result
-            (self.new ≡ record self.old { world = delivered self.old.graph self.old.count self.old.world position }) }
-        ensures step { IfOk result
-            (λ came. option_map (λ e. came_of e.step) (event_at self.old.graph self.old.count self.old.world position)
-            ≡ Some came) }
-
-        ensures end { (result ≡ Err StampEnd) ↔
-            (event_at self.old.graph self.old.count self.old.world position ≡ None) }
-        ensures err { OnErr result (self.new ≡ self.old) }
-    {
-        match self.deliver_any(position)? {
-            Step::Went => Ok(Came::Went),
-            Step::Fault(_) => Ok(Came::Failed),
-            Step::Stuck => Ok(Came::Stuck),
-        }
-    }
-
-    /// Delivers any message at a position, as `deliver` does.
-    #[inline(never)]
-    fn deliver_any(&mut self, position: usize) -> Result<Step, TakeError>
         requires { position < length self.old.world.flight }
 
         ensures world { OnOk result
@@ -269,49 +166,7 @@ impl<'a> Machine<'a> {
         let message = self.flight.message(position);
         let number = route(&message, self.elements.len() as u32) as usize;
         self.flight
-            .give_at(position, &message, &mut self.elements[number])
-    }
-
-    /// Delivers the plain token at a position, as `deliver` does, where that is short.
-    #[inline(always)]
-    fn deliver_plain(&mut self, position: usize, token: &PlainToken) -> Result<Short, TakeError>
-        requires { slice_get self.old.world.flight position ≡ Some (message_of token.now) }
-
-        ensures world { IfOk result (λ short. IsHandled short →
-            (self.new ≡ record self.old { world = delivered self.old.graph self.old.count self.old.world position })) }
-        ensures step { IfOk result (λ short. IsHandled short →
-            option_map (λ e. e.step) (event_at self.old.graph self.old.count self.old.world position)
-            ≡ Some (step_in short (tag_in token.now))) }
-        ensures apart { IfOk result (λ short. short ≡ Apart → self.new ≡ self.old) }
-
-        ensures end { (result ≡ Err StampEnd) ↔
-            (event_at self.old.graph self.old.count self.old.world position ≡ None) }
-        ensures err { OnErr result (self.new ≡ self.old) }
-    {
-        let number = route_tag(token.tag(), self.elements.len() as u32) as usize;
-        self.flight
-            .give_plain_at(position, token, &mut self.elements[number])
-    }
-
-    /// Delivers the read or the write of a cell at a position, as `deliver` does, where that is short, and answers
-    /// whether it was: all went well then.
-    #[inline(always)]
-    fn deliver_demand(&mut self, position: usize, demand: &Demand) -> Result<bool, TakeError>
-        requires { slice_get self.old.world.flight position ≡ Some (demanded demand.now) }
-
-        ensures world { result ≡ Ok true →
-            self.new ≡ record self.old { world = delivered self.old.graph self.old.count self.old.world position } }
-        ensures step { result ≡ Ok true →
-            option_map (λ e. e.step) (event_at self.old.graph self.old.count self.old.world position) ≡ Some Went }
-        ensures apart { result ≡ Ok false → self.new ≡ self.old }
-
-        ensures end { (result ≡ Err StampEnd) ↔
-            (event_at self.old.graph self.old.count self.old.world position ≡ None) }
-        ensures err { OnErr result (self.new ≡ self.old) }
-    {
-        let number = route(&demand.message(), self.elements.len() as u32) as usize;
-        self.flight
-            .give_demand_at(position, demand, &mut self.elements[number])
+            .give_at(position, &message, &mut self.elements[number], &Open)
     }
 
     /// Gives back the memory of what is in flight and of what waits at each element, where nothing is or does: it shows
@@ -425,8 +280,8 @@ fn fresh_elements<'a>(
     Ok(elements)
 }
 
-/// The messages in flight at the start.
-fn start_flight(alloc: Global, graph: &Valid, inputs: &Inputs) -> Result<Queue, AllocError>
+/// The start messages: those in flight at the start of a machine of this graph with these inputs.
+pub fn start_flight(alloc: Global, graph: &Valid, inputs: &Inputs) -> Result<Queue, AllocError>
     requires { TakesInputs graph.now inputs.now.values }
     ensures messages { IfOk result (λ q. q.messages ≡ start_messages graph.now inputs.now.values) }
     ensures fit { IfOk result (λ q. All (Fits graph.now) q.messages) }

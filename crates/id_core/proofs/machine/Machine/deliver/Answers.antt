@@ -1,72 +1,53 @@
--- What is delivered in short is told as it is in full.
-use Rattle.std.proofs.Common.{◌≡◌, ◌<◌, ◌∙◌, Err, None, Some, ap, length, subst, sym}
-use Rattle.std.specs.Prelude.{IfOk, OnErr, OnOk, option_map, slice_get, ◌↔◌}
-use Rattle.id_tag.specs.Plains.{tag_in}
-use Rattle.id_firing.specs.Shorts.{IsHandled, step_in}
-use Rattle.id_firing.specs.declared.step.Short.TheVariants.{Failed}
-use Rattle.id_firing.specs.declared.step.TakeError.TheVariants.{StampEnd}
-use Rattle.id_desk.proofs.ShortLemmas.{if_err, on_err, on_ok}
-use Rattle.id_core.specs.Machines.{MachineView, delivered, event_at}
-use Rattle.id_gap.proofs.FlightLemmas.{gives_end, ok_end}
+-- The delivery is the one that the definitions speak of: the message at the position, given to the element that it is for.
+use Rattle.std.proofs.Common.{◌≡◌, ◌<◌, length, inl, refl, sym, ap, subst, ◌∙◌}
+use Rattle.std.specs.Prelude.{⊤}
+use Rattle.std.proofs.lemmas.Option.{slice_get_read}
+use Rattle.std.proofs.lemmas.Result.{IfOk-weaker}
+use Rattle.id_tag.specs.Routes.{route_of}
+use Rattle.id_line.specs.declared.step.Step.{Step}
+use Rattle.id_firing.specs.Steps.{step_of}
+use Rattle.id_core.proofs.MachinesLemmas.{IsGiven, IsGiving, IsMachine-given, always, giving_any, is_for, told-given}
 use Rattle.id_core.proofs.machine.Machine.deliver.Goals as goal
+use Rattle.id_core.proofs.machine.Machine.deliver.Goals.{After-index_mut}
 
-pub deliver_plain-requires : goal.deliver_plain-requires
-deliver_plain-requires c = ap (λ v. slice_get v.world.flight c.args.position) (sym c.self.view_is) ∙ c.in-Some.ensures
-
-pub returns-in_err-deliver_plain-in-Some : goal.returns-in_err-deliver_plain-in-Some
-returns-in_err-deliver_plain-in-Some c = record {
-  world = on_ok _ c.from_residual.result c.from_residual.ensures.0;
-  step = if_err _ c.from_residual.result c.from_residual.ensures.0;
-  end = gives_end c.from_residual.result c.in_err-deliver_plain-in-Some.field-0.0 _ c.from_residual.ensures.1 c.in_err-deliver_plain-in-Some.ensures.end;
-  err = on_err c.from_residual.result c.in_err-deliver_plain-in-Some.ensures.err;
-}
-
-pub returns-in-Went : goal.returns-in-Went
-returns-in-Went c = record {
-  world = c.in_ok-deliver_plain-in-Some.ensures.world (subst IsHandled (sym c.in-Went.is) tt);
-  step = c.in_ok-deliver_plain-in-Some.ensures.step (subst IsHandled (sym c.in-Went.is) tt) ∙
-      ap (λ s. Some (step_in s (tag_in c.in-Some.token.now))) c.in-Went.is;
-  end = ok_end _ _ c.in_ok-deliver_plain-in-Some.ensures.end;
-  err = tt;
-}
-
-pub returns-in-Failed : goal.returns-in-Failed
-returns-in-Failed c = record {
-  world = c.in_ok-deliver_plain-in-Some.ensures.world (subst IsHandled (sym c.in-Failed.is) tt);
-  step = c.in_ok-deliver_plain-in-Some.ensures.step (subst IsHandled (sym c.in-Failed.is) tt) ∙
-      ap (λ s. Some (step_in s (tag_in c.in-Some.token.now))) c.in-Failed.is ∙ ap (λ t. Some (step_in (Failed c.in-Failed.fault) t)) (sym c.tag.ensures);
-  end = ok_end _ _ c.in_ok-deliver_plain-in-Some.ensures.end;
-  err = tt;
-}
-
-pub deliver_any-requires : goal.deliver_any-requires
-deliver_any-requires c = subst (λ (v : MachineView). c.args.position < length v.world.flight)
-    (sym (c.in_ok-deliver_plain-in-Some.ensures.apart c.in-Apart.is)) c.requires
-
-pub deliver_any-requires-in-None : goal.deliver_any-requires-in-None
-deliver_any-requires-in-None c = c.requires
-
--- where it was not handled in short, nothing has changed
-pub returns-in-Apart : goal.returns-in-Apart
-returns-in-Apart c =
-    let same = c.in_ok-deliver_plain-in-Some.ensures.apart c.in-Apart.is in
-    let World : MachineView → Type 0 = λ v. OnOk c.deliver_any.result
-    (c.deliver_any.new.self ≡ record v { world = delivered v.graph v.count v.world c.args.position }) in
-    let Step : MachineView → Type 0 = λ v. IfOk c.deliver_any.result
-    (λ came. option_map (λ e. e.step) (event_at v.graph v.count v.world c.args.position) ≡ Some came) in
-    let End : MachineView → Type 0 = λ v. c.deliver_any.result ≡ Err StampEnd ↔ event_at v.graph v.count v.world c.args.position ≡ None in
-    let Same : MachineView → Type 0 = λ v. OnErr c.deliver_any.result (c.deliver_any.new.self ≡ v) in
+given : (c : After-index_mut)
+    → IsGiven c.self.inside.graph.now (length c.self.inside.elements.items) c.self.inside.elements.items c.self.inside.flight.messages
+    c.args.position c.route-number.result c.message-message.result c.index_mut.result.now
+given c =
+    let es = c.self.inside.elements.items in
+    let many : c.len.result ≡ length es = c.len.ensures ∙ c.self.inside.elements.ok.0 in
+    let below : c.route-number.result < length es = subst (λ n. c.route-number.result < n) many c.route-number.ensures.below in
     record {
-      world = subst World same c.deliver_any.ensures.world;
-      step = subst Step same c.deliver_any.ensures.step;
-      end = subst End same c.deliver_any.ensures.end;
-      err = subst Same same c.deliver_any.ensures.err;
+      there = c.message-message.ensures;
+      routed = sym (c.route-number.ensures.exact ∙ ap (route_of c.message-message.result.payload) many);
+      element = slice_get_read es _ _ _ refl below c.index_mut.ensures.value;
     }
 
-pub returns-in-None : goal.returns-in-None
-returns-in-None c = record {
-  world = c.deliver_any-in-None.ensures.world;
-  step = c.deliver_any-in-None.ensures.step;
-  end = c.deliver_any-in-None.ensures.end;
-  err = c.deliver_any-in-None.ensures.err;
-}
+giving : (c : goal.After-self-1)
+    → IsGiving (λ _. ⊤) (λ _. ⊥) c.self.inside.flight.messages c.args.position c.message-message.result c.index_mut.result.now
+    c.give_at.new.element c.give_at.new.self.messages c.give_at.result
+giving c =
+    let told = c.give_at.ensures in
+    giving_any c.give_at.result told.state told.messages told.fits told.end told.err told.err_messages
+
+pub give_at-requires-clause-next : goal.give_at-requires-clause-next
+give_at-requires-clause-next c = (given (goal.at.give_at-requires-clause-next c).After-index_mut).there
+
+pub give_at-requires-clause-is_for : goal.give_at-requires-clause-is_for
+give_at-requires-clause-is_for c = is_for (given (goal.at.give_at-requires-clause-is_for c).After-index_mut) c.self.invariant
+
+pub invariant_of-self : goal.invariant_of-self
+invariant_of-self c = IsMachine-given (given (goal.at.invariant_of-self c).After-index_mut) c.self.invariant (λ _. inl tt) c.give_at.result (giving c)
+
+pub returns : goal.returns
+returns c =
+    let e = c.index_mut.result.now in
+    let Goes : Step → Type 0 = λ s. s ≡ step_of e.graph e.number e.state c.message-message.result in
+    let goes = IfOk-weaker c.give_at.result Goes (λ s. ⊤ → Goes s) (λ _ is _. is) c.give_at.ensures.step in
+    let told = told-given (given (goal.at.returns c).After-index_mut) c.self.invariant c.self.view_is (λ s. s) c.give_at.result (giving c) goes in
+    record {
+      world = always _ c.give_at.result told.world;
+      step = always _ c.give_at.result told.step;
+      end = told.end;
+      err = told.err;
+    }
