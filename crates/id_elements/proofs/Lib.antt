@@ -1,0 +1,6 @@
+pub mod DoorsLemmas
+pub mod ListsLemmas
+pub mod WorkersLemmas
+pub mod GatheredLemmas
+pub mod RunsLemmas
+pub mod FinishLemmas

@@ -1,0 +1,205 @@
+-- What workers have come to is a machine, and its run (specs/Runs.antt).
+use Rattle.std.proofs.Common.{◌≡◌, ◌≢◌, ℕ, zero, suc, ◌+◌, ◌<◌, ◌≤◌, ◌⊎◌, inl, inr, Result, Ok, Err, List, [], ◌∷◌, ◌++◌, All, length, map, get_or, refl, sym, ap, subst, ◌∙◌, arith}
+use Rattle.std.specs.Prelude.{Some, slice_get, ◌↔◌, IfOk}
+use Rattle.std.specs.List.Sorted.{IsPermutation, IsStrictlySortedBy}
+use Rattle.std.proofs.lemmas.List.Folds.{flat_map-map}
+use Rattle.id_core.specs.Merged.{by_moment}
+use Rattle.id_core.specs.Firsts.{AreMergedOf}
+use Rattle.std.specs.List.{AllByRecursion, flat_map}
+use Rattle.std.proofs.lemmas.Grind.{flat_map-append}
+use Rattle.std.proofs.lemmas.List.{length-map, get_or-map}
+use Rattle.std.proofs.lemmas.List.Elements.{All-append, All-from_recursion, All-nil, recursion_from_All}
+use Rattle.id_instr.specs.Graph.{Parts}
+use Rattle.id_value.specs.declared.Constant.{Constant}
+use Rattle.id_tag.specs.declared.Message.{Message}
+use Rattle.id_list.specs.List.{Among}
+use Rattle.id_line.specs.declared.step.Step.TheVariants.{Stuck}
+use Rattle.id_core.specs.Events.{AllWent, EventView}
+use Rattle.id_firing.specs.Fits.{Fits}
+use Rattle.id_core.specs.Steps.{State}
+use Rattle.id_desk.specs.Replays.{ElementView, Replays}
+use Rattle.id_core.specs.Machines.{AreElements, IsElement, IsMachine, MachineView, World, start_messages, world_of}
+use Rattle.id_core.specs.Observed.{events_of}
+use Rattle.id_orders.specs.Accounts.{IsAccounted}
+use Rattle.id_orders.specs.Orders.{AreReplayed, OrdersAreRuns}
+use Rattle.id_orders.proofs.Elements.{AreReplayed-from}
+use Rattle.id_orders.proofs.Orders.{left_holds}
+use Rattle.std.proofs.lemmas.Bool.{cases_eq}
+use Rattle.id_elements.proofs.FinishLemmas.{upto}
+use Rattle.id_elements.specs.Gathered.{AreGathered, states_of}
+use Rattle.id_elements.specs.Runs.{AllMove, HasWent, IsFinished, IsHeldBack, IsRun, MovesOn}
+use Rattle.id_elements.specs.Workers.{sent_in}
+
+-- ---- what is gathered
+
+pub elements_gathered : (g : Parts) (count most : ℕ) (es : List ElementView) → AreGathered g count most 0 es → AreElements g count es
+elements_gathered g count most es all n d lt = subst (λ (k : ℕ). IsElement g count k (get_or es n d)) (let k : 0 + n ≡ n = omega arith in k) (all n d lt).element
+
+pub few_gathered : (g : Parts) (count most : ℕ) (es : List ElementView) → AreGathered g count most 0 es → All (λ (s : State). length s.events ≤ most) (states_of es)
+few_gathered g count most es all n d lt = go es n d lt (λ k e l. (all k e l).few)
+  where
+    go : (es : List ElementView) (n : ℕ) (d : State) → n < length (states_of es)
+        → ((k : ℕ) (e : ElementView) → k < length es → length (get_or es k e).state.events ≤ most) → length (get_or (states_of es) n d).events ≤ most
+    go [] n d lt each = absurd (omega arith)
+    go (x ∷ xs) zero d lt each = each 0 x (omega arith)
+    go (x ∷ xs) (suc n) d lt each = go xs n d (omega arith) (λ k e l. each (suc k) e (omega arith))
+
+-- what the elements sent fits
+sent_fits : (g : Parts) (es : List ElementView) → ((k : ℕ) (e : ElementView) → k < length es → All (Fits g) (sent_in (get_or es k e).state))
+    → All (Fits g) (flat_map (λ (v : EventView). v.outputs) (events_of (states_of es)))
+sent_fits g [] each = All-nil (Fits g)
+sent_fits g (x ∷ xs) each =
+    subst (All (Fits g)) (sym (flat_map-append (λ (v : EventView). v.outputs) x.state.events (events_of (states_of xs))))
+    (All-append (Fits g) (sent_in x.state) (flat_map (λ (v : EventView). v.outputs) (events_of (states_of xs))) (each 0 x (omega arith))
+    (sent_fits g xs (λ k e l. each (suc k) e (omega arith))))
+
+-- so does what is left
+pub left_fits : (g : Parts) (vs : List Constant) (count most : ℕ) (es : List ElementView) (left : List Message) → AreGathered g count most 0 es
+    → All (Fits g) (start_messages g vs) → IsAccounted (start_messages g vs) (states_of es) left → All (Fits g) left
+left_fits g vs count most es left all begun accounted =
+    All-from_recursion (Fits g) left (left_holds (Fits g) g vs (record { elements = states_of es; flight = left }) accounted
+    (recursion_from_All (Fits g) (start_messages g vs) begun)
+    (recursion_from_All (Fits g) _ (sent_fits g es (λ k e l. (all k e l).sent))))
+
+-- they are a machine's
+pub machine_gathered : (g : Parts) (vs : List Constant) (count most : ℕ) (es : List ElementView) (left : List Message) → 0 < count → count ≤ 64
+    → length es ≡ count → AreGathered g count most 0 es → All (Fits g) (start_messages g vs)
+    → IsAccounted (start_messages g vs) (states_of es) left → IsMachine g es left
+machine_gathered g vs count most es left some few long all begun accounted = record {
+  at_least_one = omega arith;
+  at_most_64 = omega arith;
+  elements = subst (λ (n : ℕ). AreElements g n es) (sym long) (elements_gathered g count most es all);
+  flight_fits = left_fits g vs count most es left all begun accounted;
+}
+
+-- ---- the records of a machine
+
+-- whatever stands for what is not there
+same_at : {A : Type 0} (xs : List A) (n : ℕ) (c d : A) → n < length xs → get_or xs n c ≡ get_or xs n d
+same_at [] n c d lt = absurd (omega arith)
+same_at (x ∷ xs) zero c d lt = refl
+same_at (x ∷ xs) (suc n) c d lt = same_at xs n c d (omega arith)
+
+-- so is one more
+pub one_more : {A : Type 0} (P : A → Type 0) (xs : List A) (n : ℕ) (x : A) → n < length xs → x ≡ get_or xs n x → P x
+    → ((k : ℕ) (d : A) → k < n → P (get_or xs k d)) → (k : ℕ) (d : A) → k < n + 1 → P (get_or xs k d)
+one_more P xs n x there is here before k d lt = cases (cases_eq k n)
+  where
+    cases : (k ≡ n) ⊎ (k ≡ n → ⊥) → P (get_or xs k d)
+    cases (inl same) = subst P (is ∙ (same_at xs n x d there ∙ ap (λ j. get_or xs j d) (sym same))) here
+    cases (inr other) = before k d (upto k n lt other)
+
+-- its states are what the records lead to
+pub replayed_of : (m : MachineView) (es : List ElementView) → AreElements m.graph m.count es → world_of es m.world.flight ≡ m.world
+    → length m.world.elements ≡ m.count → ((k : ℕ) (d : ElementView) → k < length es → Replays (get_or es k d)) → AreReplayed m.graph m.count m.world.elements
+replayed_of m es are is long each =
+    let same : states_of es ≡ m.world.elements = ap (λ (w : World). w.elements) is in
+    let len : length es ≡ m.count = sym (length-map es (λ (e : ElementView). e.state)) ∙ (ap length same ∙ long) in
+    subst (AreReplayed m.graph m.count) same (AreReplayed-from m.graph m.count es len are (recursion_from_All Replays es each))
+
+-- ---- whether no event was `Stuck`
+
+among_append : {A : Type 0} (xs ys : List A) (x : A) → Among x (xs ++ ys) → Among x xs ⊎ Among x ys
+among_append [] ys x h = inr h
+among_append (y ∷ xs) ys x (inl e) = inl (inl e)
+among_append {A = A} (y ∷ xs) ys x (inr h) = at (among_append xs ys x h)
+  where
+    at : Among x xs ⊎ Among x ys → Among x (y ∷ xs) ⊎ Among x ys
+    at (inl k) = inl (inr k)
+    at (inr k) = inr k
+
+among_front : {A : Type 0} (xs ys : List A) (x : A) → Among x xs → Among x (xs ++ ys)
+among_front [] ys x h = absurd h
+among_front (y ∷ xs) ys x (inl e) = inl e
+among_front (y ∷ xs) ys x (inr h) = inr (among_front xs ys x h)
+
+among_behind : {A : Type 0} (xs ys : List A) (x : A) → Among x ys → Among x (xs ++ ys)
+among_behind [] ys x h = h
+among_behind (y ∷ xs) ys x h = inr (among_behind xs ys x h)
+
+move_one : (es : List EventView) (v : EventView) → AllMove es → Among v es → v.step ≢ Stuck
+move_one [] v all h = absurd h
+move_one (x ∷ xs) v all (inl e) = λ is. all 0 x (omega arith) (ap (λ (u : EventView). u.step) (sym e) ∙ is)
+move_one (x ∷ xs) v all (inr h) = move_one xs v (λ k d l. all (suc k) d (omega arith)) h
+
+all_move : (es : List EventView) → ((v : EventView) → Among v es → v.step ≢ Stuck) → AllMove es
+all_move [] each k d lt = absurd (omega arith)
+all_move (x ∷ xs) each zero d lt = each x (inl refl)
+all_move (x ∷ xs) each (suc k) d lt = all_move xs (λ v h. each v (inr h)) k d (omega arith)
+
+moves_from : (es : List ElementView) → All (λ (e : ElementView). AllMove e.state.events) es → (v : EventView) → Among v (events_of (states_of es)) → v.step ≢ Stuck
+moves_from [] all v h = absurd h
+moves_from (x ∷ xs) all v h = at (among_append x.state.events (events_of (states_of xs)) v h) (moves_from xs (λ n d l. all (suc n) d (omega arith)) v)
+  where
+    at : Among v x.state.events ⊎ Among v (events_of (states_of xs)) → (Among v (events_of (states_of xs)) → v.step ≢ Stuck) → v.step ≢ Stuck
+    at (inl k) rest = move_one x.state.events v (all 0 x (omega arith)) k
+    at (inr k) rest = rest k
+
+moves_to : (es : List ElementView) → ((v : EventView) → Among v (events_of (states_of es)) → v.step ≢ Stuck) → All (λ (e : ElementView). AllMove e.state.events) es
+moves_to [] each k d lt = absurd (omega arith)
+moves_to (x ∷ xs) each zero d lt = all_move x.state.events (λ v h. each v (among_front x.state.events (events_of (states_of xs)) v h))
+moves_to (x ∷ xs) each (suc k) d lt = moves_to xs (λ v h. each v (among_behind x.state.events (events_of (states_of xs)) v h)) k d (omega arith)
+
+-- no event of a machine was, where none of any element was
+pub moves_on_from : (m : MachineView) (es : List ElementView) → world_of es m.world.flight ≡ m.world
+    → (All (λ (e : ElementView). AllMove e.state.events) es ↔ MovesOn m.world)
+moves_on_from m es is = (
+  (λ all. subst MovesOn is (moves_from es all)),
+  (λ moves. moves_to es (subst MovesOn (sym is) moves)),
+)
+
+-- every event of a machine went well, where every one of each element did
+pub went_from : (m : MachineView) (es : List ElementView) → world_of es m.world.flight ≡ m.world
+    → (All (λ (e : ElementView). AllWent e.state.events) es ↔ HasWent m.world)
+went_from m es is = (
+  (λ all. subst HasWent is (to es all)),
+  (λ went. from es (subst HasWent (sym is) went)),
+)
+  where
+    to : (es : List ElementView) → All (λ (e : ElementView). AllWent e.state.events) es
+        → All (λ (s : State). AllWent s.events) (states_of es)
+    to [] all k d lt = absurd (omega arith)
+    to (x ∷ xs) all zero d lt = all 0 x (omega arith)
+    to (x ∷ xs) all (suc k) d lt = to xs (λ n e l. all (suc n) e (omega arith)) k d (omega arith)
+
+    from : (es : List ElementView) → All (λ (s : State). AllWent s.events) (states_of es)
+        → All (λ (e : ElementView). AllWent e.state.events) es
+    from [] all k d lt = absurd (omega arith)
+    from (x ∷ xs) all zero d lt = all 0 x.state (omega arith)
+    from (x ∷ xs) all (suc k) d lt = from xs (λ n s l. all (suc n) s (omega arith)) k d (omega arith)
+
+-- ---- the run
+
+-- a machine that has come to an end from what workers have left is a run
+pub run_from : (g : Parts) (vs : List Constant) (count steps : ℕ) (a m : MachineView) → OrdersAreRuns → a.graph ≡ g → a.count ≡ count
+    → IsAccounted (start_messages g vs) a.world.elements a.world.flight → IsFinished steps a m → AreReplayed m.graph m.count m.world.elements
+    → IsRun g vs count steps m
+run_from g vs count steps a m law graph_is count_is accounted done replayed =
+    let on = done.on in
+    let g_is : m.graph ≡ g = on.same_graph ∙ graph_is in
+    let c_is : m.count ≡ count = on.same_count ∙ count_is in
+    let r : AreReplayed g count m.world.elements =
+    subst (λ (h : Parts). AreReplayed h count m.world.elements) g_is (subst (λ (c : ℕ). AreReplayed m.graph c m.world.elements) c_is replayed) in
+    let k : IsAccounted (start_messages g vs) m.world.elements m.world.flight = on.accounted (start_messages g vs) accounted in
+    record {
+      graph_is = g_is;
+      count_is = c_is;
+      few = on.few;
+      order = law.order g count m.world.elements r;
+      legal = law.legal g vs count m.world r k;
+      runs = law.runs g vs count m.world r k;
+      honest = λ went. subst (λ (c : ℕ). All (IsHeldBack c steps m.world) m.world.flight) c_is (done.honest went);
+    }
+
+-- ---- all events
+
+-- the events of the elements are those of the machine
+pub merged_of : {E : Type 0} (es : List ElementView) (left : List Message) (w : World) (r : Result (List EventView) E) → world_of es left ≡ w
+    → IfOk r (λ m. IsPermutation (flat_map (λ (e : ElementView). e.state.events) es) m) → IfOk r (λ m. IsStrictlySortedBy by_moment m)
+    → IfOk r (AreMergedOf w.elements)
+merged_of es left w (Err e) is all sorted = tt
+merged_of es left w (Ok m) is all sorted = record {
+  all = subst (λ (x : World). IsPermutation (events_of x.elements) m) is
+      (subst (λ (l : List EventView). IsPermutation l m) (sym (flat_map-map (λ (s : State). s.events) (λ e. e.state) es)) all);
+  sorted = sorted;
+}

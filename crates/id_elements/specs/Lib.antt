@@ -1,0 +1,7 @@
+-- What public clauses cite.
+pub mod Runs
+-- For use inside.
+pub mod Codes
+pub mod Doors
+pub mod Workers
+pub mod Gathered

@@ -1,0 +1,118 @@
+-- A worker as contracts see it, and what every worker keeps (docs/THREADS.md, "A worker").
+use Rattle.std.specs.Prelude.{◌≡◌, ◌<◌, ◌≤◌, ℕ, ◌+◌, List, [], All, length, slice_get, slice_index_or, ◌++◌, ◌∷◌, drop, Some}
+use Rattle.std.specs.List.{flat_map, remove, sum_by}
+use Rattle.std.specs.Global.{Global}
+use Rattle.crossbeam_queue.specs.SegTies.{SegId}
+use Rattle.id_instr.specs.Graph.{Parts}
+use Rattle.id_tag.specs.declared.Message.{Message}
+use Rattle.id_tag.specs.Routes.{route_of}
+use Rattle.id_inbox.specs.Doors.{DoorView}
+use Rattle.id_firing.specs.Fits.{Fits, IsFor}
+use Rattle.id_firing.specs.Steps.{State, fresh, outputs_of, state_after}
+use Rattle.id_desk.specs.Replays.{ElementView}
+use Rattle.id_core.specs.Machines.{IsElement}
+use Rattle.id_elements.specs.Doors.{HaveParts, queues_of, sent_by, taken_by}
+
+-- all that the record of a state says that was sent
+abbrev pub sent_in : State → List Message
+sent_in s = flat_map (λ v. v.outputs) s.events
+
+-- what its record says that was taken, in weight
+abbrev pub weight_taken : (Message → ℕ) → State → ℕ
+weight_taken f s = sum_by (λ v. f v.message) s.events
+
+-- these messages are for the element
+abbrev pub AreFor : ElementView → List Message → Type 0
+AreFor e ms = All (IsFor e.graph e.count e.number) ms
+
+-- a worker: its doors, its element, what is for that, what the element sent and is not sorted yet, and what came and is
+-- not for the element
+pub record WorkerView : Type 0 where
+  pub doors : List DoorView
+  pub element : ElementView
+  pub own : List Message
+  pub out : List Message
+  pub stray : List Message
+
+-- what the worker has at hand
+abbrev pub weight_held : (Message → ℕ) → WorkerView → ℕ
+weight_held f w = sum_by f w.own + sum_by f w.out + sum_by f w.stray
+
+-- what was taken out of inboxes and what the element sent is what was put into inboxes, what the element took, and what
+-- is at hand
+abbrev pub IsSquare : WorkerView → Type 0
+IsSquare w = (f : Message → ℕ) → taken_by f w.doors + sum_by f (sent_in w.element.state)
+    ≡ sent_by f w.doors + weight_taken f w.element.state + weight_held f w
+
+-- what every worker keeps: it has a door with one part to each element's inbox, what is its own is for its element,
+-- what the element sent fits the graph, and the accounts are square
+pub record IsKept (w : WorkerView) : Type 0 where
+  pub parts : HaveParts 1 w.doors
+  pub count : w.element.count ≡ length w.doors
+  pub number : w.element.number < length w.doors
+  pub own : AreFor w.element w.own
+  pub out : All (Fits w.element.graph) w.out
+  pub sent : All (Fits w.element.graph) (sent_in w.element.state)
+  pub square : IsSquare w
+
+-- the worker has the same inboxes, and its element is the same one
+pub record IsSame (old new : WorkerView) : Type 0 where
+  pub queues : queues_of new.doors ≡ queues_of old.doors
+  pub number : new.element.number ≡ old.element.number
+  pub count : new.element.count ≡ old.element.count
+  pub graph : new.element.graph ≡ old.element.graph
+
+-- and its element has handled so many messages at most
+pub record IsSameWithin (most : ℕ) (old new : WorkerView) : Type 0 where
+  pub same : IsSame old new
+  pub few : length new.element.state.events ≤ most
+
+-- the worker of an element that has handled nothing, with these doors
+abbrev pub fresh_worker : Parts → ℕ → ℕ → List DoorView → WorkerView
+fresh_worker g count number doors = record {
+  doors = doors;
+  element = record { number = number; count = count; graph = g; state = fresh };
+  own = [];
+  out = [];
+  stray = [];
+}
+
+-- the element has handled the message at a position of its own, which has left; what was sent is at the end of `out`,
+-- and fits
+pub record IsPassed (k : ℕ) (own : List Message) (e : ElementView) (out own' : List Message) (e' : ElementView)
+    (out' : List Message) : Type 0 where
+  pub message : Message
+  pub there : slice_get own k ≡ Some message
+  pub own_is : own' ≡ remove own k
+  pub element_is : e' ≡ record e { state = state_after e.graph e.number e.state message }
+  pub out_is : out' ≡ out ++ outputs_of e.graph e.number e.state message
+  pub fits : All (Fits e.graph) (outputs_of e.graph e.number e.state message)
+
+-- the first message of `out` has gone to the end of `own`
+pub record IsStayed (own out own' out' : List Message) : Type 0 where
+  pub message : Message
+  pub there : slice_get out 0 ≡ Some message
+  pub own_is : own' ≡ own ++ message ∷ []
+  pub out_is : out' ≡ drop 1 out
+
+-- the first of these messages is for the element of this number, of so many
+pub record IsRouted (count : ℕ) (ms : List Message) (n : ℕ) : Type 0 where
+  pub message : Message
+  pub there : slice_get ms 0 ≡ Some message
+  pub routed : route_of message.payload count ≡ n
+
+-- the first message that a worker has to send is for its own element
+abbrev pub IsFirstOwn : WorkerView → Type 0
+IsFirstOwn w = IsRouted w.element.count w.out w.element.number
+
+-- the worker has these inboxes, is that of the element of this number, and the element has handled so many messages at
+-- most
+pub record IsWorker (g : Parts) (count most : ℕ) (qs : List (SegId Global)) (i : ℕ) (w : WorkerView) : Type 0 where
+  pub queues : queues_of w.doors ≡ qs
+  pub element : IsElement g count i w.element
+  pub few : length w.element.state.events ≤ most
+
+-- these are the workers of the elements of the graph, in order of their numbers
+abbrev pub AreWorkers : Parts → ℕ → ℕ → List (SegId Global) → List WorkerView → Type 0
+AreWorkers g count most qs ws = (i : ℕ) (d : WorkerView) → i < length ws
+    → IsWorker g count most qs i (slice_index_or ws i d)

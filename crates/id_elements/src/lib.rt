@@ -1,0 +1,22 @@
+//! Worker threads: each works one element of a machine, by messages from ruled inboxes, until the run ends.
+//!
+//! Keeps: no message is lost between workers, and a run has come to its end.
+//! Errors: `RunError`.
+//! Read first: `specs/Runs.antt`, then `run` and `run_limited`; docs/THREADS.md.
+//! Not here: inboxes (`id_inbox`), the element step (`id_element`), the law that what is accounted for is a run
+//! (`id_orders`), what is printed of a run (`id_print`).
+#![tactic(auto)]
+
+mod doors;
+mod ended;
+mod finish;
+mod hand;
+mod passing;
+mod running;
+mod settings;
+mod shared;
+mod worker;
+
+pub use ended::Run;
+pub use running::{run, run_limited};
+pub use settings::{MAX_STEPS, RunError, Settings};

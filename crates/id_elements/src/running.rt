@@ -1,0 +1,368 @@
+//! A run on worker threads.
+
+ghost use Rattle.std.specs.Prelude.{◌≡◌, ◌<◌, ◌≤◌, ◌+◌, ◌-◌, ◌++◌, ◌∷◌, ◌⊎◌, ◌↔◌, [], ℕ, All, IfOk, IfErr, List, OnOk};
+ghost use Rattle.std.specs.Prelude.{length, slice_index_or, vec_len, Err, IsTrue};
+ghost use Rattle.std.specs.List.{sum_by};
+ghost use Rattle.id_tag.specs.declared.Message.{Message};
+ghost use Rattle.id_firing.specs.Fits.{Fits};
+ghost use Rattle.id_core.specs.Machines.{TakesInputs, start_messages};
+ghost use Rattle.id_orders.specs.Accounts.{IsAccounted};
+ghost use Rattle.id_orders.specs.Orders.{AreReplayed};
+ghost use Rattle.id_elements.specs.Doors.{HaveParts, queues_of};
+ghost use Rattle.id_elements.specs.Gathered.{AreGathered, IsWhole, states_of};
+ghost use Rattle.id_elements.specs.Runs.{AllMove, AreBadSteps, HasCount, IsRefusedRun, IsRun, MovesOn};
+ghost use Rattle.id_elements.specs.Workers.{AreWorkers, IsSameWithin, WorkerView, sent_in};
+ghost use Rattle.id_elements.specs.declared.settings.RunError.TheVariants.{BadElements, BadSteps};
+
+use crate::doors::{absorb_all, drain_all, open_all, send_start, split_all};
+use crate::ended::Run;
+use crate::finish::finish;
+use crate::settings::{MAX_STEPS, RunError, Settings};
+use crate::shared::Shared;
+use crate::worker::Worker;
+use id_core::{Element, Events, Gate, MAX_ELEMENTS, Machine, Step, start_flight};
+use id_flight::Queue;
+use id_gap::InFlight;
+use id_inbox::Door;
+use id_inputs::Inputs;
+use id_valid::Valid;
+use std::alloc::{AllocError, Global};
+use std::sync::Wait;
+use std::thread;
+use std::thread::Threads;
+
+/// Lets a worker work, if its place is below the limit.
+fn work_below<R: Wait, G: Gate>(
+    rt: &R,
+    index: usize,
+    limit: usize,
+    worker: &mut Worker<'_>,
+    steps: u64,
+    shared: &Shared,
+    gate: &G,
+)
+    requires { length worker.old.element.state.events ≤ steps }
+    ensures { IsSameWithin steps worker.old worker.new }
+{
+    if index < limit {
+        worker.work(rt, steps, shared, gate);
+    }
+}
+
+/// Lets the first of these workers work, up to the limit, each on a thread of its own where one can be made.
+fn work_all<R: Threads + Wait + Sync, G: Gate + Sync>(
+    rt: &R,
+    workers: &mut [Worker<'_>],
+    limit: usize,
+    steps: u64,
+    shared: &Shared,
+    gate: &G,
+)
+    requires some { 0 < length workers.old }
+    requires few { All (λ w. length w.element.state.events ≤ steps) workers.old }
+    ensures { (i : ℕ) (d : WorkerView) → i < length workers.old
+        → IsSameWithin steps (slice_index_or workers.old i d) (slice_index_or workers.new i d) }
+{
+    let count = workers.len();
+    thread::for_each_mut(
+        rt,
+        workers,
+        count,
+        &|index, worker| { work_below(rt, index, limit, worker, steps, shared, gate) },
+    );
+}
+
+/// The workers, one for each inbox.
+fn make_workers<'a>(
+    alloc: Global,
+    doors: &mut Vec<Door>,
+    graph: &'a Valid,
+) -> Result<Vec<Worker<'a>>, AllocError>
+    requires few { vec_len doors.old ≤ 64 }
+    requires parts { HaveParts 1024 doors.old.items }
+    ensures workers { IfOk result
+        (λ ws. AreWorkers graph.now (vec_len doors.old) 0 (queues_of doors.new.items) ws.items) }
+    ensures len { IfOk result (λ ws. vec_len ws ≡ vec_len doors.old) }
+    ensures parts { OnOk result (HaveParts (1024 - vec_len doors.old) doors.new.items) }
+    ensures whole { OnOk result ((start : List Message)
+        → IsWhole start doors.old.items [] [] → IsWhole start doors.new.items [] []) }
+{
+    let count = doors.len() as u32;
+    let mut workers = Vec::new(alloc);
+    for number in 0..count {
+        let theirs = split_all(alloc, doors)?;
+        workers.push(Worker::new(alloc, number, theirs, graph))?;
+    }
+    Ok(workers)
+}
+
+/// Keeps what a worker had at hand of its own, the first one last.
+fn keep_own(left: &mut Queue, own: InFlight) -> Result<(), AllocError>
+    ensures { OnOk result ((f : Message → ℕ)
+        → sum_by f left.new.messages ≡ sum_by f left.old.messages + sum_by f own.messages) }
+{
+    let mut own = own;
+    left.reserve(own.len())?;
+    while let Some(message) = own.pop_back() {
+        left.push_back_reserved(message);
+    }
+    Ok(())
+}
+
+/// Keeps what a worker had to send.
+fn keep_rest(left: &mut Queue, rest: Queue) -> Result<(), AllocError>
+    ensures { OnOk result ((f : Message → ℕ)
+        → sum_by f left.new.messages ≡ sum_by f left.old.messages + sum_by f rest.messages) }
+{
+    let mut rest = rest;
+    left.reserve(rest.len())?;
+    while let Some(message) = rest.pop_front() {
+        left.push_back_reserved(message);
+    }
+    Ok(())
+}
+
+/// Takes in what a worker has.
+fn gather_one<'a>(
+    worker: Worker<'a>,
+    doors: &mut Vec<Door>,
+    elements: &mut Vec<Element<'a>>,
+    left: &mut Queue,
+) -> Result<(), AllocError>
+    requires { queues_of worker.doors ≡ queues_of doors.old.items }
+    ensures queues { OnOk result (queues_of doors.new.items ≡ queues_of doors.old.items) }
+    ensures parts { OnOk result ((n : ℕ) → HaveParts n doors.old.items → HaveParts (n + 1) doors.new.items) }
+    ensures elements { OnOk result (elements.new.items ≡ worker.entry.element ∷ elements.old.items) }
+    ensures sent { OnOk result
+        (All (Fits worker.entry.element.graph) (sent_in worker.entry.element.state)) }
+    ensures whole { OnOk result ((start : List Message)
+        → IsWhole start doors.old.items (states_of elements.old.items) left.old.messages
+        → IsWhole start doors.new.items (states_of elements.new.items) left.new.messages) }
+{
+    let (theirs, element, own, out, stray) = worker.into_parts();
+    absorb_all(doors, theirs);
+    keep_own(left, own)?;
+    keep_rest(left, out)?;
+    keep_rest(left, stray)?;
+    elements.insert(0, element)?;
+    Ok(())
+}
+
+/// What is gathered from workers: their elements, in order of their numbers, and what is left.
+#[derive(Drop)]
+struct Gathered<'a> {
+    elements: Vec<Element<'a>>,
+    left: Queue,
+}
+
+/// Takes in what all workers have.
+fn gather<'a>(
+    alloc: Global,
+    doors: &mut Vec<Door>,
+    mut workers: Vec<Worker<'a>>,
+    graph: &'a Valid,
+    count: u32,
+    steps: u64,
+) -> Result<Gathered<'a>, AllocError>
+    requires len { vec_len workers ≡ count }
+    requires few { count ≤ 64 }
+    requires workers { AreWorkers graph.now count steps (queues_of doors.old.items) workers.items }
+    requires parts { HaveParts (1024 - vec_len workers) doors.old.items }
+    ensures parts { OnOk result (HaveParts 1024 doors.new.items) }
+    ensures elements { IfOk result (λ r. AreGathered graph.now count steps 0 r.elements.items) }
+    ensures len { IfOk result (λ r. length r.elements.items ≡ count) }
+    ensures whole { IfOk result (λ r. (start : List Message) → IsWhole start doors.old.items [] []
+        → IsWhole start doors.new.items (states_of r.elements.items) r.left.messages) }
+{
+    let mut elements = Vec::new(alloc);
+    let mut left = Queue::new(alloc);
+    while let Some(worker) = workers.pop() {
+        gather_one(worker, doors, &mut elements, &mut left)?;
+    }
+    Ok(Gathered { elements, left })
+}
+
+/// Lets workers run the machine from its start, and takes in what they have once they have stopped.
+fn run_workers<'a, R: Threads + Wait + Sync, G: Gate + Sync>(
+    rt: &R,
+    alloc: Global,
+    graph: &'a Valid,
+    start: &Queue,
+    settings: Settings,
+    limit: u32,
+    gate: &G,
+) -> Result<Gathered<'a>, AllocError>
+    requires some { 0 < settings.elements }
+    requires few { settings.elements ≤ 64 }
+    ensures elements { IfOk result (λ r. AreGathered graph.now settings.elements settings.steps 0 r.elements.items) }
+    ensures len { IfOk result (λ r. length r.elements.items ≡ settings.elements) }
+    ensures accounted { IfOk result (λ r. IsAccounted start.now.messages (states_of r.elements.items) r.left.messages) }
+{
+    let count = settings.elements;
+    let mut doors = open_all(alloc, count)?;
+    send_start(rt, alloc, &mut doors, start)?;
+    let mut workers = make_workers(alloc, &mut doors, graph)?;
+    let shared = Shared::new(alloc, count, start.len())?;
+    work_all(
+        rt,
+        workers.as_mut_slice(),
+        limit as usize,
+        settings.steps,
+        &shared,
+        gate,
+    );
+    if shared.was_refused() {
+        return Err(AllocError);
+    }
+    let mut gathered = gather(alloc, &mut doors, workers, graph, count, settings.steps)?;
+    drain_all(rt, &mut doors, &mut gathered.left)?;
+    Ok(gathered)
+}
+
+/// The machine that workers have come to, with what they have left.
+fn machine_of<'a, R: Threads + Wait + Sync, G: Gate + Sync>(
+    rt: &R,
+    alloc: Global,
+    graph: &'a Valid,
+    inputs: &Inputs,
+    settings: Settings,
+    limit: u32,
+    gate: &G,
+) -> Result<Machine<'a>, AllocError>
+    requires inputs { TakesInputs graph.now inputs.now.values }
+    requires some { 0 < settings.elements }
+    requires few { settings.elements ≤ 64 }
+    ensures graph { IfOk result (λ m. m.graph ≡ graph.now) }
+    ensures count { IfOk result (λ m. m.count ≡ settings.elements) }
+    ensures elements { IfOk result HasCount }
+    ensures few { IfOk result (λ m. All (λ s. length s.events ≤ settings.steps) m.world.elements) }
+    ensures accounted { IfOk result (λ m. IsAccounted (start_messages graph.now inputs.now.values) m.world.elements
+        m.world.flight) }
+{
+    id_orders::orders_are_runs();
+    let start = start_flight(alloc, graph, inputs)?;
+    let Gathered { elements, left } = run_workers(rt, alloc, graph, &start, settings, limit, gate)?;
+    Ok(Machine::resume(alloc, graph, elements, left))
+}
+
+/// Whether no event of the machine was `Stuck`.
+fn moves_on(machine: &Machine<'_>) -> bool
+    ensures { IsTrue result ↔ MovesOn machine.now.world }
+{
+    all_move_in(machine.elements())
+}
+
+/// Whether no event of these elements was `Stuck`.
+fn all_move_in(elements: &[Element<'_>]) -> bool
+    ensures { IsTrue result ↔ All (λ e. AllMove e.state.events) elements.now }
+{
+    elements.iter().all(|element| moves_at(element))
+}
+
+/// Whether no event of an element was `Stuck`. Where each event went well, that takes no look at its record.
+fn moves_at(element: &Element<'_>) -> bool
+    ensures { IsTrue result ↔ AllMove element.now.state.events }
+{
+    element.all_went() || all_move(&element.events())
+}
+
+/// Whether none of these events was `Stuck`.
+fn all_move(events: &Events<'_>) -> bool
+    ensures { IsTrue result ↔ AllMove events.now }
+{
+    for position in 0..events.len() {
+        if let Step::Stuck = events.event(position).step {
+            return false;
+        }
+    }
+    true
+}
+
+/// The elements of a machine are what their records lead to.
+fn replay_all(machine: &Machine<'_>)
+    requires { HasCount machine.now }
+    ensures { AreReplayed machine.now.graph machine.now.count machine.now.world.elements }
+{
+    let elements = machine.elements();
+    for element in elements {
+        let _events = element.events();
+    }
+}
+
+/// Runs the machine from its start to its end.
+fn run_allowed<'a, R: Threads + Wait + Sync, G: Gate + Sync>(
+    rt: &R,
+    alloc: Global,
+    graph: &'a Valid,
+    inputs: &Inputs,
+    settings: Settings,
+    limit: u32,
+    gate: &G,
+) -> Result<Run<'a>, RunError>
+    requires inputs { TakesInputs graph.now inputs.now.values }
+    requires some { 0 < settings.elements }
+    requires few { settings.elements ≤ 64 }
+    ensures run { IfOk result (IsRun graph.now inputs.now.values settings.elements settings.steps) }
+    ensures moves { IfOk result (λ r. MovesOn r.world) }
+    ensures refused { IfErr result (IsRefusedRun graph.now inputs.now.values settings.elements settings.steps) }
+{
+    id_orders::orders_are_runs();
+    let mut machine = machine_of(rt, alloc, graph, inputs, settings, limit, gate)?;
+    finish(rt, &mut machine, settings.elements, settings.steps)?;
+    replay_all(&machine);
+    if !moves_on(&machine) {
+        return Err(RunError::Stuck);
+    }
+    Ok(Run::of(machine))
+}
+
+/// Runs the graph on these inputs, on so many elements of which each is worked by a thread of its own and handles at
+/// most so many messages, until no message is left, or each that is left is held back, or at a fault. At most `workers`
+/// threads work; what they leave, the calling thread does. `BadElements` comes where there is none or more than
+/// `MAX_ELEMENTS`, then `BadSteps` where no step or more than `MAX_STEPS` are allowed, then `Stuck` where an element
+/// answered so. The gate holds each handling of a message for as long as it likes.
+pub fn run_limited<'a, R: Threads + Wait + Sync, G: Gate + Sync>(
+    rt: &R,
+    alloc: Global,
+    graph: &'a Valid,
+    inputs: &Inputs,
+    settings: Settings,
+    workers: u32,
+    gate: &G,
+) -> Result<Run<'a>, RunError>
+    requires { TakesInputs graph.now inputs.now.values }
+    // It is a run of the machine, and it has come to its end: where every event went well, each message left is held
+    // back.
+    ensures run { IfOk result (IsRun graph.now inputs.now.values settings.elements settings.steps) }
+    ensures moves { IfOk result (λ r. MovesOn r.world) }
+    ensures elements { (result ≡ Err BadElements) ↔ ((settings.elements ≡ 0) ⊎ (64 < settings.elements)) }
+    ensures steps { (result ≡ Err BadSteps) ↔ AreBadSteps settings.elements settings.steps }
+    ensures refused { IfErr result (IsRefusedRun graph.now inputs.now.values settings.elements settings.steps) }
+{
+    if settings.elements == 0 || settings.elements > MAX_ELEMENTS {
+        return Err(RunError::BadElements);
+    }
+    if settings.steps == 0 || settings.steps > MAX_STEPS {
+        return Err(RunError::BadSteps);
+    }
+    run_allowed(rt, alloc, graph, inputs, settings, workers, gate)
+}
+
+/// Runs the graph on these inputs, with a thread for each element, as `run_limited` does with that limit.
+pub fn run<'a, R: Threads + Wait + Sync, G: Gate + Sync>(
+    rt: &R,
+    alloc: Global,
+    graph: &'a Valid,
+    inputs: &Inputs,
+    settings: Settings,
+    gate: &G,
+) -> Result<Run<'a>, RunError>
+    requires { TakesInputs graph.now inputs.now.values }
+    ensures run { IfOk result (IsRun graph.now inputs.now.values settings.elements settings.steps) }
+    ensures moves { IfOk result (λ r. MovesOn r.world) }
+    ensures elements { (result ≡ Err BadElements) ↔ ((settings.elements ≡ 0) ⊎ (64 < settings.elements)) }
+    ensures steps { (result ≡ Err BadSteps) ↔ AreBadSteps settings.elements settings.steps }
+    ensures refused { IfErr result (IsRefusedRun graph.now inputs.now.values settings.elements settings.steps) }
+{
+    run_limited(rt, alloc, graph, inputs, settings, settings.elements, gate)
+}
