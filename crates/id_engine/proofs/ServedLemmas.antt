@@ -1,8 +1,7 @@
 -- Requests, and how a refused one is served (specs/Asked.antt, specs/Served.antt).
-use Rattle.std.proofs.Common.{◌≡◌, ◌≢◌, ℕ, List, [], Bor, Global, Option, Result, Vec, refl, sym, ap, subst, ◌∙◌}
+use Rattle.std.proofs.Common.{◌≡◌, ◌≢◌, ℕ, List, [], Option, Result, refl, sym, ap, subst, ◌∙◌}
 use Rattle.id_sink.specs.Told.{Told}
 use Rattle.id_request.specs.declared.Request.{Request}
-use Rattle.id_request.specs.declared.Request.TheVariants as asks
 use Rattle.id_compile.specs.declared.error.EngineError.{EngineError}
 use Rattle.id_compile.specs.declared.error.EngineError.TheVariants.{Compile, MissingInput, UnknownInput, RepeatedInput}
 use Rattle.id_compile.specs.declared.error.EngineError.TheVariants.{BadInput, BadElements, BadSteps, BadRounds}
@@ -12,29 +11,11 @@ use Rattle.id_compile.specs.declared.refusal.Detail.{Detail}
 use Rattle.id_compile.specs.declared.refusal.Detail.TheVariants.{Nothing, Place, Kinds, Word}
 use Rattle.id_compile.specs.declared.refusal.Refusal.{Refusal}
 use Rattle.id_compile.specs.declared.source.SourceFault.{SourceFault}
-use Rattle.id_engine.specs.Asked.{IsComputed, IsToRun}
 use Rattle.id_compile.specs.Reading.{IsUnread}
 use Rattle.id_runner.specs.Commands.{ShowsFront}
 use Rattle.id_compile.specs.Refusals.{compiler_refusal, IsDetailInside, IsInsideOf, IsPrintedLine, IsToldRefusal, IsWord, Tells, plain, row_of, source_cause}
-use Rattle.id_engine.specs.Served.{command_of, words_of, IsRefusedRequest, Serves, refused, Drives, unread}
+use Rattle.id_engine.specs.Served.{command_of, words_of, IsRefusedRequest, IsRunFront, Serves, refused, Drives, unread}
 use Rattle.id_engine.specs.Served.Serves.{cut}
-
--- what a request asks for that asks for nothing else
-pub computed_by : (r : Request) → ((file : Bor (List ℕ)) → r ≡ asks.Check file → ⊥) → ((file : Bor (List ℕ)) → r ≡ asks.Graph file → ⊥)
-    → ((file : Bor (List ℕ)) → r ≡ asks.Draw file → ⊥) → IsComputed r
-computed_by (asks.Check file) check graph draw = absurd (check file refl)
-computed_by (asks.Graph file) check graph draw = absurd (graph file refl)
-computed_by (asks.Draw file) check graph draw = absurd (draw file refl)
-computed_by (asks.Run file inputs count trace steps names) check graph draw = tt
-computed_by (asks.Facts file rounds inputs) check graph draw = tt
-
-pub to_run_by : (r : Request) → IsComputed r → ((file : Bor (List ℕ)) (rounds : ℕ) (inputs : Vec (Bor (List ℕ)) Global) → r ≡ asks.Facts file rounds inputs → ⊥)
-    → IsToRun r
-to_run_by (asks.Check file) computed facts = absurd computed
-to_run_by (asks.Graph file) computed facts = absurd computed
-to_run_by (asks.Draw file) computed facts = absurd computed
-to_run_by (asks.Run file inputs count trace steps names) computed facts = tt
-to_run_by (asks.Facts file rounds inputs) computed facts = absurd (facts file rounds inputs refl)
 
 -- ---- errors
 
@@ -63,22 +44,22 @@ told_inside text ws Write r t h = plain_inside text r _ tt t
 
 -- an error is told by its line and its status
 pub Serves-error : (text : List ℕ) (r : Request) (out out' err err' : Option Told) (e : EngineError) (n : ℕ) →
-    (e ≡ Write → ShowsFront (command_of r) text out out')
+    (e ≡ Write → ShowsFront (command_of r) text out out') → (e ≡ Write → IsRunFront text r out out')
     → (e ≢ Write → out' ≡ out) → IsRefusedRequest text r e → IsToldRefusal text (words_of r) e err err' n → Serves text r out out' err err' n
-Serves-error text r out out' err err' (Compile x) n front silent why told = let d : Compile x ≢ Write = λ h. absurd cc in refused _ d why (silent d) told
-Serves-error text r out out' err err' (MissingInput x) n front silent why told = let d : MissingInput x ≢ Write = λ h. absurd cc in
+Serves-error text r out out' err err' (Compile x) n front made silent why told = let d : Compile x ≢ Write = λ h. absurd cc in refused _ d why (silent d) told
+Serves-error text r out out' err err' (MissingInput x) n front made silent why told = let d : MissingInput x ≢ Write = λ h. absurd cc in
     refused _ d why (silent d) told
-Serves-error text r out out' err err' (UnknownInput j) n front silent why told = let d : UnknownInput j ≢ Write = λ h. absurd cc in
+Serves-error text r out out' err err' (UnknownInput j) n front made silent why told = let d : UnknownInput j ≢ Write = λ h. absurd cc in
     refused _ d why (silent d) told
-Serves-error text r out out' err err' (RepeatedInput j) n front silent why told = let d : RepeatedInput j ≢ Write = λ h. absurd cc in
+Serves-error text r out out' err err' (RepeatedInput j) n front made silent why told = let d : RepeatedInput j ≢ Write = λ h. absurd cc in
     refused _ d why (silent d) told
-Serves-error text r out out' err err' (BadInput j) n front silent why told = let d : BadInput j ≢ Write = λ h. absurd cc in refused _ d why (silent d) told
-Serves-error text r out out' err err' BadElements n front silent why told = let d : BadElements ≢ Write = λ h. absurd cc in refused _ d why (silent d) told
-Serves-error text r out out' err err' BadSteps n front silent why told = let d : BadSteps ≢ Write = λ h. absurd cc in refused _ d why (silent d) told
-Serves-error text r out out' err err' BadRounds n front silent why told = let d : BadRounds ≢ Write = λ h. absurd cc in refused _ d why (silent d) told
-Serves-error text r out out' err err' TooManyFacts n front silent why told = let d : TooManyFacts ≢ Write = λ h. absurd cc in refused _ d why (silent d) told
-Serves-error text r out out' err err' Memory n front silent why told = let d : Memory ≢ Write = λ h. absurd cc in refused _ d why (silent d) told
-Serves-error text r out out' err err' Write n front silent why told = cut (front refl) told
+Serves-error text r out out' err err' (BadInput j) n front made silent why told = let d : BadInput j ≢ Write = λ h. absurd cc in refused _ d why (silent d) told
+Serves-error text r out out' err err' BadElements n front made silent why told = let d : BadElements ≢ Write = λ h. absurd cc in refused _ d why (silent d) told
+Serves-error text r out out' err err' BadSteps n front made silent why told = let d : BadSteps ≢ Write = λ h. absurd cc in refused _ d why (silent d) told
+Serves-error text r out out' err err' BadRounds n front made silent why told = let d : BadRounds ≢ Write = λ h. absurd cc in refused _ d why (silent d) told
+Serves-error text r out out' err err' TooManyFacts n front made silent why told = let d : TooManyFacts ≢ Write = λ h. absurd cc in refused _ d why (silent d) told
+Serves-error text r out out' err err' Memory n front made silent why told = let d : Memory ≢ Write = λ h. absurd cc in refused _ d why (silent d) told
+Serves-error text r out out' err err' Write n front made silent why told = cut (front refl) (made refl) told
 
 -- a source's fault is refused
 pub Drives-unread : (told : Option (Result (List ℕ) SourceFault)) (r : Request) (out err err' : Option Told) (fault : SourceFault) (x : Cause) (n : ℕ) →

@@ -7,7 +7,7 @@ use Rattle.id_compile.specs.declared.error.EngineError.{EngineError}
 use Rattle.id_compile.specs.declared.error.EngineError.TheVariants.{Write}
 use Rattle.id_runner.specs.Commands.{ShowsAll, ShowsFront}
 use Rattle.id_compile.specs.Refusals.{IsInsideOf}
-use Rattle.id_engine.specs.Served.{command_of, IsRefusedRequest, IsRun, IsTaken}
+use Rattle.id_engine.specs.Served.{command_of, IsRefusedRequest, IsRun, IsRunFront, IsTaken}
 
 -- what a request asks for of a text is printed with this result: whole, or up to a failed write, or it is refused
 -- before the first byte
@@ -17,6 +17,7 @@ pub record PrintsAsked (text : List ℕ) (r : Request) (old new : Option Told) (
   pub taken : IfOk result (λ _. IsTaken text r)
   pub ran : IfOk result (IsRun text r old new)
   pub cut : result ≡ Err Write → ShowsFront (command_of r) text old new
+  pub front : result ≡ Err Write → IsRunFront text r old new
   pub silent : IfErr result (λ e. e ≢ Write → new ≡ old)
   pub refused : IfErr result (IsRefusedRequest text r)
   pub inside : IfErr result (IsInsideOf text)

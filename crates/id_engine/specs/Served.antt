@@ -14,7 +14,7 @@ use Rattle.id_compile.specs.Reading.{IsToldText, IsUnread}
 use Rattle.id_compile.specs.Programs.{HasProgram}
 use Rattle.id_runner.specs.Commands.{Command, Check, List_graph, Draw_graph, Facts, Run, ShowsAll}
 use Rattle.id_runner.specs.Commands.{ShowsFront}
-use Rattle.id_runner.specs.Runs.{Ran}
+use Rattle.id_runner.specs.Runs.{Ran, RanFront}
 use Rattle.id_compile.specs.Refusals.{IsRefusedText, IsRefusedRun, IsTakenRun, AreRefusedFacts, AreTakenFacts}
 use Rattle.id_compile.specs.Refusals.{IsToldRefusal, IsPrintedLine, plain, row_of, source_cause}
 
@@ -60,6 +60,15 @@ IsRun text (asks.Run file inputs count trace steps names) out out' status =
     Ran text (map (λ w. w.now) inputs.items) count trace steps names out out' status
 IsRun text (asks.Facts file rounds inputs) out out' status = Unit {0}
 
+-- and of a run that was cut short by a failed write, a front is out
+abbrev pub IsRunFront : List ℕ → Request → Option Told → Option Told → Type 0
+IsRunFront text (asks.Check file) out out' = Unit {0}
+IsRunFront text (asks.Graph file) out out' = Unit {0}
+IsRunFront text (asks.Draw file) out out' = Unit {0}
+IsRunFront text (asks.Run file inputs count trace steps names) out out' =
+    RanFront text (map (λ w. w.now) inputs.items) count trace steps names out out'
+IsRunFront text (asks.Facts file rounds inputs) out out' = Unit {0}
+
 -- why a request on a text is refused
 abbrev pub IsRefusedRequest : List ℕ → Request → EngineError → Type 0
 IsRefusedRequest text (asks.Check file) e = IsRefusedText text e
@@ -78,8 +87,9 @@ pub data Serves (text : List ℕ) (r : Request) (out out' err err' : Option Told
   refused : {status : ℕ} (e : EngineError) → e ≢ Write → IsRefusedRequest text r e → out' ≡ out
       → IsToldRefusal text (words_of r) e err err' status →
       Serves text r out out' err err' status
-  -- a write failed, and a front is out
-  cut : {status : ℕ} → ShowsFront (command_of r) text out out' → IsToldRefusal text (words_of r) Write err err' status →
+  -- a write failed, and a front is out, of a run that of the run that was made
+  cut : {status : ℕ} → ShowsFront (command_of r) text out out' → IsRunFront text r out out'
+      → IsToldRefusal text (words_of r) Write err err' status →
       Serves text r out out' err err' status
 
 -- a request is done with what the source tells of its file: the text is served, or its fault is refused

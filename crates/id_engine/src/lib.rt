@@ -17,6 +17,6 @@ pub use id_compile::{
     compile, put_refusal, read_text,
 };
 pub use id_request::{Request, Unasked};
-pub use id_runner::{MAX_STEPS, engine, printed_alike};
+pub use id_runner::{MAX_STEPS, Settings, engine, printed_alike};
 pub use program::{drive, serve};
 pub use stream::{Stream, settle, write_some};

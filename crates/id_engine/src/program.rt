@@ -7,10 +7,13 @@ ghost use Rattle.id_engine.specs.Served.{Answers, Drives, HasHelped, Serves, fil
 
 use crate::commands::{check_text, draw_text, facts_text, graph_text};
 use id_compile::{Cause, EngineError, Source, of_engine_error, of_source_fault, plain, refuse};
+use id_core::{Gate, Open};
 use id_print::{Sink, put};
 use id_request::{Request, Unasked};
-use id_runner::engine;
+use id_runner::{Settings, engine};
 use std::alloc::Global;
+use std::sync::Wait;
+use std::thread::Threads;
 
 /// The status of a command line that is refused.
 const BAD_WORDS: u8 = 4;
@@ -48,10 +51,12 @@ fn answer<O: Sink, E: Sink>(unasked: &Unasked, out: &mut O, err: &mut E) -> u8
 }
 
 /// Runs a text as a request asks for, prints the run, and answers the status.
-fn run_asked<O: Sink>(
+fn run_asked<R: Threads + Wait + Sync, G: Gate + Sync, O: Sink>(
+    rt: &R,
     alloc: Global,
     request: &Request<'_>,
     text: &str,
+    gate: &G,
     out: &mut O,
 ) -> Result<u8, EngineError>
     requires { IsToRun request.now }
@@ -66,13 +71,17 @@ fn run_asked<O: Sink>(
             names,
             ..
         } => engine(
+            rt,
             alloc,
             text,
             inputs.as_slice(),
-            *count,
-            *trace,
-            *steps,
+            Settings {
+                elements: *count,
+                steps: *steps,
+            },
             *names,
+            *trace,
+            gate,
             out,
         ),
         _ => unreachable!(),
@@ -80,10 +89,12 @@ fn run_asked<O: Sink>(
 }
 
 /// Prints what a request asks for of a text that is computed on inputs, and answers the status.
-fn print_computed<O: Sink>(
+fn print_computed<R: Threads + Wait + Sync, G: Gate + Sync, O: Sink>(
+    rt: &R,
     alloc: Global,
     request: &Request<'_>,
     text: &str,
+    gate: &G,
     out: &mut O,
 ) -> Result<u8, EngineError>
     requires { IsComputed request.now }
@@ -97,15 +108,17 @@ fn print_computed<O: Sink>(
             *rounds,
             out,
         ),
-        _ => run_asked(alloc, request, text, out),
+        _ => run_asked(rt, alloc, request, text, gate, out),
     }
 }
 
 /// Prints what a request asks for of a text, and answers the status.
-fn print_asked<O: Sink>(
+fn print_asked<R: Threads + Wait + Sync, G: Gate + Sync, O: Sink>(
+    rt: &R,
     alloc: Global,
     request: &Request<'_>,
     text: &str,
+    gate: &G,
     out: &mut O,
 ) -> Result<u8, EngineError>
     ensures { PrintsAsked text.now request.now (O.told out.old) (O.told out.new) result }
@@ -114,7 +127,7 @@ fn print_asked<O: Sink>(
         Request::Check { .. } => check_text(alloc, text, out),
         Request::Graph { .. } => graph_text(alloc, text, out),
         Request::Draw { .. } => draw_text(alloc, text, out),
-        _ => print_computed(alloc, request, text, out),
+        _ => print_computed(rt, alloc, request, text, gate, out),
     }
 }
 
@@ -136,17 +149,20 @@ fn tell<E: Sink>(request: &Request<'_>, error: &EngineError, text: &str, err: &m
     refuse(&of_engine_error(words_of(request), error), text, err)
 }
 
-/// Does what a request asks for with a text, and answers the status.
-pub fn serve<O: Sink, E: Sink>(
+/// Does what a request asks for with a text, and answers the status. A run's gate holds each handling of a message for
+/// as long as it likes.
+pub fn serve<R: Threads + Wait + Sync, G: Gate + Sync, O: Sink, E: Sink>(
+    rt: &R,
     alloc: Global,
     request: &Request<'_>,
     text: &str,
+    gate: &G,
     out: &mut O,
     err: &mut E,
 ) -> u8
     ensures { Serves text.now request.now (O.told out.old) (O.told out.new) (E.told err.old) (E.told err.new) result }
 {
-    match print_asked(alloc, request, text, out) {
+    match print_asked(rt, alloc, request, text, gate, out) {
         Ok(status) => status,
         Err(error) => tell(request, &error, text, err),
     }
@@ -166,7 +182,8 @@ fn file_of<'a>(request: &Request<'a>) -> &'a str
 }
 
 /// Reads the text of a request, and serves it.
-fn serve_file<S: Source, O: Sink, E: Sink>(
+fn serve_file<R: Threads + Wait + Sync, S: Source, O: Sink, E: Sink>(
+    rt: &R,
     alloc: Global,
     request: &Request<'_>,
     source: &mut S,
@@ -177,14 +194,15 @@ fn serve_file<S: Source, O: Sink, E: Sink>(
         (E.told err.old) (E.told err.new) result }
 {
     match source.read(alloc, file_of(request)) {
-        Ok(text) => serve(alloc, request, text.as_str(), out, err),
+        Ok(text) => serve(rt, alloc, request, text.as_str(), &Open, out, err),
         Err(fault) => refuse_plainly(of_source_fault(fault), err),
     }
 }
 
 /// The whole program, but for reading the words: does what they ask for, and answers the status. It
 /// reads texts from `source`, writes what was asked for to `out` and refusals to `err`.
-pub fn drive<S: Source, O: Sink, E: Sink>(
+pub fn drive<R: Threads + Wait + Sync, S: Source, O: Sink, E: Sink>(
+    rt: &R,
     alloc: Global,
     asked: &Result<Request<'_>, Unasked>,
     source: &mut S,
@@ -198,7 +216,7 @@ pub fn drive<S: Source, O: Sink, E: Sink>(
         (λ u. Answers (O.told out.old) (O.told out.new) (E.told err.old) (E.told err.new) u result) }
 {
     match asked {
-        Ok(request) => serve_file(alloc, request, source, out, err),
+        Ok(request) => serve_file(rt, alloc, request, source, out, err),
         Err(unasked) => answer(unasked, out, err),
     }
 }

@@ -273,3 +273,27 @@ pub(crate) fn seven(rt: &impl Abort, alloc: Global) -> Result<Valid, Fail> {
     let graph = Graph::new(blocks, list)?;
     Ok(validate(alloc, graph)?)
 }
+
+/// The instructions of `def main(): int = { x = 7; in x };`, where 3 sends its 7 to 4 three times.
+fn seven_thrice(alloc: Global) -> Result<Vec<Instr>, AllocError> {
+    let merge = Op::Merge(PortKind::Int);
+    instrs(
+        alloc,
+        &[
+            (merge, &[], &[], 4),
+            (Op::Merge(PortKind::Signal), &[(3, Port::Zero)], &[], 4),
+            (Op::Back(PortKind::Int), &[], &[], 4),
+            (number(7), &[(4, Port::Zero); 3], &[], 24),
+            (merge, &[(2, Port::One)], &[], 20),
+        ],
+    )
+}
+
+/// The graph of `seven_thrice`.
+pub(crate) fn thrice(rt: &impl Abort, alloc: Global) -> Result<Valid, Fail> {
+    let blocks = block(alloc, 1)?;
+    let list = seven_thrice(alloc)?;
+    assert!(rt; list.len() == 5);
+    let graph = Graph::new(blocks, list)?;
+    Ok(validate(alloc, graph)?)
+}

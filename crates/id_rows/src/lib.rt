@@ -1,4 +1,5 @@
-//! Worked rows of the machine: calls whose answers were worked by hand from docs/GRAPH.md and docs/MACHINE.md.
+//! Worked rows of the machine and of its worker threads: calls whose answers were worked by hand from docs/GRAPH.md and
+//! docs/MACHINE.md.
 //!
 //! Keeps: nothing. All of it is tests, in a crate of their own, so that no crate below is proved once more for them.
 //! Read first: `rows`.
@@ -13,3 +14,5 @@ mod graphs;
 mod memory;
 #[cfg(test)]
 mod rows;
+#[cfg(test)]
+mod workers;

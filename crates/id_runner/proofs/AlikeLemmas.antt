@@ -1,19 +1,18 @@
 -- Lemmas on specs/Alike.antt: two quiet runs of one source show the same, and what is shown has one order, so they are
 -- printed alike.
 use Rattle.std.proofs.Common.{◌≡◌, inl, inr, ℕ, Bool, true, false, List, [], ◌∷◌, Ordering, Less, Equal, Greater, map, refl, sym, ap, subst, ◌∙◌, arith}
-use Rattle.std.specs.Prelude.{IsPermutation, IsTrue}
+use Rattle.std.specs.Prelude.{IsPermutation, IsTrue, Some, slice_get}
 use Rattle.std.specs.Ordering.{ordering_reverse}
 use Rattle.std.proofs.lemmas.Cmp.{tied_itself}
 use Rattle.std.proofs.lemmas.List.Sorted.{IsPermutation-append, IsPermutation-map}
 use Rattle.id_instr.specs.Graph.{Parts}
-use Rattle.id_value.specs.declared.Constant.{Constant}
 use Rattle.id_list.specs.List.{Among}
 use Rattle.id_source.specs.declared.Ask.{Ask}
 use Rattle.id_source.specs.declared.NameValue.{NameValue}
 use Rattle.id_source.specs.declared.SourceFault.{SourceFault}
 use Rattle.id_source.specs.Orders.{Rises}
 use Rattle.id_source.specs.Sources.{AreInputs, Source}
-use Rattle.id_core.specs.Machines.{IsQuiet, start}
+use Rattle.id_core.specs.Machines.{IsQuiet, World}
 use Rattle.id_core.specs.Observed as shown
 use Rattle.id_laws.specs.Laws.{IsSound, Soundness}
 use Rattle.id_laws.specs.Determinate.{Determinate, IsDeterminate, RunOf, ShowTheSame, end_of}
@@ -25,7 +24,8 @@ use Rattle.id_print.specs.Texts.{quiet_text}
 use Rattle.id_names.proofs.NamesLemmas.{Rises-sorted, Tells, asks_told, helds_told, names_told}
 use Rattle.id_runner.specs.Alike.{ArePrintedAlike, PrintedAlike}
 use Rattle.id_runner.specs.Runs.{Ends, held_of}
-use Rattle.id_turns.specs.Turns.{EndsAt, after}
+use Rattle.id_merge.proofs.FirstsLemmas.{first_is_shown}
+use Rattle.id_core.specs.Firsts.{IsFirstFault}
 use Rattle.id_runner.specs.Runs.Ends.{fault, quiet, stopped}
 use Rattle.id_runner.proofs.HeldLemmas.{AreApartBy-held, AreApartBy-waiting}
 use Rattle.id_runner.proofs.NamesLemmas.{AreApart-sound, among_permuted, among_sorted}
@@ -83,33 +83,35 @@ module _ {A : Type 0} (c : A → A → Ordering) (B C : A → A → Type 0) (t :
       (λ x l. among_permuted us xs x h.same (among_sorted us vs x moved (among_sorted vs ys x k.same l)))
 
 -- how a quiet run is printed
-record IsQuietly (g : Parts) (vs : List Constant) (count : ℕ) (ks text : List ℕ) (b : Bool) (bytes : List ℕ) : Type 0 where
+record IsQuietly (g : Parts) (count : ℕ) (w : World) (text : List ℕ) (b : Bool) (bytes : List ℕ) : Type 0 where
   pub names : List NameValue
   pub helds : List Held
   pub waits : List Ask
-  pub still : IsQuiet (after g vs count ks)
-  pub sorted : IsTrue b → IsSortedOf names (shown.names g (after g vs count ks))
-  pub held : IsOrderOf HeldBefore helds (held_of g count (after g vs count ks))
-  pub waiting : IsOrderOf WaitBefore waits (shown.waiting g (after g vs count ks))
-  pub is : bytes ≡ quiet_text text (shown.answer g (after g vs count ks)) (asked b names) helds waits
+  pub still : IsQuiet w
+  pub sorted : IsTrue b → IsSortedOf names (shown.names g w)
+  pub held : IsOrderOf HeldBefore helds (held_of g count w)
+  pub waiting : IsOrderOf WaitBefore waits (shown.waiting g w)
+  pub is : bytes ≡ quiet_text text (shown.answer g w) (asked b names) helds waits
 
-module _ (g : Parts) (vs : List Constant) (count steps : ℕ) (ks text : List ℕ) (b : Bool) where
-  quietly : (status : ℕ) (bytes : List ℕ) → status ≡ 0 → Ends g vs count steps ks text b status bytes → IsQuietly g vs count ks text b bytes
+module _ (g : Parts) (count steps : ℕ) (w : World) (text : List ℕ) (b : Bool) where
+  quietly : (status : ℕ) (bytes : List ℕ) → status ≡ 0 → Ends g count steps w text b status bytes → IsQuietly g count w text b bytes
   quietly _ _ e (quiet ns hs waits still sorted held waiting) =
       record { names = ns; helds = hs; waits = waits; still = still; sorted = sorted; held = held; waiting = waiting; is = refl }
-  quietly _ _ e (fault f ends) = absurd (omega (arith, e))
+  quietly _ _ e (fault f first) = absurd (omega (arith, e))
   quietly _ _ e (stopped ns hs none left all sorted held) = absurd (omega (arith, e))
 
   -- a run that ends at a fault shows it
-  at_fault : (status : ℕ) (bytes : List ℕ) → status ≡ 1 → Ends g vs count steps ks text b status bytes →
-      (f : SourceFault) × EndsAt g count (start g vs count) ks f
+  at_fault : (status : ℕ) (bytes : List ℕ) → status ≡ 1 → Ends g count steps w text b status bytes → (f : SourceFault) × IsFirstFault g w.elements f
   at_fault _ _ e (quiet ns hs waits still sorted held waiting) = absurd (omega (arith, e))
-  at_fault _ _ e (fault f ends) = (f, ends)
+  at_fault _ _ e (fault f first) = (f, first)
   at_fault _ _ e (stopped ns hs none left all sorted held) = absurd (omega (arith, e))
 
--- a list is not empty and of one
-not_one : {A : Type 0} (xs : List A) (x : A) → xs ≡ [] → xs ≡ x ∷ [] → ⊥
-not_one xs x none one = cc
+-- what stands in a list is not in an empty one
+no_one : {A : Type 0} (xs : List A) (x : A) (i : ℕ) → xs ≡ [] → slice_get xs i ≡ Some x → ⊥
+no_one xs x i none at = at_none (sym (ap (λ ys. slice_get ys i) none) ∙ at)
+  where
+    at_none : slice_get [] i ≡ Some x → ⊥
+    at_none h = cc
 
 -- names are the same where they are asked for, and else none
 asked_same : (b : Bool) (ns ms : List NameValue) → (IsTrue b → ns ≡ ms) → asked b ns ≡ asked b ms
@@ -120,8 +122,8 @@ module _ (S : Source) (inputs : AreInputs S.checked S.inputs) (sound : Soundness
   sound_end : (r : RunOf S) → IsSound S r.graph r.schemas.number (end_of S r)
   sound_end r = sound S r.graph r.count r.positions inputs r.schemas
 
-  same_printed : (r q : RunOf S) (xs ys : List ℕ) → IsQuietly r.graph S.inputs r.count r.positions text b xs →
-      IsQuietly q.graph S.inputs q.count q.positions text b ys → xs ≡ ys
+  same_printed : (r q : RunOf S) (xs ys : List ℕ) → IsQuietly r.graph r.count (end_of S r) text b xs →
+      IsQuietly q.graph q.count (end_of S q) text b ys → xs ≡ ys
   same_printed r q xs ys h k = h.is ∙ same_text ∙ sym k.is
     where
       same : ShowTheSame S r q
@@ -149,17 +151,19 @@ module _ (S : Source) (inputs : AreInputs S.checked S.inputs) (sound : Soundness
           ≡ quiet_text text (shown.answer q.graph (end_of S q)) (asked b k.names) k.helds k.waits
       same_text = λ i. quiet_text text (same.answer i) (same_names i) (same_helds i) (same_waits i)
 
-  not_at_fault : (r q : RunOf S) (xs : List ℕ) (f : SourceFault) → IsQuietly r.graph S.inputs r.count r.positions text b xs
-      → EndsAt q.graph q.count (start q.graph S.inputs q.count) q.positions f → ⊥
-  not_at_fault r q xs f h ends = not_one (shown.faults q.graph (end_of S q)) f (d.no_fault r q h.still) ends.one
+  not_at_fault : (r q : RunOf S) (xs : List ℕ) (f : SourceFault) → IsQuietly r.graph r.count (end_of S r) text b xs
+      → IsFirstFault q.graph (end_of S q).elements f → ⊥
+  not_at_fault r q xs f h first =
+      let there = first_is_shown q.graph (end_of S q).elements f first in
+      no_one (shown.faults q.graph (end_of S q)) f there.0 (d.no_fault r q h.still) there.1
 
   printed_alike : ArePrintedAlike S text b
   printed_alike = record {
     same = λ r q m n xs ys h k. same_printed r q xs ys
-        (quietly r.graph S.inputs r.count m r.positions text b 0 xs refl h) (quietly q.graph S.inputs q.count n q.positions text b 0 ys refl k);
+        (quietly r.graph r.count m (end_of S r) text b 0 xs refl h) (quietly q.graph q.count n (end_of S q) text b 0 ys refl k);
     no_fault = λ r q m n xs ys h k.
-        let at = at_fault q.graph S.inputs q.count n q.positions text b 1 ys refl k in
-        not_at_fault r q xs at.0 (quietly r.graph S.inputs r.count m r.positions text b 0 xs refl h) at.1;
+        let at = at_fault q.graph q.count n (end_of S q) text b 1 ys refl k in
+        not_at_fault r q xs at.0 (quietly r.graph r.count m (end_of S r) text b 0 xs refl h) at.1;
   }
 
 pub PrintedAlike-laws : Soundness → Determinate → PrintedAlike

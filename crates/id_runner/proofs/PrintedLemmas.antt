@@ -7,8 +7,8 @@ use Rattle.id_source.specs.Sources.{AreInputs, source}
 use Rattle.id_pieces.specs.Schemas.{Schemas}
 use Rattle.id_instr.specs.Graph.{Parts}
 use Rattle.id_core.specs.Events.{EventView}
-use Rattle.id_core.specs.Machines.{World, MachineView, start}
-use Rattle.id_laws.specs.Laws.{NeverStuck, QuietIsComplete, Soundness}
+use Rattle.id_core.specs.Machines.{World, MachineView}
+use Rattle.id_laws.specs.Laws.{QuietIsComplete, Soundness}
 use Rattle.id_names.specs.declared.reports.Report.{Report}
 use Rattle.id_sink.specs.declared.sink.PrintError.{PrintError}
 use Rattle.id_sink.specs.Told.{Told, Prints}
@@ -17,15 +17,14 @@ use Rattle.id_trace.specs.Traces.{trace_text}
 use Rattle.id_compile.specs.declared.error.EngineError.{EngineError}
 use Rattle.id_compile.specs.declared.error.EngineError.TheVariants.{Memory, Write}
 use Rattle.id_names.specs.Reports.{IsReportFrom}
-use Rattle.id_runner.specs.Reports.{AreAllowed, IsTrueOf, IsUnallowed, PrintsEvents}
-use Rattle.id_turns.specs.Deliveries.{HasRun}
+use Rattle.id_runner.specs.Reports.{AreAllowed, PrintsEvents}
+use Rattle.id_elements.specs.Runs.{IsRun, MovesOn}
 use Rattle.id_runner.specs.Reports.{PrintsMachine, PrintsRun, RunsSo, ran, unallowed, status_of}
 use Rattle.id_runner.specs.Reports.PrintsEvents.{all_out, front_out}
 use Rattle.id_runner.specs.Reports.PrintsRun.{whole, cut}
 use Rattle.id_runner.specs.Reports.PrintsMachine.{reported, out_of_memory}
 use Rattle.id_runner.specs.Runs.{IsTraceOf}
-use Rattle.id_runner.proofs.RunLemmas.{IsReportOfRun-from, IsTrueOf-laws}
-use Rattle.id_runner.proofs.LeftLemmas.{left_over}
+use Rattle.id_runner.proofs.RunLemmas.{IsTrueOf-run}
 
 -- ---- what is printed of a machine
 
@@ -47,49 +46,27 @@ module _ (text : List ℕ) (b : Bool) (es : List EventView) (r : Report) (old ne
   PrintsRun-events t w result traced (all_out printed) = whole (record { events = es; traced = traced; printed = printed })
   PrintsRun-events t w result traced (front_out e printed) = cut e (record { events = es; traced = traced; printed = printed })
 
+-- memory was refused before the machine's report was there
+pub PrintsMachine-memory : (m : MachineView) (text : List ℕ) (t b : Bool) (old : Option Told) (result : Result ℕ EngineError)
+    (x : EngineError) → IsErrAnd result (λ e. e ≡ x) → x ≡ Memory → PrintsMachine m text t b old old result
+PrintsMachine-memory m text t b old (Ok n) x h is = absurd h
+PrintsMachine-memory m text t b old (Err e) x h is = let why : e ≡ Memory = h ∙ is in
+    subst (λ (y : EngineError). PrintsMachine m text t b old old (Err y)) (sym why) (out_of_memory refl)
+
+-- a report of a machine that is the same is printed
+pub PrintsMachine-reported : (m n : MachineView) (text : List ℕ) (t b : Bool) (old new : Option Told) (result : Result ℕ EngineError) (r : Report) → n ≡ m
+    → IsReportFrom n b r → PrintsRun text t b n.world r old new result → PrintsMachine m text t b old new result
+PrintsMachine-reported m n text t b old new result r same from prints =
+    subst (λ (x : MachineView). PrintsMachine x text t b old new result) same (reported r from prints)
+
 -- ---- a run of a program with its inputs
 
 module _ (P : Checked) (vs : List Constant) (text : List ℕ) (count : ℕ) (t : Bool) (steps : ℕ) (b : Bool) where
-  -- it is refused before the first byte
-  pub RunsSo-unallowed : (old : Option Told) (e : EngineError) → IsUnallowed count steps e → RunsSo P vs text count t steps b old old (Err e)
-  RunsSo-unallowed old e why = unallowed e why refl
-
-  pub RunsSo-memory : (old : Option Told) (result : Result ℕ EngineError) (x : EngineError) → IsErrAnd result (λ e. e ≡ x) → x ≡ Memory →
-      RunsSo P vs text count t steps b old old result
-  RunsSo-memory old (Ok n) x h is = absurd h
-  RunsSo-memory old (Err e) x h is = let why : e ≡ Memory = h ∙ is in
-      subst (λ (y : EngineError). RunsSo P vs text count t steps b old old (Err y)) (sym why) (unallowed Memory refl refl)
-
-  module _ (g : Parts) (a m : MachineView) (r : Report) (sound : Soundness) (complete : QuietIsComplete) (inputs : AreInputs P vs) (schemas : Schemas P g)
-      (begins : a ≡ record { graph = g; count = count; world = start g vs count }) (has : HasRun a m steps) (from : IsReportFrom m b r) where
-    -- the run, from the machine at its start
-    ran_from : HasRun (record { graph = g; count = count; world = start g vs count }) m steps
-    ran_from = subst (λ (x : MachineView). HasRun x m steps) begins has
-
-    pub IsTrueOf-ran : IsTrueOf (source P vs) b r
-    IsTrueOf-ran = let k = ran_from in IsTrueOf-laws (source P vs) g count k.positions m b r sound complete inputs schemas k.same_graph k.world from
-
-    pub RunsSo-from : NeverStuck → AreAllowed count steps → (old new : Option Told) (result : Result ℕ EngineError) →
-        PrintsRun text t b m.world r old new result
-        → RunsSo P vs text count t steps b old new result
-    RunsSo-from never allowed old new result prints =
-        let k = ran_from in
-        let o = IsReportOfRun-from g vs count steps m b r k from (λ stopped empty. left_over never (source P vs) g count k.positions m r.ending inputs schemas
-        k.same_graph k.world from.ends stopped empty) in
-        ran g r allowed schemas IsTrueOf-ran o.0 (subst (λ (x : World). PrintsRun text t b x r old new result) o.1 prints)
-
-  -- the same of what is printed of the machine at its start
-  pub RunsSo-machine : (g : Parts) (a : MachineView) → Soundness → QuietIsComplete → AreInputs P vs → Schemas P g
-      → a ≡ record { graph = g; count = count; world = start g vs count } → NeverStuck → AreAllowed count steps
-      → (old new : Option Told) (result : Result ℕ EngineError) → PrintsMachine a text t steps b old new result →
-      RunsSo P vs text count t steps b old new result
-  RunsSo-machine g a sound complete inputs schemas begins never allowed old new result (reported n r has from prints) =
-      RunsSo-from g a n r sound complete inputs schemas begins has from never allowed old new result prints
-  RunsSo-machine g a sound complete inputs schemas begins never allowed old new result (out_of_memory same) = unallowed Memory refl same
-
--- memory was refused before the machine's report was there
-pub PrintsMachine-memory : (m : MachineView) (text : List ℕ) (t : Bool) (steps : ℕ) (b : Bool) (old : Option Told) (result : Result ℕ EngineError)
-    (x : EngineError) → IsErrAnd result (λ e. e ≡ x) → x ≡ Memory → PrintsMachine m text t steps b old old result
-PrintsMachine-memory m text t steps b old (Ok n) x h is = absurd h
-PrintsMachine-memory m text t steps b old (Err e) x h is = let why : e ≡ Memory = h ∙ is in
-    subst (λ (y : EngineError). PrintsMachine m text t steps b old old (Err y)) (sym why) (out_of_memory refl)
+  -- its machine is printed
+  pub RunsSo-machine : (g : Parts) (m : MachineView) → Soundness → QuietIsComplete → AreInputs P vs → Schemas P g → AreAllowed count steps
+      → IsRun g vs count steps m → MovesOn m.world → (old new : Option Told) (result : Result ℕ EngineError) → PrintsMachine m text t b old new result
+      → RunsSo P vs text count t steps b old new result
+  RunsSo-machine g m sound complete inputs schemas allowed k moves old new result (reported r from prints) =
+      ran g m r allowed schemas (IsTrueOf-run (source P vs) g count steps inputs schemas m b r sound complete k from)
+      (record { run = k; moves = moves; from = from }) prints
+  RunsSo-machine g m sound complete inputs schemas allowed k moves old new result (out_of_memory same) = unallowed Memory refl same

@@ -1,8 +1,7 @@
 -- Lemmas on runs of machines, and on what their reports say (specs/Reports.antt).
-use Rattle.std.proofs.Common.{◌≡◌, ℕ, Bool, true, false, List, [], Option, Some, None, refl, sym, ap, subst, ◌∙◌}
-use Rattle.std.specs.Prelude.{◌≤◌, All, length, IfSome, slice_get}
+use Rattle.std.proofs.Common.{◌≡◌, ℕ, Bool, true, false, List, [], Option, Some, None, refl, sym, subst, ◌∙◌}
+use Rattle.std.specs.Prelude.{IfSome, slice_get}
 use Rattle.id_instr.specs.Graph.{Parts}
-use Rattle.id_value.specs.declared.Constant.{Constant}
 use Rattle.id_source.specs.declared.SourceValue.{SourceValue}
 use Rattle.id_source.specs.declared.SourceFault.{SourceFault}
 use Rattle.id_source.specs.Sources.{Source, AreInputs}
@@ -12,7 +11,9 @@ use Rattle.id_pieces.specs.Schemas.{Schemas}
 use Rattle.id_core.specs.Machines.{World, MachineView, IsQuiet, start, run}
 use Rattle.id_core.specs.Observed.{faults}
 use Rattle.id_core.specs.Observed as shown
-use Rattle.id_laws.specs.Laws.{Soundness, QuietIsComplete, IsSound, IsComplete}
+use Rattle.id_laws.specs.Laws.{NeverStuck, Soundness, QuietIsComplete, IsSound, IsComplete}
+use Rattle.id_list.specs.List.{Among}
+use Rattle.id_core.specs.Steps.{State}
 use Rattle.id_list.proofs.AmongLemmas.{Among-from_at}
 use Rattle.id_names.specs.declared.within.Ending.{Ending}
 use Rattle.id_names.specs.declared.within.Ending.TheVariants.{Quiet, Stopped, Fault}
@@ -21,10 +22,12 @@ use Rattle.id_merge.proofs.FirstsLemmas.{first_is_shown}
 use Rattle.id_names.specs.Endings.{EndsSo}
 use Rattle.id_names.specs.Names.{WaitBefore}
 use Rattle.id_source.specs.Orders.{Rises}
-use Rattle.id_turns.specs.Turns.{after}
-use Rattle.id_turns.specs.Deliveries.{HasRun}
+use Rattle.id_runs.specs.Legal.{InSomeOrder, none, keep, swap, next, IsRunOf, IsSameBut}
+use Rattle.id_elements.specs.declared.settings.RunError.{RunError}
+use Rattle.id_elements.specs.declared.settings.RunError.TheVariants.{Stuck}
+use Rattle.id_elements.specs.Runs.{IsRefusedRun, IsRun, IsStuckRun, MovesOn}
 use Rattle.id_names.specs.Reports.{IsReportFrom}
-use Rattle.id_runner.specs.Reports.{IsReportOfRun, IsTrueOf, SaysSome, SaysTruly}
+use Rattle.id_runner.specs.Reports.{IsTrueOf, SaysSome, SaysTruly}
 use Rattle.id_runner.proofs.HeldLemmas.{AreApartBy-held, AreApartBy-waiting, AreHeld-complete, AreSomeHeld-sound, AreWaiting-complete}
 use Rattle.id_runner.proofs.NamesLemmas.{among_sorted, AreApart-sound, AreSomeNames-sound, AreSomeNames-none, AreNames-complete}
 
@@ -51,12 +54,25 @@ true_in S g count w b r Quiet fails completes some from rise ends =
 true_in S g count w b r Stopped fails completes some from rise ends = some
 true_in S g count w b r (Fault f) fails completes some from rise ends = let shown = first_is_shown g w.elements f ends in fails shown.0 f shown.1
 
--- the same of a machine that is equal but for its count
-from_world : (m : MachineView) (g : Parts) (n : ℕ) (w : World) (b : Bool) (r : Report) → m.graph ≡ g → m.world ≡ w → IsReportFrom m b r
+-- where none is left in some order, none is left
+none_left : {A : Type 0} {xs ys : List A} → InSomeOrder xs ys → ys ≡ [] → xs ≡ []
+none_left none e = refl
+none_left (keep x h) e = absurd cc
+none_left (swap x y) e = absurd cc
+none_left (next h k) e = none_left h (none_left k e)
+
+left_none : {A : Type 0} {xs ys : List A} → InSomeOrder xs ys → xs ≡ [] → ys ≡ []
+left_none none e = refl
+left_none (keep x h) e = absurd cc
+left_none (swap x y) e = absurd cc
+left_none (next h k) e = left_none k (left_none h e)
+
+-- a report of a machine is one of each that is equal but for its count and the order of what is in flight
+from_same : (m : MachineView) (g : Parts) (n : ℕ) (w : World) (b : Bool) (r : Report) → m.graph ≡ g → IsSameBut w m.world → IsReportFrom m b r
     → IsReportFrom (record { graph = g; count = n; world = w }) b r
-from_world m g n w b r same is h =
-    let Q : Parts → World → Type 0 = λ x y. IsReportFrom (record { graph = x; count = n; world = y }) b r in
-    subst (λ (x : Parts). Q x w) same (subst (λ (y : World). Q m.graph y) is (record {
+from_same m g n w b r same is h =
+    let Q : Parts → List State → Type 0 = λ x es. IsReportFrom (record { graph = x; count = n; world = record { elements = es; flight = w.flight } }) b r in
+    subst (λ (x : Parts). Q x w.elements) same (subst (λ (es : List State). Q m.graph es) (sym is.elements) (record {
       answer_is = h.answer_is;
       sorted = h.sorted;
       rise = h.rise;
@@ -68,9 +84,10 @@ from_world m g n w b r same is h =
       ends = ends_at r.ending h.ends;
     }))
   where
-    ends_at : (e : Ending) → EndsSo m e → EndsSo (record { graph = m.graph; count = n; world = m.world }) e
-    ends_at Quiet h = h
-    ends_at Stopped h = h
+    ends_at : (e : Ending) → EndsSo m e →
+        EndsSo (record { graph = m.graph; count = n; world = record { elements = m.world.elements; flight = w.flight } }) e
+    ends_at Quiet h = record { empty = none_left is.flight h.empty; went = h.went }
+    ends_at Stopped h = (h.0, λ q. h.1 (record { empty = left_none is.flight q.empty; went = q.went }))
     ends_at (Fault f) h = h
 
 -- its names are some of the source's where the state is sound
@@ -90,13 +107,13 @@ says_some S g number count w b r ok h = record {
 }
 
 -- what a report of a run of a schemas' graph says is so
-pub IsTrueOf-laws : (S : Source) (g : Parts) (count : ℕ) (ks : List ℕ) (m : MachineView) (b : Bool) (r : Report) → Soundness → QuietIsComplete →
+IsTrueOf-laws : (S : Source) (g : Parts) (count : ℕ) (ks : List ℕ) (m : MachineView) (b : Bool) (r : Report) → Soundness → QuietIsComplete →
     AreInputs S.checked S.inputs
-    → Schemas S.checked g → m.graph ≡ g → m.world ≡ run g count ks (start g S.inputs count) → IsReportFrom m b r → IsTrueOf S b r
+    → Schemas S.checked g → m.graph ≡ g → IsSameBut (run g count ks (start g S.inputs count)) m.world → IsReportFrom m b r → IsTrueOf S b r
 IsTrueOf-laws S g count ks m b r sound complete inputs schemas same_graph world from =
     let w : World = run g count ks (start g S.inputs count) in
     let ok : IsSound S g schemas.number w = sound S g count ks inputs schemas in
-    let here : IsReportFrom (record { graph = g; count = count; world = w }) b r = from_world m g count w b r same_graph world from in
+    let here : IsReportFrom (record { graph = g; count = count; world = w }) b r = from_same m g count w b r same_graph world from in
     let some : SaysSome S r = says_some S g schemas.number count w b r ok here in
     record {
       says = true_in S g count w b r r.ending (λ i f k. ok.faults f (Among-from_at f (faults g w) i k)) (complete S g count ks inputs schemas)
@@ -104,25 +121,29 @@ IsTrueOf-laws S g count ks m b r sound complete inputs schemas same_graph world 
       some = some;
     }
 
--- a report of a machine that has run is one of the run, and the machine is as after its deliveries
-pub IsReportOfRun-from : (g : Parts) (vs : List Constant) (count steps : ℕ) (m : MachineView) (b : Bool) (r : Report)
-    → HasRun (record { graph = g; count = count; world = start g vs count }) m steps → IsReportFrom m b r
-    → (r.ending ≡ Stopped → m.world.flight ≡ [] → ⊥)
-    → (o : IsReportOfRun g vs count steps b r) × (m.world ≡ after g vs count o.positions)
-IsReportOfRun-from g vs count steps m b r k from left =
-    let w : World = run g count k.positions (start g vs count) in
-    let here : IsReportFrom (record { graph = g; count = count; world = w }) b r = from_world m g count w b r k.same_graph k.world from in (
-      record {
-        positions = k.positions;
-        turns = k.turns;
-        few = subst (λ (x : World). All (λ s. length s.events ≤ steps) x.elements) k.world k.few;
-        ended = k.ended;
-        answer_is = here.answer_is;
-        sorted = here.sorted;
-        held = here.held;
-        waits = here.waits;
-        ends = here.ends;
-        left = λ stopped empty. left stopped (ap (λ x. x.flight) k.world ∙ empty);
-      },
-      k.world,
-    )
+module _ (S : Source) (g : Parts) (count steps : ℕ) (inputs : AreInputs S.checked S.inputs) (schemas : Schemas S.checked g) where
+  -- the order of a run on threads is that of a run by positions
+  by_positions : (m : MachineView) → (k : IsRun g S.inputs count steps m) → IsRunOf g S.inputs count (k.order).0 m.world
+  by_positions m k = k.runs (k.order).0 (k.order).1
+
+  pub IsTrueOf-run : (m : MachineView) (b : Bool) (r : Report) → Soundness → QuietIsComplete → IsRun g S.inputs count steps m → IsReportFrom m b r
+      → IsTrueOf S b r
+  IsTrueOf-run m b r sound complete k from =
+      let at = by_positions m k in
+      IsTrueOf-laws S g count at.positions m b r sound complete inputs schemas k.graph_is at.end from
+
+  -- and in none an event is `Stuck`
+  moves_on : NeverStuck → (m : MachineView) → IsRun g S.inputs count steps m → MovesOn m.world
+  moves_on never m k =
+      let at = by_positions m k in
+      λ v a. (never S g count at.positions inputs schemas).goes_on v
+      (subst (λ (es : List State). Among v (shown.events_of es)) (sym (at.end).elements) a)
+
+  not_stuck : NeverStuck → IsStuckRun g S.inputs count steps → ⊥
+  not_stuck never h = h.stuck (moves_on never h.machine h.run)
+
+  -- so no run is refused as stuck
+  pub not_refused : NeverStuck → (h : Parts) (e : RunError) → h ≡ g → e ≡ Stuck → IsRefusedRun h S.inputs count steps e → ⊥
+  not_refused never h e same is why =
+      not_stuck never (subst (λ (x : RunError). IsRefusedRun g S.inputs count steps x) is
+      (subst (λ (x : Parts). IsRefusedRun x S.inputs count steps e) same why))

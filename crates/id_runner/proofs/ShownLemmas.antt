@@ -1,7 +1,6 @@
 -- Lemmas on specs/Commands.antt: from a report that is so to what is printed.
-use Rattle.std.proofs.Common.{◌≡◌, ◌≢◌, ◌≤◌, ℕ, zero, suc, Bool, true, false, IsTrue, List, [], ◌∷◌, ◌++◌, Option}
-use Rattle.std.proofs.Common.{Some, Result, Ok, Err, IfOk, IfErr, OnOk, slice_get, codes, refl, sym, ap, ◌∙◌, subst}
-use Rattle.id_merge.proofs.FirstsLemmas.{first_is_shown}
+use Rattle.std.proofs.Common.{◌≡◌, ◌≢◌, ◌≤◌, ℕ, Bool, true, false, List, ◌++◌, All, Option}
+use Rattle.std.proofs.Common.{Result, Ok, Err, IfOk, IfErr, OnOk, codes, refl, sym, subst}
 use Rattle.id_check.specs.declared.checked.Checked.{Checked}
 use Rattle.id_sink.specs.declared.sink.PrintError.{PrintError}
 use Rattle.id_names.specs.declared.within.Ending.{Ending}
@@ -27,17 +26,17 @@ use Rattle.id_source.specs.Sources.{source}
 use Rattle.id_inputs.specs.Inputs.{AreInputsOf}
 use Rattle.id_print.specs.Texts.{facts_text}
 use Rattle.id_instr.specs.Graph.{Parts}
-use Rattle.id_source.specs.declared.SourceFault.{SourceFault}
-use Rattle.id_core.specs.Machines.{start}
-use Rattle.id_core.specs.Observed.{answer, names, waiting}
+use Rattle.id_core.specs.Firsts.{AreMergedOf}
+use Rattle.id_core.specs.Machines.{MachineView, World}
 use Rattle.id_names.specs.Endings.{EndsSo}
-use Rattle.id_names.specs.Names.{HeldBefore, IsOrderOf, IsSortedOf, WaitBefore}
-use Rattle.id_print.specs.Texts.{fault_text, quiet_text, stopped_text}
-use Rattle.id_turns.specs.Turns.{HasEnded, at_fault, at_rest}
+use Rattle.id_print.specs.Texts.{quiet_text, stopped_text}
+use Rattle.id_elements.specs.Runs.{HasWent, IsHeldBack, MovesOn}
+use Rattle.id_orders.specs.Orders.{IsLegalOrder}
+use Rattle.id_names.specs.Reports.{IsReportFrom}
 use Rattle.id_runner.specs.Reports.{HasPrinted, IsReportOfRun, IsTrueOf, RunsSo, SaysTruly, ran, unallowed, status_of}
 use Rattle.id_runner.specs.Reports.PrintsRun.{whole, cut, unprinted}
-use Rattle.id_runner.specs.Runs.{Ends, IsTraceOf, Ran, held_of}
-use Rattle.id_turns.specs.Turns.{after}
+use Rattle.id_runner.specs.Runs.{Ends, HasRun, IsTraceOf, Ran, RanFront}
+use Rattle.id_runner.proofs.LeftLemmas.{HasWent-from}
 use Rattle.id_runner.proofs.AnsweredLemmas.{late_unallowed, refused_unallowed}
 use Rattle.id_core.specs.Events.{EventView}
 use Rattle.id_pieces.specs.Schemas.{Schemas}
@@ -53,13 +52,14 @@ Shows-from_report P ws vs text b r Stopped i h = stopped r.answer r.names r.stru
 Shows-from_report P ws vs text b r (Fault f) i h = fault f i h
 
 -- and so is what comes of it with its trace, where that is asked for
-Shows-traced : (P : Checked) (ws : List (List ℕ)) (vs : List Constant) (text : List ℕ) (t b : Bool) (r : Report) (g : Parts) (count : ℕ) (ks : List ℕ)
+Shows-traced : (P : Checked) (ws : List (List ℕ)) (vs : List Constant) (text : List ℕ) (t b : Bool) (r : Report) (g : Parts) (count : ℕ) (w : World)
     (es : List EventView)
-    → AreInputsOf P ws vs → Schemas P g → IsTraceOf t (after g vs count ks) es → SaysTruly (source P vs) b r r.ending
+    → AreInputsOf P ws vs → Schemas P g → IsTraceOf t w es → (AreMergedOf w.elements es → IsLegalOrder g vs count es w)
+    → SaysTruly (source P vs) b r r.ending
     → Shows P text (Run b t ws) (status_of r.ending) (trace_text es ++ report_text text b r)
-Shows-traced P ws vs text true b r g count ks es i schemas trace h = traced count ks es i schemas (trace.asked refl)
+Shows-traced P ws vs text true b r g count w es i schemas trace legal h = traced count w es i schemas (trace.asked refl) (legal (trace.asked refl))
     (Shows-from_report P ws vs text b r r.ending i h)
-Shows-traced P ws vs text false b r g count ks es i schemas trace h =
+Shows-traced P ws vs text false b r g count w es i schemas trace legal h =
     subst (λ (xs : List EventView). Shows P text (Run b false ws) (status_of r.ending) (trace_text xs ++ report_text text b r)) (sym (trace.unasked refl))
     (Shows-from_report P ws vs text b r r.ending i h)
 
@@ -97,37 +97,27 @@ pub HasShown-facts : (text : List ℕ) (ws : List (List ℕ)) (round : ℕ) (fs 
 HasShown-facts text ws round fs old new result h printed = record
     { program = h.program; is_program = h.is_program; output = facts_text text fs; shows = facts h.are_inputs h.are; printed = printed }
 
--- what stands in a list of one is that one, and in none nothing does
-only_one : (x f : SourceFault) (i : ℕ) → slice_get (x ∷ []) i ≡ Some f → x ≡ f
-only_one x f zero h = cc
-only_one x f (suc i) h = cc
-
-no_one : (f : SourceFault) (i : ℕ) → slice_get [] i ≡ Some f → ⊥
-no_one f i h = cc
-
 -- a printed report of a run is the run, printed
-ends_text : (g : Parts) (vs : List Constant) (count steps : ℕ) (ks : List ℕ) (text : List ℕ) (b : Bool) (r : Report) (e : Ending) →
-    HasEnded g count steps (start g vs count) ks
-    → (IsTrue b → IsSortedOf r.names (names g (after g vs count ks))) → IsOrderOf HeldBefore r.structures (held_of g count (after g vs count ks))
-    → IsOrderOf WaitBefore r.waiting (waiting g (after g vs count ks)) → EndsSo (record { graph = g; count = count; world = after g vs count ks }) e
-    → (e ≡ Stopped → (after g vs count ks).flight ≡ [] → ⊥) → r.answer ≡ answer g (after g vs count ks)
-    → Ends g vs count steps ks text b (status_of e) (ending_text text r (asked b r.names) e)
-ends_text g vs count steps ks text b r Quiet ended sorted held waits ends left same =
-    subst (λ (o : Option SourceValue). Ends g vs count steps ks text b 0 (quiet_text text o (asked b r.names) r.structures r.waiting)) (sym same)
-    (ends_quiet r.names r.structures r.waiting ends sorted held waits)
-ends_text g vs count steps ks text b r Stopped (at_fault f h) sorted held waits ends left same = let no : f ∷ [] ≡ [] = sym h.one ∙ ends.0 in absurd cc
-ends_text g vs count steps ks text b r Stopped (at_rest none back) sorted held waits ends left same =
-    subst (λ (o : Option SourceValue). Ends g vs count steps ks text b 3 (stopped_text text o (asked b r.names) r.structures)) (sym same)
-    (ends_stopped r.names r.structures none (λ e. left refl e) back sorted held)
-ends_text g vs count steps ks text b r (Fault f) (at_fault x h) sorted held waits ends left same =
-    let shown = first_is_shown g (after g vs count ks).elements f ends in
-    let is : x ≡ f = only_one x f shown.0 (sym (ap (λ fs. slice_get fs shown.0) h.one) ∙ shown.1) in
-    subst (λ (y : SourceFault). Ends g vs count steps ks text b 1 (fault_text text y)) is (ends_fault x h)
-ends_text g vs count steps ks text b r (Fault f) (at_rest none back) sorted held waits ends left same =
-    let shown = first_is_shown g (after g vs count ks).elements f ends in
-    absurd (no_one f shown.0 (sym (ap (λ fs. slice_get fs shown.0) none) ∙ shown.1))
+ends_text : (count steps : ℕ) (m : MachineView) (text : List ℕ) (b : Bool) (r : Report) (e : Ending)
+    → (HasWent m.world → All (IsHeldBack count steps m.world) m.world.flight) → MovesOn m.world → IsReportFrom m b r → EndsSo m e
+    → Ends m.graph count steps m.world text b (status_of e) (ending_text text r (asked b r.names) e)
+ends_text count steps m text b r Quiet honest moves from ends =
+    subst (λ (o : Option SourceValue). Ends m.graph count steps m.world text b 0 (quiet_text text o (asked b r.names) r.structures r.waiting))
+    (sym from.answer_is) (ends_quiet r.names r.structures r.waiting ends from.sorted from.held from.waits)
+ends_text count steps m text b r Stopped honest moves from ends =
+    let went : HasWent m.world = HasWent-from m.graph m.world moves ends.0 in
+    subst (λ (o : Option SourceValue). Ends m.graph count steps m.world text b 3 (stopped_text text o (asked b r.names) r.structures))
+    (sym from.answer_is)
+    (ends_stopped r.names r.structures ends.0 (λ e. ends.1 (record { empty = e; went = went })) (honest went) from.sorted from.held)
+ends_text count steps m text b r (Fault f) honest moves from ends = ends_fault f ends
 
 -- ---- what is said of a run that is printed
+
+-- what a run prints is what the command shows
+shown_of : (text : List ℕ) (ws : List (List ℕ)) (count : ℕ) (t : Bool) (steps : ℕ) (b : Bool) (old new : Option Told) (status : ℕ)
+    (result : Result (Unit {0}) PrintError) → HasRun text ws count t steps b old new status result → HasShown (Run b t ws) text old new status result
+shown_of text ws count t steps b old new status result h =
+    record { program = h.program; is_program = h.is_program; output = trace_text h.events ++ h.output; shows = h.shows; printed = h.printed }
 
 -- the text has this program, and the words give these inputs
 module _ (text : List ℕ) (ws : List (List ℕ)) (P : Checked) (is : IsProgramOf text P) (small : size P ≤ 1000000) (vs : List Constant)
@@ -136,73 +126,76 @@ module _ (text : List ℕ) (ws : List (List ℕ)) (P : Checked) (is : IsProgramO
   has = record { program = P; is_program = is; small = small; inputs = vs; are_inputs = are }
 
   module _ (count : ℕ) (t : Bool) (steps : ℕ) (b : Bool) (old new : Option Told) where
-    HasShown-run : (result : Result (Unit {0}) PrintError) (g : Parts) (r : Report) → Schemas P g → IsTrueOf (source P vs) b r →
-        (o : IsReportOfRun g vs count steps b r)
-        → HasPrinted text t b (after g vs count o.positions) r old new result → HasShown (Run b t ws) text old new (status_of r.ending) result
-    HasShown-run result g r schemas true_of o h = record {
-      program = P;
-      is_program = is;
-      output = trace_text h.events ++ report_text text b r;
-      shows = Shows-traced P ws vs text t b r g count o.positions h.events are schemas h.traced true_of.says;
-      printed = h.printed;
-    }
-
-    pub RunsSo-shown : (result : Result ℕ EngineError) → RunsSo P vs text count t steps b old new result → IfOk result (ShowsAll (Run b t ws) text old new)
-    RunsSo-shown result (ran g r allowed schemas true_of o (whole h)) = HasShown-run (Ok tt) g r schemas true_of o h
-    RunsSo-shown result (ran g r allowed schemas true_of o (cut e h)) = tt
-    RunsSo-shown result (ran g r allowed schemas true_of o (unprinted same)) = tt
-    RunsSo-shown result (unallowed e why same) = tt
-
-    pub RunsSo-ran : (result : Result ℕ EngineError) → RunsSo P vs text count t steps b old new result → IfOk result (Ran text ws count t steps b old new)
-    RunsSo-ran result (ran g r allowed schemas true_of o (whole h)) = record {
+    HasRun-from : (result : Result (Unit {0}) PrintError) (g : Parts) (m : MachineView) (r : Report) → Schemas P g → IsTrueOf (source P vs) b r →
+        IsReportOfRun g vs count steps m b r
+        → HasPrinted text t b m.world r old new result → HasRun text ws count t steps b old new (status_of r.ending) result
+    HasRun-from result g m r schemas true_of o h = record {
       program = P;
       is_program = is;
       graph = g;
       schemas = schemas;
       inputs = vs;
       are_inputs = are;
-      positions = o.positions;
-      turns = o.turns;
-      few = o.few;
+      machine = m;
+      run = o.run;
+      moves = o.moves;
       events = h.events;
       traced = h.traced;
       output = report_text text b r;
-      ends = ends_text g vs count steps o.positions text b r r.ending o.ended o.sorted o.held o.waits o.ends o.left o.answer_is;
+      ends = subst (λ (x : Parts). Ends x count steps m.world text b (status_of r.ending) (report_text text b r)) (o.run).graph_is
+          (ends_text count steps m text b r r.ending (o.run).honest o.moves o.from (o.from).ends);
+      shows = Shows-traced P ws vs text t b r g count m.world h.events are schemas h.traced ((o.run).legal h.events) true_of.says;
       printed = h.printed;
     }
-    RunsSo-ran result (ran g r allowed schemas true_of o (cut e h)) = tt
-    RunsSo-ran result (ran g r allowed schemas true_of o (unprinted same)) = tt
+
+    pub RunsSo-ran : (result : Result ℕ EngineError) → RunsSo P vs text count t steps b old new result → IfOk result (Ran text ws count t steps b old new)
+    RunsSo-ran result (ran g m r allowed schemas true_of o (whole h)) = HasRun-from (Ok tt) g m r schemas true_of o h
+    RunsSo-ran result (ran g m r allowed schemas true_of o (cut e h)) = tt
+    RunsSo-ran result (ran g m r allowed schemas true_of o (unprinted same)) = tt
     RunsSo-ran result (unallowed e why same) = tt
+
+    pub RunsSo-shown : (result : Result ℕ EngineError) → RunsSo P vs text count t steps b old new result → IfOk result (ShowsAll (Run b t ws) text old new)
+    RunsSo-shown result (ran g m r allowed schemas true_of o (whole h)) =
+        shown_of text ws count t steps b old new (status_of r.ending) (Ok tt) (HasRun-from (Ok tt) g m r schemas true_of o h)
+    RunsSo-shown result (ran g m r allowed schemas true_of o (cut e h)) = tt
+    RunsSo-shown result (ran g m r allowed schemas true_of o (unprinted same)) = tt
+    RunsSo-shown result (unallowed e why same) = tt
+
+    pub RunsSo-front : (result : Result ℕ EngineError) → RunsSo P vs text count t steps b old new result → result ≡ Err Write →
+        RanFront text ws count t steps b old new
+    RunsSo-front result (ran g m r allowed schemas true_of o (whole h)) k = absurd cc
+    RunsSo-front result (ran g m r allowed schemas true_of o (cut e h)) k =
+        record { status = status_of r.ending; error = e; ran = HasRun-from (Err e) g m r schemas true_of o h }
+    RunsSo-front result (ran g m r allowed schemas true_of o (unprinted same)) k = absurd cc
+    RunsSo-front result (unallowed e why same) k = let l = late_unallowed text count steps e why in let w : e ≡ Write = cc in absurd (l.1 w)
 
     pub RunsSo-cut : (result : Result ℕ EngineError) → RunsSo P vs text count t steps b old new result → result ≡ Err Write →
         ShowsFront (Run b t ws) text old new
-    RunsSo-cut result (ran g r allowed schemas true_of o (whole h)) k = absurd cc
-    RunsSo-cut result (ran g r allowed schemas true_of o (cut e h)) k = record
-        { status = status_of r.ending; error = e; shown = HasShown-run (Err e) g r schemas true_of o h }
-    RunsSo-cut result (ran g r allowed schemas true_of o (unprinted same)) k = absurd cc
-    RunsSo-cut result (unallowed e why same) k = let l = late_unallowed text count steps e why in let w : e ≡ Write = cc in absurd (l.1 w)
+    RunsSo-cut result h k =
+        let f = RunsSo-front result h k in
+        record { status = f.status; error = f.error; shown = shown_of text ws count t steps b old new f.status (Err f.error) f.ran }
 
     pub RunsSo-silent : (result : Result ℕ EngineError) → RunsSo P vs text count t steps b old new result → IfErr result (λ e. e ≢ Write → new ≡ old)
-    RunsSo-silent result (ran g r allowed schemas true_of o (whole h)) = tt
-    RunsSo-silent result (ran g r allowed schemas true_of o (cut e h)) = λ n. absurd (n refl)
-    RunsSo-silent result (ran g r allowed schemas true_of o (unprinted same)) = λ n. same
+    RunsSo-silent result (ran g m r allowed schemas true_of o (whole h)) = tt
+    RunsSo-silent result (ran g m r allowed schemas true_of o (cut e h)) = λ n. absurd (n refl)
+    RunsSo-silent result (ran g m r allowed schemas true_of o (unprinted same)) = λ n. same
     RunsSo-silent result (unallowed e why same) = λ n. same
 
     pub RunsSo-taken : (result : Result ℕ EngineError) → RunsSo P vs text count t steps b old new result → OnOk result (IsTakenRun text ws count steps)
-    RunsSo-taken result (ran g r allowed schemas true_of o (whole h)) =
+    RunsSo-taken result (ran g m r allowed schemas true_of o (whole h)) =
         record { inputs = has; some_elements = allowed.some_elements; few_elements = allowed.few_elements; some = allowed.some; few = allowed.few }
-    RunsSo-taken result (ran g r allowed schemas true_of o (cut e h)) = tt
-    RunsSo-taken result (ran g r allowed schemas true_of o (unprinted same)) = tt
+    RunsSo-taken result (ran g m r allowed schemas true_of o (cut e h)) = tt
+    RunsSo-taken result (ran g m r allowed schemas true_of o (unprinted same)) = tt
     RunsSo-taken result (unallowed e why same) = tt
 
     pub RunsSo-refused : (result : Result ℕ EngineError) → RunsSo P vs text count t steps b old new result → IfErr result (IsRefusedRun text ws count steps)
-    RunsSo-refused result (ran g r allowed schemas true_of o (whole h)) = tt
-    RunsSo-refused result (ran g r allowed schemas true_of o (cut e h)) = by_write
-    RunsSo-refused result (ran g r allowed schemas true_of o (unprinted same)) = by_source by_memory
+    RunsSo-refused result (ran g m r allowed schemas true_of o (whole h)) = tt
+    RunsSo-refused result (ran g m r allowed schemas true_of o (cut e h)) = by_write
+    RunsSo-refused result (ran g m r allowed schemas true_of o (unprinted same)) = by_source by_memory
     RunsSo-refused result (unallowed e why same) = refused_unallowed text ws count steps has e why
 
     pub RunsSo-inside : (result : Result ℕ EngineError) → RunsSo P vs text count t steps b old new result → IfErr result (IsInsideOf text)
-    RunsSo-inside result (ran g r allowed schemas true_of o (whole h)) = tt
-    RunsSo-inside result (ran g r allowed schemas true_of o (cut e h)) = tt
-    RunsSo-inside result (ran g r allowed schemas true_of o (unprinted same)) = tt
+    RunsSo-inside result (ran g m r allowed schemas true_of o (whole h)) = tt
+    RunsSo-inside result (ran g m r allowed schemas true_of o (cut e h)) = tt
+    RunsSo-inside result (ran g m r allowed schemas true_of o (unprinted same)) = tt
     RunsSo-inside result (unallowed e why same) = let l = late_unallowed text count steps e why in l.0

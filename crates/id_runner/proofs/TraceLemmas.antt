@@ -1,17 +1,14 @@
 -- Lemmas on what is traced of a machine (specs/Runs.antt).
-use Rattle.std.proofs.Common.{◌≡◌, Bool, true, false, List, [], ◌∷◌, Result, Ok, Err, length, refl, sym, subst, ◌∙◌}
+use Rattle.std.proofs.Common.{◌≡◌, Bool, true, false, List, [], ◌∷◌, Result, Ok, Err, length, refl, sym, ◌∙◌}
 use Rattle.std.specs.Prelude.{IfOk}
 use Rattle.std.specs.List.{flat_map}
-use Rattle.std.specs.List.Sorted.{IsPermutation, IsStrictlySortedBy}
+use Rattle.std.specs.List.Sorted.{IsPermutation}
 use Rattle.std.proofs.lemmas.List.Sorted.{length_permutation}
-use Rattle.std.proofs.lemmas.List.Folds.{flat_map-map}
 use Rattle.std.proofs.lemmas.Bool.{false≢true}
-use Rattle.id_tag.specs.declared.Message.{Message}
 use Rattle.id_core.specs.Events.{EventView}
-use Rattle.id_core.specs.Machines.{World, world_of}
-use Rattle.id_core.specs.Merged.{by_moment}
+use Rattle.id_core.specs.Firsts.{AreMergedOf}
+use Rattle.id_core.specs.Machines.{World}
 use Rattle.id_core.specs.Replays.{ElementView}
-use Rattle.id_core.specs.Steps.{State}
 use Rattle.id_runner.specs.Runs.{IsTraceOf}
 
 no_more : {A : Type 0} (xs : List A) → length xs ≡ 0 → xs ≡ []
@@ -19,18 +16,9 @@ no_more [] h = refl
 no_more (x ∷ xs) h = absurd cc
 
 -- the merged events of all elements, where the trace is asked for
-pub IsTraceOf-asked : {E : Type 0} (t : Bool) (es : List ElementView) (fl : List Message) (w : World) (r : Result (List EventView) E) → world_of es fl ≡ w →
-    t ≡ true
-    → IfOk r (λ m. IsPermutation (flat_map (λ (e : ElementView). e.state.events) es) m) → IfOk r (λ m. IsStrictlySortedBy by_moment m) → IfOk r (IsTraceOf t w)
-IsTraceOf-asked t es fl w (Err e) is holds all sorted = tt
-IsTraceOf-asked t es fl w (Ok m) is holds all sorted = record {
-  asked = λ h. record {
-    all = subst (λ (x : World). IsPermutation (flat_map (λ (s : State). s.events) x.elements) m) is
-        (subst (λ (l : List EventView). IsPermutation l m) (sym (flat_map-map (λ (s : State). s.events) (λ e. e.state) es)) all);
-    sorted = sorted;
-  };
-  unasked = λ off. absurd (false≢true (sym off ∙ holds));
-}
+pub IsTraceOf-asked : {E : Type 0} (t : Bool) (w : World) (r : Result (List EventView) E) → t ≡ true → IfOk r (AreMergedOf w.elements) → IfOk r (IsTraceOf t w)
+IsTraceOf-asked t w (Err e) holds merged = tt
+IsTraceOf-asked t w (Ok m) holds merged = record { asked = λ h. merged; unasked = λ off. absurd (false≢true (sym off ∙ holds)) }
 
 -- and the events of no element, where it is not
 pub IsTraceOf-unasked : {E : Type 0} (t : Bool) (w : World) (r : Result (List EventView) E) → t ≡ false

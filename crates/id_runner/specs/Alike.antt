@@ -1,13 +1,13 @@
 -- What runs of one source print (docs/PROMISES.md, "The run").
 use Rattle.std.specs.Prelude.{◌≡◌, ℕ, Bool, List}
 use Rattle.id_source.specs.Sources.{Source, AreInputs}
-use Rattle.id_laws.specs.Determinate.{RunOf}
+use Rattle.id_laws.specs.Determinate.{RunOf, end_of}
 use Rattle.id_runner.specs.Runs.{Ends}
 
 -- the run of a source, where an element may handle so many messages, ends with this status and is printed in these
 -- bytes, its names where they are asked for
 abbrev pub IsPrinted : (S : Source) → RunOf S → ℕ → List ℕ → Bool → ℕ → List ℕ → Type 0
-IsPrinted S r steps text b status bytes = Ends r.graph S.inputs r.count steps r.positions text b status bytes
+IsPrinted S r steps text b status bytes = Ends r.graph r.count steps (end_of S r) text b status bytes
 
 -- all runs of the source that fall quiet are printed in the same bytes, and where one falls quiet, none ends at a fault
 pub record ArePrintedAlike (S : Source) (text : List ℕ) (b : Bool) : Type 0 where

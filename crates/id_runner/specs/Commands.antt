@@ -18,7 +18,8 @@ use Rattle.id_graph.specs.Listing.{listing}
 use Rattle.id_pieces.specs.Schemas.{Schemas}
 use Rattle.id_core.specs.Events.{EventView}
 use Rattle.id_core.specs.Firsts.{AreMergedOf}
-use Rattle.id_core.specs.Machines.{run, start}
+use Rattle.id_core.specs.Machines.{World}
+use Rattle.id_orders.specs.Orders.{IsLegalOrder}
 use Rattle.id_sink.specs.declared.sink.PrintError.{PrintError}
 use Rattle.id_sink.specs.Told.{Told, Prints}
 use Rattle.id_names.specs.declared.helds.Held.{Held}
@@ -67,10 +68,10 @@ pub data Shows (P : Checked) (text : List ℕ) : Command → ℕ → List ℕ �
       IfSome v (Answers (source P vs)) → AreSomeNames (source P vs) ns → AreSomeHeld (source P vs) hs →
       Shows P text (Run b false ws) 3 (stopped_text text v (asked b ns) hs)
   -- where a trace is asked for, all events of a run of a graph that the schemas give come before that, by stamp, and at
-  -- one stamp by element
+  -- one stamp by element: so they are a legal list of events from the start
   traced : {b : Bool} {ws : List (List ℕ)} {vs : List Constant} {g : Parts} {status : ℕ} {output : List ℕ} (count : ℕ)
-      (ks : List ℕ) (es : List EventView) → AreInputsOf P ws vs → Schemas P g
-      → AreMergedOf (run g count ks (start g vs count)).elements es → Shows P text (Run b false ws) status output →
+      (w : World) (es : List EventView) → AreInputsOf P ws vs → Schemas P g → AreMergedOf w.elements es
+      → IsLegalOrder g vs count es w → Shows P text (Run b false ws) status output →
       Shows P text (Run b true ws) status (trace_text es ++ output)
 
 -- what a command shows of the text's program, with this status, is printed with this result

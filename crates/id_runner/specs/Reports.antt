@@ -1,5 +1,5 @@
 -- The report of a run of a text's program, and how it is printed.
-use Rattle.std.specs.Prelude.{◌≡◌, ◌≤◌, ◌<◌, ◌⊎◌, ℕ, Bool, IsTrue, List, [], ◌++◌, All, length}
+use Rattle.std.specs.Prelude.{◌≡◌, ◌≤◌, ◌<◌, ◌⊎◌, ℕ, Bool, IsTrue, List, ◌++◌}
 use Rattle.std.specs.Prelude.{Option, IfSome, Result, Ok, Err}
 use Rattle.id_check.specs.declared.checked.Checked.{Checked}
 use Rattle.id_value.specs.declared.Constant.{Constant}
@@ -13,29 +13,23 @@ use Rattle.id_pieces.specs.Schemas.{Schemas}
 use Rattle.id_pieces.specs.Rows.{size}
 use Rattle.id_instr.specs.Graph.{Parts}
 use Rattle.id_core.specs.Events.{EventView}
-use Rattle.id_core.specs.Machines.{World, MachineView, start}
-use Rattle.id_core.specs.Observed.{answer, names, waiting}
+use Rattle.id_core.specs.Machines.{World, MachineView}
 use Rattle.id_names.specs.declared.within.Ending.{Ending}
 use Rattle.id_names.specs.declared.within.Ending.TheVariants.{Quiet, Stopped, Fault}
 use Rattle.id_names.specs.declared.reports.Report.{Report}
 use Rattle.id_sink.specs.declared.sink.PrintError.{PrintError}
 use Rattle.id_sink.specs.Told.{Told, Prints}
-use Rattle.id_names.specs.Endings.{EndsSo}
 use Rattle.id_names.specs.Reports.{IsReportFrom}
 use Rattle.id_names.specs.Within.{ReportWithin}
 use Rattle.id_print.specs.Reports.{report_text}
 use Rattle.id_trace.specs.Traces.{trace_text}
-use Rattle.id_names.specs.Names.{IsOrderOf, IsSortedOf, HeldBefore, WaitBefore}
 use Rattle.id_names.specs.Names.{AreHeld, AreSomeHeld}
 use Rattle.id_source.specs.Computed.{HasMoreFacts}
 use Rattle.id_compile.specs.declared.error.EngineError.{EngineError}
 use Rattle.id_compile.specs.declared.error.EngineError.TheVariants.{BadElements, BadSteps, BadRounds, TooManyFacts}
 use Rattle.id_compile.specs.declared.error.EngineError.TheVariants.{Memory, Write}
-use Rattle.id_turns.specs.Turns.{AreInTurn, after, first_turn}
+use Rattle.id_elements.specs.Runs.{IsRun, MovesOn}
 use Rattle.id_runner.specs.Runs.{IsTraceOf}
-use Rattle.id_runner.specs.Runs.{held_of}
-use Rattle.id_turns.specs.Turns.{HasEnded}
-use Rattle.id_turns.specs.Deliveries.{HasRun}
 
 -- the status of an ending
 abbrev pub status_of : Ending → ℕ
@@ -69,19 +63,13 @@ pub record IsTrueOf (S : Source) (b : Bool) (r : Report) : Type 0 where
   pub says : SaysTruly S b r r.ending
   pub some : SaysSome S r
 
--- the report, with names where they are asked for, is that of a run that has ended, on so many elements, each of which
--- has handled at most so many messages
-pub record IsReportOfRun (g : Parts) (vs : List Constant) (count steps : ℕ) (b : Bool) (r : Report) : Type 0 where
-  pub positions : List ℕ
-  pub turns : AreInTurn g count steps first_turn positions (start g vs count)
-  pub few : All (λ s. length s.events ≤ steps) (after g vs count positions).elements
-  pub ended : HasEnded g count steps (start g vs count) positions
-  pub answer_is : r.answer ≡ answer g (after g vs count positions)
-  pub sorted : IsTrue b → IsSortedOf r.names (names g (after g vs count positions))
-  pub held : IsOrderOf HeldBefore r.structures (held_of g count (after g vs count positions))
-  pub waits : IsOrderOf WaitBefore r.waiting (waiting g (after g vs count positions))
-  pub ends : EndsSo (record { graph = g; count = count; world = after g vs count positions }) r.ending
-  pub left : r.ending ≡ Stopped → (after g vs count positions).flight ≡ [] → ⊥
+-- the report, with names where they are asked for, is that of a run on so many elements, each of which has handled at
+-- most so many messages, that has come to this machine, and in which no event was `Stuck`
+pub record IsReportOfRun (g : Parts) (vs : List Constant) (count steps : ℕ) (m : MachineView) (b : Bool) (r : Report) :
+    Type 0 where
+  pub run : IsRun g vs count steps m
+  pub moves : MovesOn m.world
+  pub from : IsReportFrom m b r
 
 -- a machine's trace, where it is asked for, and the report are printed with this result
 pub record HasPrinted (text : List ℕ) (t b : Bool) (w : World) (r : Report) (old new : Option Told)
@@ -121,24 +109,22 @@ IsUnallowed count steps e = e ≡ Memory
 -- a run of a program with its inputs is printed, or it is refused before the first byte
 pub data RunsSo (P : Checked) (vs : List Constant) (text : List ℕ) (count : ℕ) (t : Bool) (steps : ℕ) (b : Bool)
     (old new : Option Told) : Result ℕ EngineError → Type 0 where
-  ran : {result : Result ℕ EngineError} (g : Parts) (r : Report) → AreAllowed count steps → Schemas P g
-      → IsTrueOf (source P vs) b r → (o : IsReportOfRun g vs count steps b r)
-      → PrintsRun text t b (after g vs count o.positions) r old new result →
-      RunsSo P vs text count t steps b old new result
+  ran : {result : Result ℕ EngineError} (g : Parts) (m : MachineView) (r : Report) → AreAllowed count steps
+      → Schemas P g → IsTrueOf (source P vs) b r → IsReportOfRun g vs count steps m b r
+      → PrintsRun text t b m.world r old new result → RunsSo P vs text count t steps b old new result
   unallowed : (e : EngineError) → IsUnallowed count steps e → new ≡ old →
       RunsSo P vs text count t steps b old new (Err e)
 
--- the places of each report of such a run are at most so many bytes in
-abbrev pub AreReportsWithin : MachineView → ℕ → Bool → ℕ → Type 0
-AreReportsWithin m steps b size =
-    (n : MachineView) (r : Report) → HasRun m n steps → IsReportFrom n b r → ReportWithin size r
+-- the places of each report of this machine are at most so many bytes in
+abbrev pub AreReportsWithin : MachineView → Bool → ℕ → Type 0
+AreReportsWithin m b size = (r : Report) → IsReportFrom m b r → ReportWithin size r
 
--- such a run of the machine is printed, or memory was refused before the first byte
-pub data PrintsMachine (m : MachineView) (text : List ℕ) (t : Bool) (steps : ℕ) (b : Bool) (old new : Option Told) :
+-- a report of the machine is printed, or memory was refused before the first byte
+pub data PrintsMachine (m : MachineView) (text : List ℕ) (t b : Bool) (old new : Option Told) :
     Result ℕ EngineError → Type 0 where
-  reported : {result : Result ℕ EngineError} (n : MachineView) (r : Report) → HasRun m n steps → IsReportFrom n b r
-      → PrintsRun text t b n.world r old new result → PrintsMachine m text t steps b old new result
-  out_of_memory : new ≡ old → PrintsMachine m text t steps b old new (Err Memory)
+  reported : {result : Result ℕ EngineError} (r : Report) → IsReportFrom m b r
+      → PrintsRun text t b m.world r old new result → PrintsMachine m text t b old new result
+  out_of_memory : new ≡ old → PrintsMachine m text t b old new (Err Memory)
 
 -- why the facts of a round of a source are refused
 abbrev pub AreRefusedRounds : Source → ℕ → EngineError → Type 0

@@ -1,105 +1,60 @@
 //! A text, compiled, run and printed.
 
-ghost use Rattle.std.specs.Prelude.{◌≡◌, ◌≢◌, ◌<◌, ◌≤◌, ◌+◌, ◌-◌, ◌++◌, length, map};
+ghost use Rattle.std.specs.Prelude.{◌≡◌, ◌≢◌, ◌≤◌, ◌++◌, length, map};
 ghost use Rattle.std.specs.Prelude.{IfErr, IfOk, OnOk};
 ghost use Rattle.id_pieces.specs.Schemas.{Schemas};
-ghost use Rattle.id_core.specs.Machines.{TakesInputs, start};
 ghost use Rattle.id_source.specs.Sources.{AreInputs};
 ghost use Rattle.id_print.specs.Reports.{report_text};
 ghost use Rattle.id_sink.specs.Told.{Prints};
 ghost use Rattle.id_trace.specs.Traces.{trace_text};
 ghost use Rattle.id_names.specs.Reports.{IsReportFrom};
 ghost use Rattle.id_names.specs.Within.{ReportWithin};
+ghost use Rattle.id_elements.specs.Runs.{IsRun, MovesOn};
 ghost use Rattle.id_runner.specs.Alike.{PrintedAlike};
-ghost use Rattle.id_runner.specs.Commands.{Run, ShowsAll, ShowsFront};
+ghost use Rattle.id_runner.specs.Commands.{ShowsAll, ShowsFront};
+ghost use Rattle.id_runner.specs.Commands as command;
 ghost use Rattle.id_compile.specs.Programs.{IsPlacedWithin};
 ghost use Rattle.id_compile.specs.Refusals.{IsInsideOf, IsRefusedRun, IsTakenRun};
-ghost use Rattle.id_runner.specs.Reports.{AreAllowed};
-ghost use Rattle.id_turns.specs.Deliveries.{HasRun, IsFreshMachine};
+ghost use Rattle.id_runner.specs.Reports.{AreAllowed, IsUnallowed};
 ghost use Rattle.id_runner.specs.Reports.{AreReportsWithin, PrintsEvents, PrintsMachine, PrintsRun, RunsSo, status_of};
-ghost use Rattle.id_runner.specs.Runs.{IsTraceOf, Ran};
+ghost use Rattle.id_runner.specs.Runs.{IsTraceOf, Ran, RanFront};
 
 use id_compile::EngineError;
-use id_core::{MAX_ELEMENTS, Machine, MachineError, Merged, merge_records};
-use id_inputs::Inputs;
+use id_core::{Gate, Merged, merge_records};
+use id_elements::{Run, RunError, Settings};
 use id_prepare::{Prepared, prepare};
-use id_print::{Ending, PrintError, Report, Sink, run_report, write_report, write_trace};
-use id_turns::run_machine;
+use id_print::{Ending, PrintError, Report, Sink, report, write_report, write_trace};
 use id_valid::Valid;
 use std::alloc::{AllocError, Global};
+use std::sync::Wait;
+use std::thread::Threads;
 
-/// The most steps that an element may be allowed.
-pub const MAX_STEPS: u64 = 100_000_000;
-
-/// A fresh machine of so many elements for the graph, with these inputs.
-fn machine_of<'a>(
+/// The report of a run of the graph, with what names have where that is asked for. Before it is made, the memory of the
+/// run is given back.
+fn report_of(
     alloc: Global,
-    valid: &'a Valid,
-    inputs: &Inputs,
-    count: u32,
-) -> Result<Machine<'a>, EngineError>
-    requires inputs { TakesInputs valid.now inputs.now.values }
-    requires some { 0 < count }
-    requires few { count ≤ 64 }
-    ensures start { IfOk result (λ m. m ≡ record {
-      graph = valid.now;
-      count = count;
-      world = start valid.now inputs.now.values count;
-    }) }
+    run: &mut Run<'_>,
+    graph: &Valid,
+    named: bool,
+) -> Result<Report, EngineError>
+    requires { run.old.graph ≡ graph.now }
+    ensures same { run.new ≡ run.old }
+    ensures report { IfOk result (IsReportFrom run.new named) }
     ensures memory { IfErr result (λ e. e ≡ EngineError.Memory) }
 {
-    match Machine::new(alloc, valid, inputs, count) {
-        Ok(machine) => Ok(machine),
-        Err(MachineError::BadElements) => unreachable!(),
-        Err(MachineError::Memory) => Err(EngineError::Memory),
-    }
-}
-
-/// The report of a machine, with what names have where that is asked for. Before it is made, the memory of its run is
-/// given back.
-fn report_of(alloc: Global, machine: &mut Machine<'_>, named: bool) -> Result<Report, EngineError>
-    ensures same { machine.new ≡ machine.old }
-    ensures report { IfOk result (IsReportFrom machine.new named) }
-    ensures memory { IfErr result (λ e. e ≡ EngineError.Memory) }
-{
-    machine.give_back(alloc);
-    match run_report(alloc, machine, named) {
+    run.give_back(alloc);
+    match report(alloc, run, graph, named) {
         Ok(report) => Ok(report),
         Err(_) => Err(EngineError::Memory),
     }
 }
 
-/// The report of a fresh machine's run, with what names have where that is asked for.
-fn machine_report(
-    alloc: Global,
-    machine: &mut Machine<'_>,
-    count: u32,
-    steps: u64,
-    named: bool,
-) -> Result<Report, EngineError>
-    requires fresh { IsFreshMachine machine.old }
-    requires count { machine.old.count ≡ count }
-    requires few { steps ≤ 100000000 }
-    ensures run { OnOk result (HasRun machine.old machine.new steps) }
-    ensures report { IfOk result (IsReportFrom machine.new named) }
-    ensures memory { IfErr result (λ e. e ≡ EngineError.Memory) }
-{
-    match run_machine(machine, count, steps) {
-        Ok(()) => report_of(alloc, machine, named),
-        Err(_) => Err(EngineError::Memory),
-    }
-}
-
-/// All events of a machine, by stamp, and at one stamp by element, where they are asked for, and else none.
-fn trace_of<'a>(
-    alloc: Global,
-    machine: &'a Machine<'_>,
-    trace: bool,
-) -> Result<Merged<'a>, AllocError>
-    ensures { IfOk result (IsTraceOf trace machine.now.world) }
+/// All events of a run, by stamp, and at one stamp by element, where they are asked for, and else none.
+fn trace_of<'a>(alloc: Global, run: &'a Run<'_>, trace: bool) -> Result<Merged<'a>, AllocError>
+    ensures { IfOk result (IsTraceOf trace run.now.world) }
 {
     if trace {
-        merge_records(alloc, machine.elements())
+        run.order(alloc)
     } else {
         merge_records(alloc, &[])
     }
@@ -140,48 +95,45 @@ fn print_events<W: Sink>(
     }
 }
 
-/// Writes the trace of a machine, where it is asked for, and the report, and answers the status. All that is written is
+/// Writes the trace of a run, where it is asked for, and the report, and answers the status. All that is written is
 /// made before the first byte.
 fn print_run<W: Sink>(
     alloc: Global,
-    machine: &Machine<'_>,
+    run: &Run<'_>,
     report: &Report,
     text: &str,
-    trace: bool,
     names: bool,
+    trace: bool,
     out: &mut W,
 ) -> Result<u8, EngineError>
     requires fits { length text.now ≤ 1048576 }
     requires inside { ReportWithin (length text.now) report.now }
-    ensures { PrintsRun text.now trace names machine.now.world report.now (W.told out.old) (W.told out.new) result }
+    ensures { PrintsRun text.now trace names run.now.world report.now (W.told out.old) (W.told out.new) result }
 {
-    match trace_of(alloc, machine, trace) {
+    match trace_of(alloc, run, trace) {
         Ok(events) => print_events(events, report, text, names, out),
         Err(_) => Err(EngineError::Memory),
     }
 }
 
-/// Runs a fresh machine, and writes what is asked for.
-fn run_started<W: Sink>(
+/// Writes what is asked for of a run of the graph.
+fn print_ended<W: Sink>(
     alloc: Global,
-    machine: &mut Machine<'_>,
+    run: &mut Run<'_>,
+    graph: &Valid,
     text: &str,
-    count: u32,
-    trace: bool,
-    steps: u64,
     names: bool,
+    trace: bool,
     out: &mut W,
 ) -> Result<u8, EngineError>
-    requires fresh { IsFreshMachine machine.old }
-    requires count { machine.old.count ≡ count }
-    requires few { steps ≤ 100000000 }
+    requires graph { run.old.graph ≡ graph.now }
     requires fits { length text.now ≤ 1048576 }
-    requires inside { AreReportsWithin machine.old steps names (length text.now) }
-    ensures { PrintsMachine machine.old text.now trace steps names (W.told out.old) (W.told out.new) result }
+    requires inside { AreReportsWithin run.old names (length text.now) }
+    ensures { PrintsMachine run.old text.now trace names (W.told out.old) (W.told out.new) result }
 {
-    match machine_report(alloc, machine, count, steps, names) {
+    match report_of(alloc, run, graph, names) {
         Ok(report) => {
-            let status = print_run(alloc, machine, &report, text, trace, names, out);
+            let status = print_run(alloc, run, &report, text, names, trace, out);
             drop(report);
             status
         }
@@ -189,123 +141,117 @@ fn run_started<W: Sink>(
     }
 }
 
-/// Runs a fresh machine, writes what is asked for, and lets the machine go.
-fn run_fresh<W: Sink>(
+/// Writes what is asked for of a run of the graph, and lets the run go.
+fn print_once<W: Sink>(
     alloc: Global,
-    machine: Machine<'_>,
+    run: Run<'_>,
+    graph: &Valid,
     text: &str,
-    count: u32,
-    trace: bool,
-    steps: u64,
     names: bool,
+    trace: bool,
     out: &mut W,
 ) -> Result<u8, EngineError>
-    requires fresh { IsFreshMachine machine }
-    requires count { machine.count ≡ count }
-    requires few { steps ≤ 100000000 }
+    requires graph { run.graph ≡ graph.now }
     requires fits { length text.now ≤ 1048576 }
-    requires inside { AreReportsWithin machine steps names (length text.now) }
-    ensures { PrintsMachine machine.entry text.now trace steps names (W.told out.old) (W.told out.new) result }
+    requires inside { AreReportsWithin run names (length text.now) }
+    ensures { PrintsMachine run.entry text.now trace names (W.told out.old) (W.told out.new) result }
 {
-    let mut machine = machine;
-    let status = run_started(alloc, &mut machine, text, count, trace, steps, names, out);
-    drop(machine);
+    let mut run = run;
+    let status = print_ended(alloc, &mut run, graph, text, names, trace, out);
+    drop(run);
     status
 }
 
-/// A fresh machine of so many elements for a compiled program with its inputs.
-fn machine_for<'a>(
+/// The run of a compiled program with its inputs. No run of such a graph is `Stuck`.
+fn run_for<'a, R: Threads + Wait + Sync, G: Gate + Sync>(
+    rt: &R,
     alloc: Global,
     prepared: &'a Prepared,
-    count: u32,
-) -> Result<Machine<'a>, EngineError>
-    requires inputs { AreInputs prepared.now.compiled.checked prepared.now.inputs.values }
-    requires some { 0 < count }
-    requires few { count ≤ 64 }
-    ensures start { IfOk result (λ m. m ≡ record {
-      graph = prepared.now.compiled.graph;
-      count = count;
-      world = start prepared.now.compiled.graph prepared.now.inputs.values count;
-    }) }
+    settings: Settings,
+    gate: &G,
+) -> Result<Run<'a>, EngineError>
+    requires { AreInputs prepared.now.compiled.checked prepared.now.inputs.values }
     ensures schemas { Schemas prepared.now.compiled.checked prepared.now.compiled.graph }
-    ensures memory { IfErr result (λ e. e ≡ EngineError.Memory) }
+    ensures run { IfOk result (IsRun prepared.now.compiled.graph prepared.now.inputs.values settings.elements
+        settings.steps) }
+    ensures moves { IfOk result (λ r. MovesOn r.world) }
+    ensures allowed { OnOk result (AreAllowed settings.elements settings.steps) }
+    ensures refused { IfErr result (IsUnallowed settings.elements settings.steps) }
 {
     id_laws::inputs_fit();
-    machine_of(alloc, prepared.compiled.valid(), &prepared.inputs, count)
-}
-
-/// Runs a compiled program with its inputs, and writes what is asked for.
-fn run_prepared<W: Sink>(
-    alloc: Global,
-    prepared: &Prepared,
-    text: &str,
-    count: u32,
-    trace: bool,
-    steps: u64,
-    names: bool,
-    out: &mut W,
-) -> Result<u8, EngineError>
-    requires inputs { AreInputs prepared.now.compiled.checked prepared.now.inputs.values }
-    requires within { IsPlacedWithin (length text.now) prepared.now.compiled.checked }
-    requires short { length text.now ≤ 1048576 }
-    requires allowed { AreAllowed count steps }
-    ensures { RunsSo prepared.now.compiled.checked prepared.now.inputs.values text.now count trace steps names
-        (W.told out.old) (W.told out.new) result }
-{
-    id_laws::sound();
-    id_laws::complete();
     id_laws::never_stuck();
-    match machine_for(alloc, prepared, count) {
-        Ok(machine) => run_fresh(alloc, machine, text, count, trace, steps, names, out),
-        Err(error) => Err(error),
+    match id_elements::run(
+        rt,
+        alloc,
+        prepared.compiled.valid(),
+        &prepared.inputs,
+        settings,
+        gate,
+    ) {
+        Ok(run) => Ok(run),
+        Err(RunError::BadElements) => Err(EngineError::BadElements),
+        Err(RunError::BadSteps) => Err(EngineError::BadSteps),
+        Err(RunError::Stuck) => unreachable!(),
+        Err(RunError::Memory) => Err(EngineError::Memory),
     }
 }
 
 /// Runs a compiled program with its inputs, where so many elements and so many steps are allowed, and writes what is
 /// asked for.
-fn run_allowed<W: Sink>(
+fn run_prepared<R: Threads + Wait + Sync, G: Gate + Sync, W: Sink>(
+    rt: &R,
     alloc: Global,
     prepared: &Prepared,
     text: &str,
-    count: u32,
-    trace: bool,
-    steps: u64,
+    settings: Settings,
     names: bool,
+    trace: bool,
+    gate: &G,
     out: &mut W,
 ) -> Result<u8, EngineError>
     requires inputs { AreInputs prepared.now.compiled.checked prepared.now.inputs.values }
     requires within { IsPlacedWithin (length text.now) prepared.now.compiled.checked }
     requires short { length text.now ≤ 1048576 }
-    ensures { RunsSo prepared.now.compiled.checked prepared.now.inputs.values text.now count trace steps names
-        (W.told out.old) (W.told out.new) result }
+    ensures { RunsSo prepared.now.compiled.checked prepared.now.inputs.values text.now settings.elements trace
+        settings.steps names (W.told out.old) (W.told out.new) result }
 {
-    if count == 0 || count > MAX_ELEMENTS {
-        return Err(EngineError::BadElements);
+    id_laws::sound();
+    id_laws::complete();
+    match run_for(rt, alloc, prepared, settings, gate) {
+        Ok(run) => print_once(
+            alloc,
+            run,
+            prepared.compiled.valid(),
+            text,
+            names,
+            trace,
+            out,
+        ),
+        Err(error) => Err(error),
     }
-    if steps == 0 || steps > MAX_STEPS {
-        return Err(EngineError::BadSteps);
-    }
-    run_prepared(alloc, prepared, text, count, trace, steps, names, out)
 }
 
 /// The same, and lets the program go.
-fn run_once<W: Sink>(
+fn run_once<R: Threads + Wait + Sync, G: Gate + Sync, W: Sink>(
+    rt: &R,
     alloc: Global,
     prepared: Prepared,
     text: &str,
-    count: u32,
-    trace: bool,
-    steps: u64,
+    settings: Settings,
     names: bool,
+    trace: bool,
+    gate: &G,
     out: &mut W,
 ) -> Result<u8, EngineError>
     requires inputs { AreInputs prepared.compiled.checked prepared.inputs.values }
     requires within { IsPlacedWithin (length text.now) prepared.compiled.checked }
     requires short { length text.now ≤ 1048576 }
-    ensures { RunsSo prepared.compiled.checked prepared.inputs.values text.now count trace steps names
-        (W.told out.old) (W.told out.new) result }
+    ensures { RunsSo prepared.compiled.checked prepared.inputs.values text.now settings.elements trace settings.steps
+        names (W.told out.old) (W.told out.new) result }
 {
-    let status = run_allowed(alloc, &prepared, text, count, trace, steps, names, out);
+    let status = run_prepared(
+        rt, alloc, &prepared, text, settings, names, trace, gate, out,
+    );
     drop(prepared);
     status
 }
@@ -321,40 +267,51 @@ fn status_of(ending: &Ending) -> u8
     }
 }
 
-/// Compiles a text, runs it on the inputs that the words give, on `count` elements, each for at most `steps` messages,
-/// and writes what `idc run` prints: all events where `trace` asks for them, and then the report, with what names have
-/// where `names` asks for it. It answers the status: 0 after a quiet run, 1 after a fault, 3 at the step limit.
-pub fn engine<W: Sink>(
+/// Compiles a text, runs it on the inputs that the words give, on `settings.elements` elements, each worked by a thread
+/// of its own and each for at most `settings.steps` messages, and writes what `idc run` prints: all events where
+/// `trace` asks for them, and then the report, with what names have where `names` asks for it. The gate holds each
+/// handling of a message for as long as it likes. It answers the status: 0 after a quiet run, 1 after a fault, 3 at the
+/// step limit.
+pub fn engine<R: Threads + Wait + Sync, G: Gate + Sync, W: Sink>(
+    rt: &R,
     alloc: Global,
     text: &str,
     inputs: &[&str],
-    count: u32,
-    trace: bool,
-    steps: u64,
+    settings: Settings,
     names: bool,
+    trace: bool,
+    gate: &G,
     out: &mut W,
 ) -> Result<u8, EngineError>
     // What is printed is what a run of the text's program on its inputs shows, and the source's equations give it.
     ensures shown { IfOk result
-        (ShowsAll (Run names trace (map (λ w. w.now) inputs.now)) text.now (W.told out.old) (W.told out.new)) }
+        (ShowsAll (command.Run names trace (map (λ w. w.now) inputs.now)) text.now (W.told out.old) (W.told out.new)) }
 
-    // It is a run: each time the message is delivered whose turn it is, until there is none that is not held back, or
-    // at a fault.
+    // It is a run, that has come to its end: its events are a legal list, and each message left is held back, or there
+    // was a fault.
     ensures ran { IfOk result
-        (Ran text.now (map (λ w. w.now) inputs.now) count trace steps names (W.told out.old) (W.told out.new)) }
+        (Ran text.now (map (λ w. w.now) inputs.now) settings.elements trace settings.steps names (W.told out.old)
+        (W.told out.new)) }
 
-    // After a failed write a front of such a text is out, and after any other error nothing.
+    // After a failed write a front of such a text is out, that of the run that was made, and after any other error
+    // nothing.
     ensures cut { result ≡ Err EngineError.Write
-        → ShowsFront (Run names trace (map (λ w. w.now) inputs.now)) text.now (W.told out.old) (W.told out.new) }
+        → ShowsFront (command.Run names trace (map (λ w. w.now) inputs.now)) text.now (W.told out.old)
+        (W.told out.new) }
+    ensures front { result ≡ Err EngineError.Write
+        → RanFront text.now (map (λ w. w.now) inputs.now) settings.elements trace settings.steps names (W.told out.old)
+        (W.told out.new) }
     ensures silent { IfErr result (λ e. e ≢ EngineError.Write → W.told out.new ≡ W.told out.old) }
 
     // A refusal comes for its cause alone, at a place of the text.
-    ensures taken { OnOk result (IsTakenRun text.now (map (λ w. w.now) inputs.now) count steps) }
-    ensures refused { IfErr result (IsRefusedRun text.now (map (λ w. w.now) inputs.now) count steps) }
+    ensures taken { OnOk result
+        (IsTakenRun text.now (map (λ w. w.now) inputs.now) settings.elements settings.steps) }
+    ensures refused { IfErr result
+        (IsRefusedRun text.now (map (λ w. w.now) inputs.now) settings.elements settings.steps) }
     ensures inside { IfErr result (IsInsideOf text.now) }
 {
     match prepare(alloc, text, inputs) {
-        Ok(prepared) => run_once(alloc, prepared, text, count, trace, steps, names, out),
+        Ok(prepared) => run_once(rt, alloc, prepared, text, settings, names, trace, gate, out),
         Err(error) => Err(error),
     }
 }

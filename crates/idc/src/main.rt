@@ -16,9 +16,13 @@ use std::alloc::{AllocError, Global};
 use std::convert::AsStr;
 use std::io::BufWriter;
 use std::process::ExitCode;
+use std::rt::{Env, Files};
+use std::sync::Wait;
+use std::thread::Threads;
 
 /// Does what the words ask for, the program's own name left out, and answers the status.
-fn run<N: AsStr, S: Source, O: Sink, E: Sink>(
+fn run<R: Threads + Wait + Sync, N: AsStr, S: Source, O: Sink, E: Sink>(
+    rt: &R,
     alloc: Global,
     words: &[N],
     source: &mut S,
@@ -29,7 +33,7 @@ fn run<N: AsStr, S: Source, O: Sink, E: Sink>(
     if let Ok(Request::Check { .. } | Request::Graph { .. } | Request::Draw { .. }) = &asked {
         keep_memory(alloc);
     }
-    drive(alloc, &asked, source, out, err)
+    drive(rt, alloc, &asked, source, out, err)
 }
 
 /// The size of a block of memory a little above what the tokens of a text take, and what its rows take.
@@ -64,27 +68,30 @@ fn cache_blocks(alloc: Global) -> Result<(), AllocError> {
 }
 
 /// Does what the words of the process ask for, and answers the status.
-fn serve_words<S: Source, O: Sink, E: Sink>(
-    rt: &HostRuntime,
+fn serve_words<R: Env + AllocGlobal + Threads + Wait + Sync, S: Source, O: Sink, E: Sink>(
+    rt: &R,
     source: &mut S,
     out: &mut O,
     err: &mut E,
 ) -> u8 {
     match arguments(rt) {
-        Ok(words) => run(rt.alloc(), words.as_slice(), source, out, err),
-        Err(unasked) => drive(rt.alloc(), &Err(unasked), source, out, err),
+        Ok(words) => run(rt, rt.alloc(), words.as_slice(), source, out, err),
+        Err(unasked) => drive(rt, rt.alloc(), &Err(unasked), source, out, err),
     }
 }
 
-/// Answers the words of the process on its streams. The parts of a line gather in a buffer on their way to standard
-/// output.
-fn serve_process(rt: &HostRuntime) -> u8 {
+/// Answers the words of the process on the streams of the host. The parts of a line gather in a buffer on their way to
+/// standard output.
+fn serve_process<R: Env + Files + AllocGlobal + Threads + Wait + Sync>(
+    rt: &R,
+    host: &HostRuntime,
+) -> u8 {
     let alloc = rt.alloc();
     let mut source = Disk { rt };
     let mut err = Stream {
-        writer: rt.stderr(),
+        writer: host.stderr(),
     };
-    match BufWriter::new(alloc, rt.stdout()) {
+    match BufWriter::new(alloc, host.stdout()) {
         Ok(writer) => {
             let mut out = Stream { writer };
             let status = serve_words(rt, &mut source, &mut out, &mut err);
@@ -92,14 +99,14 @@ fn serve_process(rt: &HostRuntime) -> u8 {
         }
         Err(_) => {
             let mut out = Stream {
-                writer: rt.stdout(),
+                writer: host.stdout(),
             };
             let refused = Err(Unasked::Memory);
-            drive(alloc, &refused, &mut source, &mut out, &mut err)
+            drive(rt, alloc, &refused, &mut source, &mut out, &mut err)
         }
     }
 }
 
 fn main(rt: HostRuntime) -> ExitCode {
-    ExitCode::from(serve_process(&rt))
+    ExitCode::from(serve_process(&rt, &rt))
 }

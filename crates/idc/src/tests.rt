@@ -6,7 +6,9 @@ use std::alloc::{AllocError, Global};
 use std::io;
 use std::io::{BufWriter, ErrorKind, Write};
 use std::process::Abort;
+use std::sync::Wait;
 use std::test::Fail;
+use std::thread::Threads;
 
 /// A sink with room for some bytes, which tells those that it took. A write beyond fails.
 #[derive(Drop)]
@@ -72,7 +74,7 @@ struct Printed {
 }
 
 /// Runs a text on the words of a line, with bars between them, and room for so many bytes on standard output.
-fn print<R: Abort + AllocGlobal>(
+fn print<R: Abort + AllocGlobal + Threads + Wait + Sync>(
     rt: &R,
     text: &str,
     line: &str,
@@ -86,7 +88,7 @@ fn print<R: Abort + AllocGlobal>(
     let mut source = OneText { text };
     let mut out = with_room(rt, room);
     let mut err = with_room(rt, 1_000_000);
-    let status = run(alloc, words.as_slice(), &mut source, &mut out, &mut err);
+    let status = run(rt, alloc, words.as_slice(), &mut source, &mut out, &mut err);
     Ok(Printed {
         out: out.bytes,
         err: err.bytes,
@@ -125,7 +127,7 @@ fn is_line(got: &Printed, line: &[u8]) -> bool {
 }
 
 /// Whether a row's words print its line of its text.
-fn is_row<R: Abort + AllocGlobal>(rt: &R, row: &str) -> Result<bool, Fail> {
+fn is_row<R: Abort + AllocGlobal + Threads + Wait + Sync>(rt: &R, row: &str) -> Result<bool, Fail> {
     let mut parts = row.split(" / ");
     let (Some(words), Some(line), Some(text)) = (parts.next(), parts.next(), parts.next()) else {
         return Ok(false);
@@ -230,7 +232,12 @@ fn refuses_once_what_a_buffer_cannot_send_on(rt: HostRuntime) -> Result<(), Fail
 }
 
 /// Whether a run on so many elements, each for at most so many messages, is refused with this line.
-fn is_refused<R: Abort + AllocGlobal>(rt: &R, count: u32, steps: u64, line: &str) -> bool {
+fn is_refused<R: Abort + AllocGlobal + Threads + Wait + Sync>(
+    rt: &R,
+    count: u32,
+    steps: u64,
+    line: &str,
+) -> bool {
     let alloc = rt.alloc();
     let asked = Ok(Request::Run {
         file: "text.id",
@@ -247,7 +254,7 @@ fn is_refused<R: Abort + AllocGlobal>(rt: &R, count: u32, steps: u64, line: &str
         writer: Halting { turn: 0 },
     };
     let mut err = with_room(rt, 100);
-    let status = drive(alloc, &asked, &mut source, &mut out, &mut err);
+    let status = drive(rt, alloc, &asked, &mut source, &mut out, &mut err);
     status == 4 && err.bytes.as_slice() == line.as_bytes()
 }
 

@@ -1,5 +1,4 @@
 use Rattle.id_compile.proofs.AnsweredLemmas.{ok_all}
-use Rattle.id_engine.proofs.ServedLemmas.{computed_by}
 use Rattle.id_engine.proofs.program.print_asked.Goals as goal
 
 pub returns-in-Check : goal.returns-in-Check
@@ -8,6 +7,7 @@ returns-in-Check g c = record {
   taken = rw c.in-Check.is c.check_text.ensures.taken;
   ran = rw c.in-Check.is (ok_all c.check_text.result _ (λ n. tt));
   cut = rw c.in-Check.is c.check_text.ensures.cut;
+  front = rw c.in-Check.is (λ e. tt);
   silent = c.check_text.ensures.silent;
   refused = rw c.in-Check.is c.check_text.ensures.refused;
   inside = c.check_text.ensures.inside;
@@ -19,6 +19,7 @@ returns-in-Graph g c = record {
   taken = rw c.in-Graph.is c.graph_text.ensures.taken;
   ran = rw c.in-Graph.is (ok_all c.graph_text.result _ (λ n. tt));
   cut = rw c.in-Graph.is c.graph_text.ensures.cut;
+  front = rw c.in-Graph.is (λ e. tt);
   silent = c.graph_text.ensures.silent;
   refused = rw c.in-Graph.is c.graph_text.ensures.refused;
   inside = c.graph_text.ensures.inside;
@@ -30,13 +31,11 @@ returns-in-Draw g c = record {
   taken = rw c.in-Draw.is c.draw_text.ensures.taken;
   ran = rw c.in-Draw.is (ok_all c.draw_text.result _ (λ n. tt));
   cut = rw c.in-Draw.is c.draw_text.ensures.cut;
+  front = rw c.in-Draw.is (λ e. tt);
   silent = c.draw_text.ensures.silent;
   refused = rw c.in-Draw.is c.draw_text.ensures.refused;
   inside = c.draw_text.ensures.inside;
 }
-
-pub print_computed-requires : goal.print_computed-requires
-print_computed-requires g c = computed_by c.args.request.now c.in_default.not-Check c.in_default.not-Graph c.in_default.not-Draw
 
 pub returns-in_default : goal.returns-in_default
 returns-in_default g c = c.print_computed.ensures

@@ -1,5 +1,4 @@
 use Rattle.id_compile.proofs.AnsweredLemmas.{ok_all}
-use Rattle.id_engine.proofs.ServedLemmas.{to_run_by}
 use Rattle.id_engine.proofs.program.print_computed.Goals as goal
 
 pub returns-in-Facts : goal.returns-in-Facts
@@ -8,13 +7,11 @@ returns-in-Facts g c = record {
   taken = rw c.in-Facts.is (rw c.as_slice.ensures.value at c.facts_text.ensures.taken);
   ran = rw c.in-Facts.is (ok_all c.facts_text.result _ (λ n. tt));
   cut = rw c.in-Facts.is (rw c.as_slice.ensures.value at c.facts_text.ensures.cut);
+  front = rw c.in-Facts.is (λ e. tt);
   silent = c.facts_text.ensures.silent;
   refused = rw c.in-Facts.is (rw c.as_slice.ensures.value at c.facts_text.ensures.refused);
   inside = c.facts_text.ensures.inside;
 }
-
-pub run_asked-requires : goal.run_asked-requires
-run_asked-requires g c = to_run_by c.args.request.now c.requires c.in_default.not-Facts
 
 pub returns-in_default : goal.returns-in_default
 returns-in_default g c = c.run_asked.ensures

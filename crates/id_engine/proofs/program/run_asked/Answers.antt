@@ -6,6 +6,7 @@ returns g c = record {
   taken = rw c.in-Run.is (rw c.as_slice.ensures.value at c.engine.ensures.taken);
   ran = rw c.in-Run.is (rw c.as_slice.ensures.value at c.engine.ensures.ran);
   cut = rw c.in-Run.is (rw c.as_slice.ensures.value at c.engine.ensures.cut);
+  front = rw c.in-Run.is (rw c.as_slice.ensures.value at c.engine.ensures.front);
   silent = c.engine.ensures.silent;
   refused = rw c.in-Run.is (rw c.as_slice.ensures.value at c.engine.ensures.refused);
   inside = c.engine.ensures.inside;

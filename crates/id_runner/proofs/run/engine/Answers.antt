@@ -1,7 +1,7 @@
 use Rattle.std.proofs.Common.{◌≡◌, map, refl}
 use Rattle.id_compile.specs.declared.error.EngineError.TheVariants.{Write}
 use Rattle.id_compile.specs.Refusals.IsRefusedRun.{by_source}
-use Rattle.id_runner.proofs.ShownLemmas.{RunsSo-cut, RunsSo-inside, RunsSo-ran, RunsSo-refused, RunsSo-shown, RunsSo-silent, RunsSo-taken}
+use Rattle.id_runner.proofs.ShownLemmas.{RunsSo-cut, RunsSo-front, RunsSo-inside, RunsSo-ran, RunsSo-refused, RunsSo-shown, RunsSo-silent, RunsSo-taken}
 use Rattle.id_runner.proofs.run.engine.Goals as goal
 
 pub returns-in-Err : goal.returns-in-Err
@@ -9,43 +9,45 @@ returns-in-Err g c = record {
   shown = tt;
   ran = tt;
   cut = λ e. (let is : c.in-Err.error ≡ Write = cc in absurd (c.in-Err.ensures.not_write is));
+  front = λ e. (let is : c.in-Err.error ≡ Write = cc in absurd (c.in-Err.ensures.not_write is));
   silent = λ h. refl;
   taken = tt;
   refused = by_source c.in-Err.ensures.refused;
   inside = c.in-Err.ensures.inside;
 }
 
-pub run_once-requires : goal.run_once-requires
-run_once-requires g c = record { inputs = c.in-Ok.ensures.own; within = c.in-Ok.ensures.within; short = c.in-Ok.ensures.short }
-
 pub returns-in-Ok : goal.returns-in-Ok
 returns-in-Ok g c = record {
   shown = (let p = c.in-Ok.prepared in
       let e = c.in-Ok.ensures in
-      RunsSo-shown c.args.text.now (map (λ w. w.now) c.args.inputs.now) p.compiled.checked e.program e.small p.inputs.values e.inputs c.args.count
-      c.args.trace c.args.steps c.args.names _ _ _ c.run_once.ensures);
+      RunsSo-shown c.args.text.now (map (λ w. w.now) c.args.inputs.now) p.compiled.checked e.program e.small p.inputs.values e.inputs
+      c.args.settings.elements c.args.trace c.args.settings.steps c.args.names _ _ _ c.run_once.ensures);
   ran = (let p = c.in-Ok.prepared in
       let e = c.in-Ok.ensures in
-      RunsSo-ran c.args.text.now (map (λ w. w.now) c.args.inputs.now) p.compiled.checked e.program e.small p.inputs.values e.inputs c.args.count
-      c.args.trace c.args.steps c.args.names _ _ _ c.run_once.ensures);
+      RunsSo-ran c.args.text.now (map (λ w. w.now) c.args.inputs.now) p.compiled.checked e.program e.small p.inputs.values e.inputs
+      c.args.settings.elements c.args.trace c.args.settings.steps c.args.names _ _ _ c.run_once.ensures);
   cut = (let p = c.in-Ok.prepared in
       let e = c.in-Ok.ensures in
-      RunsSo-cut c.args.text.now (map (λ w. w.now) c.args.inputs.now) p.compiled.checked e.program e.small p.inputs.values e.inputs c.args.count
-      c.args.trace c.args.steps c.args.names _ _ _ c.run_once.ensures);
+      RunsSo-cut c.args.text.now (map (λ w. w.now) c.args.inputs.now) p.compiled.checked e.program e.small p.inputs.values e.inputs
+      c.args.settings.elements c.args.trace c.args.settings.steps c.args.names _ _ _ c.run_once.ensures);
+  front = (let p = c.in-Ok.prepared in
+      let e = c.in-Ok.ensures in
+      RunsSo-front c.args.text.now (map (λ w. w.now) c.args.inputs.now) p.compiled.checked e.program e.small p.inputs.values e.inputs
+      c.args.settings.elements c.args.trace c.args.settings.steps c.args.names _ _ _ c.run_once.ensures);
   silent = (let p = c.in-Ok.prepared in
       let e = c.in-Ok.ensures in
-      RunsSo-silent c.args.text.now (map (λ w. w.now) c.args.inputs.now) p.compiled.checked e.program e.small p.inputs.values e.inputs c.args.count
-      c.args.trace c.args.steps c.args.names _ _ _ c.run_once.ensures);
+      RunsSo-silent c.args.text.now (map (λ w. w.now) c.args.inputs.now) p.compiled.checked e.program e.small p.inputs.values e.inputs
+      c.args.settings.elements c.args.trace c.args.settings.steps c.args.names _ _ _ c.run_once.ensures);
   taken = (let p = c.in-Ok.prepared in
       let e = c.in-Ok.ensures in
-      RunsSo-taken c.args.text.now (map (λ w. w.now) c.args.inputs.now) p.compiled.checked e.program e.small p.inputs.values e.inputs c.args.count
-      c.args.trace c.args.steps c.args.names _ _ _ c.run_once.ensures);
+      RunsSo-taken c.args.text.now (map (λ w. w.now) c.args.inputs.now) p.compiled.checked e.program e.small p.inputs.values e.inputs
+      c.args.settings.elements c.args.trace c.args.settings.steps c.args.names _ _ _ c.run_once.ensures);
   refused = (let p = c.in-Ok.prepared in
       let e = c.in-Ok.ensures in
-      RunsSo-refused c.args.text.now (map (λ w. w.now) c.args.inputs.now) p.compiled.checked e.program e.small p.inputs.values e.inputs c.args.count
-      c.args.trace c.args.steps c.args.names _ _ _ c.run_once.ensures);
+      RunsSo-refused c.args.text.now (map (λ w. w.now) c.args.inputs.now) p.compiled.checked e.program e.small p.inputs.values e.inputs
+      c.args.settings.elements c.args.trace c.args.settings.steps c.args.names _ _ _ c.run_once.ensures);
   inside = (let p = c.in-Ok.prepared in
       let e = c.in-Ok.ensures in
-      RunsSo-inside c.args.text.now (map (λ w. w.now) c.args.inputs.now) p.compiled.checked e.program e.small p.inputs.values e.inputs c.args.count
-      c.args.trace c.args.steps c.args.names _ _ _ c.run_once.ensures);
+      RunsSo-inside c.args.text.now (map (λ w. w.now) c.args.inputs.now) p.compiled.checked e.program e.small p.inputs.values e.inputs
+      c.args.settings.elements c.args.trace c.args.settings.steps c.args.names _ _ _ c.run_once.ensures);
 }

@@ -1,4 +1,0 @@
-pub mod StampsLemmas
-pub mod DeliveryLemmas
-pub mod StuckLemmas
-pub mod TurnLemmas

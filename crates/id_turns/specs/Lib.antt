@@ -1,3 +1,0 @@
--- What public clauses cite.
-pub mod Turns
-pub mod Deliveries
