@@ -6,5 +6,6 @@ let b:did_ftplugin = 1
 
 setlocal comments=:%
 setlocal commentstring=%\ %s
+compiler idc
 
-let b:undo_ftplugin = "setlocal comments< commentstring<"
+let b:undo_ftplugin = "setlocal comments< commentstring< makeprg< errorformat<"
