@@ -107,8 +107,9 @@ impl<'a> Element<'a> {
         self.take_held(message, outputs, &Open)
     }
 
-    /// Handles a message as `take` does, and calls the gate's `hold` once, after the last growth and before the event is
-    /// recorded: its implementation is the caller's and is assumed to return. A call that answers an error makes none.
+    /// Handles a message as `take` does, and calls the gate's `hold` once, after the last growth and before the event
+    /// is recorded: its implementation is the caller's and is assumed to return. A call that answers an error makes
+    /// none.
     #[inline(always)]
     pub fn take_held<G: Gate>(
         &mut self,
@@ -139,8 +140,8 @@ impl<'a> Element<'a> {
         Ok(step)
     }
 
-    /// Handles a plain token that is for this element, as `take_held` does, where that is short, and says what became of
-    /// it. After an error, and where it is not short, nothing has changed and the gate was not called.
+    /// Handles a plain token that is for this element, as `take_held` does, where that is short, and says what became
+    /// of it. After an error, and where it is not short, nothing has changed and the gate was not called.
     #[inline(always)]
     pub fn take_plain_held<G: Gate>(
         &mut self,
@@ -175,8 +176,8 @@ impl<'a> Element<'a> {
     }
 
     /// Handles a read or a write of a cell that is for this element, as `take_held` does, where that is short, and
-    /// answers whether it did: all goes well then. After an error, and where it is not short, nothing has changed and the
-    /// gate was not called.
+    /// answers whether it did: all goes well then. After an error, and where it is not short, nothing has changed and
+    /// the gate was not called.
     #[inline(always)]
     pub fn take_demand_held<G: Gate>(
         &mut self,

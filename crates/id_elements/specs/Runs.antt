@@ -29,8 +29,8 @@ abbrev pub HasWent : World → Type 0
 HasWent w = All (λ s. AllWent s.events) w.elements
 
 -- a run on worker threads has come to this: its elements are so many of the graph, of which each has handled so many
--- messages at most; all events, by stamp and at one stamp by element, are a legal list from the start messages that ends
--- in these elements, with what is left in flight; and where every event went well, each message left is held back
+-- messages at most; all events, by stamp and at one stamp by element, are a legal list from the start messages that
+-- ends in these elements, with what is left in flight; and where every event went well, each message left is held back
 pub record IsRun (g : Parts) (vs : List Constant) (count steps : ℕ) (m : MachineView) : Type 0 where
   pub graph_is : m.graph ≡ g
   pub count_is : m.count ≡ count

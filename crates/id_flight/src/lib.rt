@@ -3,7 +3,8 @@
 //! Keeps: each message in the queue, whole and in order.
 //! Errors: want of memory alone, and then the messages are the same.
 //! Read first: `Queue`, then `specs/Parcels.antt`.
-//! Not here: the element that a message goes to (`id_tag`), the order in which messages are taken out (`id_core`).
+//! Not here: the element that a message goes to (`id_tag`), the order in which messages are taken out
+//! (`id_gap`, `id_inbox`).
 #![tactic(auto)]
 
 mod demand;

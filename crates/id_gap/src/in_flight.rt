@@ -1,4 +1,4 @@
-//! What is in flight, as a machine keeps it: a list with a gap, at which messages are taken out.
+//! What is in flight, as a machine and a worker keep it: a list with a gap, at which messages are taken out.
 
 ghost use Rattle.std.specs.Prelude.{◌≡◌, ◌+◌, ◌++◌, ◌≤◌, ◌↔◌, length, OnOk, IsTrue, true};
 
@@ -418,8 +418,8 @@ impl InFlight {
         taken
     }
 
-    /// Passes the message at a position to an element: it leaves the list, which closes up, and what is sent goes to the
-    /// end of the queue that is lent. After an error nothing has changed.
+    /// Passes the message at a position to an element: it leaves the list, which closes up, and what is sent goes to
+    /// the end of the queue that is lent. After an error nothing has changed.
     #[inline(always)]
     pub fn pass_at<G: Gate>(
         &mut self,
