@@ -1,0 +1,12 @@
+pub mod Counting
+pub mod Told
+pub mod Paid
+pub mod Keys
+pub mod Bounds
+pub mod Ending
+pub mod Blocks
+pub mod BlockKeys
+pub mod ByBlocks
+pub mod EndedLemmas
+pub mod StampsLemmas
+pub mod RestLemmas

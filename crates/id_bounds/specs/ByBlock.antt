@@ -1,0 +1,59 @@
+-- How many messages a run has, by the blocks of which its paths are turns (docs/MEANING.md, "Laws").
+use Rattle.std.specs.Prelude.{◌≡◌, ◌<◌, ◌≤◌, ℕ, suc, true, List, length, map, sum_by}
+use Rattle.id_list.specs.List.{Among, AllDiffer}
+use Rattle.id_table.specs.Tables.{is_thing}
+use Rattle.id_check.specs.declared.checked.Checked.{Checked}
+use Rattle.id_check.specs.Programs.{place, rows}
+use Rattle.id_desugar.specs.Regions.{in_block, those}
+use Rattle.id_core.specs.Machines.{World}
+use Rattle.id_source.specs.declared.Path.{Path}
+use Rattle.id_source.specs.declared.Fact.TheVariants.{On}
+use Rattle.id_source.specs.Sources.{Source, AreInputs}
+use Rattle.id_source.specs.Rounds.{Holds}
+use Rattle.id_pieces.specs.declared.arc.Form.{Form}
+use Rattle.id_pieces.specs.declared.arc.Form.TheVariants.{Plain, EnterAt, SendTo, FetchAt}
+use Rattle.id_pieces.specs.declared.arc.Piece.{Piece}
+use Rattle.id_pieces.specs.Rows.{answer_row, made, node}
+use Rattle.id_laws.specs.Determinate.{RunOf, end_of}
+use Rattle.id_laws.specs.Laws.{messages}
+use Rattle.id_bounds.specs.Bounded.{messages_for}
+
+-- how many messages an instruction of this form may have under one tag
+abbrev pub messages_of : Form → ℕ
+messages_of (Plain o) = messages_for o
+messages_of (EnterAt h c) = 1
+messages_of (SendTo k n j) = 2
+messages_of (FetchAt n) = 2
+
+-- how many all instructions of a row may have
+abbrev pub messages_in_row : Checked → ℕ → ℕ
+messages_in_row P n = sum_by (λ (q : Piece). messages_of q.form) (made P n)
+
+-- how many the rows of the block with this head may have in one iteration of one context, the answer's row aside
+abbrev pub messages_in_block : Checked → ℕ → ℕ
+messages_in_block P h = sum_by (messages_in_row P) (those (in_block P h) (answer_row P))
+
+-- a path, and the head of a block
+pub record Turn : Type 0 where
+  pub path : Path
+  pub head : ℕ
+
+-- a thing that stands in the block is On at the path
+pub record IsTurn (S : Source) (t : Turn) : Type 0 where
+  pub row : ℕ
+  pub within : row < length (rows S.checked)
+  pub thing : is_thing (node S.checked row) ≡ true
+  pub stands : in_block S.checked t.head row ≡ true
+  pub on : Holds S (On t.path (place S.checked row))
+
+-- what was handled and what is in flight in this state is paid for by turns of blocks at so many different paths, save
+-- the answer
+pub record IsBoundedByBlock (S : Source) (s : World) : Type 0 where
+  pub turns : List Turn
+  pub differ : AllDiffer (map (λ (t : Turn). t.path) turns)
+  pub active : (t : Turn) → Among t turns → IsTurn S t
+  pub few : length (messages s) ≤ suc (sum_by (λ (t : Turn). messages_in_block S.checked t.head) turns)
+
+-- *Bounded by block*: so it is in every run of every source
+abbrev pub BoundedByBlock : Type 0
+BoundedByBlock = (S : Source) → AreInputs S.checked S.inputs → (r : RunOf S) → IsBoundedByBlock S (end_of S r)
