@@ -11,8 +11,8 @@ pub use Rattle.id_observe.specs.Observed.{CellValue}
 pub use Rattle.id_observe.specs.Observed.{events_of, brought, source_value, answers, answer_in, place_of, path_of}
 pub use Rattle.id_observe.specs.Observed.{path_in, fault_of, faults_of, faults_in, is_value_merge, is_next, claims}
 pub use Rattle.id_observe.specs.Observed.{is_label_of, is_label, name_at, name_in, names_of, names_in}
-pub use Rattle.id_observe.specs.Observed.{ask_of, asks_in, cells_in, cell_value, cell_values_in, made, maker_in}
-pub use Rattle.id_observe.specs.Observed.{name_by, put_of, reader_in}
+pub use Rattle.id_observe.specs.Observed.{ask_of, asks_of, asks_in, cells_in, cell_value, cell_values_in, made}
+pub use Rattle.id_observe.specs.Observed.{maker_in, name_by, put_of, reader_in}
 pub use Rattle.id_observe.specs.Observed.{second_store, shape_of, shapes_of, site_at, site_cmp, structure_in}
 pub use Rattle.id_observe.specs.Observed.{structures_in, waiting_in}
 use Rattle.id_core.specs.Machines.{World}

@@ -16,11 +16,12 @@ use id_gap::{Flight, InFlight};
 use id_inputs::Inputs;
 use id_instr::Port;
 use id_observe::{
-    Holdings, Observed, answer, first_fault, main_tag, observe_holdings, observe_records,
+    Holdings, Observed, answer, first_fault, main_tag, observe_holdings, observe_names,
+    observe_records,
 };
 use id_ops::value_of;
 use id_record::Step;
-use id_source::{SourceFault, SourceValue};
+use id_source::{NameValue, SourceFault, SourceValue};
 use id_tag::{Message, Payload, Sender, Value, route};
 use id_valid::Valid;
 use id_value::Constant;
@@ -95,7 +96,7 @@ impl<'a> Machine<'a> {
     ghost use Rattle.id_core.specs.declared.machine.MachineError.TheVariants.{BadElements};
     ghost use Rattle.id_firing.specs.declared.step.TakeError.TheVariants.{StampEnd};
     ghost use Rattle.id_firing.specs.Fits.{Fits};
-    ghost use Rattle.id_core.specs.Observed.{answer, cell_values, cells, faults, names, structures, waiting};
+    ghost use Rattle.id_core.specs.Observed.{answer, asks, cell_values, cells, faults, names, structures, waiting};
     ghost use Rattle.id_core.specs.Machines.{AreElements, IsMachine, IsQuiet, TakesInputs};
     ghost use Rattle.id_core.specs.Machines.{delivered, event_at, start};
     ghost use Rattle.id_core.specs.Machines.{world_of};
@@ -193,13 +194,14 @@ impl<'a> Machine<'a> {
         Flight::new(&self.flight)
     }
 
-    /// What the run so far shows: the answer, what binders have, structures and their cells, fetches that wait, and the
-    /// faults.
+    /// What the run so far shows: the answer, what binders have, structures and their cells, what fetches ask for and
+    /// which of them wait, and the faults.
     pub fn observe(&self, alloc: Global) -> Result<Observed, AllocError>
         ensures answer { IfOk result (λ o. o.answer ≡ answer self.now.graph self.now.world) }
         ensures names { IfOk result (λ o. o.names ≡ names self.now.graph self.now.world) }
         ensures structures { IfOk result (λ o. o.structures ≡ structures self.now.graph self.now.world) }
         ensures cells { IfOk result (λ o. o.cells ≡ cells self.now.graph self.now.world) }
+        ensures asks { IfOk result (λ o. o.asks ≡ asks self.now.graph self.now.world) }
         ensures waiting { IfOk result (λ o. o.waiting ≡ waiting self.now.graph self.now.world) }
         ensures faults { IfOk result (λ o. o.faults ≡ faults self.now.graph self.now.world) }
     {
@@ -213,6 +215,13 @@ impl<'a> Machine<'a> {
         ensures { IfOk result (λ o. o ≡ answer self.now.graph self.now.world) }
     {
         answer(alloc, self.graph, self.elements.as_slice())
+    }
+
+    /// What the run so far shows that binders have, for who asks for nothing else.
+    pub fn names(&self, alloc: Global) -> Result<Vec<NameValue>, AllocError>
+        ensures { IfOk result (λ v. v.items ≡ names self.now.graph self.now.world) }
+    {
+        observe_names(alloc, self.graph, self.elements.as_slice())
     }
 
     /// What the run so far shows of its answer and of structures, for who asks for nothing else: by one look through

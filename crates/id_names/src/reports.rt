@@ -132,8 +132,8 @@ fn machine_names(alloc: Global, machine: &Machine<'_>) -> Result<Sequence<NameVa
     ensures sorted { IfOk result (λ ns. IsSortedOf ns (names machine.now.graph machine.now.world)) }
     ensures rise { IfOk result (λ ns. AreApart (names machine.now.graph machine.now.world) → NamesRise ns) }
 {
-    let shown = machine.observe(alloc)?;
-    Ok(sorted_names(shown.names))
+    let names = machine.names(alloc)?;
+    Ok(sorted_names(Sequence::new(names)))
 }
 
 /// How a run ended. The records are looked at only where there is a fault.

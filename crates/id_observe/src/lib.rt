@@ -16,4 +16,4 @@ pub use holdings::{Holdings, observe_holdings};
 pub use id_merge::{Merged, first_fault, merge_records};
 pub use id_observed::CellValue;
 pub use id_paths::main_tag;
-pub use observe::{Observed, observe_records};
+pub use observe::{Observed, observe_names, observe_records};

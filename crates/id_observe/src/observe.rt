@@ -6,7 +6,7 @@ ghost use Rattle.std.specs.Prelude.{slice_get};
 ghost use Rattle.std.specs.Prelude.{IfOk, option_and_then};
 ghost use Rattle.std.specs.List.{filter_map, flat_map};
 ghost use Rattle.id_slot.specs.Cells.{cells_of, deferred_of};
-ghost use Rattle.id_observed.specs.Observed.{answer_in, ask_of, cells_in};
+ghost use Rattle.id_observed.specs.Observed.{answer_in, ask_of, asks_in, asks_of, cells_in};
 ghost use Rattle.id_paths.specs.Paths.{events_of};
 ghost use Rattle.id_paths.specs.Sourced.{faults_in, faults_of};
 ghost use Rattle.id_observed.specs.Observed.{first_value};
@@ -20,7 +20,7 @@ ghost use Rattle.id_paths.specs.Paths.{path_by};
 use id_element::Element;
 use id_list::Sequence;
 use id_merge::all_faults;
-use id_observed::{all_cells, all_names, all_structures, all_waiting};
+use id_observed::{all_asks, all_cells, all_names, all_structures, all_waiting};
 use id_paths::{Paths, value_in};
 use id_source::{Ask, NameValue, Put, Shape, SourceFault, SourceValue};
 use id_valid::Valid;
@@ -37,6 +37,8 @@ pub struct Observed {
     pub structures: Sequence<Shape>,
     /// For each cell that holds a value, one element's cells after another's: what is put into it, and by which store.
     pub cells: Sequence<Put>,
+    /// For each read that was handled, one element's record after another's: which fetch asks for which cell.
+    pub asks: Sequence<Ask>,
     /// For each reply that waits for a cell's value, one element's cells after another's: which fetch asks for which
     /// cell.
     pub waiting: Sequence<Ask>,
@@ -54,11 +56,24 @@ pub fn observe_records(
     ensures names { IfOk result (λ o. o.names ≡ names_in graph.now (map (λ e. e.state) elements.now)) }
     ensures structures { IfOk result (λ o. o.structures ≡ structures_in graph.now (map (λ e. e.state) elements.now)) }
     ensures cells { IfOk result (λ o. o.cells ≡ cells_in graph.now (map (λ e. e.state) elements.now)) }
+    ensures asks { IfOk result (λ o. o.asks ≡ asks_in graph.now (map (λ e. e.state) elements.now)) }
     ensures waiting { IfOk result (λ o. o.waiting ≡ waiting_in graph.now (map (λ e. e.state) elements.now)) }
     ensures faults { IfOk result (λ o. o.faults ≡ faults_in graph.now (map (λ e. e.state) elements.now)) }
 {
     let paths = Paths::new(alloc, graph.graph(), elements)?;
     shown_by(alloc, &paths, elements)
+}
+
+/// What the records of these elements show that binders have, for who asks for nothing else.
+pub fn observe_names(
+    alloc: Global,
+    graph: &Valid,
+    elements: &[Element<'_>],
+) -> Result<Vec<NameValue>, AllocError>
+    ensures { IfOk result (λ v. v.items ≡ names_in graph.now (map (λ e. e.state) elements.now)) }
+{
+    let paths = Paths::new(alloc, graph.graph(), elements)?;
+    all_names(alloc, &paths, elements)
 }
 
 /// What the records of these elements show, by these paths and names.
@@ -77,6 +92,9 @@ fn shown_by(
     ensures cells { IfOk result (λ o. o.cells
         ≡ filter_map (put_of paths.now.graph.now (path_by paths.now) (structure_by paths.now))
         (flat_map (λ e. cells_of e.cells) (map (λ e. e.state) elements.now))) }
+    ensures asks { IfOk result (λ o. o.asks
+        ≡ asks_of paths.now.graph.now (path_by paths.now) (structure_by paths.now)
+        (events_of (map (λ e. e.state) elements.now))) }
     ensures waiting { IfOk result (λ o. o.waiting
         ≡ map (ask_of paths.now.graph.now (path_by paths.now) (structure_by paths.now))
         (flat_map (λ e. deferred_of e.cells) (map (λ e. e.state) elements.now))) }
@@ -91,36 +109,44 @@ fn shown_by(
         names: told.names,
         structures: held.structures,
         cells: held.cells,
+        asks: told.asks,
         waiting: held.waiting,
         faults: told.faults,
     })
 }
 
-/// The answer, what binders have, and the faults.
+/// The answer, what binders have, what fetches ask for, and the faults.
 #[derive(Drop)]
 struct Told {
     answer: Option<SourceValue>,
     names: Sequence<NameValue>,
+    asks: Sequence<Ask>,
     faults: Sequence<SourceFault>,
 }
 
-/// The answer that the records of these elements show, what binders have, and their faults, by these paths and names.
+/// The answer that the records of these elements show, what binders have, what fetches ask for, and their faults, by
+/// these paths and names.
 fn told_by(alloc: Global, paths: &Paths<'_>, elements: &[Element<'_>]) -> Result<Told, AllocError>
     ensures answer { IfOk result (λ o. o.answer
         ≡ option_and_then (source_value (structure_by paths.now)) (slice_get paths.now.values.items 0)) }
     ensures names { IfOk result (λ o. o.names
         ≡ names_of paths.now.graph.now (path_by paths.now) (structure_by paths.now)
         (events_of (map (λ e. e.state) elements.now))) }
+    ensures asks { IfOk result (λ o. o.asks
+        ≡ asks_of paths.now.graph.now (path_by paths.now) (structure_by paths.now)
+        (events_of (map (λ e. e.state) elements.now))) }
     ensures faults { IfOk result (λ o. o.faults
         ≡ faults_of paths.now.graph.now (path_by paths.now) (structure_by paths.now)
         (events_of (map (λ e. e.state) elements.now))) }
 {
     let names = all_names(alloc, paths, elements)?;
+    let asks = all_asks(alloc, paths, elements)?;
     let faults = all_faults(alloc, paths, elements)?;
     let answer = value_in(alloc, paths, paths.first_value())?;
     Ok(Told {
         answer,
         names: Sequence::new(names),
+        asks: Sequence::new(asks),
         faults: Sequence::new(faults),
     })
 }

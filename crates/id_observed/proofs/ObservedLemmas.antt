@@ -12,12 +12,16 @@ use Rattle.id_source.specs.declared.Path.{Path}
 use Rattle.id_source.specs.declared.Put.{Put}
 use Rattle.id_source.specs.declared.Site.{Site}
 use Rattle.id_source.specs.declared.SourceValue.{SourceValue}
+use Rattle.id_tag.specs.declared.Payload.{Payload}
 use Rattle.id_slot.specs.declared.Filled.{Filled}
-use Rattle.id_observed.specs.Observed.{cell_value, cell_value_of, label_marks}
+use Rattle.id_slot.specs.declared.Reader.{Reader}
+use Rattle.id_line.specs.Events.{EventView}
+use Rattle.id_desk.specs.Replays.{ElementView}
+use Rattle.id_observed.specs.Observed.{ask_of, asks_of, cell_value, cell_value_of, label_marks, reader_in}
 use Rattle.id_observed.specs.Observed.{is_label, is_label_of, put_of}
 use Rattle.id_paths.specs.Sourced.{source_value}
-use Rattle.id_paths.specs.Paths.{site_at}
-use Rattle.id_paths.proofs.WalksLemmas.{take-next}
+use Rattle.id_paths.specs.Paths.{events_of, site_at}
+use Rattle.id_paths.proofs.WalksLemmas.{filter_map-next_part, take-next, walk-next}
 
 -- what cells hold is that of what is put into them
 pub cell_values-from_puts : (g : Parts) (path : Tag → Path) (name : Structure → Site) (fs : List Filled) →
@@ -49,3 +53,23 @@ pub marks-next : (g : Parts) (is : List Instr) (k : ℕ) (i : Instr) (m : Bool) 
 marks-next g is k i m at mark =
     ap (map (λ j. is_label_of g (Some j))) (take-next is k i at) ∙ map-append (λ j. is_label_of g (Some j)) (take k is) (i ∷ [])
     ∙ ap (λ b. map (λ j. is_label_of g (Some j)) (take k is) ++ b ∷ []) (sym mark)
+
+-- what the fetches of one more event, and of one more record, ask for comes after what those before ask for
+pub asks_of-events : (g : Parts) (path : Tag → Path) (name : Structure → Site) (es : List EventView) (i : ℕ) (x : Payload)
+    → option_map (λ e. e.message.payload) (slice_get es i) ≡ Some x
+    → asks_of g path name (take (i + 1) es) ≡ asks_of g path name (take i es) ++ cons_option (option_map (ask_of g path name) (reader_in x)) []
+asks_of-events g path name es i x at =
+    let before = filter_map (λ e. reader_in e.message.payload) (take i es) in
+    ap (map (ask_of g path name)) (filter_map-next_part (λ e. e.message.payload) reader_in es i x at)
+    ∙ map-append (ask_of g path name) before (cons_option (reader_in x) []) ∙ ap (λ l. map (ask_of g path name) before ++ l) (one (reader_in x))
+  where
+    one : (o : Option Reader) → map (ask_of g path name) (cons_option o []) ≡ cons_option (option_map (ask_of g path name) o) []
+    one None = refl
+    one (Some r) = refl
+
+pub asks_of-records : (g : Parts) (path : Tag → Path) (name : Structure → Site) (es : List ElementView) (i : ℕ) (e : ElementView)
+    → slice_get es i ≡ Some e
+    → asks_of g path name (events_of (map (λ x. x.state) (take (i + 1) es)))
+    ≡ asks_of g path name (events_of (map (λ x. x.state) (take i es))) ++ asks_of g path name e.state.events
+asks_of-records g path name es i e at =
+    ap (map (ask_of g path name)) (walk-next (λ s. s.events) (λ v. reader_in v.message.payload) es i e at) ∙ map-append (ask_of g path name) _ _

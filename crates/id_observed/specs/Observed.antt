@@ -135,11 +135,13 @@ reader_in (Token t p v) = None
 reader_in (Read c t) = Some (record { cell = c; reply = t })
 reader_in (Write c v t) = None
 
+-- what the fetches ask for whose reads these events are, where each tag has this path and each structure this name
+abbrev pub asks_of : Parts → (Tag → Path) → (Structure → Site) → List EventView → List Ask
+asks_of g path name es = map (ask_of g path name) (filter_map (λ e. reader_in e.message.payload) es)
+
 -- what the fetches ask for whose reads the records of these elements show
 abbrev pub asks_in : Parts → List State → List Ask
-asks_in g elements =
-    map (ask_of g (path_in g elements) (structure_in g elements))
-    (filter_map (λ e. reader_in e.message.payload) (events_of elements))
+asks_in g elements = asks_of g (path_in g elements) (structure_in g elements) (events_of elements)
 
 -- For use inside.
 

@@ -7,6 +7,8 @@
 //!     tags and what values are in the source (`id_paths`).
 #![tactic(auto)]
 
+mod asks;
 mod observe;
 
+pub use asks::all_asks;
 pub use observe::{CellValue, Named, all_cells, all_names, all_structures, all_waiting};

@@ -371,7 +371,7 @@ fn add_asks(
 }
 
 /// The cell that the fetch of a reply asks for.
-fn ask_of(alloc: Global, paths: &Paths<'_>, reader: Reader) -> Result<Ask, AllocError>
+pub(crate) fn ask_of(alloc: Global, paths: &Paths<'_>, reader: Reader) -> Result<Ask, AllocError>
     ensures { IfOk result (λ a. a ≡ ask_of paths.now.graph.now (path_by paths.now) (structure_by paths.now) reader) }
 {
     Ok(Ask {

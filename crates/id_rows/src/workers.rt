@@ -18,7 +18,7 @@ use std::thread;
 use std::thread::Threads;
 
 /// The graph of a text without inputs.
-fn graph_of(alloc: Global, text: &str) -> Result<Valid, AllocError> {
+pub(crate) fn graph_of(alloc: Global, text: &str) -> Result<Valid, AllocError> {
     match compile(alloc, text) {
         Ok(compiled) => Ok(compiled.into_valid()),
         Err(_) => Err(AllocError),
@@ -26,7 +26,7 @@ fn graph_of(alloc: Global, text: &str) -> Result<Valid, AllocError> {
 }
 
 /// The run of a graph without inputs, on so many elements, by at most so many threads.
-fn run_on<'a, R: Abort + AllocGlobal + Threads + Wait + Sync, G: Gate + Sync>(
+pub(crate) fn run_on<'a, R: Abort + AllocGlobal + Threads + Wait + Sync, G: Gate + Sync>(
     rt: &R,
     graph: &'a Valid,
     elements: u32,

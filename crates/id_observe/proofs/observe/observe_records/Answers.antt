@@ -3,7 +3,7 @@ use Rattle.std.proofs.Common.{◌≡◌, IfOk, ap, map, subst, ◌∙◌}
 use Rattle.std.specs.List.{filter_map, flat_map}
 use Rattle.std.specs.Prelude.{option_and_then, slice_get}
 use Rattle.id_slot.specs.Cells.{cells_of, deferred_of}
-use Rattle.id_observed.specs.Observed.{answer_in, ask_of, names_of, put_of}
+use Rattle.id_observed.specs.Observed.{answer_in, ask_of, asks_of, names_of, put_of}
 use Rattle.id_paths.specs.Sourced.{faults_of, source_value}
 use Rattle.id_paths.specs.Paths.{answers, events_of, path_in, structure_by, structure_in}
 use Rattle.id_paths.specs.Paths.{path_by}
@@ -24,6 +24,7 @@ returns-in_err-paths c = record {
   names = if_err _ c.from_residual.result c.from_residual.ensures.0;
   structures = if_err _ c.from_residual.result c.from_residual.ensures.0;
   cells = if_err _ c.from_residual.result c.from_residual.ensures.0;
+  asks = if_err _ c.from_residual.result c.from_residual.ensures.0;
   waiting = if_err _ c.from_residual.result c.from_residual.ensures.0;
   faults = if_err _ c.from_residual.result c.from_residual.ensures.0;
 }
@@ -90,3 +91,16 @@ returns-clause-faults c =
     ∙ ap (λ name. faults_of g (path_in g ss) name (events_of ss)) told.structures
     ∙ ap (λ h. faults_of h (path_in h ss) (structure_in h ss) (events_of ss)) c.graph.ensures.value)
     c.shown_by.ensures.faults
+
+pub returns-clause-asks : goal.returns-clause-asks
+returns-clause-asks c =
+    let told = c.in_ok-paths.ensures in
+    let ss = map (λ e. e.state) c.args.elements.now in
+    let g = c.graph.result.now in
+    let p = c.in_ok-paths.paths in
+    subst (λ l. IfOk c.shown_by.result (λ o. o.asks ≡ l))
+    (ap (λ h. asks_of h (path_by p) (structure_by p) (events_of ss)) told.graph
+    ∙ ap (λ at. asks_of g at (structure_by p) (events_of ss)) told.paths
+    ∙ ap (λ name. asks_of g (path_in g ss) name (events_of ss)) told.structures
+    ∙ ap (λ h. asks_of h (path_in h ss) (structure_in h ss) (events_of ss)) c.graph.ensures.value)
+    c.shown_by.ensures.asks

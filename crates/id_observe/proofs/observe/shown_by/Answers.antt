@@ -8,6 +8,7 @@ returns-in_err-told c = record {
   names = if_err _ c.from_residual.result c.from_residual.ensures.0;
   structures = if_err _ c.from_residual.result c.from_residual.ensures.0;
   cells = if_err _ c.from_residual.result c.from_residual.ensures.0;
+  asks = if_err _ c.from_residual.result c.from_residual.ensures.0;
   waiting = if_err _ c.from_residual.result c.from_residual.ensures.0;
   faults = if_err _ c.from_residual.result c.from_residual.ensures.0;
 }
@@ -18,6 +19,7 @@ returns-in_err-held c = record {
   names = if_err _ c.from_residual-in_err-held.result c.from_residual-in_err-held.ensures.0;
   structures = if_err _ c.from_residual-in_err-held.result c.from_residual-in_err-held.ensures.0;
   cells = if_err _ c.from_residual-in_err-held.result c.from_residual-in_err-held.ensures.0;
+  asks = if_err _ c.from_residual-in_err-held.result c.from_residual-in_err-held.ensures.0;
   waiting = if_err _ c.from_residual-in_err-held.result c.from_residual-in_err-held.ensures.0;
   faults = if_err _ c.from_residual-in_err-held.result c.from_residual-in_err-held.ensures.0;
 }
