@@ -147,7 +147,7 @@ recorded_in : (w : World) (e : State) (v : EventView) → Among e w.elements →
 recorded_in w e v a b = let k = at-from_Among e w.elements a in record { element = k.0; state = e; at = k.1; among = b }
 
 -- where no fault was shown and no event was `Stuck`, every event went well
-all_went : (g : Parts) (w : World) → IsNeverStuck w → faults g w ≡ [] → All (λ e. AllWent e.events) w.elements
+all_went : (g : Parts) (w : World) → IsNeverStuck g w → faults g w ≡ [] → All (λ e. AllWent e.events) w.elements
 all_went g w never none =
     all_among _ w.elements (λ e a. all_among _ e.events (λ v b. (
     let here = among_events w v (recorded_in w e v a b) in

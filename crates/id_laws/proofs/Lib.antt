@@ -60,6 +60,7 @@ pub mod SoundValues
 pub mod LabelsBind
 pub mod SoundNames
 pub mod SoundCells
+pub mod PathsApart
 pub mod SoundRuns
 pub mod QuietCells
 pub mod Known

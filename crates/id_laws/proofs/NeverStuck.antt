@@ -24,7 +24,7 @@ use Rattle.id_runs.proofs.Keys.{count_append}
 use Rattle.id_runs.proofs.Meeting.{never_blocked}
 use Rattle.id_runs.proofs.OneMessage.{at_most_one, few}
 use Rattle.id_runs.proofs.RecordsOfRuns.{from_record, recorded, told_all}
-use Rattle.id_laws.specs.Laws.{IsNeverStuck, events, messages, asks_for, is_for, stores_from}
+use Rattle.id_laws.specs.Laws.{ArePathsApart, IsNeverStuck, events, messages, asks_for, is_for, stores_from}
 
 -- a token is for a port where it has its key
 same_test : (t : Tag) (p : Port) (x : Payload) → is_for t p x ≡ same_key (key_of x) (AtPort t p)
@@ -73,11 +73,12 @@ module _ (S : Source) (g : Parts) (count : ℕ) (only : Exclusive g S.inputs cou
         at_most_one g S.inputs count only s run r k,
       )
 
-  -- no event is `Stuck`, and each port under a tag, each fetch and each store has one message at most
-  pub never_stuck_at : IsNeverStuck s
-  never_stuck_at = record {
+  -- no event is `Stuck`, each port under a tag, each fetch and each store has one message at most, and paths are apart
+  pub never_stuck_at : ArePathsApart g s → IsNeverStuck g s
+  never_stuck_at apart = record {
     goes_on = goes_on;
     one_token = λ t p. one_message (is_for t p) (AtPort t p) (same_test t p);
     one_read = λ t. one_message (asks_for t) (ByFetch t) (asks_test t);
     one_write = λ t. one_message (stores_from t) (ByStore t) (stores_test t);
+    paths_apart = apart;
   }

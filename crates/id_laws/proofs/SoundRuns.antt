@@ -11,6 +11,7 @@ use Rattle.id_laws.specs.Laws.{IsSound, IsNeverStuck}
 use Rattle.id_laws.proofs.Assumed.{IsKnown}
 use Rattle.id_laws.proofs.OneSender.{exclusive}
 use Rattle.id_laws.proofs.NeverStuck.{never_stuck_at}
+use Rattle.id_laws.proofs.PathsApart.{messages_apart}
 use Rattle.id_laws.proofs.StartTells.{all_tell, all_speak}
 use Rattle.id_laws.proofs.SoundAnswer.{sound_answer}
 use Rattle.id_laws.proofs.SoundNames.{sound_names, names_differ}
@@ -43,6 +44,7 @@ module _ (S : Source) (known : IsKnown S.checked) (g : Parts) (number : ℕ → 
     values = sound_values S known g number numbered count s run r;
   }
 
-  -- no event is `Stuck`, and each key has at most one message
-  pub free_at : IsNeverStuck s
-  free_at = never_stuck_at S g count (alone S known g number numbered count) s run r
+  -- no event is `Stuck`, each key has at most one message, and each path one context and iteration
+  pub free_at : IsNeverStuck g s
+  free_at =
+      never_stuck_at S g count (alone S known g number numbered count) s run r (messages_apart S known g number numbered count s run r)

@@ -67,7 +67,7 @@ module _ (S : Source) (known : IsKnown S.checked) (g : Parts) (number : ℕ → 
   entries = enter_in g (events s)
 
   -- the context is live at iteration 0 alone, if a call has made it
-  abbrev CallFirst : Context → ℕ → Type 0
+  abbrev pub CallFirst : Context → ℕ → Type 0
   CallFirst c k = (b : Activation) (n x : ℕ) → n < length (rows P) → node P n ≡ Enter x → Opens S number run b n c → k ≡ 0
 
   pub first_of : {a : Activation} {q : Region} → Live S number run a q → CallFirst a.context a.iteration
@@ -160,8 +160,12 @@ module _ (S : Source) (known : IsKnown S.checked) (g : Parts) (number : ℕ → 
       let y = chain x in
       subst (λ n. n ≤ length (events s)) y.long (few_entered g S.inputs count s run r y.contexts y.differ (λ o h. (y.each o h).entered))
 
-  -- the path of a tag is that of its activation
+  -- the path of a tag is that of its activation, where a call has made no other than its first iteration
+  pub path_seated : (t : Tag) (p : Path) → CallFirst t.context t.iteration → PathOf S number run (activation_of t) p → shown.path_in g s.elements t ≡ p
+  path_seated t p first h =
+      path_of-leads g (events s) t (depth h.seat) (path_at h.seat t.iteration).steps (leads h.of_context t refl first) (few h.of_context) ∙ sym h.is
+
+  -- so it is where a region is live
   pub path_shown : (t : Tag) (p : Path) {q : Region} → Live S number run (activation_of t) q → PathOf S number run (activation_of t) p →
       shown.path_in g s.elements t ≡ p
-  path_shown t p live h =
-      path_of-leads g (events s) t (depth h.seat) (path_at h.seat t.iteration).steps (leads h.of_context t refl (first_of live)) (few h.of_context) ∙ sym h.is
+  path_shown t p live h = path_seated t p (first_of live) h

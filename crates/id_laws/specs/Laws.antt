@@ -40,6 +40,7 @@ use Rattle.id_pieces.specs.declared.arc.Form.{Form}
 use Rattle.id_pieces.specs.Rows.{label}
 use Rattle.id_pieces.specs.Schemas.{Makes, Schemas}
 use Rattle.id_valid.specs.Validator.{IsValid}
+use Rattle.id_runs.specs.Activations.{activation_of}
 -- *Suited* speaks of the runs of every valid graph, *Serials* of those of every graph
 pub use Rattle.id_runs.specs.Suited.{Suited}
 pub use Rattle.id_runs.specs.Serials.{Serials}
@@ -112,13 +113,20 @@ pub record IsSound (S : Source) (g : Parts) (number : ℕ → ℕ → ℕ) (s : 
       → (tag_of v.message.payload).instr ≡ number n (giving_part (at (rows S.checked) n).node) → Among m v.outputs
       → Carries S (shown.structure_in g s.elements) (shown.path_in g s.elements (tag_of v.message.payload)) e m
 
+-- what was handled or is in flight in this state has one path only under one context at one iteration
+abbrev pub ArePathsApart : Parts → World → Type 0
+ArePathsApart g s = (x y : Payload) → Among x (messages s) → Among y (messages s)
+    → shown.path_in g s.elements (tag_of x) ≡ shown.path_in g s.elements (tag_of y)
+    → activation_of (tag_of x) ≡ activation_of (tag_of y)
+
 -- in this state no event was `Stuck`, each port has got at most one token under each tag, each fetch has asked at most
--- once and each store has stored at most once
-pub record IsNeverStuck (s : World) : Type 0 where
+-- once, each store has stored at most once, and different contexts and iterations have different paths
+pub record IsNeverStuck (g : Parts) (s : World) : Type 0 where
   pub goes_on : (v : EventView) → Among v (events s) → v.step ≢ Stuck
   pub one_token : (t : Tag) (p : Port) → count_by (is_for t p) (messages s) ≤ 1
   pub one_read : (t : Tag) → count_by (asks_for t) (messages s) ≤ 1
   pub one_write : (t : Tag) → count_by (stores_from t) (messages s) ≤ 1
+  pub paths_apart : ArePathsApart g s
 
 -- the answer shown in this state is exactly the source's, so are what binders Have, structures, what is put into cells,
 -- what fetches ask for and which of them wait, and the source has no fault
@@ -138,10 +146,10 @@ abbrev pub Soundness : Type 0
 Soundness = (S : Source) (g : Parts) (count : ℕ) (ks : List ℕ) → AreInputs S.checked S.inputs
     → (schemas : Schemas S.checked g) → IsSound S g schemas.number (run g count ks (start g S.inputs count))
 
--- *Never stuck*: of each such graph, every list of deliveries leaves no element stuck
+-- *Never stuck*: of each such graph, every list of deliveries leaves no element stuck, and no two contexts one path
 abbrev pub NeverStuck : Type 0
 NeverStuck = (S : Source) (g : Parts) (count : ℕ) (ks : List ℕ) → AreInputs S.checked S.inputs → Schemas S.checked g
-    → IsNeverStuck (run g count ks (start g S.inputs count))
+    → IsNeverStuck g (run g count ks (start g S.inputs count))
 
 -- *Quiet is complete*: of each such graph, a list of deliveries after which the machine is quiet has shown everything
 abbrev pub QuietIsComplete : Type 0

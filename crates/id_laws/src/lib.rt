@@ -19,8 +19,9 @@ pub fn sound()
     ensures { Soundness }
 {}
 
-/// *Never stuck*: no event of any run of a schemas' graph is `Stuck`, and no port gets two tokens under
-/// one tag (docs/MEANING.md, "Laws"). Takes no memory.
+/// *Never stuck*: no event of any run of a schemas' graph is `Stuck`, no port gets two tokens under
+/// one tag, and no two contexts, nor two iterations of one, have one path (docs/MEANING.md, "Laws"). Takes
+/// no memory.
 pub fn never_stuck()
     ensures { NeverStuck }
 {}
