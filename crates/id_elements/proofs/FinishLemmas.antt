@@ -1,10 +1,10 @@
 -- The calling thread goes on with what is left (specs/Runs.antt).
-use Rattle.std.proofs.Common.{◌≡◌, ◌≢◌, ℕ, zero, suc, ◌+◌, ◌-◌, ◌^◌, ◌==◌, ◌<◌, ◌≤◌, ◌⊎◌, Bool, true, false, cond, ◌||◌, inl, inr, List, [], ◌∷◌, ◌++◌, All, length, take, drop, Option, Some, None, IsTrue, IsFalse, refl, sym, ap, subst, ◌∙◌, arith, length-append, length-set, append_assoc, get_or, set, get_or-set_same, get_or-set_other}
-use Rattle.std.specs.Prelude.{slice_get, slice_set, map, option_map}
-use Rattle.std.specs.List.{flat_map, remove, sum_by}
+use Rattle.std.proofs.Common.{◌≡◌, ◌≢◌, ℕ, zero, suc, ◌+◌, ◌-◌, ◌^◌, ◌==◌, ◌<◌, ◌≤◌, ◌⊎◌, Bool, true, false, cond, ◌||◌, inl, inr, List, [], ◌∷◌, ◌++◌, All, length, take, drop, Some, None, IsTrue, IsFalse, refl, sym, ap, subst, ◌∙◌, arith, length-append, length-set, append_assoc, get_or, get_or-set_same, get_or-set_other}
+use Rattle.std.specs.Prelude.{slice_get, slice_set, option_map}
+use Rattle.std.specs.List.{remove, sum_by}
 use Rattle.std.proofs.lemmas.Bool.{cases_eq}
-use Rattle.std.proofs.lemmas.List.Sums.{sum_by-append, sum_by-cons, sum_by-set}
-use Rattle.std.proofs.lemmas.Option.{get_or_from_slice_get, slice_get_within}
+use Rattle.std.proofs.lemmas.List.Sums.{sum_by-append, sum_by-set}
+use Rattle.std.proofs.lemmas.Option.{get_or_from_slice_get, slice_get-get_or, slice_get_within}
 use Rattle.id_instr.specs.Graph.{Parts}
 use Rattle.id_tag.specs.declared.Message.{Message}
 use Rattle.id_tag.specs.Routes.{route_of}
@@ -14,9 +14,9 @@ use Rattle.id_core.specs.Events.{EventView, AllWent}
 use Rattle.id_core.specs.Steps.{State, event_of, is_ended, outputs_of, state_after}
 use Rattle.id_core.specs.Machines.{World, MachineView, delivered, event_at, event_of_given, event_of_routed, given_to, routed_to, taken_from, world_of}
 use Rattle.id_desk.specs.Replays.{ElementView}
-use Rattle.id_list.proofs.PlacesLemmas.{set-here, set-elsewhere, slice_get-image, slice_get-set}
-use Rattle.id_orders.specs.Accounts.{IsAccounted, sent_of, taken_of}
-use Rattle.id_elements.specs.Runs.{AreHeldBefore, GoesOn, HasCount, HasWent, IsFinished, IsFree, IsHeldBack}
+use Rattle.id_list.proofs.PlacesLemmas.{set-here, set-elsewhere, slice_get-image}
+use Rattle.id_orders.specs.Accounts.{IsAccounted}
+use Rattle.id_elements.specs.Runs.{AreHeldBefore, GoesOn, HasCount, HasWent, IsFree, IsHeldBack}
 use Rattle.id_elements.specs.Workers.{sent_in, weight_taken}
 use Rattle.id_elements.proofs.WorkersLemmas.{sent_after, taken_after, weight_removed}
 
@@ -49,13 +49,8 @@ delivered-free g count steps w k f =
     ap (routed_to g count k w) f.at ∙ ap (given_to g k w f.message n) f.element ∙ ap (λ b. cond b w (taken_from g k w f.message n f.state)) f.stamp
 
 -- it is there
-within_get : {A : Type 0} (xs : List A) (k : ℕ) (x : A) → slice_get xs k ≡ Some x → k < length xs
-within_get [] k x h = absurd cc
-within_get (y ∷ ys) zero x h = omega arith
-within_get (y ∷ ys) (suc k) x h = let le = within_get ys k x h in omega (arith, le)
-
 pub IsFree-within : (count steps : ℕ) (w : World) (k : ℕ) → IsFree count steps w k → k < length w.flight
-IsFree-within count steps w k f = within_get w.flight k f.message f.at
+IsFree-within count steps w k f = slice_get_within w.flight k f.message f.at
 
 -- ---- what is left in place
 
@@ -297,10 +292,5 @@ goes_on_more steps a b c p q = record {
 pub all_held : (count count' steps : ℕ) (w : World) (k : ℕ) → AreHeldBefore count steps w k → k ≡ length w.flight → count' ≡ count
     → All (IsHeldBack count' steps w) w.flight
 all_held count count' steps w k held end same j d lt =
-    let here : slice_get w.flight j ≡ Some (get_or w.flight j d) = get_of w.flight j d lt in
+    let here : slice_get w.flight j ≡ Some (get_or w.flight j d) = slice_get-get_or w.flight j d lt in
     subst (λ (n : ℕ). IsHeldBack n steps w (get_or w.flight j d)) (sym same) (held j (get_or w.flight j d) (omega (arith, lt, end)) here)
-  where
-    get_of : {A : Type 0} (xs : List A) (j : ℕ) (d : A) → j < length xs → slice_get xs j ≡ Some (get_or xs j d)
-    get_of [] j d lt = absurd (omega (arith, lt))
-    get_of (x ∷ xs) zero d lt = refl
-    get_of (x ∷ xs) (suc j) d lt = get_of xs j d (omega (arith, lt))

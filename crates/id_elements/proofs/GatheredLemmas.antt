@@ -1,15 +1,15 @@
 -- What is gathered from workers (specs/Gathered.antt).
-use Rattle.std.proofs.Common.{◌≡◌, ℕ, zero, suc, ◌+◌, ◌-◌, ◌<◌, ◌≤◌, List, [], ◌∷◌, ◌++◌, All, length, map, get_or, refl, sym, ap, subst, ◌∙◌, arith}
-use Rattle.std.specs.List.{flat_map, sum_by}
-use Rattle.std.proofs.lemmas.List.Sums.{sum_by-append, sum_by-cons}
+use Rattle.std.proofs.Common.{◌≡◌, ℕ, zero, suc, ◌+◌, List, [], ◌∷◌, get_or, sym, ap, subst, arith}
+use Rattle.std.specs.List.{sum_by}
+use Rattle.std.proofs.lemmas.List.Sums.{sum_by-cons}
 use Rattle.id_instr.specs.Graph.{Parts}
 use Rattle.id_tag.specs.declared.Message.{Message}
 use Rattle.id_inbox.specs.Doors.{DoorView}
 use Rattle.id_firing.specs.Steps.{State}
 use Rattle.id_desk.specs.Replays.{ElementView}
 use Rattle.id_orders.specs.Accounts.{sent_of, taken_of}
-use Rattle.id_elements.specs.Doors.{IsCut, IsMerged, sent_by, taken_by}
-use Rattle.id_elements.specs.Gathered.{AreGathered, IsGathered, IsWhole, states_of}
+use Rattle.id_elements.specs.Doors.{IsCut, IsMerged}
+use Rattle.id_elements.specs.Gathered.{AreGathered, IsGathered, IsWhole}
 use Rattle.id_elements.specs.Workers.{IsKept, WorkerView, sent_in, weight_taken}
 
 -- a cut leaves the whole as it is

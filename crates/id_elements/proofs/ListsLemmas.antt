@@ -1,17 +1,17 @@
 -- Lists of doors as they are opened, split and joined.
-use Rattle.std.proofs.Common.{◌≡◌, ◌≢◌, ℕ, zero, suc, ◌+◌, ◌-◌, ◌<◌, ◌≤◌, List, [], ◌∷◌, ◌++◌, length, map, take, drop, set, get_or, sym, refl, ap, ◌∙◌, subst, arith, ⊎_elim, inl, inr, ◌⊎◌, add-one, length-set, length-append, get_or-set_same, get_or-set_other}
+use Rattle.std.proofs.Common.{◌≡◌, ◌≢◌, ℕ, zero, suc, ◌+◌, ◌-◌, ◌<◌, ◌≤◌, List, [], ◌∷◌, ◌++◌, length, map, take, drop, set, get_or, sym, refl, ap, ◌∙◌, subst, arith, ⊎_elim, add-one, length-set, length-append, get_or-set_same, get_or-set_other}
 use Rattle.std.specs.List.{sum_by}
+use Rattle.std.proofs.lemmas.Bool.{cases_eq}
 use Rattle.std.proofs.lemmas.Grind.{common_steps}
 use Rattle.std.proofs.lemmas.List.{append-nil, drop_all, get_or-map, get_or-take, map_more, take_all}
 use Rattle.std.proofs.lemmas.List.Edits.{map_over_more}
+use Rattle.std.proofs.lemmas.Option.{get_or_from_slice_get, slice_get-get_or}
 use Rattle.std.proofs.Math.Seq.{take-append_seam}
 use Rattle.std.proofs.lemmas.List.Sums.{sum_by_push, sum_by-append, sum_by-cons}
 use Rattle.id_tag.specs.declared.Message.{Message}
 use Rattle.id_inbox.specs.Doors.{DoorView}
-use Rattle.id_inbox.specs.Hands.{both_of}
-use Rattle.std.specs.Global.{Global}
-use Rattle.crossbeam_queue.specs.SegTies.{SegId}
-use Rattle.id_elements.specs.Doors.{AreUnused, HaveParts, IsCut, IsMerged, IsMerging, cut_door, new_door, queues_of, sent_by, taken_by}
+use Rattle.id_inbox.specs.Hands.{both_of, kept_of, new_hand}
+use Rattle.id_elements.specs.Doors.{AreUnused, HaveParts, IsCut, IsMerged, queues_of, sent_by, taken_by}
 use Rattle.id_elements.proofs.DoorsLemmas.{queues_set, sent_by-set, taken_by-set}
 
 pub sent_by-push : (f : Message → ℕ) (ds : List DoorView) (d : DoorView) → sent_by f (ds ++ d ∷ []) ≡ sent_by f ds + sum_by f d.hand.sent
@@ -36,6 +36,14 @@ unused_push ds d unused sent taken f =
 
 pub parts_push : (n : ℕ) (ds : List DoorView) (d : DoorView) → HaveParts n ds → d.hand.parts ≡ n → HaveParts n (ds ++ d ∷ [])
 parts_push n ds d parts mine = grind (arith, common_steps)
+
+-- a door that gave a part away
+abbrev pub cut_door : DoorView → DoorView
+cut_door d = record d { hand = kept_of d.hand }
+
+-- the door that got it
+abbrev pub new_door : DoorView → DoorView
+new_door d = record { queue = d.queue; hand = new_hand }
 
 -- a list of doors that were all split
 pub cut_all : (ds : List DoorView) → IsCut ds (map cut_door ds)
@@ -81,18 +89,6 @@ length_queues (x ∷ xs) = ap suc (length_queues xs)
 pub same_length : (xs ys : List DoorView) → queues_of xs ≡ queues_of ys → length xs ≡ length ys
 same_length xs ys h = sym (length_queues xs) ∙ (ap length h ∙ length_queues ys)
 
-nat_same : (a b : ℕ) → (a ≡ b) ⊎ (a ≢ b)
-nat_same zero zero = inl refl
-nat_same zero (suc b) = inr (λ (e : zero ≡ suc b). omega arith)
-nat_same (suc a) zero = inr (λ (e : suc a ≡ zero). omega arith)
-nat_same (suc a) (suc b) = ⊎_elim (λ (e : a ≡ b). inl (ap suc e)) (λ (n : a ≢ b). inr (λ (e : suc a ≡ suc b). n (omega arith))) (nat_same a b)
-
--- what is read within a list is the same whatever stands for nothing
-get_or_any : (xs : List DoorView) (i : ℕ) (d e : DoorView) → i < length xs → get_or xs i d ≡ get_or xs i e
-get_or_any [] i d e lt = absurd (omega arith)
-get_or_any (x ∷ xs) zero d e lt = refl
-get_or_any (x ∷ xs) (suc i) d e lt = get_or_any xs i d e (omega arith)
-
 take_less : (n : ℕ) (xs : List DoorView) → take n (take (suc n) xs) ≡ take n xs
 take_less zero xs = refl
 take_less (suc n) [] = refl
@@ -100,6 +96,17 @@ take_less (suc n) (x ∷ xs) = ap (λ ys. x ∷ ys) (take_less n xs)
 
 last_is : (xs : List DoorView) (e : DoorView) → get_or (xs ++ e ∷ []) (length xs) e ≡ e
 last_is xs e = grind (arith, common_steps)
+
+-- doors that are taken in from the last on: what is left of theirs, and the doors as they are then
+pub record IsMerging (old all theirs new : List DoorView) : Type 0 where
+  pub within : length theirs ≤ length all
+  pub rest : theirs ≡ take (length theirs) all
+  pub queues : queues_of new ≡ queues_of old
+  pub sent : (f : Message → ℕ) → sent_by f new + sent_by f theirs ≡ sent_by f old + sent_by f all
+  pub taken : (f : Message → ℕ) → taken_by f new + taken_by f theirs ≡ taken_by f old + taken_by f all
+  pub below : (j : ℕ) (d : DoorView) → j < length theirs → get_or new j d ≡ get_or old j d
+  pub above : (j : ℕ) (d : DoorView) → length theirs ≤ j → j < length new
+      → (get_or new j d).hand.parts ≡ (get_or old j d).hand.parts + 1
 
 -- joining from the last door on
 pub merging : (old all theirs new : List DoorView) (d e d' : DoorView)
@@ -132,7 +139,7 @@ merging old all theirs new d e d' same parts m is made =
       above = λ j x low high.
           ⊎_elim (λ (here : n ≡ j).
           let at : get_or (set new n d') n x ≡ d' = get_or-set_same new n d' x lt in
-          let was : d ≡ get_or old n x = is ∙ (get_or_any new n d x lt ∙ m.below n x (omega arith)) in
+          let was : d ≡ get_or old n x = is ∙ (get_or_from_slice_get new n (get_or new n x) d (slice_get-get_or new n x lt) ∙ m.below n x (omega arith)) in
           let made' : d'.hand.parts ≡ d.hand.parts + e.hand.parts = ap (λ (y : DoorView). y.hand.parts) made in
           let was' : d.hand.parts ≡ (get_or old n x).hand.parts = ap (λ (y : DoorView). y.hand.parts) was in
           subst (λ (k : ℕ). (get_or (set new n d') k x).hand.parts ≡ (get_or old k x).hand.parts + 1) here
@@ -140,7 +147,7 @@ merging old all theirs new d e d' same parts m is made =
           (λ (apart : n ≢ j).
           let ne : j ≢ n = λ (q : j ≡ n). apart (sym q) in
           rw get_or-set_other (m.above j x (omega arith) (omega (arith, length-set new n d'))))
-          (nat_same n j);
+          (cases_eq n j);
     }
 
 pub merged : (old all new : List DoorView) → IsMerging old all [] new → IsMerged old all new

@@ -1,18 +1,19 @@
 -- What workers have come to is a machine, and its run (specs/Runs.antt).
-use Rattle.std.proofs.Common.{◌≡◌, ◌≢◌, ℕ, zero, suc, ◌+◌, ◌<◌, ◌≤◌, ◌⊎◌, inl, inr, Result, Ok, Err, List, [], ◌∷◌, ◌++◌, All, length, map, get_or, refl, sym, ap, subst, ◌∙◌, arith}
-use Rattle.std.specs.Prelude.{Some, slice_get, ◌↔◌, IfOk}
+use Rattle.std.proofs.Common.{◌≡◌, ◌≢◌, ℕ, zero, suc, ◌+◌, ◌<◌, ◌≤◌, ◌⊎◌, inl, inr, Result, Ok, Err, List, [], ◌∷◌, All, length, get_or, refl, sym, ap, subst, ◌∙◌, arith}
+use Rattle.std.specs.Prelude.{◌↔◌, IfOk}
 use Rattle.std.specs.List.Sorted.{IsPermutation, IsStrictlySortedBy}
 use Rattle.std.proofs.lemmas.List.Folds.{flat_map-map}
 use Rattle.id_core.specs.Merged.{by_moment}
 use Rattle.id_core.specs.Firsts.{AreMergedOf}
-use Rattle.std.specs.List.{AllByRecursion, flat_map}
+use Rattle.std.specs.List.{flat_map}
 use Rattle.std.proofs.lemmas.Grind.{flat_map-append}
-use Rattle.std.proofs.lemmas.List.{length-map, get_or-map}
+use Rattle.std.proofs.lemmas.List.{length-map}
 use Rattle.std.proofs.lemmas.List.Elements.{All-append, All-from_recursion, All-nil, recursion_from_All}
 use Rattle.id_instr.specs.Graph.{Parts}
 use Rattle.id_value.specs.declared.Constant.{Constant}
 use Rattle.id_tag.specs.declared.Message.{Message}
 use Rattle.id_list.specs.List.{Among}
+use Rattle.id_list.proofs.AmongLemmas.{Among-either, Among-left, Among-right}
 use Rattle.id_line.specs.declared.step.Step.TheVariants.{Stuck}
 use Rattle.id_core.specs.Events.{AllWent, EventView}
 use Rattle.id_firing.specs.Fits.{Fits}
@@ -25,6 +26,7 @@ use Rattle.id_orders.specs.Orders.{AreReplayed, OrdersAreRuns}
 use Rattle.id_orders.proofs.Elements.{AreReplayed-from}
 use Rattle.id_orders.proofs.Orders.{left_holds}
 use Rattle.std.proofs.lemmas.Bool.{cases_eq}
+use Rattle.std.proofs.lemmas.Option.{get_or_from_slice_get, slice_get-get_or}
 use Rattle.id_elements.proofs.FinishLemmas.{upto}
 use Rattle.id_elements.specs.Gathered.{AreGathered, states_of}
 use Rattle.id_elements.specs.Runs.{AllMove, HasWent, IsFinished, IsHeldBack, IsRun, MovesOn}
@@ -74,19 +76,13 @@ machine_gathered g vs count most es left some few long all begun accounted = rec
 
 -- ---- the records of a machine
 
--- whatever stands for what is not there
-same_at : {A : Type 0} (xs : List A) (n : ℕ) (c d : A) → n < length xs → get_or xs n c ≡ get_or xs n d
-same_at [] n c d lt = absurd (omega arith)
-same_at (x ∷ xs) zero c d lt = refl
-same_at (x ∷ xs) (suc n) c d lt = same_at xs n c d (omega arith)
-
--- so is one more
+-- one more of which it holds
 pub one_more : {A : Type 0} (P : A → Type 0) (xs : List A) (n : ℕ) (x : A) → n < length xs → x ≡ get_or xs n x → P x
     → ((k : ℕ) (d : A) → k < n → P (get_or xs k d)) → (k : ℕ) (d : A) → k < n + 1 → P (get_or xs k d)
 one_more P xs n x there is here before k d lt = cases (cases_eq k n)
   where
     cases : (k ≡ n) ⊎ (k ≡ n → ⊥) → P (get_or xs k d)
-    cases (inl same) = subst P (is ∙ (same_at xs n x d there ∙ ap (λ j. get_or xs j d) (sym same))) here
+    cases (inl same) = subst P (is ∙ (get_or_from_slice_get xs n (get_or xs n d) x (slice_get-get_or xs n d there) ∙ ap (λ j. get_or xs j d) (sym same))) here
     cases (inr other) = before k d (upto k n lt other)
 
 -- its states are what the records lead to
@@ -98,24 +94,6 @@ replayed_of m es are is long each =
     subst (AreReplayed m.graph m.count) same (AreReplayed-from m.graph m.count es len are (recursion_from_All Replays es each))
 
 -- ---- whether no event was `Stuck`
-
-among_append : {A : Type 0} (xs ys : List A) (x : A) → Among x (xs ++ ys) → Among x xs ⊎ Among x ys
-among_append [] ys x h = inr h
-among_append (y ∷ xs) ys x (inl e) = inl (inl e)
-among_append {A = A} (y ∷ xs) ys x (inr h) = at (among_append xs ys x h)
-  where
-    at : Among x xs ⊎ Among x ys → Among x (y ∷ xs) ⊎ Among x ys
-    at (inl k) = inl (inr k)
-    at (inr k) = inr k
-
-among_front : {A : Type 0} (xs ys : List A) (x : A) → Among x xs → Among x (xs ++ ys)
-among_front [] ys x h = absurd h
-among_front (y ∷ xs) ys x (inl e) = inl e
-among_front (y ∷ xs) ys x (inr h) = inr (among_front xs ys x h)
-
-among_behind : {A : Type 0} (xs ys : List A) (x : A) → Among x ys → Among x (xs ++ ys)
-among_behind [] ys x h = h
-among_behind (y ∷ xs) ys x h = inr (among_behind xs ys x h)
 
 move_one : (es : List EventView) (v : EventView) → AllMove es → Among v es → v.step ≢ Stuck
 move_one [] v all h = absurd h
@@ -129,7 +107,7 @@ all_move (x ∷ xs) each (suc k) d lt = all_move xs (λ v h. each v (inr h)) k d
 
 moves_from : (es : List ElementView) → All (λ (e : ElementView). AllMove e.state.events) es → (v : EventView) → Among v (events_of (states_of es)) → v.step ≢ Stuck
 moves_from [] all v h = absurd h
-moves_from (x ∷ xs) all v h = at (among_append x.state.events (events_of (states_of xs)) v h) (moves_from xs (λ n d l. all (suc n) d (omega arith)) v)
+moves_from (x ∷ xs) all v h = at (Among-either v x.state.events (events_of (states_of xs)) h) (moves_from xs (λ n d l. all (suc n) d (omega arith)) v)
   where
     at : Among v x.state.events ⊎ Among v (events_of (states_of xs)) → (Among v (events_of (states_of xs)) → v.step ≢ Stuck) → v.step ≢ Stuck
     at (inl k) rest = move_one x.state.events v (all 0 x (omega arith)) k
@@ -137,8 +115,8 @@ moves_from (x ∷ xs) all v h = at (among_append x.state.events (events_of (stat
 
 moves_to : (es : List ElementView) → ((v : EventView) → Among v (events_of (states_of es)) → v.step ≢ Stuck) → All (λ (e : ElementView). AllMove e.state.events) es
 moves_to [] each k d lt = absurd (omega arith)
-moves_to (x ∷ xs) each zero d lt = all_move x.state.events (λ v h. each v (among_front x.state.events (events_of (states_of xs)) v h))
-moves_to (x ∷ xs) each (suc k) d lt = moves_to xs (λ v h. each v (among_behind x.state.events (events_of (states_of xs)) v h)) k d (omega arith)
+moves_to (x ∷ xs) each zero d lt = all_move x.state.events (λ v h. each v (Among-left v x.state.events (events_of (states_of xs)) h))
+moves_to (x ∷ xs) each (suc k) d lt = moves_to xs (λ v h. each v (Among-right v x.state.events (events_of (states_of xs)) h)) k d (omega arith)
 
 -- no event of a machine was, where none of any element was
 pub moves_on_from : (m : MachineView) (es : List ElementView) → world_of es m.world.flight ≡ m.world

@@ -1,17 +1,21 @@
 -- Each step of a worker keeps its accounts (specs/Workers.antt).
-use Rattle.std.proofs.Common.{◌≡◌, ℕ, zero, suc, ◌+◌, ◌-◌, ◌<◌, ◌≤◌, List, [], ◌∷◌, ◌++◌, All, length, set, get_or, drop, refl, sym, ap, subst, ◌∙◌, arith, ⊎_elim, length-set, length-append}
+use Rattle.std.proofs.Common.{◌≡◌, ℕ, zero, suc, ◌+◌, ◌<◌, ◌≤◌, List, [], ◌∷◌, ◌++◌, All, length, set, get_or, drop, refl, sym, ap, subst, ◌∙◌, arith, ⊎_elim, length-set, length-append}
 use Rattle.std.specs.Prelude.{Bool, Some, slice_get, OnErr, OnOk, Result, Ok, Err}
 use Rattle.std.specs.declared.alloc.AllocError.{AllocError}
-use Rattle.std.specs.List.{flat_map, remove, sum_by}
+use Rattle.std.specs.List.{remove, sum_by}
 use Rattle.std.proofs.lemmas.Grind.{flat_map-append}
 use Rattle.std.proofs.lemmas.List.Elements.{All-append, All-cons, All-drop, All-take}
 use Rattle.std.proofs.lemmas.List.Sums.{sum_by-append, sum_by-cons, sum_by-remove, sum_by_push}
 use Rattle.std.proofs.lemmas.Option.{get_or_from_slice_get, slice_get_within}
 use Rattle.std.proofs.lemmas.Bool.{cases_lt}
+use Rattle.std.proofs.lemmas.Nat.{mod_below}
 use Rattle.std.specs.Global.{Global}
 use Rattle.crossbeam_queue.specs.SegTies.{SegId}
 use Rattle.id_instr.specs.Graph.{Parts}
+use Rattle.id_tag.specs.Routes.{offset_of, route_of}
 use Rattle.id_tag.specs.declared.Message.{Message}
+use Rattle.id_tag.specs.declared.Payload.{Payload}
+use Rattle.id_tag.specs.declared.Payload.TheVariants.{Read, Token, Write}
 use Rattle.id_inbox.specs.Doors.{DoorView}
 use Rattle.id_inbox.specs.Hands.{sending, taking}
 use Rattle.id_line.specs.Events.{EventView}
@@ -19,8 +23,9 @@ use Rattle.id_firing.specs.Fits.{Fits, IsFor}
 use Rattle.id_firing.specs.Steps.{State, event_of, outputs_of, state_after}
 use Rattle.id_firing.specs.declared.step.TakeError.{TakeError}
 use Rattle.id_desk.specs.Replays.{ElementView}
-use Rattle.id_elements.specs.Doors.{HaveParts, queues_of, sent_by, taken_by}
-use Rattle.id_elements.specs.Workers.{AreFor, AreWorkers, IsKept, IsPassed, IsRouted, IsSame, IsSameWithin, IsStayed, IsWorker, WorkerView, sent_in, weight_taken}
+use Rattle.id_elements.specs.Doors.{HaveParts, queues_of}
+use Rattle.id_elements.specs.Passing.{AreFor, Gives, IsGiven, IsPassed, IsRouted, IsStayed, Passes}
+use Rattle.id_elements.specs.Workers.{AreWorkers, IsKept, IsSame, IsSameWithin, IsWorker, WorkerView, sent_in, weight_taken}
 use Rattle.id_elements.proofs.DoorsLemmas.{parts_set, queues_set, sent_by-set, taken_by-set}
 
 -- ---- lists
@@ -113,14 +118,73 @@ handled_one k own e out own' e' out' p =
 -- the same, where it may have been an error, after which nothing has changed
 module _ (ds : List DoorView) (e e' : ElementView) (own own' out out' stray : List Message) (k : ℕ) where
   pub IsKept-pass : (r : Result Bool TakeError) → IsKept (record { doors = ds; element = e; own = own; out = out; stray = stray })
-      → OnOk r (IsPassed k own e out own' e' out') → OnErr r (own' ≡ own) → OnErr r (e' ≡ e) → OnErr r (out' ≡ out)
-      → IsKept (record { doors = ds; element = e'; own = own'; out = out'; stray = stray })
-  IsKept-pass (Ok b) kept p a b' c = IsKept-passed ds e e' own own' out out' stray k kept p
-  IsKept-pass (Err x) kept p a b c = subst IsKept (λ i. record { doors = ds; element = sym b i; own = sym a i; out = sym c i; stray = stray }) kept
+      → Passes k own e out own' e' out' r → IsKept (record { doors = ds; element = e'; own = own'; out = out'; stray = stray })
+  IsKept-pass (Ok b) kept p = IsKept-passed ds e e' own own' out out' stray k kept p.passed
+  IsKept-pass (Err x) kept p =
+      subst IsKept (λ i. record { doors = ds; element = sym p.same_element i; own = sym p.same_own i; out = sym p.same_out i; stray = stray }) kept
 
-  pub IsElement-pass : (r : Result Bool TakeError) → OnOk r (IsPassed k own e out own' e' out') → OnErr r (e' ≡ e) → (e.number ≡ e'.number) × (e.count ≡ e'.count)
-  IsElement-pass (Ok b) p same = (sym (ap (λ (x : ElementView). x.number) p.element_is), sym (ap (λ (x : ElementView). x.count) p.element_is))
-  IsElement-pass (Err x) p same = (sym (ap (λ (x : ElementView). x.number) same), sym (ap (λ (x : ElementView). x.count) same))
+  pub IsElement-pass : (r : Result Bool TakeError) → Passes k own e out own' e' out' r → (e.number ≡ e'.number) × (e.count ≡ e'.count)
+  IsElement-pass (Ok b) p = (sym (ap (λ (x : ElementView). x.number) p.passed.element_is), sym (ap (λ (x : ElementView). x.count) p.passed.element_is))
+  IsElement-pass (Err x) p = (sym (ap (λ (x : ElementView). x.number) p.same_element), sym (ap (λ (x : ElementView). x.count) p.same_element))
+
+-- ---- the only element handles a message
+
+-- all messages are for it
+routed_to_only : (p : Payload) → route_of p 1 ≡ 0
+routed_to_only (Token t p v) = let lt = mod_below (t.context.element + t.context.serial + t.iteration) 1 (omega arith) in omega (arith, lt)
+routed_to_only (Read c t) = let lt = mod_below (c.structure.element + c.structure.serial + offset_of c) 1 (omega arith) in omega (arith, lt)
+routed_to_only (Write c v t) = let lt = mod_below (c.structure.element + c.structure.serial + offset_of c) 1 (omega arith) in omega (arith, lt)
+
+AreFor-only : (e : ElementView) (ms : List Message) → e.count ≡ 1 → e.number ≡ 0 → All (Fits e.graph) ms → AreFor e ms
+AreFor-only e ms one first fits k d lt = record {
+  routed = ap (λ (n : ℕ). route_of (get_or ms k d).payload n) one ∙ (routed_to_only (get_or ms k d).payload ∙ sym first);
+  fits = fits k d lt;
+}
+
+-- the accounts stay square
+pub IsKept-given : (ds : List DoorView) (e e' : ElementView) (own own' out stray : List Message) (k : ℕ)
+    → IsKept (record { doors = ds; element = e; own = own; out = out; stray = stray }) → e.count ≡ 1 → IsGiven k own e own' e'
+    → IsKept (record { doors = ds; element = e'; own = own'; out = out; stray = stray })
+IsKept-given ds e e' own own' out stray k kept one p =
+    let g = e.graph in
+    let n = e.number in
+    let m = p.message in
+    let first : n ≡ 0 = (let c = kept.count in let l = kept.number in omega (arith, c, l, one)) in
+    let graph_is : e'.graph ≡ g = ap (λ (x : ElementView). x.graph) p.element_is in
+    let state_is : e'.state ≡ state_after g n e.state m = ap (λ (x : ElementView). x.state) p.element_is in
+    let sent_is : sent_in e'.state ≡ sent_in e.state ++ outputs_of g n e.state m = ap sent_in state_is ∙ sent_after g n e.state m in
+    record {
+      parts = kept.parts;
+      count = ap (λ (x : ElementView). x.count) p.element_is ∙ kept.count;
+      number = subst (λ (x : ℕ). x < length ds) (sym (ap (λ (x : ElementView). x.number) p.element_is)) kept.number;
+      own = subst (λ (x : ElementView). AreFor x own') (sym p.element_is)
+          (subst (AreFor e) (sym p.own_is) (All-append (IsFor g e.count n) (remove own k) (outputs_of g n e.state m)
+          (All-removed (IsFor g e.count n) own k kept.own) (AreFor-only e (outputs_of g n e.state m) one first p.fits)));
+      out = subst (λ (x : Parts). All (Fits x) out) (sym graph_is) kept.out;
+      sent = subst (λ (x : Parts). All (Fits x) (sent_in e'.state)) (sym graph_is)
+          (subst (All (Fits g)) (sym sent_is) (All-append (Fits g) (sent_in e.state) (outputs_of g n e.state m) kept.sent p.fits));
+      square = λ f.
+          let a : sum_by f (sent_in e'.state) ≡ sum_by f (sent_in e.state ++ outputs_of g n e.state m) = ap (sum_by f) sent_is in
+          let b : weight_taken f e'.state ≡ weight_taken f e.state + f m = ap (weight_taken f) state_is ∙ taken_after f g n e.state m in
+          let c : sum_by f own' ≡ sum_by f (remove own k ++ outputs_of g n e.state m) = ap (sum_by f) p.own_is in
+          let r = weight_removed f own k m p.there in
+          let s = kept.square f in
+          omega (arith, sum_by-append f (sent_in e.state) (outputs_of g n e.state m), sum_by-append f (remove own k) (outputs_of g n e.state m), a, b, c, r, s);
+    }
+
+-- the same, where it may have been an error, after which nothing has changed
+module _ (ds : List DoorView) (e e' : ElementView) (own own' out stray : List Message) (k : ℕ) where
+  pub IsKept-give : (r : Result Bool TakeError) → IsKept (record { doors = ds; element = e; own = own; out = out; stray = stray }) → e.count ≡ 1
+      → Gives k own e own' e' r → IsKept (record { doors = ds; element = e'; own = own'; out = out; stray = stray })
+  IsKept-give (Ok b) kept one p = IsKept-given ds e e' own own' out stray k kept one p.given
+  IsKept-give (Err x) kept one p =
+      subst IsKept (λ i. record { doors = ds; element = sym p.same_element i; own = sym p.same_own i; out = out; stray = stray }) kept
+
+  pub IsElement-give : (r : Result Bool TakeError) → Gives k own e own' e' r → (e.number ≡ e'.number) × (e.count ≡ e'.count)
+  IsElement-give (Ok b) p = (sym (ap (λ (x : ElementView). x.number) p.given.element_is), sym (ap (λ (x : ElementView). x.count) p.given.element_is))
+  IsElement-give (Err x) p = (sym (ap (λ (x : ElementView). x.number) p.same_element), sym (ap (λ (x : ElementView). x.count) p.same_element))
+
+-- ---- a message stays
 
 -- the first message to be sent has stayed with the worker
 pub IsKept-stayed : (ds : List DoorView) (e : ElementView) (own out stray : List Message) (m : Message)

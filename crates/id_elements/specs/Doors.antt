@@ -1,11 +1,10 @@
 -- What doors to inboxes have sent and taken, in weights: however messages are weighed (docs/THREADS.md, "Accounts").
-use Rattle.std.specs.Prelude.{◌≡◌, ℕ, ◌+◌, ◌-◌, ◌<◌, ◌≤◌, List, All, map, length, slice_index_or, take}
+use Rattle.std.specs.Prelude.{◌≡◌, ℕ, ◌+◌, ◌-◌, List, All, map}
 use Rattle.std.specs.List.{sum_by}
 use Rattle.std.specs.Global.{Global}
 use Rattle.crossbeam_queue.specs.SegTies.{SegId}
 use Rattle.id_tag.specs.declared.Message.{Message}
 use Rattle.id_inbox.specs.Doors.{DoorView}
-use Rattle.id_inbox.specs.Hands.{kept_of, new_hand}
 
 -- what was sent by these doors
 abbrev pub sent_by : (Message → ℕ) → List DoorView → ℕ
@@ -40,25 +39,6 @@ pub record IsMerged (old theirs new : List DoorView) : Type 0 where
   pub parts : (n : ℕ) → HaveParts n old → HaveParts (n + 1) new
   pub sent : (f : Message → ℕ) → sent_by f new ≡ sent_by f old + sent_by f theirs
   pub taken : (f : Message → ℕ) → taken_by f new ≡ taken_by f old + taken_by f theirs
-
--- a door that gave a part away
-abbrev pub cut_door : DoorView → DoorView
-cut_door d = record d { hand = kept_of d.hand }
-
--- the door that got it
-abbrev pub new_door : DoorView → DoorView
-new_door d = record { queue = d.queue; hand = new_hand }
-
--- doors that are taken in from the last on: what is left of theirs, and the doors as they are then
-pub record IsMerging (old all theirs new : List DoorView) : Type 0 where
-  pub within : length theirs ≤ length all
-  pub rest : theirs ≡ take (length theirs) all
-  pub queues : queues_of new ≡ queues_of old
-  pub sent : (f : Message → ℕ) → sent_by f new + sent_by f theirs ≡ sent_by f old + sent_by f all
-  pub taken : (f : Message → ℕ) → taken_by f new + taken_by f theirs ≡ taken_by f old + taken_by f all
-  pub below : (j : ℕ) (d : DoorView) → j < length theirs → slice_index_or new j d ≡ slice_index_or old j d
-  pub above : (j : ℕ) (d : DoorView) → length theirs ≤ j → j < length new
-      → (slice_index_or new j d).hand.parts ≡ (slice_index_or old j d).hand.parts + 1
 
 -- what was in an inbox was taken out by its one door, and is left: what was sent there is what was taken
 pub record IsDrained (old : DoorView) (before : List Message) (new : DoorView) (after : List Message) : Type 0 where

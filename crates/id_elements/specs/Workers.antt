@@ -1,17 +1,17 @@
 -- A worker as contracts see it, and what every worker keeps (docs/THREADS.md, "A worker").
-use Rattle.std.specs.Prelude.{◌≡◌, ◌<◌, ◌≤◌, ℕ, ◌+◌, List, [], All, length, slice_get, slice_index_or, ◌++◌, ◌∷◌, drop, Some}
-use Rattle.std.specs.List.{flat_map, remove, sum_by}
+use Rattle.std.specs.Prelude.{◌≡◌, ◌<◌, ◌≤◌, ℕ, ◌+◌, List, [], All, length, slice_index_or}
+use Rattle.std.specs.List.{flat_map, sum_by}
 use Rattle.std.specs.Global.{Global}
 use Rattle.crossbeam_queue.specs.SegTies.{SegId}
 use Rattle.id_instr.specs.Graph.{Parts}
 use Rattle.id_tag.specs.declared.Message.{Message}
-use Rattle.id_tag.specs.Routes.{route_of}
 use Rattle.id_inbox.specs.Doors.{DoorView}
-use Rattle.id_firing.specs.Fits.{Fits, IsFor}
-use Rattle.id_firing.specs.Steps.{State, fresh, outputs_of, state_after}
+use Rattle.id_firing.specs.Fits.{Fits}
+use Rattle.id_firing.specs.Steps.{State, fresh}
 use Rattle.id_desk.specs.Replays.{ElementView}
 use Rattle.id_core.specs.Machines.{IsElement}
 use Rattle.id_elements.specs.Doors.{HaveParts, queues_of, sent_by, taken_by}
+use Rattle.id_elements.specs.Passing.{AreFor, IsRouted}
 
 -- all that the record of a state says that was sent
 abbrev pub sent_in : State → List Message
@@ -20,10 +20,6 @@ sent_in s = flat_map (λ v. v.outputs) s.events
 -- what its record says that was taken, in weight
 abbrev pub weight_taken : (Message → ℕ) → State → ℕ
 weight_taken f s = sum_by (λ v. f v.message) s.events
-
--- these messages are for the element
-abbrev pub AreFor : ElementView → List Message → Type 0
-AreFor e ms = All (IsFor e.graph e.count e.number) ms
 
 -- a worker: its doors, its element, what is for that, what the element sent and is not sorted yet, and what came and is
 -- not for the element
@@ -76,30 +72,6 @@ fresh_worker g count number doors = record {
   out = [];
   stray = [];
 }
-
--- the element has handled the message at a position of its own, which has left; what was sent is at the end of `out`,
--- and fits
-pub record IsPassed (k : ℕ) (own : List Message) (e : ElementView) (out own' : List Message) (e' : ElementView)
-    (out' : List Message) : Type 0 where
-  pub message : Message
-  pub there : slice_get own k ≡ Some message
-  pub own_is : own' ≡ remove own k
-  pub element_is : e' ≡ record e { state = state_after e.graph e.number e.state message }
-  pub out_is : out' ≡ out ++ outputs_of e.graph e.number e.state message
-  pub fits : All (Fits e.graph) (outputs_of e.graph e.number e.state message)
-
--- the first message of `out` has gone to the end of `own`
-pub record IsStayed (own out own' out' : List Message) : Type 0 where
-  pub message : Message
-  pub there : slice_get out 0 ≡ Some message
-  pub own_is : own' ≡ own ++ message ∷ []
-  pub out_is : out' ≡ drop 1 out
-
--- the first of these messages is for the element of this number, of so many
-pub record IsRouted (count : ℕ) (ms : List Message) (n : ℕ) : Type 0 where
-  pub message : Message
-  pub there : slice_get ms 0 ≡ Some message
-  pub routed : route_of message.payload count ≡ n
 
 -- the first message that a worker has to send is for its own element
 abbrev pub IsFirstOwn : WorkerView → Type 0

@@ -1,18 +1,16 @@
 //! How messages move between a worker's lists, and how its element is given one.
 
-ghost use Rattle.std.specs.Prelude.{◌≡◌, ◌<◌, ◌+◌, ℕ, length, slice_get, IsTrue, OnErr, OnOk, Some};
+ghost use Rattle.std.specs.Prelude.{◌≡◌, ◌<◌, ◌+◌, ℕ, length, IsTrue, OnErr, OnOk};
 ghost use Rattle.std.specs.List.{sum_by};
 ghost use Rattle.id_tag.specs.declared.Message.{Message};
 ghost use Rattle.id_firing.specs.Fits.{IsFor};
-ghost use Rattle.id_tag.specs.Plains.{message_of};
-ghost use Rattle.id_flight.specs.Demands.{demanded};
-ghost use Rattle.id_elements.specs.Workers.{AreFor, IsPassed, IsStayed};
+ghost use Rattle.id_elements.specs.Passing.{AreFor, Gives, IsStayed, Passes};
 
 use id_element::{Element, Gate, Short, TakeError, fits};
-use id_flight::{Demand, Letter, Queue};
+use id_flight::{Letter, Queue};
 use id_gap::InFlight;
 use id_line::Step;
-use id_tag::{Message, PlainToken, route};
+use id_tag::{Message, route};
 use std::alloc::AllocError;
 
 /// Whether a run goes on after an event.
@@ -23,8 +21,8 @@ fn goes_on(step: &Step) -> bool {
     }
 }
 
-/// Gives the element the message at a position of its own, and says whether the run goes on after its event. What is
-/// sent goes to the end of `out`. After an error nothing has changed.
+/// Passes the element the message at a position of its own, and says whether the run goes on after its event. What is
+/// sent goes to the end of `out`.
 #[inline(always)]
 pub fn pass<G: Gate>(
     own: &mut InFlight,
@@ -35,48 +33,21 @@ pub fn pass<G: Gate>(
 ) -> Result<bool, TakeError>
     requires there { position < length own.old.messages }
     requires own { AreFor element.old own.old.messages }
-    ensures passed { OnOk result (IsPassed position own.old.messages element.old out.old.messages
-        own.new.messages element.new out.new.messages) }
-    ensures err_own { OnErr result (own.new.messages ≡ own.old.messages) }
-    ensures err_element { OnErr result (element.new ≡ element.old) }
-    ensures err_out { OnErr result (out.new.messages ≡ out.old.messages) }
+    ensures { Passes position own.old.messages element.old out.old.messages
+        own.new.messages element.new out.new.messages result }
 {
-    match own.plain(position) {
-        Some(token) => {
-            let token = *token;
-            pass_plain(own, element, out, position, &token, gate)
-        }
-        None => pass_any(own, element, out, position, gate),
-    }
-}
-
-/// The same of a plain token.
-#[inline(always)]
-fn pass_plain<G: Gate>(
-    own: &mut InFlight,
-    element: &mut Element<'_>,
-    out: &mut Queue,
-    position: usize,
-    token: &PlainToken,
-    gate: &G,
-) -> Result<bool, TakeError>
-    requires there { position < length own.old.messages }
-    requires is { slice_get own.old.messages position ≡ Some (message_of token.now) }
-    requires own { AreFor element.old own.old.messages }
-    ensures passed { OnOk result (IsPassed position own.old.messages element.old out.old.messages
-        own.new.messages element.new out.new.messages) }
-    ensures err_own { OnErr result (own.new.messages ≡ own.old.messages) }
-    ensures err_element { OnErr result (element.new ≡ element.old) }
-    ensures err_out { OnErr result (out.new.messages ≡ out.old.messages) }
-{
-    match own.pass_plain_at(position, token, element, out, gate)? {
+    let token = match own.plain(position) {
+        Some(token) => *token,
+        None => return pass_any(own, element, out, position, gate),
+    };
+    match own.pass_plain_at(position, &token, element, out, gate)? {
         Short::Went => Ok(true),
         Short::Failed(_) => Ok(false),
         Short::Apart => pass_any(own, element, out, position, gate),
     }
 }
 
-/// The same of any message.
+/// The same of what is no plain token that is handled in short.
 #[inline(never)]
 fn pass_any<G: Gate>(
     own: &mut InFlight,
@@ -87,38 +58,14 @@ fn pass_any<G: Gate>(
 ) -> Result<bool, TakeError>
     requires there { position < length own.old.messages }
     requires own { AreFor element.old own.old.messages }
-    ensures passed { OnOk result (IsPassed position own.old.messages element.old out.old.messages
-        own.new.messages element.new out.new.messages) }
-    ensures err_own { OnErr result (own.new.messages ≡ own.old.messages) }
-    ensures err_element { OnErr result (element.new ≡ element.old) }
-    ensures err_out { OnErr result (out.new.messages ≡ out.old.messages) }
+    ensures { Passes position own.old.messages element.old out.old.messages
+        own.new.messages element.new out.new.messages result }
 {
-    match own.demand(position) {
-        Some(demand) => pass_demand(own, element, out, position, &demand, gate),
-        None => pass_full(own, element, out, position, gate),
-    }
-}
-
-/// The same of a read or a write of a cell in short.
-#[inline(always)]
-fn pass_demand<G: Gate>(
-    own: &mut InFlight,
-    element: &mut Element<'_>,
-    out: &mut Queue,
-    position: usize,
-    demand: &Demand,
-    gate: &G,
-) -> Result<bool, TakeError>
-    requires there { position < length own.old.messages }
-    requires is { slice_get own.old.messages position ≡ Some (demanded demand.now) }
-    requires own { AreFor element.old own.old.messages }
-    ensures passed { OnOk result (IsPassed position own.old.messages element.old out.old.messages
-        own.new.messages element.new out.new.messages) }
-    ensures err_own { OnErr result (own.new.messages ≡ own.old.messages) }
-    ensures err_element { OnErr result (element.new ≡ element.old) }
-    ensures err_out { OnErr result (out.new.messages ≡ out.old.messages) }
-{
-    if own.pass_demand_at(position, demand, element, out, gate)? {
+    let demand = match own.demand(position) {
+        Some(demand) => demand,
+        None => return pass_full(own, element, out, position, gate),
+    };
+    if own.pass_demand_at(position, &demand, element, out, gate)? {
         return Ok(true);
     }
     pass_full(own, element, out, position, gate)
@@ -135,14 +82,74 @@ fn pass_full<G: Gate>(
 ) -> Result<bool, TakeError>
     requires there { position < length own.old.messages }
     requires own { AreFor element.old own.old.messages }
-    ensures passed { OnOk result (IsPassed position own.old.messages element.old out.old.messages
-        own.new.messages element.new out.new.messages) }
-    ensures err_own { OnErr result (own.new.messages ≡ own.old.messages) }
-    ensures err_element { OnErr result (element.new ≡ element.old) }
-    ensures err_out { OnErr result (out.new.messages ≡ out.old.messages) }
+    ensures { Passes position own.old.messages element.old out.old.messages
+        own.new.messages element.new out.new.messages result }
 {
     let message = own.message(position);
     let step = own.pass_at(position, &message, element, out, gate)?;
+    Ok(goes_on(&step))
+}
+
+/// Gives the element the message at a position of its own, and says whether the run goes on after its event. What is
+/// sent goes to the end of its own.
+#[inline(always)]
+pub fn give<G: Gate>(
+    own: &mut InFlight,
+    element: &mut Element<'_>,
+    position: usize,
+    gate: &G,
+) -> Result<bool, TakeError>
+    requires there { position < length own.old.messages }
+    requires own { AreFor element.old own.old.messages }
+    ensures { Gives position own.old.messages element.old own.new.messages element.new result }
+{
+    let token = match own.plain(position) {
+        Some(token) => *token,
+        None => return give_any(own, element, position, gate),
+    };
+    match own.give_plain_at(position, &token, element, gate)? {
+        Short::Went => Ok(true),
+        Short::Failed(_) => Ok(false),
+        Short::Apart => give_any(own, element, position, gate),
+    }
+}
+
+/// The same of what is no plain token that is handled in short.
+#[inline(never)]
+fn give_any<G: Gate>(
+    own: &mut InFlight,
+    element: &mut Element<'_>,
+    position: usize,
+    gate: &G,
+) -> Result<bool, TakeError>
+    requires there { position < length own.old.messages }
+    requires own { AreFor element.old own.old.messages }
+    ensures { Gives position own.old.messages element.old own.new.messages element.new result }
+{
+    let demand = match own.demand(position) {
+        Some(demand) => demand,
+        None => return give_full(own, element, position, gate),
+    };
+    if own.give_demand_at(position, &demand, element, gate)? {
+        return Ok(true);
+    }
+    give_full(own, element, position, gate)
+}
+
+/// The same in full.
+#[inline(never)]
+fn give_full<G: Gate>(
+    own: &mut InFlight,
+    element: &mut Element<'_>,
+    position: usize,
+    gate: &G,
+) -> Result<bool, TakeError>
+    requires there { position < length own.old.messages }
+    requires own { AreFor element.old own.old.messages }
+    ensures { Gives position own.old.messages element.old own.new.messages element.new result }
+{
+    let message = own.message(position);
+    let step = own.give_at(position, &message, element, gate)?;
     Ok(goes_on(&step))
 }
 

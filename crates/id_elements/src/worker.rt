@@ -1,11 +1,11 @@
 //! A worker: an element, a door to each inbox, and the messages that are at hand.
 
 ghost use Rattle.std.specs.Prelude.{◌≡◌, ◌<◌, ◌≤◌, length};
-ghost use Rattle.id_elements.specs.Workers.{IsRouted};
+ghost use Rattle.id_elements.specs.Passing.{IsRouted};
 
 use crate::doors::put;
 use crate::hand::Hand;
-use crate::passing::{pass, sort, stay};
+use crate::passing::{give, pass, sort, stay};
 use crate::shared::Shared;
 use id_element::{Element, Gate, TakeError};
 use id_flight::Queue;
@@ -76,7 +76,7 @@ enum Turn {
 }
 
 impl<'a> Worker<'a> {
-    ghost use Rattle.std.specs.Prelude.{◌≡◌, ◌<◌, ◌≤◌, ◌+◌, length, vec_len, IfSome};
+    ghost use Rattle.std.specs.Prelude.{◌≡◌, ◌<◌, ◌≤◌, ◌+◌, ◌↔◌, length, vec_len, IfSome, IsTrue};
     ghost use Rattle.id_elements.specs.Doors.{AreUnused, HaveParts};
     ghost use Rattle.id_elements.specs.Workers.{IsFirstOwn, IsKept, IsSame, IsSameWithin, fresh_worker};
 
@@ -169,6 +169,25 @@ impl<'a> Worker<'a> {
             position,
             gate,
         )
+    }
+
+    /// Whether its element is the only one, for which all messages are.
+    #[inline(always)]
+    fn is_alone(&self) -> bool
+        ensures { IsTrue result ↔ (self.now.element.count ≡ 1) }
+    {
+        self.count == 1
+    }
+
+    /// The same as `handle` where the element is the only one: what is sent goes right to the end of its own.
+    #[inline(always)]
+    fn handle_alone<G: Gate>(&mut self, position: usize, gate: &G) -> Result<bool, TakeError>
+        requires there { position < length self.old.own }
+        requires alone { self.old.element.count ≡ 1 }
+        ensures same { IsSame self.old self.new }
+        ensures few { length self.new.element.state.events ≤ length self.old.element.state.events + 1 }
+    {
+        give(&mut self.own, &mut self.element, position, gate)
     }
 
     /// Keeps the first message that the element sent, which is for the element itself.
@@ -273,13 +292,27 @@ impl<'a> Worker<'a> {
         ensures same { IsSame self.old self.new }
         ensures few { length self.new.element.state.events ≤ length self.old.element.state.events + 1 }
     {
+        if self.is_alone() {
+            return self.step_alone(position, shared, gate);
+        }
         match self.handle(position, gate) {
             Ok(goes) => self.sent(rt, shared, goes),
-            Err(TakeError::StampEnd) => Turn::Stops,
-            Err(TakeError::Memory) => {
-                shared.refuse();
-                Turn::Stops
-            }
+            Err(error) => stopped_by(error, shared),
+        }
+    }
+
+    /// The same where its element is the only one, so that nothing is to be sent on.
+    #[inline(always)]
+    fn step_alone<G: Gate>(&mut self, position: usize, shared: &Shared, gate: &G) -> Turn
+        requires there { position < length self.old.own }
+        requires alone { self.old.element.count ≡ 1 }
+        ensures same { IsSame self.old self.new }
+        ensures few { length self.new.element.state.events ≤ length self.old.element.state.events + 1 }
+    {
+        match self.handle_alone(position, gate) {
+            Ok(true) => Turn::Goes,
+            Ok(false) => Turn::Stops,
+            Err(error) => stopped_by(error, shared),
         }
     }
 
@@ -371,6 +404,14 @@ impl<'a> Worker<'a> {
         }
         unreachable!()
     }
+}
+
+/// What a worker does next whose element could not handle a message.
+fn stopped_by(error: TakeError, shared: &Shared) -> Turn {
+    if let TakeError::Memory = error {
+        shared.refuse();
+    }
+    Turn::Stops
 }
 
 /// The element that the first message is for.

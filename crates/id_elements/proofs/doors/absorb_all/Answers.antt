@@ -1,7 +1,6 @@
 use Rattle.std.proofs.Common.{◌≡◌, ℕ, List, ◌∷◌, [], ◌++◌, length, get_or, rules, subst, ◌∙◌, ap}
 use Rattle.id_inbox.specs.Doors.{DoorView}
-use Rattle.id_elements.specs.Doors.{IsMerging}
-use Rattle.id_elements.proofs.ListsLemmas.{merging, same_inbox}
+use Rattle.id_elements.proofs.ListsLemmas.{IsMerging, merging, same_inbox}
 use Rattle.id_elements.proofs.doors.absorb_all.Goals as goal
 use Rattle.id_elements.proofs.doors.absorb_all.Goals.{After-index_mut}
 

@@ -1,4 +1,4 @@
-use Rattle.id_elements.specs.Doors.{IsMerging}
+use Rattle.id_elements.proofs.ListsLemmas.{IsMerging}
 use Rattle.id_elements.proofs.doors.absorb_all.Given as goal
 
 abbrev pub invariant-loop-other : goal.invariant-loop-other

@@ -1,5 +1,5 @@
 use Rattle.std.proofs.Common.{◌≡◌, ◌++◌, map, take, drop, vec_len}
-use Rattle.id_elements.specs.Doors.{cut_door, new_door}
+use Rattle.id_elements.proofs.ListsLemmas.{cut_door, new_door}
 use Rattle.id_elements.proofs.doors.split_all.Given as goal
 
 abbrev pub invariant-loop-number : goal.invariant-loop-number

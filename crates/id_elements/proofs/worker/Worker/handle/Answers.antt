@@ -8,9 +8,9 @@ invariant_of-self g c =
     let n = c.pass.new in
     let e = c.pass.ensures in
     let same = IsElement-pass w.doors.items w.element n.element w.own.messages n.own.messages w.out.messages n.out.messages w.stray.messages c.args.position
-    c.pass.result e.passed e.err_element in (
+    c.pass.result e in (
       IsKept-pass w.doors.items w.element n.element w.own.messages n.own.messages w.out.messages n.out.messages w.stray.messages c.args.position
-          c.pass.result c.self.invariant.0 e.passed e.err_own e.err_element e.err_out,
+          c.pass.result c.self.invariant.0 e,
       c.self.invariant.1 ∙ same.0,
       c.self.invariant.2 ∙ same.1,
     )
