@@ -118,30 +118,34 @@ fn picture_of(alloc: Global, text: &str) -> Result<String, EngineError>
     ensures not_write { IfErr result (λ e. e ≢ EngineError.Write) }
 {
     match compile(alloc, text) {
-        Ok(compiled) => draw_once(alloc, compiled),
+        Ok(compiled) => draw_once(alloc, compiled, text),
         Err(error) => Err(EngineError::Compile(error)),
     }
 }
 
 /// The picture of a compiled text's graph, which is one that the schemas give.
-fn draw_compiled(alloc: Global, compiled: &Compiled) -> Result<String, EngineError>
-    ensures picture { IfOk result (λ s. string_bytes s ≡ dot_text compiled.now.graph) }
+fn draw_compiled(alloc: Global, compiled: &Compiled, text: &str) -> Result<String, EngineError>
+    requires within { IsPlacedWithin (length text.now) compiled.now.checked }
+    requires short { length text.now ≤ 1048576 }
+    ensures picture { IfOk result (λ s. string_bytes s ≡ dot_text text.now compiled.now.graph) }
     ensures schemas { Schemas compiled.now.checked compiled.now.graph }
     ensures memory { IfErr result (λ e. e ≡ EngineError.Memory) }
 {
-    match draw(alloc, compiled.valid().graph()) {
+    match draw(alloc, compiled.valid().graph(), text) {
         Ok(picture) => Ok(picture),
         Err(_) => Err(EngineError::Memory),
     }
 }
 
 /// The same, and lets the program go.
-fn draw_once(alloc: Global, compiled: Compiled) -> Result<String, EngineError>
-    ensures picture { IfOk result (λ s. string_bytes s ≡ dot_text compiled.graph) }
+fn draw_once(alloc: Global, compiled: Compiled, text: &str) -> Result<String, EngineError>
+    requires within { IsPlacedWithin (length text.now) compiled.checked }
+    requires short { length text.now ≤ 1048576 }
+    ensures picture { IfOk result (λ s. string_bytes s ≡ dot_text text.now compiled.graph) }
     ensures schemas { Schemas compiled.checked compiled.graph }
     ensures memory { IfErr result (λ e. e ≡ EngineError.Memory) }
 {
-    let picture = draw_compiled(alloc, &compiled);
+    let picture = draw_compiled(alloc, &compiled, text);
     drop(compiled);
     picture
 }

@@ -1,3 +1,4 @@
 pub mod ListingLemmas
 pub mod PieceLemmas
 pub mod DotLemmas
+pub mod LooksLemmas

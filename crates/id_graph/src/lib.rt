@@ -9,6 +9,7 @@
 
 mod dot;
 mod listing;
+mod looks;
 
 pub use dot::draw;
 pub use id_instr::{

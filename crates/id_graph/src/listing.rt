@@ -4,9 +4,10 @@ ghost use Rattle.std.specs.Prelude.{◌≡◌, ◌<◌, ◌≤◌, ◌^◌, ◌+
 ghost use Rattle.std.specs.List.{flat_map};
 ghost use Rattle.std.specs.Fmt.{decimal, signed_decimal};
 ghost use Rattle.id_instr.specs.Graph.{arcs_on};
+ghost use Rattle.id_text.specs.Places.{column_of, line_of};
 ghost use Rattle.id_graph.specs.Listing.{constant_text, dest_text, dests_text, dyadic_name, false_text};
 ghost use Rattle.id_graph.specs.Listing.{head_text, in_order, kind_name, line_text, lines_text, listing, op_name};
-ghost use Rattle.id_graph.specs.Listing.{op_text, place_text, port_number, unary_name};
+ghost use Rattle.id_graph.specs.Listing.{op_text, port_number, unary_name};
 
 use id_instr::{Dest, Dyadic, Graph, Instr, Op, Port, PortKind};
 use id_text::{Lines, MAX_BYTES};
@@ -101,7 +102,7 @@ fn write_false(out: &mut String, row: &mut Vec<Dest>, instr: &Instr) -> Result<(
 }
 
 /// Appends an instruction with its number and place; `near` is the line of the last place.
-fn write_head(
+pub fn write_head(
     out: &mut String,
     near: &mut u32,
     lines: &Lines<'_>,
@@ -115,23 +116,24 @@ fn write_head(
     write_number(out, number as u64)?;
     put(out, " ")?;
     write_op(out, instr.op)?;
-    write_place(out, near, lines, instr.place)
+    write_place(out, " @", near, lines, instr.place)
 }
 
-/// Appends a place after a space and `@`; `near` is the line of the last place, and then of this one.
-fn write_place(
+/// Appends a place after a text; `near` is the line of the last place, and then of this one.
+pub fn write_place(
     out: &mut String,
+    before: &str,
     near: &mut u32,
     lines: &Lines<'_>,
     place: usize,
 ) -> Result<(), AllocError>
     requires { place ≤ length lines.now }
-    ensures { OnOk result
-        (string_bytes out.new ≡ string_bytes out.old ++ place_text lines.now place) }
+    ensures { OnOk result (string_bytes out.new ≡ string_bytes out.old
+        ++ (before.now ++ decimal (line_of lines.now place) ++ codes ":" ++ decimal (column_of lines.now place))) }
 {
     let (line, column) = lines.line_col_near(place, *near);
     *near = line;
-    write_after(out, " @", line)?;
+    write_after(out, before, line)?;
     write_after(out, ":", column)
 }
 

@@ -86,7 +86,7 @@ pub HasShown-drawn : (text bytes : List ℕ) (old new : Option Told) (result : R
 HasShown-drawn text bytes old new result h printed = record {
   program = h.program;
   is_program = h.is_program;
-  output = dot_text h.graph;
+  output = dot_text text h.graph;
   shows = drawn h.schemas;
   printed = subst (λ (b : List ℕ). Prints old new b result) h.picture_is printed;
 }

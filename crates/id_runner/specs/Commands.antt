@@ -45,7 +45,7 @@ pub data Shows (P : Checked) (text : List ℕ) : Command → ℕ → List ℕ �
   accepted : Shows P text Check 0 (codes "ok\n")
   -- the graph is one that the schemas give
   listed : {g : Parts} → Schemas P g → Shows P text List_graph 0 (listing text g)
-  drawn : {g : Parts} → Schemas P g → Shows P text Draw_graph 0 (dot_text g)
+  drawn : {g : Parts} → Schemas P g → Shows P text Draw_graph 0 (dot_text text g)
   -- the facts are exactly those of the round, on the inputs that the words give
   facts : {n : ℕ} {ws : List (List ℕ)} {vs : List Constant} {fs : List Fact} → AreInputsOf P ws vs
       → AreFacts (source P vs) n fs →
@@ -107,7 +107,7 @@ pub record IsPictureOf (text bytes : List ℕ) : Type 0 where
   pub is_program : IsProgramOf text program
   pub graph : Parts
   pub schemas : Schemas program graph
-  pub picture_is : bytes ≡ dot_text graph
+  pub picture_is : bytes ≡ dot_text text graph
 
 -- these are exactly the facts of a round of the text's program, on the inputs that the words give
 pub record AreFactsOf (text : List ℕ) (words : List (List ℕ)) (round : ℕ) (fs : List Fact) : Type 0 where

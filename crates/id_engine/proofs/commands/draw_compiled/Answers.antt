@@ -1,9 +1,16 @@
-use Rattle.std.proofs.Common.{ap, ◌∙◌}
+use Rattle.std.proofs.Common.{◌≤◌, All, length, sym, ap, subst, ◌∙◌}
+use Rattle.id_instr.specs.Graph.{Parts}
 use Rattle.id_graph.specs.Dot.{dot_text}
+use Rattle.id_runner.proofs.PlacedLemmas.{instrs_within}
 use Rattle.id_engine.proofs.commands.draw_compiled.Goals as goal
 
+pub draw-requires-clause-places : goal.draw-requires-clause-places
+draw-requires-clause-places c =
+    subst (λ (g : Parts). All (λ i. i.place ≤ length c.args.text.now) g.instrs) (sym (c.graph.ensures.value ∙ c.valid.ensures.value))
+    (instrs_within c.requires.within c.args.compiled.now.graph c.valid.ensures.kept)
+
 pub returns-in-Ok-clause-picture : goal.returns-in-Ok-clause-picture
-returns-in-Ok-clause-picture c = c.in-Ok.ensures ∙ ap dot_text (c.graph.ensures.value ∙ c.valid.ensures.value)
+returns-in-Ok-clause-picture c = c.in-Ok.ensures ∙ ap (dot_text c.args.text.now) (c.graph.ensures.value ∙ c.valid.ensures.value)
 
 pub returns-in-Ok-clause-schemas : goal.returns-in-Ok-clause-schemas
 returns-in-Ok-clause-schemas c = c.valid.ensures.kept

@@ -18,7 +18,7 @@ returns-in-Err c = record {
 
 pub returns-in-Ok : goal.returns-in-Ok
 returns-in-Ok c = record {
-  picture = if_ok c.draw_once.result (λ s. string_bytes s ≡ dot_text c.in-Ok.compiled.graph) (λ s. IsPictureOf c.args.text.now (string_bytes s))
+  picture = if_ok c.draw_once.result (λ s. string_bytes s ≡ dot_text c.args.text.now c.in-Ok.compiled.graph) (λ s. IsPictureOf c.args.text.now (string_bytes s))
       (λ s h. record {
         program = c.in-Ok.compiled.checked;
         is_program = c.in-Ok.ensures.program;

@@ -1,10 +1,13 @@
-use Rattle.std.proofs.Common.{◌≡◌, ℕ, List, ◌++◌, OnOk, codes, string_bytes, subst}
+use Rattle.std.proofs.Common.{codes}
 use Rattle.std.specs.Fmt.{decimal}
-use Rattle.id_graph.proofs.DotLemmas.{five_joined}
+use Rattle.std.proofs.lemmas.Result.{on_ok_weaker}
+use Rattle.id_graph.specs.Dot.{frame_text}
+use Rattle.id_graph.proofs.DotLemmas.{three_and_two}
 use Rattle.id_graph.proofs.dot.write_cluster.Goals as goal
 
 pub returns : goal.returns
 returns c =
-    let n = decimal c.args.number in
-    subst (λ (b : List ℕ). OnOk c.write.result (string_bytes c.write.new.self ≡ string_bytes c.args.out.now ++ b))
-    (five_joined (codes "}\nsubgraph cluster_") n (codes " {\nlabel=\"block ") n (codes "\";\n")) c.write.ensures.bytes
+    let a = c.args in
+    on_ok_weaker c.put.result
+    (three_and_two _ _ _ _ (codes "}\nsubgraph cluster_") (decimal a.number) (codes " {\nlabel=\"") (frame_text a.lines.now a.place) (codes "\";\n")
+    c.in_ok-write.ensures.bytes c.in_ok-write_frame.ensures) c.put.ensures
