@@ -27,6 +27,9 @@ const DEFAULT_STEPS: &str = "1000000";
 /// The most steps that the words may ask for.
 const MAX_STEPS: i64 = 100_000_000;
 
+/// The version of the program.
+const VERSION: &str = "1.0.0";
+
 /// The last round whose facts the words may ask for.
 const LAST_ROUND: i64 = 10_000;
 
@@ -57,6 +60,7 @@ const OVERVIEW: &str = with_statuses!(
     "Options of run:
       --elements <N>  How many elements the machine has, from 1 to 64 [default: 1]
       --steps <N>     The most messages that each element handles [default: 1000000]
+      --order <SEED>  Delivers messages in the random order that this number gives, by one thread
       --names         Prints the value of each name
       --trace         Prints each event before the answer
 
@@ -111,6 +115,15 @@ fn steps_option<'a>(alloc: Global) -> Arg<'a> {
     number_option(alloc, "steps", parser, DEFAULT_STEPS, help)
 }
 
+/// The option for the seed of the order.
+fn order_option<'a>(alloc: Global) -> Arg<'a> {
+    Arg::new(alloc, "order")
+        .long("order")
+        .value_name("SEED")
+        .value_parser(value_parser!(u64))
+        .help("Delivers messages in the random order that this number gives, by one thread")
+}
+
 /// An option without a value.
 fn flag<'a>(alloc: Global, name: &'a str, help: &'a str) -> Arg<'a> {
     Arg::new(alloc, name)
@@ -159,6 +172,7 @@ fn run_arguments<'a>(alloc: Global) -> Result<Vec<Arg<'a>>, AllocError> {
         inputs_argument(alloc),
         elements_option(alloc),
         steps_option(alloc),
+        order_option(alloc),
         flag(alloc, "names", "Prints the value of each name"),
         flag(alloc, "trace", "Prints each event before the answer"),
     ]?;
@@ -205,6 +219,7 @@ fn bare_command<'a>(alloc: Global) -> Result<Command<'a>, AllocError> {
     Command::new(alloc, "idc")
         .about("Compiles a lenient dataflow program to a tagged-token graph and runs it")
         .after_help(OVERVIEW)
+        .version(VERSION)
         .no_binary_name(true)
         .subcommand_required(true)
         .bin_name("idc")
@@ -217,6 +232,28 @@ fn command<'a>(alloc: Global) -> Result<Command<'a>, AllocError> {
     bare_command(alloc)?.subcommands(commands)
 }
 
+/// Whether a word is an option that takes a number.
+fn takes_number(word: &str) -> bool {
+    word == "--elements" || word == "--steps" || word == "--order"
+}
+
+/// The first option that takes a number and has a word with a sign behind it, with that word. Behind `--` there is
+/// none.
+fn signed_value<S: AsStr>(words: &[S]) -> Option<(&str, &str)> {
+    let mut option = "";
+    for word in words {
+        let value = word.as_str();
+        if value == "--" {
+            return None;
+        }
+        if takes_number(option) && value.starts_with('-') && value.len() > 1 {
+            return Some((option, value));
+        }
+        option = value;
+    }
+    None
+}
+
 /// What the parser's error tells the user.
 fn answer_to(alloc: Global, error: &Error) -> Unasked {
     if error.kind() == ErrorKind::OutOfMemory {
@@ -227,6 +264,34 @@ fn answer_to(alloc: Global, error: &Error) -> Unasked {
         Ok(text) if error.use_stderr() => Unasked::Refused(text),
         Ok(text) => Unasked::Help(text),
     }
+}
+
+/// What the parser says of words that it refuses.
+fn refusal_of(alloc: Global, words: &[&str]) -> Result<Unasked, AllocError> {
+    match command(alloc)?.try_get_matches_from(words) {
+        Ok(_) => Ok(Unasked::Refused(String::new(alloc))),
+        Err(error) => Ok(answer_to(alloc, &error)),
+    }
+}
+
+/// What the parser says of a command line with this value of the option.
+fn refused_value(alloc: Global, option: &str, value: &str) -> Result<Unasked, AllocError> {
+    let word = format!(in alloc; "{option}={value}")?;
+    refusal_of(alloc, &["run", "FILE", word.as_str()])
+}
+
+/// What the parser's error tells the user of these words. A value with a sign it takes for an option, so where it knows
+/// none of that name it is asked again, with the option and its value in one word.
+fn answer_for<S: AsStr>(alloc: Global, words: &[S], error: &Error) -> Unasked {
+    if error.kind() == ErrorKind::UnknownArgument {
+        if let Some((option, value)) = signed_value(words) {
+            return match refused_value(alloc, option, value) {
+                Ok(unasked) => unasked,
+                Err(_) => Unasked::Memory,
+            };
+        }
+    }
+    answer_to(alloc, error)
 }
 
 /// The input words among these.
@@ -249,6 +314,7 @@ fn run_request<'a>(
     let Some(steps) = matches.get_one::<u64>("steps") else {
         return Ok(None);
     };
+    let order = matches.get_one::<u64>("order");
     let trace = matches.get_flag("trace");
     let names = matches.get_flag("names");
     let inputs = inputs_of(alloc, matches)?;
@@ -258,6 +324,7 @@ fn run_request<'a>(
         count,
         trace,
         steps,
+        order,
         names,
     }))
 }
@@ -309,11 +376,26 @@ fn request_by<'a>(alloc: Global, matches: &ArgMatches<'a>) -> Result<Request<'a>
     }
 }
 
+/// Whether a word asks for help.
+fn is_help(word: &str) -> bool {
+    word == "--help" || word == "-h"
+}
+
+/// The words without a first `help` where the last one asks for help as well, which says the same once more.
+fn without_help<'a, S: AsStr>(words: &'a [S]) -> &'a [S] {
+    match (words.first(), words.last()) {
+        (Some(first), Some(last)) if first.as_str() == "help" && is_help(last.as_str()) => {
+            &words[1..]
+        }
+        _ => words,
+    }
+}
+
 /// What these words ask for, the program's own name left out.
 pub fn read_words<'a, S: AsStr>(alloc: Global, words: &'a [S]) -> Result<Request<'a>, Unasked> {
-    match command(alloc)?.try_get_matches_from(words) {
+    match command(alloc)?.try_get_matches_from(without_help(words)) {
         Ok(matches) => request_by(alloc, &matches),
-        Err(error) => Err(answer_to(alloc, &error)),
+        Err(error) => Err(answer_for(alloc, words, &error)),
     }
 }
 

@@ -42,7 +42,7 @@ step-free g count count' steps w k f x same is =
     some_same (event_of g (route_of f.message.payload count) f.state f.message).step x
     (sym (ap (option_map (λ (v : EventView). v.step)) (event-free g count steps w k f)) ∙ (ap (λ (c : ℕ). option_map (λ (v : EventView). v.step) (event_at g c w k)) (sym same) ∙ is))
 
-delivered-free : (g : Parts) (count steps : ℕ) (w : World) (k : ℕ) → (f : IsFree count steps w k)
+pub delivered-free : (g : Parts) (count steps : ℕ) (w : World) (k : ℕ) → (f : IsFree count steps w k)
     → delivered g count w k ≡ taken_from g k w f.message (route_of f.message.payload count) f.state
 delivered-free g count steps w k f =
     let n = route_of f.message.payload count in
@@ -60,7 +60,7 @@ before_taken (x ∷ xs) zs zero j lt within = absurd (omega (arith, lt))
 before_taken (x ∷ xs) zs (suc k) zero lt within = refl
 before_taken (x ∷ xs) zs (suc k) (suc j) lt within = before_taken xs zs k j (omega (arith, lt)) (omega (arith, within))
 
-before_removed : {A : Type 0} (xs ys : List A) (k j : ℕ) → j < k → k < length xs → slice_get (remove xs k ++ ys) j ≡ slice_get xs j
+pub before_removed : {A : Type 0} (xs ys : List A) (k j : ℕ) → j < k → k < length xs → slice_get (remove xs k ++ ys) j ≡ slice_get xs j
 before_removed xs ys k j lt within = ap (λ zs. slice_get zs j) (append_assoc (take k xs) (drop (suc k) xs) ys) ∙
     before_taken xs (drop (suc k) xs ++ ys) k j lt within
 
@@ -116,7 +116,7 @@ module _ (g : Parts) (count steps : ℕ) (w : World) (k : ℕ) (f : IsFree count
     held = h.held;
   }
 
-  held_on : (m : Message) → IsHeldBack count steps w m → IsHeldBack count steps to m
+  pub held_on : (m : Message) → IsHeldBack count steps w m → IsHeldBack count steps to m
   held_on m h = at (cases_eq (route_of m.payload count) number)
     where
       at : (route_of m.payload count ≡ number) ⊎ (route_of m.payload count ≡ number → ⊥) → IsHeldBack count steps to m

@@ -4,3 +4,4 @@ pub mod WorkersLemmas
 pub mod GatheredLemmas
 pub mod RunsLemmas
 pub mod FinishLemmas
+pub mod DrawnLemmas

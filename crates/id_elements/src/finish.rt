@@ -38,7 +38,7 @@ fn takes_no_more(element: &Element<'_>, message: &Message, steps: u64) -> bool
 
 /// Whether the message at a position is held back: the element that it is for has handled `steps` messages, or no stamp
 /// is left for it there.
-fn is_held_back(machine: &Machine<'_>, position: usize, count: u32, steps: u64) -> bool
+pub fn is_held_back(machine: &Machine<'_>, position: usize, count: u32, steps: u64) -> bool
     requires position { position < length machine.now.world.flight }
     requires count { machine.now.count ≡ count }
     requires elements { HasCount machine.now }
@@ -52,7 +52,7 @@ fn is_held_back(machine: &Machine<'_>, position: usize, count: u32, steps: u64) 
 
 /// The first position from this one on whose message is not held back, or how many messages are in flight, if there is
 /// none.
-fn first_free(machine: &Machine<'_>, from: usize, count: u32, steps: u64) -> usize
+pub fn first_free(machine: &Machine<'_>, from: usize, count: u32, steps: u64) -> usize
     requires from { from ≤ length machine.now.world.flight }
     requires count { machine.now.count ≡ count }
     requires elements { HasCount machine.now }

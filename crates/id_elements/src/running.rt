@@ -15,6 +15,7 @@ ghost use Rattle.id_elements.specs.Workers.{AreWorkers, IsSameWithin, WorkerView
 ghost use Rattle.id_elements.specs.declared.settings.RunError.TheVariants.{BadElements, BadSteps};
 
 use crate::doors::{absorb_all, drain_all, open_all, send_start, split_all};
+use crate::drawn::run_in_order;
 use crate::ended::Run;
 use crate::finish::finish;
 use crate::settings::{MAX_STEPS, RunError, Settings};
@@ -246,7 +247,7 @@ fn machine_of<'a, R: Threads + Wait + Sync, G: Gate + Sync>(
 }
 
 /// Whether no event of the machine was `Stuck`.
-fn moves_on(machine: &Machine<'_>) -> bool
+pub fn moves_on(machine: &Machine<'_>) -> bool
     ensures { IsTrue result ↔ MovesOn machine.now.world }
 {
     all_move_in(machine.elements())
@@ -279,7 +280,7 @@ fn all_move(events: &Events<'_>) -> bool
 }
 
 /// The elements of a machine are what their records lead to.
-fn replay_all(machine: &Machine<'_>)
+pub fn replay_all(machine: &Machine<'_>)
     requires { HasCount machine.now }
     ensures { AreReplayed machine.now.graph machine.now.count machine.now.world.elements }
 {
@@ -348,7 +349,8 @@ pub fn run_limited<'a, R: Threads + Wait + Sync, G: Gate + Sync>(
     run_allowed(rt, alloc, graph, inputs, settings, workers, gate)
 }
 
-/// Runs the graph on these inputs, with a thread for each element, as `run_limited` does with that limit.
+/// Runs the graph on these inputs, with a thread for each element, as `run_limited` does with that limit, or, where the
+/// settings have a seed for the order, on the calling thread, as `run_in_order` does; then no gate holds anything.
 pub fn run<'a, R: Threads + Wait + Sync, G: Gate + Sync>(
     rt: &R,
     alloc: Global,
@@ -364,5 +366,8 @@ pub fn run<'a, R: Threads + Wait + Sync, G: Gate + Sync>(
     ensures steps { (result ≡ Err BadSteps) ↔ AreBadSteps settings.elements settings.steps }
     ensures refused { IfErr result (IsRefusedRun graph.now inputs.now.values settings.elements settings.steps) }
 {
-    run_limited(rt, alloc, graph, inputs, settings, settings.elements, gate)
+    match settings.order {
+        Some(seed) => run_in_order(alloc, graph, inputs, settings, seed),
+        None => run_limited(rt, alloc, graph, inputs, settings, settings.elements, gate),
+    }
 }

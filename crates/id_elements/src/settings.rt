@@ -5,11 +5,13 @@ use std::alloc::AllocError;
 /// The most messages that an element may be allowed to handle.
 pub const MAX_STEPS: u64 = 100_000_000;
 
-/// What a run is asked for: how many elements, and how many messages each may handle.
+/// What a run is asked for: how many elements, how many messages each may handle, and the seed for the order of
+/// messages, where threads are not to give it.
 #[derive(Clone, Copy)]
 pub struct Settings {
     pub elements: u32,
     pub steps: u64,
+    pub order: Option<u64>,
 }
 
 /// Why there is no run.

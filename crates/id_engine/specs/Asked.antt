@@ -27,7 +27,7 @@ abbrev pub IsComputed : Request → Type 0
 IsComputed (asks.Check file) = ⊥
 IsComputed (asks.Graph file) = ⊥
 IsComputed (asks.Draw file) = ⊥
-IsComputed (asks.Run file inputs count trace steps names) = Unit {0}
+IsComputed (asks.Run file inputs count trace steps order names) = Unit {0}
 IsComputed (asks.Facts file rounds inputs) = Unit {0}
 
 -- the request asks for a run
@@ -35,5 +35,5 @@ abbrev pub IsToRun : Request → Type 0
 IsToRun (asks.Check file) = ⊥
 IsToRun (asks.Graph file) = ⊥
 IsToRun (asks.Draw file) = ⊥
-IsToRun (asks.Run file inputs count trace steps names) = Unit {0}
+IsToRun (asks.Run file inputs count trace steps order names) = Unit {0}
 IsToRun (asks.Facts file rounds inputs) = ⊥

@@ -23,7 +23,7 @@ abbrev pub file_of : Request → List ℕ
 file_of (asks.Check file) = file.now
 file_of (asks.Graph file) = file.now
 file_of (asks.Draw file) = file.now
-file_of (asks.Run file inputs count trace steps names) = file.now
+file_of (asks.Run file inputs count trace steps order names) = file.now
 file_of (asks.Facts file rounds inputs) = file.now
 
 -- the words of a request's inputs
@@ -31,7 +31,7 @@ abbrev pub words_of : Request → List (List ℕ)
 words_of (asks.Check file) = []
 words_of (asks.Graph file) = []
 words_of (asks.Draw file) = []
-words_of (asks.Run file inputs count trace steps names) = map (λ w. w.now) inputs.items
+words_of (asks.Run file inputs count trace steps order names) = map (λ w. w.now) inputs.items
 words_of (asks.Facts file rounds inputs) = map (λ w. w.now) inputs.items
 
 -- what a request asks for
@@ -39,7 +39,7 @@ abbrev pub command_of : Request → Command
 command_of (asks.Check file) = Check
 command_of (asks.Graph file) = List_graph
 command_of (asks.Draw file) = Draw_graph
-command_of (asks.Run file inputs count trace steps names) = Run names trace (map (λ w. w.now) inputs.items)
+command_of (asks.Run file inputs count trace steps order names) = Run names trace (map (λ w. w.now) inputs.items)
 command_of (asks.Facts file rounds inputs) = Facts rounds (map (λ w. w.now) inputs.items)
 
 -- a request on a text is taken: the text has a program, the words give inputs, and all numbers are within their limits
@@ -47,7 +47,7 @@ abbrev pub IsTaken : List ℕ → Request → Type 0
 IsTaken text (asks.Check file) = HasProgram text
 IsTaken text (asks.Graph file) = HasProgram text
 IsTaken text (asks.Draw file) = HasProgram text
-IsTaken text (asks.Run file inputs count trace steps names) =
+IsTaken text (asks.Run file inputs count trace steps order names) =
     IsTakenRun text (map (λ w. w.now) inputs.items) count steps
 IsTaken text (asks.Facts file rounds inputs) = AreTakenFacts text (map (λ w. w.now) inputs.items) rounds
 
@@ -56,7 +56,7 @@ abbrev pub IsRun : List ℕ → Request → Option Told → Option Told → ℕ 
 IsRun text (asks.Check file) out out' status = Unit {0}
 IsRun text (asks.Graph file) out out' status = Unit {0}
 IsRun text (asks.Draw file) out out' status = Unit {0}
-IsRun text (asks.Run file inputs count trace steps names) out out' status =
+IsRun text (asks.Run file inputs count trace steps order names) out out' status =
     Ran text (map (λ w. w.now) inputs.items) count trace steps names out out' status
 IsRun text (asks.Facts file rounds inputs) out out' status = Unit {0}
 
@@ -65,7 +65,7 @@ abbrev pub IsRunFront : List ℕ → Request → Option Told → Option Told →
 IsRunFront text (asks.Check file) out out' = Unit {0}
 IsRunFront text (asks.Graph file) out out' = Unit {0}
 IsRunFront text (asks.Draw file) out out' = Unit {0}
-IsRunFront text (asks.Run file inputs count trace steps names) out out' =
+IsRunFront text (asks.Run file inputs count trace steps order names) out out' =
     RanFront text (map (λ w. w.now) inputs.items) count trace steps names out out'
 IsRunFront text (asks.Facts file rounds inputs) out out' = Unit {0}
 
@@ -74,7 +74,7 @@ abbrev pub IsRefusedRequest : List ℕ → Request → EngineError → Type 0
 IsRefusedRequest text (asks.Check file) e = IsRefusedText text e
 IsRefusedRequest text (asks.Graph file) e = IsRefusedText text e
 IsRefusedRequest text (asks.Draw file) e = IsRefusedText text e
-IsRefusedRequest text (asks.Run file inputs count trace steps names) e =
+IsRefusedRequest text (asks.Run file inputs count trace steps order names) e =
     IsRefusedRun text (map (λ w. w.now) inputs.items) count steps e
 IsRefusedRequest text (asks.Facts file rounds inputs) e = AreRefusedFacts text (map (λ w. w.now) inputs.items) rounds e
 

@@ -68,6 +68,7 @@ fn run_asked<R: Threads + Wait + Sync, G: Gate + Sync, O: Sink>(
             count,
             trace,
             steps,
+            order,
             names,
             ..
         } => engine(
@@ -78,6 +79,7 @@ fn run_asked<R: Threads + Wait + Sync, G: Gate + Sync, O: Sink>(
             Settings {
                 elements: *count,
                 steps: *steps,
+                order: *order,
             },
             *names,
             *trace,

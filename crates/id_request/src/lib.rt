@@ -23,14 +23,16 @@ pub enum Request<'a> {
     Draw {
         file: &'a str,
     },
-    /// Run the file on these input words, on so many elements, each for at most so many messages, and print the
-    /// trace before all else, or not, and what its names have, too, or not.
+    /// Run the file on these input words, on so many elements, each for at most so many messages, in the order that
+    /// the seed gives, where there is one, and print the trace before all else, or not, and what its names have, too,
+    /// or not.
     Run {
         file: &'a str,
         inputs: Vec<&'a str>,
         count: u32,
         trace: bool,
         steps: u64,
+        order: Option<u64>,
         names: bool,
     },
     /// Print the facts of a round of the file on these input words.

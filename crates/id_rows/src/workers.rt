@@ -41,6 +41,7 @@ pub(crate) fn run_on<'a, R: Abort + AllocGlobal + Threads + Wait + Sync, G: Gate
     let settings = Settings {
         elements,
         steps: 1_000_000,
+        order: None,
     };
     run_limited(rt, alloc, graph, &inputs, settings, workers, gate)
 }

@@ -270,8 +270,9 @@ fn status_of(ending: &Ending) -> u8
 /// Compiles a text, runs it on the inputs that the words give, on `settings.elements` elements, each worked by a thread
 /// of its own and each for at most `settings.steps` messages, and writes what `idc run` prints: all events where
 /// `trace` asks for them, and then the report, with what names have where `names` asks for it. The gate holds each
-/// handling of a message for as long as it likes. It answers the status: 0 after a quiet run, 1 after a fault, 3 at the
-/// step limit.
+/// handling of a message for as long as it likes. Where `settings.order` is a seed, the calling thread delivers the
+/// messages in the order that it gives, and no gate holds it. It answers the status: 0 after a quiet run, 1 after a
+/// fault, 3 at the step limit.
 pub fn engine<R: Threads + Wait + Sync, G: Gate + Sync, W: Sink>(
     rt: &R,
     alloc: Global,

@@ -103,6 +103,8 @@ run|text.id / answer 14 / def main(): int = 2 + 3 * 4;
 run|text.id|--steps|11 / answer 14 / def main(): int = 2 + 3 * 4;
 run|text.id|--steps|100000000 / answer 14 / def main(): int = 2 + 3 * 4;
 run|text.id|--elements|64 / answer 14 / def main(): int = 2 + 3 * 4;
+run|text.id|--order|0 / answer 14 / def main(): int = 2 + 3 * 4;
+run|text.id|--order|18446744073709551615|--elements|64 / answer 14 / def main(): int = 2 + 3 * 4;
 run|text.id / fault overflow at @1:49 / def main(): int = (0 - 9223372036854775807 - 1) div (0 - 1);
 check|text.id / ok / def main(n: int): int = n;
 facts|text.id|1 / on @1:21 / def main(): int = 1 + 2;
@@ -145,7 +147,7 @@ fn does_what_the_rows_say(rt: HostRuntime) -> Result<(), Fail> {
         assert!(&rt; printed, "{row}");
         rows = rows.saturating_add(1);
     }
-    assert_eq!(&rt; rows, 16);
+    assert_eq!(&rt; rows, 18);
     Ok(())
 }
 
@@ -245,6 +247,7 @@ fn is_refused<R: Abort + AllocGlobal + Threads + Wait + Sync>(
         count,
         trace: true,
         steps,
+        order: None,
         names: false,
     });
     let mut source = OneText {
@@ -268,6 +271,7 @@ fn allows_a_million_steps_on_one_element(rt: HostRuntime) {
             count: 1,
             trace: false,
             steps: 1_000_000,
+            order: None,
             names: false,
             ..
         })

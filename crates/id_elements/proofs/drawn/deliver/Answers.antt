@@ -1,0 +1,16 @@
+use Rattle.std.proofs.Common.{◌≡◌, sym, ◌∙◌}
+use Rattle.id_line.specs.declared.step.Step.TheVariants.{Fault, Stuck, Went}
+use Rattle.id_elements.proofs.FinishLemmas.{failed_on, step-free}
+use Rattle.id_elements.proofs.drawn.deliver.Goals as goal
+
+pub returns-in-Ok-Fault-clause-failed : goal.returns-in-Ok-Fault-clause-failed
+returns-in-Ok-Fault-clause-failed c = λ _. failed_on c.args.steps c.args.count c.args.position c.args.machine.now c.deliver.new.self c.in-Ok-Fault.field-0 c.requires.count c.requires.free
+    c.in-Ok-Fault.ensures.world
+    (step-free c.args.machine.now.graph c.args.count c.args.machine.now.count c.args.steps c.args.machine.now.world c.args.position c.requires.free c.in-Ok-Fault.field-0 c.requires.count c.in-Ok-Fault.ensures.step)
+    (λ h. (let k : Fault c.in-Ok-Fault.field-0-0 ≡ Went = sym c.in-Ok-Fault.field-0-is ∙ h in cc))
+
+pub returns-in-Ok-Stuck-clause-failed : goal.returns-in-Ok-Stuck-clause-failed
+returns-in-Ok-Stuck-clause-failed c = λ _. failed_on c.args.steps c.args.count c.args.position c.args.machine.now c.deliver.new.self c.in-Ok-Stuck.field-0 c.requires.count c.requires.free
+    c.in-Ok-Stuck.ensures.world
+    (step-free c.args.machine.now.graph c.args.count c.args.machine.now.count c.args.steps c.args.machine.now.world c.args.position c.requires.free c.in-Ok-Stuck.field-0 c.requires.count c.in-Ok-Stuck.ensures.step)
+    (λ h. (let k : Stuck ≡ Went = sym c.in-Ok-Stuck.field-0-is ∙ h in cc))

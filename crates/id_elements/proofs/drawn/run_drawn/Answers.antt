@@ -1,0 +1,38 @@
+use Rattle.std.proofs.Common.{◌≡◌, true, false, ap, subst, sym, ◌∙◌}
+use Rattle.id_core.specs.Machines.{MachineView}
+use Rattle.id_elements.specs.Runs.{IsRun, MovesOn}
+use Rattle.id_elements.proofs.DrawnLemmas.{start_accounted, start_counts, start_few}
+use Rattle.id_elements.proofs.RunsLemmas.{run_from}
+use Rattle.id_elements.proofs.drawn.run_drawn.Goals as goal
+
+pub deliver_drawn-requires : goal.deliver_drawn-requires
+deliver_drawn-requires c =
+    let g = c.args.graph.now in
+    let vs = c.args.inputs.now.values in
+    let m = c.in_ok-machine.machine in
+    record {
+      count = ap (λ (x : MachineView). x.count) c.in_ok-machine.ensures;
+      elements = start_counts g vs c.args.settings.elements m c.in_ok-machine.ensures c.requires.some c.requires.few;
+      few = start_few g vs c.args.settings.elements m c.in_ok-machine.ensures c.args.settings.steps;
+    }
+
+pub returns-then-not-moves_on-clause-refused : goal.returns-then-not-moves_on-clause-refused
+returns-then-not-moves_on-clause-refused c = record {
+  machine = c.deliver_drawn.new.machine;
+  run = run_from c.args.graph.now c.args.inputs.now.values c.args.settings.elements c.args.settings.steps c.in_ok-machine.machine c.deliver_drawn.new.machine
+      c.orders_are_runs.ensures (ap (λ (x : MachineView). x.graph) c.in_ok-machine.ensures) (ap (λ (x : MachineView). x.count) c.in_ok-machine.ensures)
+      (start_accounted c.args.graph.now c.args.inputs.now.values c.args.settings.elements c.in_ok-machine.machine c.in_ok-machine.ensures)
+      c.in_ok-deliver_drawn.ensures c.replay_all.ensures;
+  stuck = λ moves. (let k : false ≡ true = sym c.if-not-moves_on.true ∙ c.moves_on.ensures.1 moves in cc);
+}
+
+pub returns-clause-run : goal.returns-clause-run
+returns-clause-run c =
+    subst (IsRun c.args.graph.now c.args.inputs.now.values c.args.settings.elements c.args.settings.steps) (sym c.of.ensures)
+    (run_from c.args.graph.now c.args.inputs.now.values c.args.settings.elements c.args.settings.steps c.in_ok-machine.machine c.deliver_drawn.new.machine
+    c.orders_are_runs.ensures (ap (λ (x : MachineView). x.graph) c.in_ok-machine.ensures) (ap (λ (x : MachineView). x.count) c.in_ok-machine.ensures)
+    (start_accounted c.args.graph.now c.args.inputs.now.values c.args.settings.elements c.in_ok-machine.machine c.in_ok-machine.ensures)
+    c.in_ok-deliver_drawn.ensures c.replay_all.ensures)
+
+pub returns-clause-moves : goal.returns-clause-moves
+returns-clause-moves c = subst (λ (m : MachineView). MovesOn m.world) (sym c.of.ensures) (c.moves_on.ensures.0 c.if-not-moves_on.false)

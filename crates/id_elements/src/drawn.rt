@@ -1,0 +1,194 @@
+//! A run whose order a seed gives: the calling thread delivers messages that a generator draws.
+
+ghost use Rattle.std.specs.Prelude.{◌≡◌, ◌<◌, ◌≤◌, ◌⊎◌, ◌↔◌, All, length, Err, IfErr, IfOk, IfSome, IsFalse, OnOk};
+ghost use Rattle.id_core.specs.Machines.{TakesInputs, delivered, start};
+ghost use Rattle.id_elements.specs.Runs.{AreBadSteps, HasCount, HasWent, IsFinished, IsFree};
+ghost use Rattle.id_elements.specs.Runs.{IsRefusedRun, IsRun, MovesOn};
+ghost use Rattle.id_elements.specs.declared.settings.RunError.TheVariants.{BadElements, BadSteps};
+
+use crate::ended::Run;
+use crate::finish::{first_free, is_held_back};
+use crate::running::{moves_on, replay_all};
+use crate::settings::{MAX_STEPS, RunError, Settings};
+use id_core::{MAX_ELEMENTS, Machine, MachineError, Step, TakeError};
+use id_inputs::Inputs;
+use id_valid::Valid;
+use rand_core::{Rng, SeedableRng};
+use rand_pcg::Pcg64Mcg;
+use std::alloc::{AllocError, Global};
+
+/// So many messages are drawn, at the most, until one is not held back.
+const DRAWS: u32 = 16;
+
+/// The machine at its start.
+fn start_of<'a>(
+    alloc: Global,
+    graph: &'a Valid,
+    inputs: &Inputs,
+    count: u32,
+) -> Result<Machine<'a>, AllocError>
+    requires inputs { TakesInputs graph.now inputs.now.values }
+    requires some { 0 < count }
+    requires few { count ≤ 64 }
+    ensures { IfOk result
+        (λ m. m ≡ record { graph = graph.now; count = count; world = start graph.now inputs.now.values count }) }
+{
+    match Machine::new(alloc, graph, inputs, count) {
+        Ok(machine) => Ok(machine),
+        Err(MachineError::BadElements) => unreachable!(),
+        Err(MachineError::Memory) => Err(AllocError),
+    }
+}
+
+/// A position that is drawn from those below the end, from this one on.
+fn draw(rng: &mut Pcg64Mcg, from: usize, end: usize) -> usize
+    requires { from < end }
+    ensures from { from ≤ result }
+    ensures end { result < end }
+{
+    let choices = (end - from) as u64;
+    from + (rng.next_u64() % choices) as usize
+}
+
+/// A position from this one on that was drawn, and whose message is not held back, if one was drawn soon.
+fn draw_free(
+    machine: &Machine<'_>,
+    rng: &mut Pcg64Mcg,
+    from: usize,
+    count: u32,
+    steps: u64,
+) -> Option<usize>
+    requires from { from < length machine.now.world.flight }
+    requires count { machine.now.count ≡ count }
+    requires elements { HasCount machine.now }
+    ensures from { IfSome result (λ k. from ≤ k) }
+    ensures free { IfSome result (IsFree count steps machine.now.world) }
+{
+    let end = machine.in_flight().len();
+    for _ in 0..DRAWS {
+        let position = draw(rng, from, end);
+        if !is_held_back(machine, position, count, steps) {
+            return Some(position);
+        }
+    }
+    None
+}
+
+/// A position from this one on whose message is not held back: one that was drawn, or this one.
+fn choose(machine: &Machine<'_>, rng: &mut Pcg64Mcg, from: usize, count: u32, steps: u64) -> usize
+    requires from { from < length machine.now.world.flight }
+    requires free { IsFree count steps machine.now.world from }
+    requires count { machine.now.count ≡ count }
+    requires elements { HasCount machine.now }
+    ensures from { from ≤ result }
+    ensures free { IsFree count steps machine.now.world result }
+{
+    match draw_free(machine, rng, from, count, steps) {
+        Some(position) => position,
+        None => from,
+    }
+}
+
+/// Delivers the message at a position, which is not held back, and says whether its event went well.
+fn deliver(
+    machine: &mut Machine<'_>,
+    position: usize,
+    count: u32,
+    steps: u64,
+) -> Result<bool, AllocError>
+    requires count { machine.old.count ≡ count }
+    requires free { IsFree count steps machine.old.world position }
+    ensures world { OnOk result (machine.new ≡ record machine.old {
+      world = delivered machine.old.graph machine.old.count machine.old.world position;
+    }) }
+    ensures failed { IfOk result (λ b. IsFalse b → HasWent machine.new.world → ⊥) }
+{
+    match machine.deliver(position) {
+        Ok(Step::Went) => Ok(true),
+        Ok(Step::Fault(_)) => Ok(false),
+        Ok(Step::Stuck) => Ok(false),
+        Err(TakeError::StampEnd) => unreachable!(),
+        Err(TakeError::Memory) => Err(AllocError),
+    }
+}
+
+/// Delivers messages that are drawn until a fault, or until each that is left is held back. Where those that were drawn
+/// are held back, the first that is not takes their place; no message in front of that is looked at again, since what
+/// is held back stays so.
+fn deliver_drawn(
+    machine: &mut Machine<'_>,
+    rng: &mut Pcg64Mcg,
+    count: u32,
+    steps: u64,
+) -> Result<(), AllocError>
+    requires count { machine.old.count ≡ count }
+    requires elements { HasCount machine.old }
+    requires few { All (λ s. length s.events ≤ steps) machine.old.world.elements }
+    ensures { OnOk result (IsFinished steps machine.old machine.new) }
+{
+    let mut from = 0usize;
+    loop {
+        from = first_free(machine, from, count, steps);
+        if from == machine.in_flight().len() {
+            return Ok(());
+        }
+        let position = choose(machine, rng, from, count, steps);
+        if !deliver(machine, position, count, steps)? {
+            return Ok(());
+        }
+    }
+}
+
+/// The run of the machine in the order that the seed gives.
+fn run_drawn<'a>(
+    alloc: Global,
+    graph: &'a Valid,
+    inputs: &Inputs,
+    settings: Settings,
+    seed: u64,
+) -> Result<Run<'a>, RunError>
+    requires inputs { TakesInputs graph.now inputs.now.values }
+    requires some { 0 < settings.elements }
+    requires few { settings.elements ≤ 64 }
+    ensures run { IfOk result (IsRun graph.now inputs.now.values settings.elements settings.steps) }
+    ensures moves { IfOk result (λ r. MovesOn r.world) }
+    ensures refused { IfErr result (IsRefusedRun graph.now inputs.now.values settings.elements settings.steps) }
+{
+    id_orders::orders_are_runs();
+    let mut machine = start_of(alloc, graph, inputs, settings.elements)?;
+    let mut rng = Pcg64Mcg::seed_from_u64(seed);
+    deliver_drawn(&mut machine, &mut rng, settings.elements, settings.steps)?;
+    replay_all(&machine);
+    if !moves_on(&machine) {
+        return Err(RunError::Stuck);
+    }
+    Ok(Run::of(machine))
+}
+
+/// Runs the graph on these inputs as `run` does, but on the calling thread, in the order that the seed gives: each time
+/// it delivers a message that the generator draws of those that are not held back. The same seed gives the same order
+/// again. Whatever the seed, it returns, since each delivery is one of the messages that an element may handle.
+pub fn run_in_order<'a>(
+    alloc: Global,
+    graph: &'a Valid,
+    inputs: &Inputs,
+    settings: Settings,
+    seed: u64,
+) -> Result<Run<'a>, RunError>
+    requires { TakesInputs graph.now inputs.now.values }
+    // It is a run of the machine, and it has come to its end: where every event went well, each message left is held
+    // back.
+    ensures run { IfOk result (IsRun graph.now inputs.now.values settings.elements settings.steps) }
+    ensures moves { IfOk result (λ r. MovesOn r.world) }
+    ensures elements { (result ≡ Err BadElements) ↔ ((settings.elements ≡ 0) ⊎ (64 < settings.elements)) }
+    ensures steps { (result ≡ Err BadSteps) ↔ AreBadSteps settings.elements settings.steps }
+    ensures refused { IfErr result (IsRefusedRun graph.now inputs.now.values settings.elements settings.steps) }
+{
+    if settings.elements == 0 || settings.elements > MAX_ELEMENTS {
+        return Err(RunError::BadElements);
+    }
+    if settings.steps == 0 || settings.steps > MAX_STEPS {
+        return Err(RunError::BadSteps);
+    }
+    run_drawn(alloc, graph, inputs, settings, seed)
+}
