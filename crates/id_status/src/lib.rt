@@ -1,0 +1,30 @@
+//! What the status of a run tells of its program.
+//!
+//! Keeps: nothing; each function is a law, and has no code.
+//! Errors: none.
+//! Read first: `specs/Status.antt`, then `specs/Stopped.antt`.
+//! Not here: how runs end and what is printed of them (`id_runner`), how many messages they have (`id_bounds`).
+#![tactic(auto)]
+
+ghost use Rattle.id_status.specs.Status.{StatusTold};
+ghost use Rattle.id_status.specs.Stopped.{StoppedShort};
+
+/// *Stopped short*, a law: a run that stops because no element may handle more messages shows that its source
+/// needs more: something is On at so many different paths that the graph may need more messages than these
+/// (docs/PROMISES.md, "The run"). Takes no memory.
+pub fn stopped_short()
+    ensures { StoppedShort }
+{
+    id_bounds::bounded();
+}
+
+/// *Status told*, a law: where something is On at finitely many paths, and each element may handle as many
+/// messages as the graph may need for them, a run ends with status 0 exactly where its source has no fault, and
+/// with status 1 exactly where it has one (docs/PROMISES.md, "The run"). Takes no memory.
+pub fn status_told()
+    ensures { StatusTold }
+{
+    id_bounds::bounded();
+    id_laws::sound();
+    id_laws::complete();
+}
