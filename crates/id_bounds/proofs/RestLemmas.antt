@@ -1,7 +1,7 @@
 -- Lemmas on specs/Rest.antt: each delivery is an event more, and there are no more events than the paths pay for.
 use Rattle.std.proofs.Common.{◌≡◌, ◌≢◌, ◌⊎◌, inl, inr, ℕ, zero, suc, ◌+◌, ◌-◌, ◌*◌, ◌^◌, ◌≤◌, ◌<◌, false, cond, List, [], ◌∷◌, ◌++◌}
 use Rattle.std.proofs.Common.{length, map, slice_get, Option, Some, None, refl, sym, ap, subst, ◌∙◌, arith, length-append}
-use Rattle.std.proofs.Math.Nat.{mod-lt, mul-le-mul_left}
+use Rattle.std.proofs.Math.Nat.{mul-le-mul_left}
 use Rattle.std.proofs.lemmas.List.{length-map}
 use Rattle.std.specs.Prelude.{All}
 use Rattle.id_instr.specs.Graph.{Parts}
@@ -9,11 +9,11 @@ use Rattle.id_list.specs.List.{Among}
 use Rattle.id_list.proofs.AmongLemmas.{Among-from_at, at-from_Among}
 use Rattle.id_list.proofs.DifferLemmas.{AllDiffer-few}
 use Rattle.id_tag.specs.declared.Payload.{Payload}
-use Rattle.id_tag.specs.declared.Payload.TheVariants.{Token, Read, Write}
 use Rattle.id_tag.specs.declared.Message.{Message}
 use Rattle.id_tag.specs.declared.Structure.{Structure}
 use Rattle.id_tag.specs.declared.Tag.{Tag}
-use Rattle.id_tag.specs.Routes.{route_of, offset_of}
+use Rattle.id_tag.specs.Routes.{route_of}
+use Rattle.id_tag.proofs.RoutesLemmas.{route_of_below}
 use Rattle.id_line.specs.declared.step.Step.{Step}
 use Rattle.id_line.specs.declared.step.Step.TheVariants.{Went, Stuck, Fault as FaultStep}
 use Rattle.id_line.specs.declared.step.Fault.TheVariants.{Operator, SecondStore}
@@ -50,12 +50,6 @@ paid S g s ps active b =
 
 -- ---- deliveries
 
--- a message goes to one of the elements
-route_within : (x : Payload) (count : ℕ) → 0 < count → route_of x count < count
-route_within (Token t p v) count some = mod-lt (t.context.element + t.context.serial + t.iteration) some
-route_within (Read c t) count some = mod-lt (c.structure.element + c.structure.serial + offset_of c) some
-route_within (Write c v t) count some = mod-lt (c.structure.element + c.structure.serial + offset_of c) some
-
 -- what stands at a position
 there : {A : Type 0} (xs : List A) (k : ℕ) → k < length xs → (x : A) × (slice_get xs k ≡ Some x)
 there [] k h = absurd (omega arith)
@@ -75,7 +69,7 @@ module _ (g : Parts) (count : ℕ) where
   event_more s k some stamps within few =
       let m = there s.flight k within in
       let n = route_of (m.0).payload count in
-      let e = there s.elements n (omega (arith, route_within (m.0).payload count some, stamps.many)) in
+      let e = there s.elements n (omega (arith, route_of_below (m.0).payload count some, stamps.many)) in
       let left = ended_not count s n e.0 m.0 stamps e.1 (Among-from_at m.0 s.flight k m.1) few in
       subst (λ (w : World). length (events w) ≡ suc (length (events s))) (sym (taken s k m.0 e.0 m.1 e.1 left))
       (events_more s.elements n e.0 (state_after g n e.0 m.0) e.1 (one_more g n e.0 m.0))

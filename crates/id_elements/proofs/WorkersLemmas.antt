@@ -8,14 +8,13 @@ use Rattle.std.proofs.lemmas.List.Elements.{All-append, All-cons, All-drop, All-
 use Rattle.std.proofs.lemmas.List.Sums.{sum_by-append, sum_by-cons, sum_by-remove, sum_by_push}
 use Rattle.std.proofs.lemmas.Option.{get_or_from_slice_get, slice_get_within}
 use Rattle.std.proofs.lemmas.Bool.{cases_lt}
-use Rattle.std.proofs.lemmas.Nat.{mod_below}
 use Rattle.std.specs.Global.{Global}
 use Rattle.crossbeam_queue.specs.SegTies.{SegId}
 use Rattle.id_instr.specs.Graph.{Parts}
-use Rattle.id_tag.specs.Routes.{offset_of, route_of}
+use Rattle.id_tag.specs.Routes.{route_of}
+use Rattle.id_tag.proofs.RoutesLemmas.{route_of_below}
 use Rattle.id_tag.specs.declared.Message.{Message}
 use Rattle.id_tag.specs.declared.Payload.{Payload}
-use Rattle.id_tag.specs.declared.Payload.TheVariants.{Read, Token, Write}
 use Rattle.id_inbox.specs.Doors.{DoorView}
 use Rattle.id_inbox.specs.Hands.{sending, taking}
 use Rattle.id_line.specs.Events.{EventView}
@@ -131,9 +130,7 @@ module _ (ds : List DoorView) (e e' : ElementView) (own own' out out' stray : Li
 
 -- all messages are for it
 routed_to_only : (p : Payload) → route_of p 1 ≡ 0
-routed_to_only (Token t p v) = let lt = mod_below (t.context.element + t.context.serial + t.iteration) 1 (omega arith) in omega (arith, lt)
-routed_to_only (Read c t) = let lt = mod_below (c.structure.element + c.structure.serial + offset_of c) 1 (omega arith) in omega (arith, lt)
-routed_to_only (Write c v t) = let lt = mod_below (c.structure.element + c.structure.serial + offset_of c) 1 (omega arith) in omega (arith, lt)
+routed_to_only p = let lt = route_of_below p 1 (omega arith) in omega (arith, lt)
 
 AreFor-only : (e : ElementView) (ms : List Message) → e.count ≡ 1 → e.number ≡ 0 → All (Fits e.graph) ms → AreFor e ms
 AreFor-only e ms one first fits k d lt = record {

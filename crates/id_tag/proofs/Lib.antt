@@ -1,2 +1,3 @@
 pub mod TagsLemmas
+pub mod RoutesLemmas
 pub mod SortedLemmas

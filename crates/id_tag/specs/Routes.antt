@@ -1,6 +1,7 @@
 -- The element that a message goes to (docs/MACHINE.md, "Messages").
-use Rattle.std.specs.Prelude.{ℕ, ◌+◌, ◌%◌}
-use Rattle.std.specs.Int.{int_gap}
+use Rattle.std.specs.Prelude.{ℕ, ℤ, pos, ◌+◌, ◌%◌, ◌+ℤ◌, ◌-ℤ◌}
+use Rattle.std.specs.Int.{int_rem_euclid}
+use Rattle.std.specs.Int.RustNames.{unsigned_abs}
 use Rattle.id_tag.specs.declared.Tag.{Tag}
 use Rattle.id_tag.specs.declared.Cell.{Cell}
 use Rattle.id_tag.specs.declared.Payload.{Payload}
@@ -11,14 +12,14 @@ use Rattle.id_tag.specs.declared.Payload.TheVariants.{Token, Read, Write}
 abbrev pub tag_route : Tag → ℕ → ℕ
 tag_route t count = (t.context.element + t.context.serial + t.iteration) % count
 
--- how far a cell is above the lowest of its structure
-abbrev pub offset_of : Cell → ℕ
-offset_of c = int_gap c.structure.low c.index
+-- how far a cell is above the lower bound of its structure, which is a number below 0 where it is below that
+abbrev pub offset_of : Cell → ℤ
+offset_of c = c.index -ℤ c.structure.low
 
 -- the element that handles a cell, of so many: the sum of its structure's two numbers and its offset, modulo their
 -- count
 abbrev pub cell_route : Cell → ℕ → ℕ
-cell_route c count = (c.structure.element + c.structure.serial + offset_of c) % count
+cell_route c count = unsigned_abs (int_rem_euclid (pos (c.structure.element + c.structure.serial) +ℤ offset_of c) (pos count))
 
 -- the element that handles what a message says: a token goes where its tag goes, a read or a write where its cell goes
 abbrev pub route_of : Payload → ℕ → ℕ

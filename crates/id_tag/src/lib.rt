@@ -6,7 +6,9 @@
 //! Not here: waiting for a partner (`id_match`), firing (`id_ops`).
 #![tactic(auto)]
 
-ghost use Rattle.std.specs.Prelude.{◌≡◌, ◌<◌, ◌%◌, ◌↔◌, IsTrue};
+ghost use Rattle.std.specs.Prelude.{◌≡◌, ◌<◌, ◌%◌, ◌↔◌, IsTrue, pos};
+ghost use Rattle.std.specs.Int.{int_rem_euclid};
+ghost use Rattle.std.specs.Int.RustNames.{unsigned_abs};
 ghost use Rattle.id_tag.specs.Kinds.{kind_of, same_kind};
 ghost use Rattle.id_tag.specs.Routes.{offset_of, tag_route, cell_route, route_of};
 
@@ -169,19 +171,30 @@ fn route_cell(cell: Cell, count: u32) -> u32
     if count == 1 {
         return 0;
     }
-    let made = u128::from(cell.structure.element) + u128::from(cell.structure.serial);
-    let sum = made + u128::from(offset_of(cell));
-    modulo(sum, count)
+    let made = i128::from(cell.structure.element) + i128::from(cell.structure.serial);
+    rest(made + offset_of(cell), count)
 }
 
-// How far the cell is above the lowest of its structure.
-fn offset_of(cell: Cell) -> u64
+// How far the cell is above the lower bound of its structure, which is a number below 0 where it is below that.
+#[inline(always)]
+fn offset_of(cell: Cell) -> i128
     ensures { result ≡ offset_of cell }
 {
-    if cell.index <= cell.structure.low {
-        return 0;
+    i128::from(cell.index) - i128::from(cell.structure.low)
+}
+
+// What is left of a sum of such numbers, which is a number from 0 on even where the sum is below 0.
+#[inline(always)]
+fn rest(sum: i128, count: u32) -> u32
+    requires { 0 < count }
+    ensures exact { result ≡ unsigned_abs (int_rem_euclid sum (pos count)) }
+    ensures below { result < count }
+{
+    if sum >= 0 {
+        modulo(sum as u128, count)
+    } else {
+        sum.rem_euclid(i128::from(count)) as u32
     }
-    (i128::from(cell.index) - i128::from(cell.structure.low)) as u64
 }
 
 // 128 bits hold the sum of any three such numbers, and mostly 64 bits do.
