@@ -207,6 +207,25 @@ fn routes_by_context_and_iteration(rt: HostRuntime) {
     assert!(rt; route(&signal(tag, 0), 2) == 1);
 }
 
+#[test]
+fn routes_by_structure_and_offset(rt: HostRuntime) {
+    let structure = Structure {
+        element: 1,
+        serial: 3,
+        ..first_cell().structure
+    };
+    for (index, wanted) in [(4, 3), (0, 3), (-5, 2), (i64::MIN, 3)] {
+        let cell = Cell { structure, index };
+        let reply = main_tag(7);
+        let payload = Payload::Read { cell, reply };
+        let read = Message {
+            payload,
+            ..signal(reply, 0)
+        };
+        assert!(rt; route(&read, 4) == wanted);
+    }
+}
+
 /// The first faulty instruction of the graph of these blocks and instructions, of which there are few, if there is one;
 /// or that for which there is no such graph, and 1000 more.
 fn faulty(
