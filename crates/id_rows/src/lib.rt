@@ -15,6 +15,8 @@ mod graphs;
 #[cfg(test)]
 mod memory;
 #[cfg(test)]
+mod onward;
+#[cfg(test)]
 mod rows;
 #[cfg(test)]
 mod workers;

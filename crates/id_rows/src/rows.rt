@@ -352,7 +352,7 @@ fn machine<'a>(
 }
 
 /// The machine of so many elements, where there is one.
-fn started<'a>(
+pub(crate) fn started<'a>(
     rt: &impl Abort,
     alloc: Global,
     graph: &'a Valid,
