@@ -6,6 +6,20 @@
 //! Not here: what is done with a request (`id_engine`).
 #![tactic(auto)]
 
+ghost use Rattle.std.specs.Prelude.{◌++◌, ◌∷◌, [], List, ◌≡◌, ◌⊎◌, ◌&&◌, ◌||◌, false, map, codes, IfOk, IfErr, MatchResult, OnOk, string_bytes};
+ghost use Rattle.std.specs.Str.{bytes_eq};
+ghost use Rattle.clap.specs.Words.{app_of, found_of, kind_of, rule_of, rows_of, shape_of, subcommand_rows_of};
+ghost use Rattle.clap.specs.declared.builder.command.Command.TheViews.{out-Command};
+ghost use Rattle.clap.specs.Simple.{Shape};
+ghost use Rattle.std.specs.List.{All};
+ghost use Rattle.id_args.specs.Commands.{AreCommands, IsCommand, bare_shape, check_shape, command_shape, elements_rule, facts_shape, file_rule};
+ghost use Rattle.id_args.specs.Commands.{flag_rule, graph_shape, inputs_rule, number_rule, order_rule, program_app};
+ghost use Rattle.id_args.specs.Commands.{rounds_rule, run_rules, run_shape, steps_rule};
+ghost use Rattle.id_args.specs.Requests.{AskFor, HasFile, IsRequestOf, IsUnread, IsUnreadWords, end_in_help};
+ghost use Rattle.id_args.specs.Requests.{input_words, is_help, is_set, words_read};
+ghost use Rattle.id_args.specs.Matches.{Gives, IsAsked, IsAskedIn, IsNumberOf, IsOrderOf, IsRefusal, Tells};
+ghost use Rattle.std.specs.IoError.{error_kind};
+
 use clap::builder::ValueParser;
 use clap::error::ErrorKind;
 use clap::{Arg, ArgAction, ArgMatches, Command, Error, value_parser};
@@ -71,14 +85,20 @@ Options of graph:
 );
 
 /// The argument that names the file.
-fn file_argument<'a>(alloc: Global) -> Arg<'a> {
+fn file_argument<'a>(alloc: Global) -> Arg<'a>
+    ensures rule { rule_of result ≡ file_rule }
+    ensures local { result.global ≡ false }
+{
     Arg::new(alloc, "FILE")
         .required(true)
         .help("The text of the program")
 }
 
 /// The argument for input words.
-fn inputs_argument<'a>(alloc: Global) -> Arg<'a> {
+fn inputs_argument<'a>(alloc: Global) -> Arg<'a>
+    ensures rule { rule_of result ≡ inputs_rule }
+    ensures local { result.global ≡ false }
+{
     Arg::new(alloc, "INPUT")
         .value_name("NAME=VALUE")
         .num_args(0..)
@@ -92,7 +112,10 @@ fn number_option<'a>(
     parser: ValueParser<'a>,
     default: &'a str,
     help: &'a str,
-) -> Arg<'a> {
+) -> Arg<'a>
+    ensures rule { rule_of result ≡ number_rule name.entry.now parser.entry default.entry.now }
+    ensures local { result.global ≡ false }
+{
     Arg::new(alloc, name)
         .long(name)
         .value_name("N")
@@ -102,21 +125,30 @@ fn number_option<'a>(
 }
 
 /// The option for the number of elements.
-fn elements_option<'a>(alloc: Global) -> Arg<'a> {
+fn elements_option<'a>(alloc: Global) -> Arg<'a>
+    ensures rule { rule_of result ≡ elements_rule }
+    ensures local { result.global ≡ false }
+{
     let parser = value_parser!(u32).range(1..=MAX_ELEMENTS).into();
     let help = "How many elements the machine has";
     number_option(alloc, "elements", parser, DEFAULT_ELEMENTS, help)
 }
 
 /// The option for the limit of steps.
-fn steps_option<'a>(alloc: Global) -> Arg<'a> {
+fn steps_option<'a>(alloc: Global) -> Arg<'a>
+    ensures rule { rule_of result ≡ steps_rule }
+    ensures local { result.global ≡ false }
+{
     let parser = value_parser!(u64).range(1..=MAX_STEPS).into();
     let help = "The most messages that each element handles";
     number_option(alloc, "steps", parser, DEFAULT_STEPS, help)
 }
 
 /// The option for the seed of the order.
-fn order_option<'a>(alloc: Global) -> Arg<'a> {
+fn order_option<'a>(alloc: Global) -> Arg<'a>
+    ensures rule { rule_of result ≡ order_rule }
+    ensures local { result.global ≡ false }
+{
     Arg::new(alloc, "order")
         .long("order")
         .value_name("SEED")
@@ -125,7 +157,10 @@ fn order_option<'a>(alloc: Global) -> Arg<'a> {
 }
 
 /// An option without a value.
-fn flag<'a>(alloc: Global, name: &'a str, help: &'a str) -> Arg<'a> {
+fn flag<'a>(alloc: Global, name: &'a str, help: &'a str) -> Arg<'a>
+    ensures rule { rule_of result ≡ flag_rule name.entry.now }
+    ensures local { result.global ≡ false }
+{
     Arg::new(alloc, name)
         .long(name)
         .action(ArgAction::SetTrue)
@@ -133,7 +168,10 @@ fn flag<'a>(alloc: Global, name: &'a str, help: &'a str) -> Arg<'a> {
 }
 
 /// The argument for the round.
-fn rounds_argument<'a>(alloc: Global) -> Arg<'a> {
+fn rounds_argument<'a>(alloc: Global) -> Arg<'a>
+    ensures rule { rule_of result ≡ rounds_rule }
+    ensures local { result.global ≡ false }
+{
     Arg::new(alloc, "ROUNDS")
         .required(true)
         .value_parser(value_parser!(u32).range(0..=LAST_ROUND))
@@ -146,19 +184,26 @@ fn command_with<'a>(
     name: &'a str,
     about: &'a str,
     arguments: Vec<Arg<'a>>,
-) -> Result<Command<'a>, AllocError> {
+) -> Result<Command<'a>, AllocError>
+    requires { All (λ a. a.global ≡ false) arguments.items }
+    ensures { IfOk result (IsCommand (command_shape name.entry.now (map rule_of arguments.entry.items))) }
+{
     Command::new(alloc, name).about(about).args(arguments)
 }
 
 /// The command `check`.
-fn check_command<'a>(alloc: Global) -> Result<Command<'a>, AllocError> {
+fn check_command<'a>(alloc: Global) -> Result<Command<'a>, AllocError>
+    ensures { IfOk result (IsCommand check_shape) }
+{
     let about = "Says whether a program is accepted";
     let arguments = vec![in alloc; file_argument(alloc)]?;
     command_with(alloc, "check", about, arguments)
 }
 
 /// The command `graph`.
-fn graph_command<'a>(alloc: Global) -> Result<Command<'a>, AllocError> {
+fn graph_command<'a>(alloc: Global) -> Result<Command<'a>, AllocError>
+    ensures { IfOk result (IsCommand graph_shape) }
+{
     let about = "Prints the tagged-token graph of a program";
     let dot = flag(alloc, "dot", "Prints it in the language of Graphviz");
     let arguments = vec![in alloc; file_argument(alloc), dot]?;
@@ -166,7 +211,10 @@ fn graph_command<'a>(alloc: Global) -> Result<Command<'a>, AllocError> {
 }
 
 /// The arguments of `run`.
-fn run_arguments<'a>(alloc: Global) -> Result<Vec<Arg<'a>>, AllocError> {
+fn run_arguments<'a>(alloc: Global) -> Result<Vec<Arg<'a>>, AllocError>
+    ensures rules { IfOk result (λ v. map rule_of v.items ≡ run_rules) }
+    ensures local { IfOk result (λ v. All (λ a. a.global ≡ false) v.items) }
+{
     let arguments = vec![in alloc;
         file_argument(alloc),
         inputs_argument(alloc),
@@ -180,14 +228,18 @@ fn run_arguments<'a>(alloc: Global) -> Result<Vec<Arg<'a>>, AllocError> {
 }
 
 /// The command `run`.
-fn run_command<'a>(alloc: Global) -> Result<Command<'a>, AllocError> {
+fn run_command<'a>(alloc: Global) -> Result<Command<'a>, AllocError>
+    ensures { IfOk result (IsCommand run_shape) }
+{
     let about = "Runs a program and prints its answer or its fault";
     let command = command_with(alloc, "run", about, run_arguments(alloc)?)?;
     Ok(command.after_help(STATUSES))
 }
 
 /// The command `facts`.
-fn facts_command<'a>(alloc: Global) -> Result<Command<'a>, AllocError> {
+fn facts_command<'a>(alloc: Global) -> Result<Command<'a>, AllocError>
+    ensures { IfOk result (IsCommand facts_shape) }
+{
     let about = "Prints the facts that the rules of the language give a program";
     let arguments = vec![in alloc;
         file_argument(alloc),
@@ -201,13 +253,18 @@ fn facts_command<'a>(alloc: Global) -> Result<Command<'a>, AllocError> {
 fn put<'a>(
     commands: &mut Vec<Command<'a>>,
     command: Result<Command<'a>, AllocError>,
-) -> Result<(), AllocError> {
+) -> Result<(), AllocError>
+    ensures { (s : Shape) (ss : List Shape) → IfOk command.entry (IsCommand s) → AreCommands ss commands.old.items
+        → OnOk result (AreCommands (ss ++ s ∷ []) commands.new.items) }
+{
     commands.push(command?)?;
     Ok(())
 }
 
 /// Puts the commands behind these, in the order of help.
-fn put_all<'a>(alloc: Global, commands: &mut Vec<Command<'a>>) -> Result<(), AllocError> {
+fn put_all<'a>(alloc: Global, commands: &mut Vec<Command<'a>>) -> Result<(), AllocError>
+    ensures { commands.old.items ≡ [] → OnOk result (AreCommands program_app.subs commands.new.items) }
+{
     put(commands, check_command(alloc))?;
     put(commands, graph_command(alloc))?;
     put(commands, run_command(alloc))?;
@@ -215,7 +272,9 @@ fn put_all<'a>(alloc: Global, commands: &mut Vec<Command<'a>>) -> Result<(), All
 }
 
 /// The command line without its commands.
-fn bare_command<'a>(alloc: Global) -> Result<Command<'a>, AllocError> {
+fn bare_command<'a>(alloc: Global) -> Result<Command<'a>, AllocError>
+    ensures { IfOk result (λ c. app_of c ≡ record { top = bare_shape; subs = [] }) }
+{
     Command::new(alloc, "idc")
         .about("Compiles a lenient dataflow program to a tagged-token graph and runs it")
         .after_help(OVERVIEW)
@@ -226,7 +285,9 @@ fn bare_command<'a>(alloc: Global) -> Result<Command<'a>, AllocError> {
 }
 
 /// The whole command line.
-fn command<'a>(alloc: Global) -> Result<Command<'a>, AllocError> {
+fn command<'a>(alloc: Global) -> Result<Command<'a>, AllocError>
+    ensures { IfOk result (λ c. app_of c ≡ program_app) }
+{
     let mut commands = Vec::new(alloc);
     put_all(alloc, &mut commands)?;
     bare_command(alloc)?.subcommands(commands)
@@ -254,78 +315,162 @@ fn signed_value<S: AsStr>(words: &[S]) -> Option<(&str, &str)> {
     None
 }
 
+/// The text of the parser's error.
+fn text_of(alloc: Global, error: &Error) -> Result<String, AllocError> {
+    Ok(format!(in alloc; "{error}")?)
+}
+
 /// What the parser's error tells the user.
-fn answer_to(alloc: Global, error: &Error) -> Unasked {
+fn answer_to(alloc: Global, error: &Error) -> Unasked
+    ensures { Tells (kind_of error.now) result }
+{
     if error.kind() == ErrorKind::OutOfMemory {
         return Unasked::Memory;
     }
-    match format!(in alloc; "{error}") {
+    match text_of(alloc, error) {
         Err(_) => Unasked::Memory,
         Ok(text) if error.use_stderr() => Unasked::Refused(text),
         Ok(text) => Unasked::Help(text),
     }
 }
 
+/// The refusal that the parser's error tells.
+fn refusal_by(alloc: Global, error: &Error) -> Unasked
+    ensures { IsRefusal result }
+{
+    if error.kind() == ErrorKind::OutOfMemory {
+        return Unasked::Memory;
+    }
+    match text_of(alloc, error) {
+        Err(_) => Unasked::Memory,
+        Ok(text) => Unasked::Refused(text),
+    }
+}
+
 /// What the parser says of words that it refuses.
-fn refusal_of(alloc: Global, words: &[&str]) -> Result<Unasked, AllocError> {
+fn refusal_of(alloc: Global, words: &[&str]) -> Result<Unasked, AllocError>
+    ensures { IfOk result IsRefusal }
+{
     match command(alloc)?.try_get_matches_from(words) {
         Ok(_) => Ok(Unasked::Refused(String::new(alloc))),
-        Err(error) => Ok(answer_to(alloc, &error)),
+        Err(error) => Ok(refusal_by(alloc, &error)),
     }
 }
 
 /// What the parser says of a command line with this value of the option.
-fn refused_value(alloc: Global, option: &str, value: &str) -> Result<Unasked, AllocError> {
+fn refused_value(alloc: Global, option: &str, value: &str) -> Result<Unasked, AllocError>
+    ensures { IfOk result IsRefusal }
+{
     let word = format!(in alloc; "{option}={value}")?;
     refusal_of(alloc, &["run", "FILE", word.as_str()])
 }
 
+/// What the parser says of the value with a sign among words of which it knows one for no option of its own.
+fn answer_to_sign<S: AsStr>(alloc: Global, words: &[S], error: &Error) -> Unasked
+    requires { kind_of error.now ≡ ErrorKind.UnknownArgument }
+    ensures { Tells (kind_of error.now) result }
+{
+    let Some((option, value)) = signed_value(words) else {
+        return answer_to(alloc, error);
+    };
+    match refused_value(alloc, option, value) {
+        Ok(unasked) => unasked,
+        Err(_) => Unasked::Memory,
+    }
+}
+
 /// What the parser's error tells the user of these words. A value with a sign it takes for an option, so where it knows
 /// none of that name it is asked again, with the option and its value in one word.
-fn answer_for<S: AsStr>(alloc: Global, words: &[S], error: &Error) -> Unasked {
+fn answer_for<S: AsStr>(alloc: Global, words: &[S], error: &Error) -> Unasked
+    ensures { Tells (kind_of error.now) result }
+{
     if error.kind() == ErrorKind::UnknownArgument {
-        if let Some((option, value)) = signed_value(words) {
-            return match refused_value(alloc, option, value) {
-                Ok(unasked) => unasked,
-                Err(_) => Unasked::Memory,
-            };
-        }
+        answer_to_sign(alloc, words, error)
+    } else {
+        answer_to(alloc, error)
     }
-    answer_to(alloc, error)
+}
+
+/// Whether a flag was given.
+fn has_flag(matches: &ArgMatches<'_>, id: &str) -> bool
+    ensures { result ≡ is_set id.now (rows_of (found_of matches.now)) }
+{
+    matches.get_one::<bool>(id).unwrap_or(false)
+}
+
+/// The number of 32 bits that an argument has.
+fn number_of(matches: &ArgMatches<'_>, id: &str) -> Option<u32>
+    ensures { IsNumberOf 32 id.now (rows_of (found_of matches.now)) result }
+{
+    matches.get_one::<u32>(id)
+}
+
+/// The steps that are asked for.
+fn steps_of(matches: &ArgMatches<'_>) -> Option<u64>
+    ensures { IsNumberOf 64 (codes "steps") (rows_of (found_of matches.now)) result }
+{
+    matches.get_one::<u64>("steps")
+}
+
+/// The seed of the order, where one is asked for.
+fn order_of(matches: &ArgMatches<'_>) -> Option<Option<u64>>
+    ensures { IsOrderOf (rows_of (found_of matches.now)) result }
+{
+    match matches.try_get_one::<u64>("order") {
+        Ok(order) => Some(order),
+        Err(_) => None,
+    }
 }
 
 /// The input words among these.
-fn inputs_of<'a>(alloc: Global, matches: &ArgMatches<'a>) -> Result<Vec<&'a str>, AllocError> {
+fn inputs_of<'a>(alloc: Global, matches: &ArgMatches<'a>) -> Result<Vec<&'a str>, AllocError>
+    ensures { IfOk result (λ v. map (λ w. w.now) v.items ≡ input_words (rows_of (found_of matches.now))) }
+{
     match matches.get_strs("INPUT") {
         Some(words) => Vec::from_slice(alloc, words),
         None => Ok(Vec::new(alloc)),
     }
 }
 
-/// What the words of `run` ask for of this file.
+/// What the words of `graph` ask for of this file.
+fn graph_request<'a>(file: &'a str, matches: &ArgMatches<'a>) -> Request<'a>
+    requires { HasFile (rows_of (found_of matches.now)) file.now }
+    ensures { IsRequestOf (codes "graph") (rows_of (found_of matches.now)) result }
+{
+    if has_flag(matches, "dot") {
+        Request::Draw { file }
+    } else {
+        Request::Graph { file }
+    }
+}
+
+/// What the words of `run` ask for of this file, if they say how much.
 fn run_request<'a>(
     alloc: Global,
     file: &'a str,
     matches: &ArgMatches<'a>,
-) -> Result<Option<Request<'a>>, AllocError> {
-    let Some(count) = matches.get_one::<u32>("elements") else {
+) -> Result<Option<Request<'a>>, AllocError>
+    requires { HasFile (rows_of (found_of matches.now)) file.now }
+    ensures { IfOk result (IsAsked (codes "run") (rows_of (found_of matches.now))) }
+{
+    let Some(count) = number_of(matches, "elements") else {
         return Ok(None);
     };
-    let Some(steps) = matches.get_one::<u64>("steps") else {
+    let Some(steps) = steps_of(matches) else {
         return Ok(None);
     };
-    let order = matches.get_one::<u64>("order");
-    let trace = matches.get_flag("trace");
-    let names = matches.get_flag("names");
+    let Some(order) = order_of(matches) else {
+        return Ok(None);
+    };
     let inputs = inputs_of(alloc, matches)?;
     Ok(Some(Request::Run {
         file,
         inputs,
         count,
-        trace,
+        trace: has_flag(matches, "trace"),
         steps,
         order,
-        names,
+        names: has_flag(matches, "names"),
     }))
 }
 
@@ -334,8 +479,11 @@ fn facts_request<'a>(
     alloc: Global,
     file: &'a str,
     matches: &ArgMatches<'a>,
-) -> Result<Option<Request<'a>>, AllocError> {
-    let Some(rounds) = matches.get_one::<u32>("ROUNDS") else {
+) -> Result<Option<Request<'a>>, AllocError>
+    requires { HasFile (rows_of (found_of matches.now)) file.now }
+    ensures { IfOk result (IsAsked (codes "facts") (rows_of (found_of matches.now))) }
+{
+    let Some(rounds) = number_of(matches, "ROUNDS") else {
         return Ok(None);
     };
     let inputs = inputs_of(alloc, matches)?;
@@ -346,70 +494,117 @@ fn facts_request<'a>(
     }))
 }
 
+/// What the words of a command ask for of this file, if there is such a command, and they say what else it needs.
+fn request_of_file<'a>(
+    alloc: Global,
+    name: &str,
+    file: &'a str,
+    matches: &ArgMatches<'a>,
+) -> Result<Option<Request<'a>>, AllocError>
+    requires { HasFile (rows_of (found_of matches.now)) file.now }
+    ensures { IfOk result (IsAsked name.now (rows_of (found_of matches.now))) }
+{
+    match name {
+        "check" => Ok(Some(Request::Check { file })),
+        "graph" => Ok(Some(graph_request(file, matches))),
+        "run" => run_request(alloc, file, matches),
+        "facts" => facts_request(alloc, file, matches),
+        _ => Ok(None),
+    }
+}
+
 /// What the words of a command ask for, if they name a file and what else the command needs.
 fn request_of<'a>(
     alloc: Global,
     name: &str,
     matches: &ArgMatches<'a>,
-) -> Result<Option<Request<'a>>, AllocError> {
-    let Some(file) = matches.get_str("FILE") else {
-        return Ok(None);
-    };
-    match name {
-        "check" => Ok(Some(Request::Check { file })),
-        "graph" if matches.get_flag("dot") => Ok(Some(Request::Draw { file })),
-        "graph" => Ok(Some(Request::Graph { file })),
-        "run" => run_request(alloc, file, matches),
-        _ => facts_request(alloc, file, matches),
+) -> Result<Option<Request<'a>>, AllocError>
+    ensures { IfOk result (IsAsked name.now (rows_of (found_of matches.now))) }
+{
+    match matches.get_str("FILE") {
+        Some(file) => request_of_file(alloc, name, file, matches),
+        None => Ok(None),
+    }
+}
+
+/// What the words with these matches ask for, if they ask for something.
+fn request_in<'a>(alloc: Global, matches: &ArgMatches<'a>) -> Result<Option<Request<'a>>, AllocError>
+    ensures { IfOk result (IsAskedIn (subcommand_rows_of matches.now)) }
+{
+    match matches.subcommand() {
+        Some((name, matches)) => request_of(alloc, name, matches),
+        None => Ok(None),
     }
 }
 
 /// What the words with these matches ask for.
-fn request_by<'a>(alloc: Global, matches: &ArgMatches<'a>) -> Result<Request<'a>, Unasked> {
-    let asked = match matches.subcommand() {
-        Some((name, matches)) => request_of(alloc, name, matches)?,
-        None => None,
-    };
-    match asked {
-        Some(request) => Ok(request),
-        None => Err(Unasked::Refused(String::new(alloc))),
+fn request_by<'a>(alloc: Global, matches: &ArgMatches<'a>) -> Result<Request<'a>, Unasked>
+    ensures { Gives (subcommand_rows_of matches.now) result }
+{
+    match request_in(alloc, matches) {
+        Ok(Some(request)) => Ok(request),
+        Ok(None) => Err(Unasked::Refused(String::new(alloc))),
+        Err(_) => Err(Unasked::Memory),
     }
 }
 
 /// Whether a word asks for help.
-fn is_help(word: &str) -> bool {
+fn is_help(word: &str) -> bool
+    ensures { result ≡ is_help word.now }
+{
     word == "--help" || word == "-h"
 }
 
+/// Whether the last word asks for help.
+fn end_in_help<S: AsStr>(words: &[S]) -> bool
+    ensures { result ≡ end_in_help (map S.text words.now) }
+{
+    match words.last() {
+        Some(word) => is_help(word.as_str()),
+        None => false,
+    }
+}
+
 /// The words without a first `help` where the last one asks for help as well, which says the same once more.
-fn without_help<'a, S: AsStr>(words: &'a [S]) -> &'a [S] {
-    match (words.first(), words.last()) {
-        (Some(first), Some(last)) if first.as_str() == "help" && is_help(last.as_str()) => {
-            &words[1..]
-        }
+fn without_help<'a, S: AsStr>(words: &'a [S]) -> &'a [S]
+    ensures { map S.text result.now ≡ words_read (map S.text words.entry.now) }
+{
+    match words.split_first() {
+        Some((first, rest)) if first.as_str() == "help" && end_in_help(rest) => rest,
         _ => words,
     }
 }
 
 /// What these words ask for, the program's own name left out.
-pub fn read_words<'a, S: AsStr>(alloc: Global, words: &'a [S]) -> Result<Request<'a>, Unasked> {
+pub fn read_words<'a, S: AsStr>(alloc: Global, words: &'a [S]) -> Result<Request<'a>, Unasked>
+    ensures { AskFor (words_read (map S.text words.entry.now)) result }
+{
     match command(alloc)?.try_get_matches_from(without_help(words)) {
         Ok(matches) => request_by(alloc, &matches),
         Err(error) => Err(answer_for(alloc, words, &error)),
     }
 }
 
-/// Why the process has no words that can be read: an argument is no text, which is refused without a text, or a
-/// growth was refused.
-fn unread(alloc: Global, error: &io::Error) -> Unasked {
+/// What is told of words that can't be read.
+const UNREAD: &str = "error: a word of the command line isn't UTF-8\n";
+
+/// Why the process has no words that can be read: one is no text, or a growth was refused.
+fn unread(alloc: Global, error: &io::Error) -> Unasked
+    ensures { IsUnread (error_kind error.now) result }
+{
     match error.kind() {
         io::ErrorKind::OutOfMemory => Unasked::Memory,
-        _ => Unasked::Refused(String::new(alloc)),
+        _ => match String::from_str(alloc, UNREAD) {
+            Ok(text) => Unasked::Refused(text),
+            Err(_) => Unasked::Memory,
+        },
     }
 }
 
 /// The words of the process after the program's name.
-pub fn arguments<R: Env + AllocGlobal>(rt: &R) -> Result<Vec<String>, Unasked> {
+pub fn arguments<R: Env + AllocGlobal>(rt: &R) -> Result<Vec<String>, Unasked>
+    ensures { IfErr result IsUnreadWords }
+{
     let all = match env::args(rt) {
         Ok(all) => all,
         Err(error) => return Err(unread(rt.alloc(), &error)),

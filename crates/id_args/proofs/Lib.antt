@@ -1,0 +1,2 @@
+pub mod CommandsLemmas
+pub mod MatchesLemmas

@@ -1,0 +1,134 @@
+-- Lemmas on specs/Matches.antt and specs/Requests.antt.
+use Rattle.std.proofs.Common.{◌≡◌, ◌≢◌, ◌∙◌, ◌<◌, ◌^◌, ◌-◌, ◌∷◌, ℕ, List, [], Bool, true, false, Option, Some, None, Result, Ok, Err, MatchOption, MatchBool}
+use Rattle.std.proofs.Common.{ap, subst, sym, refl, map, option_map, length, codes}
+use Rattle.std.specs.Prelude.{slice_get, unwrap_or, IsSomeAnd, string_bytes}
+use Rattle.std.specs.Str.{bytes_eq}
+use Rattle.std.specs.Str.Parse.{IsNumeral, ParsesBool, ParsesUnsigned, digits_value, without_leading_plus}
+use Rattle.std.specs.Option.{option_map_or}
+use Rattle.std.proofs.Math.Option.{some-injective}
+use Rattle.std.proofs.lemmas.Option.{slice_get-map}
+use Rattle.std.proofs.lemmas.List.{length-map}
+use Rattle.clap.specs.Walk.{Row, Text, all_of, one_of, rows_of}
+use Rattle.clap.specs.Matches.{ReadsOne, TriesOne, matched_of, one_text, raw_values}
+use Rattle.clap.proofs.WalkLemmas.{one_text-rows, raw_values-rows}
+use Rattle.clap.specs.declared.parser.matches.Found.{Found}
+use Rattle.id_request.specs.declared.Request.{Request}
+use Rattle.id_request.specs.declared.Request.TheVariants as asks
+use Rattle.id_args.specs.Requests.{HasFile, HasNumber, HasOrder, IsNumber, IsRequestOf, end_in_help, input_words, is_help, is_set}
+use Rattle.id_args.specs.Matches.{IsAsked, IsNumberOf, IsOrderOf}
+
+true_false : true ≡ false → ⊥
+true_false e = cc
+
+none_some : {X : Type 0} {x : X} → None ≡ Some x → ⊥
+none_some e = cc
+
+-- what the text of an argument reads as a number is the number that it has
+number_read : {E : Type 0} (bits : ℕ) (G : List ℕ → Result ℕ E → Type 0) (x : Option Text) (o : Option ℕ)
+    → (x ≡ None → o ≡ None) → ((t : List ℕ) → x ≡ Some t → ReadsOne G t o) → ((t : List ℕ) (r : Result ℕ E) → G t r → ParsesUnsigned bits 10 t r)
+    → MatchOption o ((n : ℕ) → ((t : Text) × (x ≡ Some t) × IsNumber bits t n) → ⊥) (λ n. (t : Text) × (x ≡ Some t) × IsNumber bits t n)
+number_read bits G None None none some only = λ n has. none_some has.1
+number_read bits G None (Some n) none some only = absurd (none_some (sym (none refl)))
+number_read bits G (Some t) (Some n) none some only =
+    let read = only t (Ok n) (some t refl) in
+    (t, refl, (read.0.0, read.1, subst (λ (k : ℕ). k < 2 ^ bits) (sym read.1) read.0.1))
+number_read bits G (Some t) None none some only = λ n has.
+    let failed = some t refl in
+    let same : has.0 ≡ t = sym (some-injective t has.0 has.1) in
+    let number = subst (λ (u : Text). IsNumber bits u n) same has.2 in
+    only t (Err failed.0) failed.1 (number.0, subst (λ (k : ℕ). k < 2 ^ bits) number.1 number.2)
+
+pub IsNumberOf-read : {E : Type 0} (bits : ℕ) (G : List ℕ → Result ℕ E → Type 0) (f : Found) (id : Text) (o : Option ℕ)
+    → (one_text f id ≡ None → o ≡ None) → ((t : List ℕ) → one_text f id ≡ Some t → ReadsOne G t o)
+    → ((t : List ℕ) (r : Result ℕ E) → G t r → ParsesUnsigned bits 10 t r) → IsNumberOf bits id (rows_of f) o
+IsNumberOf-read bits G f id o none some only =
+    number_read bits G (one_of id (rows_of f)) o (λ e. none (one_text-rows f id ∙ e)) (λ t e. some t (one_text-rows f id ∙ e)) only
+
+-- and so of the seed
+order_tried : {E : Type 0} (G : List ℕ → Result ℕ E → Type 0) (x : Option Text) (o : Option ℕ)
+    → (x ≡ None → Ok {E = E} o ≡ Ok None) → ((t : List ℕ) → x ≡ Some t → TriesOne G t (Ok o)) → ((t : List ℕ) (r : Result ℕ E) → G t r → ParsesUnsigned 64 10 t r)
+    → MatchOption o (x ≡ None) (λ n. (t : Text) × (x ≡ Some t) × IsNumber 64 t n)
+order_tried G None None none some only = refl
+order_tried G None (Some n) none some only = let bad = none refl in cc
+order_tried G (Some t) None none some only = absurd (some t refl)
+order_tried G (Some t) (Some n) none some only =
+    let read = only t (Ok n) (some t refl) in
+    (t, refl, (read.0.0, read.1, subst (λ (k : ℕ). k < 2 ^ 64) (sym read.1) read.0.1))
+
+order_has : (rows : List Row) (o : Option ℕ)
+    → MatchOption o (one_of (codes "order") rows ≡ None) (λ n. (t : Text) × (one_of (codes "order") rows ≡ Some t) × IsNumber 64 t n) → HasOrder rows o
+order_has rows None h = h
+order_has rows (Some n) h = h
+
+pub HasOrder-tried : {E : Type 0} (G : List ℕ → Result ℕ E → Type 0) (f : Found) (o : Option ℕ)
+    → (one_text f (codes "order") ≡ None → Ok {E = E} o ≡ Ok None) → ((t : List ℕ) → one_text f (codes "order") ≡ Some t → TriesOne G t (Ok o))
+    → ((t : List ℕ) (r : Result ℕ E) → G t r → ParsesUnsigned 64 10 t r) → HasOrder (rows_of f) o
+HasOrder-tried G f o none some only =
+    order_has (rows_of f) o (order_tried G (one_of (codes "order") (rows_of f)) o (λ e. none (one_text-rows f (codes "order") ∙ e))
+    (λ t e. some t (one_text-rows f (codes "order") ∙ e)) only)
+
+-- a seed that is no number is none
+pub no_order : {E : Type 0} (G : List ℕ → Result ℕ E → Type 0) (f : Found) (failed : E)
+    → (one_text f (codes "order") ≡ None → Err {T = Option ℕ} failed ≡ Ok None)
+    → ((t : List ℕ) → one_text f (codes "order") ≡ Some t → TriesOne G t (Err failed))
+    → ((t : List ℕ) (r : Result ℕ E) → G t r → ParsesUnsigned 64 10 t r) → (o : Option ℕ) → HasOrder (rows_of f) o → ⊥
+no_order G f failed none some only None h = let bad = none (one_text-rows f (codes "order") ∙ h) in cc
+no_order G f failed none some only (Some n) h =
+    only h.0 (Err failed) (some h.0 (one_text-rows f (codes "order") ∙ h.1)) (h.2.0, subst (λ (k : ℕ). k < 2 ^ 64) h.2.1 h.2.2)
+
+-- a flag is what its text says
+flag_read : {E : Type 0} (x : Option Text) (o : Option Bool) → (x ≡ None → o ≡ None)
+    → ((t : List ℕ) → x ≡ Some t → ReadsOne {E = E} ParsesBool t o) → unwrap_or o false ≡ option_map_or (λ t. bytes_eq t (codes "true")) x false
+flag_read None None none some = refl
+flag_read None (Some b) none some = absurd (none_some (sym (none refl)))
+flag_read (Some t) (Some true) none some = ap (λ u. bytes_eq u (codes "true")) (sym (some t refl))
+flag_read (Some t) (Some false) none some = ap (λ u. bytes_eq u (codes "true")) (sym (some t refl))
+flag_read (Some t) None none some = ?
+
+pub is_set-read : {E : Type 0} (f : Found) (id : Text) (o : Option Bool) → (one_text f id ≡ None → o ≡ None)
+    → ((t : List ℕ) → one_text f id ≡ Some t → ReadsOne {E = E} ParsesBool t o) → unwrap_or o false ≡ is_set id (rows_of f)
+is_set-read f id o none some = flag_read (one_of id (rows_of f)) o (λ e. none (one_text-rows f id ∙ e)) (λ t e. some t (one_text-rows f id ∙ e))
+
+-- the last of texts
+pub last-map : {X : Type 0} (f : X → Text) (xs : List X)
+    → option_map f (slice_get xs (length xs - 1)) ≡ slice_get (map f xs) (length (map f xs) - 1)
+last-map f xs = sym (slice_get-map f xs (length xs - 1)) ∙ ap (λ n. slice_get (map f xs) (n - 1)) (sym (length-map xs f))
+
+-- names of commands differ
+names_differ : (a b : Text) → bytes_eq a b ≡ false → bytes_eq b b ≡ true → a ≡ b → ⊥
+names_differ a b no yes e = true_false (sym yes ∙ (ap (λ t. bytes_eq t b) (sym e) ∙ no))
+
+-- a request of another command is none
+pub only_four : (name : Text) (rows : List Row) → (name ≡ codes "check" → ⊥) → (name ≡ codes "graph" → ⊥) → (name ≡ codes "run" → ⊥)
+    → (name ≡ codes "facts" → ⊥) → (r : Request) → IsRequestOf name rows r → ⊥
+only_four name rows check graph run facts (asks.Check file) h = check h.0
+only_four name rows check graph run facts (asks.Graph file) h = graph h.0
+only_four name rows check graph run facts (asks.Draw file) h = graph h.0
+only_four name rows check graph run facts (asks.Run file inputs count trace steps order names) h = run h.0
+only_four name rows check graph run facts (asks.Facts file rounds inputs) h = facts h.0
+
+-- each request has a file
+pub no_file : (name : Text) (rows : List Row) → ((file : Text) → HasFile rows file → ⊥) → (r : Request) → IsRequestOf name rows r → ⊥
+no_file name rows none (asks.Check file) h = none file.now h.1
+no_file name rows none (asks.Graph file) h = none file.now h.1
+no_file name rows none (asks.Draw file) h = none file.now h.1
+no_file name rows none (asks.Run file inputs count trace steps order names) h = none file.now h.1
+no_file name rows none (asks.Facts file rounds inputs) h = none file.now h.1
+
+-- what a request to run has, else it is none
+pub no_run : (rows : List Row) → ((count steps : ℕ) (order : Option ℕ) → HasNumber 32 (codes "elements") rows count → HasNumber 64 (codes "steps") rows steps
+    → HasOrder rows order → ⊥) → (r : Request) → IsRequestOf (codes "run") rows r → ⊥
+no_run rows none (asks.Check file) h = names_differ (codes "run") (codes "check") refl refl h.0
+no_run rows none (asks.Graph file) h = names_differ (codes "run") (codes "graph") refl refl h.0
+no_run rows none (asks.Draw file) h = names_differ (codes "run") (codes "graph") refl refl h.0
+no_run rows none (asks.Run file inputs count trace steps order names) h = none count steps order h.3 h.5 h.6
+no_run rows none (asks.Facts file rounds inputs) h = names_differ (codes "run") (codes "facts") refl refl h.0
+
+-- a request for facts has a round
+pub no_facts : (rows : List Row) → ((rounds : ℕ) → HasNumber 32 (codes "ROUNDS") rows rounds → ⊥) → (r : Request)
+    → IsRequestOf (codes "facts") rows r → ⊥
+no_facts rows none (asks.Check file) h = names_differ (codes "facts") (codes "check") refl refl h.0
+no_facts rows none (asks.Graph file) h = names_differ (codes "facts") (codes "graph") refl refl h.0
+no_facts rows none (asks.Draw file) h = names_differ (codes "facts") (codes "graph") refl refl h.0
+no_facts rows none (asks.Run file inputs count trace steps order names) h = names_differ (codes "facts") (codes "run") refl refl h.0
+no_facts rows none (asks.Facts file rounds inputs) h = none rounds h.2

@@ -1,0 +1,4 @@
+pub mod Commands
+pub mod Requests
+-- for use inside
+pub mod Matches
