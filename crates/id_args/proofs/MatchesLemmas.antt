@@ -1,26 +1,36 @@
 -- Lemmas on specs/Matches.antt and specs/Requests.antt.
-use Rattle.std.proofs.Common.{◌≡◌, ◌≢◌, ◌∙◌, ◌<◌, ◌^◌, ◌-◌, ◌∷◌, ℕ, List, [], Bool, true, false, Option, Some, None, Result, Ok, Err, MatchOption, MatchBool}
-use Rattle.std.proofs.Common.{ap, subst, sym, refl, map, option_map, length, codes}
+use Rattle.std.proofs.Common.{◌≡◌, ◌≢◌, ◌∙◌, ◌<◌, ◌^◌, ◌-◌, ◌∷◌, ℕ, List, [], Bool, true, false, Option, Some, None, Result, Ok, Err, MatchOption, Decides}
+use Rattle.std.proofs.Common.{ap, ap₂, subst, sym, refl, inl, inr, map, option_map, length, codes}
 use Rattle.std.specs.Prelude.{slice_get, unwrap_or, IsSomeAnd, string_bytes}
 use Rattle.std.specs.Str.{bytes_eq}
 use Rattle.std.specs.Str.Parse.{IsNumeral, ParsesBool, ParsesUnsigned, digits_value, without_leading_plus}
 use Rattle.std.specs.Option.{option_map_or}
-use Rattle.std.proofs.Math.Option.{some-injective}
 use Rattle.std.proofs.lemmas.Option.{slice_get-map}
 use Rattle.std.proofs.lemmas.List.{length-map}
+use Rattle.std.proofs.lemmas.Slice.Eq.{bytes_eq-Decides}
 use Rattle.clap.specs.Walk.{Row, Text, all_of, one_of, rows_of}
 use Rattle.clap.specs.Matches.{ReadsOne, TriesOne, matched_of, one_text, raw_values}
 use Rattle.clap.proofs.WalkLemmas.{one_text-rows, raw_values-rows}
 use Rattle.clap.specs.declared.parser.matches.Found.{Found}
+use Rattle.clap.specs.Simple.{App, HasMatchesOf, is_simple, subcommand_of, subcommand_rows_of}
+use Rattle.clap.specs.Kinds.{HasKind}
+use Rattle.clap.specs.Values.{kind_of}
+use Rattle.clap.specs.Faults.{fault_of, is_simple_and_free}
+use Rattle.clap.specs.declared.error.Error.{Error}
+use Rattle.clap.specs.declared.error.kind.ErrorKind.TheVariants as kind
+use Rattle.clap.specs.declared.parser.matches.ArgMatches.{ArgMatches}
+use Rattle.id_request.specs.declared.Unasked.{Unasked}
+use Rattle.id_request.specs.declared.Unasked.TheVariants.{Help, Refused, Memory}
+use Rattle.id_args.specs.Commands.{program_app}
 use Rattle.id_request.specs.declared.Request.{Request}
 use Rattle.id_request.specs.declared.Request.TheVariants as asks
-use Rattle.id_args.specs.Requests.{HasFile, HasNumber, HasOrder, IsNumber, IsRequestOf, end_in_help, input_words, is_help, is_set}
-use Rattle.id_args.specs.Matches.{IsAsked, IsNumberOf, IsOrderOf}
+use Rattle.id_args.specs.Requests.{AskFor, HasFile, HasNumber, HasOrder, IsNumber, IsRequestOf, end_in_help, input_words, is_help, is_set}
+use Rattle.id_args.specs.Matches.{Gives, IsNumberOf, Tells}
 
 true_false : true ≡ false → ⊥
 true_false e = cc
 
-none_some : {X : Type 0} {x : X} → None ≡ Some x → ⊥
+pub none_some : {X : Type 0} {x : X} → None ≡ Some x → ⊥
 none_some e = cc
 
 -- what the text of an argument reads as a number is the number that it has
@@ -34,7 +44,7 @@ number_read bits G (Some t) (Some n) none some only =
     (t, refl, (read.0.0, read.1, subst (λ (k : ℕ). k < 2 ^ bits) (sym read.1) read.0.1))
 number_read bits G (Some t) None none some only = λ n has.
     let failed = some t refl in
-    let same : has.0 ≡ t = sym (some-injective t has.0 has.1) in
+    let same : has.0 ≡ t = ap (λ o. unwrap_or o t) (sym has.1) in
     let number = subst (λ (u : Text). IsNumber bits u n) same has.2 in
     only t (Err failed.0) failed.1 (number.0, subst (λ (k : ℕ). k < 2 ^ bits) number.1 number.2)
 
@@ -44,9 +54,15 @@ pub IsNumberOf-read : {E : Type 0} (bits : ℕ) (G : List ℕ → Result ℕ E �
 IsNumberOf-read bits G f id o none some only =
     number_read bits G (one_of id (rows_of f)) o (λ e. none (one_text-rows f id ∙ e)) (λ t e. some t (one_text-rows f id ∙ e)) only
 
+abbrev tried : (E : Type 0) → Option ℕ → Result (Option ℕ) E
+tried E o = Ok o
+
+abbrev failed_at : (E : Type 0) → E → Result (Option ℕ) E
+failed_at E e = Err e
+
 -- and so of the seed
 order_tried : {E : Type 0} (G : List ℕ → Result ℕ E → Type 0) (x : Option Text) (o : Option ℕ)
-    → (x ≡ None → Ok {E = E} o ≡ Ok None) → ((t : List ℕ) → x ≡ Some t → TriesOne G t (Ok o)) → ((t : List ℕ) (r : Result ℕ E) → G t r → ParsesUnsigned 64 10 t r)
+    → (x ≡ None → tried E o ≡ tried E None) → ((t : List ℕ) → x ≡ Some t → TriesOne G t (Ok o)) → ((t : List ℕ) (r : Result ℕ E) → G t r → ParsesUnsigned 64 10 t r)
     → MatchOption o (x ≡ None) (λ n. (t : Text) × (x ≡ Some t) × IsNumber 64 t n)
 order_tried G None None none some only = refl
 order_tried G None (Some n) none some only = let bad = none refl in cc
@@ -61,7 +77,7 @@ order_has rows None h = h
 order_has rows (Some n) h = h
 
 pub HasOrder-tried : {E : Type 0} (G : List ℕ → Result ℕ E → Type 0) (f : Found) (o : Option ℕ)
-    → (one_text f (codes "order") ≡ None → Ok {E = E} o ≡ Ok None) → ((t : List ℕ) → one_text f (codes "order") ≡ Some t → TriesOne G t (Ok o))
+    → (one_text f (codes "order") ≡ None → tried E o ≡ tried E None) → ((t : List ℕ) → one_text f (codes "order") ≡ Some t → TriesOne G t (Ok o))
     → ((t : List ℕ) (r : Result ℕ E) → G t r → ParsesUnsigned 64 10 t r) → HasOrder (rows_of f) o
 HasOrder-tried G f o none some only =
     order_has (rows_of f) o (order_tried G (one_of (codes "order") (rows_of f)) o (λ e. none (one_text-rows f (codes "order") ∙ e))
@@ -69,7 +85,7 @@ HasOrder-tried G f o none some only =
 
 -- a seed that is no number is none
 pub no_order : {E : Type 0} (G : List ℕ → Result ℕ E → Type 0) (f : Found) (failed : E)
-    → (one_text f (codes "order") ≡ None → Err {T = Option ℕ} failed ≡ Ok None)
+    → (one_text f (codes "order") ≡ None → failed_at E failed ≡ tried E None)
     → ((t : List ℕ) → one_text f (codes "order") ≡ Some t → TriesOne G t (Err failed))
     → ((t : List ℕ) (r : Result ℕ E) → G t r → ParsesUnsigned 64 10 t r) → (o : Option ℕ) → HasOrder (rows_of f) o → ⊥
 no_order G f failed none some only None h = let bad = none (one_text-rows f (codes "order") ∙ h) in cc
@@ -77,17 +93,21 @@ no_order G f failed none some only (Some n) h =
     only h.0 (Err failed) (some h.0 (one_text-rows f (codes "order") ∙ h.1)) (h.2.0, subst (λ (k : ℕ). k < 2 ^ 64) h.2.1 h.2.2)
 
 -- a flag is what its text says
-flag_read : {E : Type 0} (x : Option Text) (o : Option Bool) → (x ≡ None → o ≡ None)
+flag_read : (E : Type 0) (x : Option Text) (o : Option Bool) → (x ≡ None → o ≡ None)
     → ((t : List ℕ) → x ≡ Some t → ReadsOne {E = E} ParsesBool t o) → unwrap_or o false ≡ option_map_or (λ t. bytes_eq t (codes "true")) x false
-flag_read None None none some = refl
-flag_read None (Some b) none some = absurd (none_some (sym (none refl)))
-flag_read (Some t) (Some true) none some = ap (λ u. bytes_eq u (codes "true")) (sym (some t refl))
-flag_read (Some t) (Some false) none some = ap (λ u. bytes_eq u (codes "true")) (sym (some t refl))
-flag_read (Some t) None none some = ?
+flag_read E None None none some = refl
+flag_read E None (Some b) none some = absurd (none_some (sym (none refl)))
+flag_read E (Some t) (Some true) none some = ap (λ u. bytes_eq u (codes "true")) (sym (some t refl))
+flag_read E (Some t) (Some false) none some = ap (λ u. bytes_eq u (codes "true")) (sym (some t refl))
+flag_read E (Some t) None none some = go (bytes_eq t (codes "true")) (bytes_eq-Decides t (codes "true"))
+  where
+    go : (b : Bool) → Decides b (t ≡ codes "true") → false ≡ b
+    go false decided = refl
+    go true decided = absurd ((some t refl).1.0 (decided.0 refl))
 
-pub is_set-read : {E : Type 0} (f : Found) (id : Text) (o : Option Bool) → (one_text f id ≡ None → o ≡ None)
+pub is_set-read : (E : Type 0) (f : Found) (id : Text) (o : Option Bool) → (one_text f id ≡ None → o ≡ None)
     → ((t : List ℕ) → one_text f id ≡ Some t → ReadsOne {E = E} ParsesBool t o) → unwrap_or o false ≡ is_set id (rows_of f)
-is_set-read f id o none some = flag_read (one_of id (rows_of f)) o (λ e. none (one_text-rows f id ∙ e)) (λ t e. some t (one_text-rows f id ∙ e))
+is_set-read E f id o none some = flag_read E (one_of id (rows_of f)) o (λ e. none (one_text-rows f id ∙ e)) (λ t e. some t (one_text-rows f id ∙ e))
 
 -- the last of texts
 pub last-map : {X : Type 0} (f : X → Text) (xs : List X)
@@ -96,7 +116,7 @@ last-map f xs = sym (slice_get-map f xs (length xs - 1)) ∙ ap (λ n. slice_get
 
 -- names of commands differ
 names_differ : (a b : Text) → bytes_eq a b ≡ false → bytes_eq b b ≡ true → a ≡ b → ⊥
-names_differ a b no yes e = true_false (sym yes ∙ (ap (λ t. bytes_eq t b) (sym e) ∙ no))
+names_differ a b apart same e = true_false (sym same ∙ (ap (λ t. bytes_eq t b) (sym e) ∙ apart))
 
 -- a request of another command is none
 pub only_four : (name : Text) (rows : List Row) → (name ≡ codes "check" → ⊥) → (name ≡ codes "graph" → ⊥) → (name ≡ codes "run" → ⊥)
@@ -132,3 +152,44 @@ no_facts rows none (asks.Graph file) h = names_differ (codes "facts") (codes "gr
 no_facts rows none (asks.Draw file) h = names_differ (codes "facts") (codes "graph") refl refl h.0
 no_facts rows none (asks.Run file inputs count trace steps order names) h = names_differ (codes "facts") (codes "run") refl refl h.0
 no_facts rows none (asks.Facts file rounds inputs) h = none rounds h.2
+
+-- the input words are the values that the getter gives
+pub input_words-read : (f : Found) (given : Option (List Text)) → given ≡ option_map raw_values (matched_of f (codes "INPUT"))
+    → unwrap_or given [] ≡ input_words (rows_of f)
+input_words-read f given e = ap (λ o. unwrap_or o []) (e ∙ raw_values-rows f (codes "INPUT"))
+
+-- the program is a command of which `clap` says what it makes of words
+program_is_simple : is_simple program_app ≡ true
+program_is_simple = refl
+
+program_is_free : is_simple_and_free program_app ≡ true
+program_is_free = refl
+
+-- matches of words, and what they give
+pub AskFor-given : (a : App) (given words : List Text) (m : ArgMatches) (r : Result Request Unasked) → a ≡ program_app → given ≡ words
+    → HasMatchesOf a given m → (is_simple_and_free a ≡ true → fault_of a given ≡ []) → Gives (subcommand_rows_of m) r → AskFor words r
+AskFor-given a given words m r is same matches taken gives =
+    go r (subst (λ o. Gives o r) ((matches (ap is_simple is ∙ program_is_simple)).1 ∙ ap₂ subcommand_of is same) gives)
+  where
+    none : fault_of program_app words ≡ []
+    none = sym (ap₂ fault_of is same) ∙ taken (ap is_simple_and_free is ∙ program_is_free)
+
+    go : (x : Result Request Unasked) → Gives (subcommand_of program_app words) x → AskFor words x
+    go (Ok request) g = (none, g)
+    go (Err (Help text)) g = absurd g
+    go (Err (Refused text)) g = inr (none, g)
+    go (Err Memory) g = tt
+
+-- an error at words, and what it tells
+pub AskFor-told : (a : App) (given words : List Text) (e : Error) (u : Unasked) → a ≡ program_app → given ≡ words
+    → (is_simple_and_free a ≡ true → HasKind (fault_of a given) e) → Tells (kind_of e) u → AskFor words (Err u)
+AskFor-told a given words e u is same fails tells =
+    go u (subst (λ k. HasKind k e) (ap₂ fault_of is same) (fails (ap is_simple_and_free is ∙ program_is_free))) tells
+  where
+    go : (x : Unasked) → HasKind (fault_of program_app words) e → Tells (kind_of e) x → AskFor words (Err x)
+    go (Help text) (inl memory) (inl help) = let bad : kind.DisplayHelp ≡ kind.OutOfMemory = sym help ∙ memory in cc
+    go (Help text) (inl memory) (inr version) = let bad : kind.DisplayVersion ≡ kind.OutOfMemory = sym version ∙ memory in cc
+    go (Help text) (inr among) shown = (kind_of e, among, shown)
+    go (Refused text) (inl memory) told = absurd (told.2 memory)
+    go (Refused text) (inr among) told = inl (kind_of e, among, told.0, told.1)
+    go Memory kinds told = tt
