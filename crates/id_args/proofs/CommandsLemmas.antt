@@ -49,7 +49,7 @@ pub AreCommands-push : (ss : List Shape) (s : Shape) (cs : List Command) (c : Co
 AreCommands-push ss s cs c are is = (
   map_push shape_of cs c ∙ ap₂ (λ (xs : List Shape) (x : Shape). xs ++ x ∷ []) are.0 is.0,
   All-append (λ (x : Command). (out-Command x).has_globals ≡ false) cs (c ∷ []) are.1
-  (All-cons (λ (x : Command). (out-Command x).has_globals ≡ false) c [] is.1 (All-nil (λ (x : Command). (out-Command x).has_globals ≡ false))),
+      (All-cons (λ (x : Command). (out-Command x).has_globals ≡ false) c [] is.1 (All-nil (λ (x : Command). (out-Command x).has_globals ≡ false))),
 )
 
 -- what adds subcommands in turn adds their shapes

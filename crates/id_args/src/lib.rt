@@ -528,7 +528,10 @@ fn request_of<'a>(
 }
 
 /// What the words with these matches ask for, if they ask for something.
-fn request_in<'a>(alloc: Global, matches: &ArgMatches<'a>) -> Result<Option<Request<'a>>, AllocError>
+fn request_in<'a>(
+    alloc: Global,
+    matches: &ArgMatches<'a>,
+) -> Result<Option<Request<'a>>, AllocError>
     ensures { IfOk result (IsAskedIn (subcommand_rows_of matches.now)) }
 {
     match matches.subcommand() {
