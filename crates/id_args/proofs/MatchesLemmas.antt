@@ -1,14 +1,14 @@
 -- Lemmas on specs/Matches.antt and specs/Requests.antt.
-use Rattle.std.proofs.Common.{◌≡◌, ◌≢◌, ◌∙◌, ◌<◌, ◌^◌, ◌-◌, ◌∷◌, ℕ, List, [], Bool, true, false, Option, Some, None, Result, Ok, Err, MatchOption, Decides}
+use Rattle.std.proofs.Common.{◌≡◌, ◌∙◌, ◌<◌, ◌^◌, ◌-◌, ℕ, List, [], Bool, true, false, Option, Some, None, Result, Ok, Err, MatchOption, Decides}
 use Rattle.std.proofs.Common.{ap, ap₂, subst, sym, refl, inl, inr, map, option_map, length, codes}
-use Rattle.std.specs.Prelude.{slice_get, unwrap_or, IsSomeAnd, string_bytes}
+use Rattle.std.specs.Prelude.{slice_get, unwrap_or}
 use Rattle.std.specs.Str.{bytes_eq}
-use Rattle.std.specs.Str.Parse.{IsNumeral, ParsesBool, ParsesUnsigned, digits_value, without_leading_plus}
+use Rattle.std.specs.Str.Parse.{ParsesBool, ParsesUnsigned}
 use Rattle.std.specs.Option.{option_map_or}
 use Rattle.std.proofs.lemmas.Option.{slice_get-map}
 use Rattle.std.proofs.lemmas.List.{length-map}
 use Rattle.std.proofs.lemmas.Slice.Eq.{bytes_eq-Decides}
-use Rattle.clap.specs.Walk.{Row, Text, all_of, one_of, rows_of}
+use Rattle.clap.specs.Walk.{Row, Text, one_of, rows_of}
 use Rattle.clap.specs.Matches.{ReadsOne, TriesOne, matched_of, one_text, raw_values}
 use Rattle.clap.proofs.WalkLemmas.{one_text-rows, raw_values-rows}
 use Rattle.clap.specs.declared.parser.matches.Found.{Found}
@@ -24,7 +24,7 @@ use Rattle.id_request.specs.declared.Unasked.TheVariants.{Help, Refused, Memory}
 use Rattle.id_args.specs.Commands.{program_app}
 use Rattle.id_request.specs.declared.Request.{Request}
 use Rattle.id_request.specs.declared.Request.TheVariants as asks
-use Rattle.id_args.specs.Requests.{AskFor, HasFile, HasNumber, HasOrder, IsNumber, IsRequestOf, end_in_help, input_words, is_help, is_set}
+use Rattle.id_args.specs.Requests.{AskFor, HasFile, HasNumber, HasOrder, IsNumber, IsRequestOf, input_words, is_set}
 use Rattle.id_args.specs.Matches.{Gives, IsNumberOf, Tells}
 
 true_false : true ≡ false → ⊥

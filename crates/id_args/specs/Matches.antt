@@ -1,5 +1,5 @@
 -- What matches and errors of `clap` come to, step by step.
-use Rattle.std.specs.Prelude.{◌≡◌, ◌≢◌, ◌⊎◌, ℕ, ⊤, List, Option, Some, None, Result, Ok, Err, MatchOption, IsSomeAnd}
+use Rattle.std.specs.Prelude.{◌≡◌, ◌≢◌, ◌⊎◌, ℕ, ⊤, List, Option, Result, Ok, Err, MatchOption, IsSomeAnd}
 use Rattle.clap.specs.Walk.{Row, Text}
 use Rattle.clap.specs.declared.error.kind.ErrorKind.{ErrorKind}
 use Rattle.clap.specs.declared.error.kind.ErrorKind.TheVariants.{DisplayHelp, DisplayVersion, OutOfMemory}

@@ -1,5 +1,4 @@
-use Rattle.std.proofs.Common.{◌≡◌, ◌++◌, ◌∷◌, [], List, Ok, IfOk, Result, rules, subst, sym}
-use Rattle.clap.specs.Simple.{Shape}
+use Rattle.std.proofs.Common.{◌≡◌, ◌++◌, ◌∷◌, [], Ok, IfOk, rules, subst, sym}
 use Rattle.id_args.specs.Commands.{AreCommands, IsCommand}
 use Rattle.id_args.proofs.CommandsLemmas.{AreCommands-push}
 use Rattle.id_args.proofs.put.Goals as goal

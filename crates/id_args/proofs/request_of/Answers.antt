@@ -1,4 +1,4 @@
-use Rattle.std.proofs.Common.{◌≡◌, ◌∙◌, None, Some, codes, sym}
+use Rattle.std.proofs.Common.{◌∙◌, codes, sym}
 use Rattle.clap.specs.Words.{found_of, rows_of}
 use Rattle.clap.proofs.WalkLemmas.{first_value-rows}
 use Rattle.id_args.proofs.MatchesLemmas.{no_file, none_some}
