@@ -1,4 +1,4 @@
--- The commands of the program with their arguments, as `clap` reads them (docs/LANGUAGE.md, "The program").
+-- The commands of the program with their arguments, as `clap` reads them (docs/LANGUAGE.md, "Output").
 use Rattle.std.specs.Prelude.{◌≡◌, pos, true, false, List, [], ◌∷◌, map, Some, codes}
 use Rattle.std.specs.List.{All}
 use Rattle.clap.specs.Lexer.{usize_max}

@@ -1,24 +1,26 @@
 //! The words of the command line: which of them ask for what. Its texts are `clap`'s.
 //!
-//! Keeps: input words come in their order, and none is dropped.
+//! Keeps: nothing beyond its values.
 //! Errors: `Unasked`: help, a refused command line, or want of memory.
-//! Read first: `read_words`.
+//! Read first: `specs/Requests.antt`, then `read_words`; docs/PROMISES.md, "The program".
 //! Not here: what is done with a request (`id_engine`).
 #![tactic(auto)]
 
-ghost use Rattle.std.specs.Prelude.{◌++◌, ◌∷◌, [], List, ◌≡◌, ◌⊎◌, ◌&&◌, ◌||◌, false, map, codes, IfOk, IfErr, MatchResult, OnOk, string_bytes};
-ghost use Rattle.std.specs.Str.{bytes_eq};
-ghost use Rattle.clap.specs.Words.{app_of, found_of, kind_of, rule_of, rows_of, shape_of, subcommand_rows_of};
-ghost use Rattle.clap.specs.declared.builder.command.Command.TheViews.{out-Command};
-ghost use Rattle.clap.specs.Simple.{Shape};
+#[cfg(test)]
+mod tests;
+
+ghost use Rattle.std.specs.Prelude.{◌≡◌, ◌++◌, ◌∷◌, [], List, IfErr, IfOk, OnOk, codes, false, map};
+ghost use Rattle.std.specs.IoError.{error_kind};
 ghost use Rattle.std.specs.List.{All};
-ghost use Rattle.id_args.specs.Commands.{AreCommands, IsCommand, bare_shape, check_shape, command_shape, elements_rule, facts_shape, file_rule};
-ghost use Rattle.id_args.specs.Commands.{flag_rule, graph_shape, inputs_rule, number_rule, order_rule, program_app};
-ghost use Rattle.id_args.specs.Commands.{rounds_rule, run_rules, run_shape, steps_rule};
+ghost use Rattle.clap.specs.Simple.{Shape};
+ghost use Rattle.clap.specs.Words.{app_of, found_of, kind_of, rows_of, rule_of, subcommand_rows_of};
+ghost use Rattle.id_args.specs.Commands.{AreCommands, IsCommand, bare_shape, check_shape, command_shape};
+ghost use Rattle.id_args.specs.Commands.{elements_rule, facts_shape, file_rule, flag_rule, graph_shape};
+ghost use Rattle.id_args.specs.Commands.{inputs_rule, number_rule, order_rule, program_app, rounds_rule};
+ghost use Rattle.id_args.specs.Commands.{run_rules, run_shape, steps_rule};
+ghost use Rattle.id_args.specs.Matches.{Gives, IsAsked, IsAskedIn, IsNumberOf, IsOrderOf, IsRefusal, Tells};
 ghost use Rattle.id_args.specs.Requests.{AskFor, HasFile, IsRequestOf, IsUnread, IsUnreadWords, end_in_help};
 ghost use Rattle.id_args.specs.Requests.{input_words, is_help, is_set, words_read};
-ghost use Rattle.id_args.specs.Matches.{Gives, IsAsked, IsAskedIn, IsNumberOf, IsOrderOf, IsRefusal, Tells};
-ghost use Rattle.std.specs.IoError.{error_kind};
 
 use clap::builder::ValueParser;
 use clap::error::ErrorKind;

@@ -1,11 +1,12 @@
 -- What the program does with a request (docs/PROMISES.md, "The program").
-use Rattle.std.specs.Prelude.{◌≡◌, ◌≢◌, ℕ, List, [], map, Option, Result, Ok, Err, string_bytes}
+use Rattle.std.specs.Prelude.{◌≡◌, ◌≢◌, ℕ, List, [], map, Option, Result, Ok, Err, IfOk, IfErr, string_bytes}
 use Rattle.id_sink.specs.declared.sink.PrintError.{PrintError}
 use Rattle.id_sink.specs.Told.{Told, Prints}
 use Rattle.id_request.specs.declared.Request.{Request}
 use Rattle.id_request.specs.declared.Request.TheVariants as asks
 use Rattle.id_request.specs.declared.Unasked.{Unasked}
 use Rattle.id_request.specs.declared.Unasked.TheVariants.{Help, Refused, Memory}
+use Rattle.id_args.specs.Requests.{AskFor, words_read}
 use Rattle.id_compile.specs.declared.error.EngineError.{EngineError}
 use Rattle.id_compile.specs.declared.error.EngineError.TheVariants.{Write}
 use Rattle.id_compile.specs.declared.refusal.Cause.TheVariants as cause
@@ -117,3 +118,12 @@ abbrev pub Answers : Option Told → Option Told → Option Told → Option Told
 Answers out out' err err' (Help text) status = HasHelped (string_bytes text) out out' err err' status
 Answers out out' err err' (Refused text) status = (out' ≡ out) × IsSaid (string_bytes text) err err' × (status ≡ 4)
 Answers out out' err err' Memory status = (out' ≡ out) × IsPrintedLine [] (plain cause.Memory) err err' × (status ≡ 5)
+
+-- the words are served, with what the source tells of each name: what they ask for is done, or it is answered why they
+-- ask for nothing
+pub record ServesWords (words : List (List ℕ)) (told : List ℕ → Option (Result (List ℕ) SourceFault))
+    (out out' err err' : Option Told) (status : ℕ) : Type 0 where
+  pub asked : Result Request Unasked
+  pub read : AskFor (words_read words) asked
+  pub done : IfOk asked (λ r. Drives (told (file_of r)) r out out' err err' status)
+  pub answered : IfErr asked (λ u. Answers out out' err err' u status)

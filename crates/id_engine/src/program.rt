@@ -201,9 +201,9 @@ fn serve_file<R: Threads + Wait + Sync, S: Source, O: Sink, E: Sink>(
     }
 }
 
-/// The whole program, but for reading the words: does what they ask for, and answers the status. It
-/// reads texts from `source`, writes what was asked for to `out` and refusals to `err`.
-pub fn drive<R: Threads + Wait + Sync, S: Source, O: Sink, E: Sink>(
+/// Does what words were read to ask for, or answers why they ask for nothing, and answers the status. It reads texts
+/// from `source`, writes what was asked for to `out` and refusals to `err`.
+pub fn drive_asked<R: Threads + Wait + Sync, S: Source, O: Sink, E: Sink>(
     rt: &R,
     alloc: Global,
     asked: &Result<Request<'_>, Unasked>,

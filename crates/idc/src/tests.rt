@@ -1,6 +1,5 @@
-use crate::run;
 use id_args::read_words;
-use id_engine::{Request, Source, SourceFault, Stream, drive, settle};
+use id_engine::{Request, Source, SourceFault, Stream, drive, drive_asked, settle};
 use id_sink::{Sink, SinkFault, put};
 use std::alloc::{AllocError, Global};
 use std::io;
@@ -88,7 +87,7 @@ fn print<R: Abort + AllocGlobal + Threads + Wait + Sync>(
     let mut source = OneText { text };
     let mut out = with_room(rt, room);
     let mut err = with_room(rt, 1_000_000);
-    let status = run(rt, alloc, words.as_slice(), &mut source, &mut out, &mut err);
+    let status = drive(rt, alloc, words.as_slice(), &mut source, &mut out, &mut err);
     Ok(Printed {
         out: out.bytes,
         err: err.bytes,
@@ -257,7 +256,7 @@ fn is_refused<R: Abort + AllocGlobal + Threads + Wait + Sync>(
         writer: Halting { turn: 0 },
     };
     let mut err = with_room(rt, 100);
-    let status = drive(rt, alloc, &asked, &mut source, &mut out, &mut err);
+    let status = drive_asked(rt, alloc, &asked, &mut source, &mut out, &mut err);
     status == 4 && err.bytes.as_slice() == line.as_bytes()
 }
 

@@ -1,0 +1,9 @@
+use Rattle.id_engine.proofs.words.drive.Goals as goal
+
+pub returns : goal.returns
+returns g c = record {
+  asked = c.read_words.result;
+  read = c.read_words.ensures;
+  done = c.drive_asked.ensures.asked;
+  answered = c.drive_asked.ensures.unasked;
+}
