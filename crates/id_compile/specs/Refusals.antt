@@ -23,8 +23,8 @@ use Rattle.id_compile.specs.declared.compiled.CompileError.{CompileError}
 use Rattle.id_compile.specs.declared.compiled.CompileError.TheVariants as compiler
 use Rattle.id_compile.specs.declared.error.EngineError.{EngineError}
 use Rattle.id_compile.specs.declared.error.EngineError.TheVariants as engine
-use Rattle.id_compile.specs.declared.source.SourceFault.{SourceFault}
-use Rattle.id_compile.specs.declared.source.SourceFault.TheVariants as fault
+use Rattle.id_edge.specs.declared.source.SourceFault.{SourceFault}
+use Rattle.id_edge.specs.declared.source.SourceFault.TheVariants as fault
 use Rattle.id_compile.specs.declared.refusal.Detail.{Detail}
 use Rattle.id_compile.specs.declared.refusal.Detail.TheVariants.{Nothing, Place, Kinds, Word}
 use Rattle.id_compile.specs.declared.refusal.Refusal.{Refusal}

@@ -10,11 +10,10 @@
 mod compiled;
 mod error;
 mod refusal;
-mod source;
 
 pub use compiled::{CompileError, Compiled, accept, compile};
 pub use error::EngineError;
+pub use id_edge::{Disk, Folder, ReadFault, Source, SourceFault, SystemFolder, read_text};
 pub use refusal::{
     Cause, Detail, Refusal, of_engine_error, of_source_fault, plain, put_refusal, refuse,
 };
-pub use source::{Disk, Source, SourceFault, read_text};

@@ -10,8 +10,8 @@ ghost use Rattle.id_compile.specs.Refusals.{source_cause, Tells};
 
 use crate::compiled::CompileError;
 use crate::error::EngineError;
-use crate::source::SourceFault;
 use id_check::CheckCause;
+use id_edge::SourceFault;
 use id_sink::{PrintError, Sink, put, put_number, put_place};
 use id_text::TextError;
 use id_tree::TreeError;

@@ -10,8 +10,8 @@ use Rattle.id_compile.specs.declared.refusal.Cause.{Cause}
 use Rattle.id_compile.specs.declared.refusal.Detail.{Detail}
 use Rattle.id_compile.specs.declared.refusal.Detail.TheVariants.{Nothing, Place, Kinds, Word}
 use Rattle.id_compile.specs.declared.refusal.Refusal.{Refusal}
-use Rattle.id_compile.specs.declared.source.SourceFault.{SourceFault}
-use Rattle.id_compile.specs.Reading.{IsUnread}
+use Rattle.id_edge.specs.declared.source.SourceFault.{SourceFault}
+use Rattle.id_edge.specs.Reading.{IsUnread}
 use Rattle.id_runner.specs.Commands.{ShowsFront}
 use Rattle.id_compile.specs.Refusals.{compiler_refusal, IsDetailInside, IsInsideOf, IsPrintedLine, IsToldRefusal, IsWord, Tells, plain, row_of, source_cause}
 use Rattle.id_engine.specs.Served.{command_of, words_of, IsRefusedRequest, IsRunFront, Serves, refused, Drives, unread}

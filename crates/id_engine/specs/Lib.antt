@@ -1,3 +1,4 @@
 pub mod Served
+pub mod Settled
 -- for use inside
 pub mod Asked

@@ -10,8 +10,8 @@ use Rattle.id_args.specs.Requests.{AskFor, words_read}
 use Rattle.id_compile.specs.declared.error.EngineError.{EngineError}
 use Rattle.id_compile.specs.declared.error.EngineError.TheVariants.{Write}
 use Rattle.id_compile.specs.declared.refusal.Cause.TheVariants as cause
-use Rattle.id_compile.specs.declared.source.SourceFault.{SourceFault}
-use Rattle.id_compile.specs.Reading.{IsToldText, IsUnread}
+use Rattle.id_edge.specs.declared.source.SourceFault.{SourceFault}
+use Rattle.id_edge.specs.Reading.{IsToldText, IsUnread}
 use Rattle.id_compile.specs.Programs.{HasProgram}
 use Rattle.id_runner.specs.Commands.{Command, Check, List_graph, Draw_graph, Facts, Run, ShowsAll}
 use Rattle.id_runner.specs.Commands.{ShowsFront}

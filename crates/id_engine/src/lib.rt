@@ -15,11 +15,14 @@ mod words;
 
 pub use commands::{check_text, draw_text, facts_text, graph_text};
 pub use id_compile::{
-    Cause, CompileError, Compiled, Detail, Disk, EngineError, Refusal, Source, SourceFault,
-    compile, put_refusal, read_text,
+    Cause, CompileError, Compiled, Detail, EngineError, Refusal, compile, put_refusal,
+};
+pub use id_edge::{
+    Device, Disk, Folder, ReadFault, Source, SourceFault, Stream, SystemFolder, read_text,
+    write_some,
 };
 pub use id_request::{Request, Unasked};
 pub use id_runner::{MAX_STEPS, Settings, engine, printed_alike};
 pub use program::{drive_asked, serve};
-pub use stream::{Stream, settle, write_some};
+pub use stream::settle;
 pub use words::drive;

@@ -10,7 +10,7 @@
 mod tests;
 
 use id_args::arguments;
-use id_engine::{Disk, Source, Stream, Unasked, drive, drive_asked, settle};
+use id_engine::{Disk, Source, Stream, SystemFolder, Unasked, drive, drive_asked, settle};
 use id_sink::Sink;
 use std::io::BufWriter;
 use std::process::ExitCode;
@@ -38,7 +38,9 @@ fn serve_process<R: Env + Files + AllocGlobal + Threads + Wait + Sync>(
     host: &HostRuntime,
 ) -> u8 {
     let alloc = rt.alloc();
-    let mut source = Disk { rt };
+    let mut source = Disk {
+        folder: SystemFolder { rt },
+    };
     let mut err = Stream {
         writer: host.stderr(),
     };

@@ -1,5 +1,5 @@
 use id_args::read_words;
-use id_engine::{Request, Source, SourceFault, Stream, drive, drive_asked, settle};
+use id_engine::{Device, Request, Source, SourceFault, Stream, drive, drive_asked, settle};
 use id_sink::{Sink, SinkFault, put};
 use std::alloc::{AllocError, Global};
 use std::io;
@@ -192,6 +192,25 @@ impl Write for Halting {
     }
 }
 
+/// The same as a device.
+impl Device for Halting {
+    ghost use Rattle.std.specs.Prelude.{None};
+
+    ghost view = { λ _. record { outlook = None; held = None } };
+
+    fn attempt(&mut self, bytes: &[u8]) -> Option<Result<usize, SinkFault>> {
+        match self.write(bytes) {
+            Ok(n) => Some(Ok(n)),
+            Err(error) if error.kind() == ErrorKind::Interrupted => None,
+            Err(_) => Some(Err(SinkFault)),
+        }
+    }
+
+    fn send_on(&mut self) -> Result<(), SinkFault> {
+        Ok(())
+    }
+}
+
 #[test]
 fn says_what_the_system_says(rt: HostRuntime) {
     let mut stream = Stream {
@@ -312,4 +331,79 @@ fn refuses_a_trace_that_is_not_written(rt: HostRuntime) -> Result<(), Fail> {
     let got = print(&rt, "def main(): int = 7;", "run|text.id|--trace", 40)?;
     assert!(&rt; TRACED.as_bytes().starts_with(got.out.as_slice()) && is_cut(&got));
     Ok(())
+}
+
+/// A sink with room for some bytes, which takes at most so many of each write and tells nothing. Without room a write
+/// fails.
+#[derive(Drop)]
+struct Sparing<'a, R: Abort> {
+    rt: &'a R,
+    most: usize,
+    room: usize,
+    bytes: Vec<u8>,
+}
+
+impl<R: Abort> Sink for Sparing<'_, R> {
+    ghost use Rattle.std.specs.Prelude.{None};
+
+    ghost told = { λ _. None };
+
+    fn write(&mut self, bytes: &[u8]) -> Result<usize, SinkFault> {
+        if self.room == 0 {
+            return Err(SinkFault);
+        }
+        let n = bytes.len().min(self.most).min(self.room);
+        assert!(self.rt; self.bytes.extend_from_slice(&bytes[..n]).is_ok());
+        self.room -= n;
+        Ok(n)
+    }
+}
+
+/// What the run of `def main(): int = 7;` prints with its trace, at most so many bytes of each write and of all.
+fn print_sparing<R: Abort + AllocGlobal + Threads + Wait + Sync>(
+    rt: &R,
+    most: usize,
+    room: usize,
+) -> Printed {
+    let alloc = rt.alloc();
+    let words = ["run", "text.id", "--trace"];
+    let mut source = OneText {
+        text: "def main(): int = 7;",
+    };
+    let bytes = Vec::new(alloc);
+    let mut out = Sparing {
+        rt,
+        most,
+        room,
+        bytes,
+    };
+    let mut err = with_room(rt, 100);
+    let status = drive(rt, alloc, &words, &mut source, &mut out, &mut err);
+    Printed {
+        out: out.bytes,
+        err: err.bytes,
+        status,
+    }
+}
+
+#[test]
+fn prints_a_front_wherever_a_write_fails(rt: HostRuntime) {
+    for room in 0..TRACED.len() {
+        let got = print_sparing(&rt, 1_000_000, room);
+        let front = TRACED.as_bytes().starts_with(got.out.as_slice());
+        assert!(&rt; front && got.out.len() == room && is_cut(&got), "{room}");
+    }
+}
+
+#[test]
+fn goes_on_where_a_write_takes_one_byte(rt: HostRuntime) {
+    let got = print_sparing(&rt, 1, 1_000_000);
+    let whole = got.out.as_slice() == TRACED.as_bytes();
+    assert!(&rt; whole && got.err.is_empty() && got.status == 0);
+}
+
+#[test]
+fn refuses_a_write_that_takes_no_byte(rt: HostRuntime) {
+    let got = print_sparing(&rt, 0, 1_000_000);
+    assert!(&rt; got.out.is_empty() && is_cut(&got));
 }
