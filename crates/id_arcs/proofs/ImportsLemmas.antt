@@ -1,9 +1,9 @@
 -- Which regions see what names mean: what conditionals and loops import.
-use Rattle.std.proofs.Common.{◌≡◌, ◌⊎◌, inl, inr, ℕ, zero, suc, ◌+◌, ◌-◌, ◌≤◌, ◌<◌, ◌==◌, ◌&&◌, Bool as Truth, true, false, cond}
+use Rattle.std.proofs.Common.{◌≡◌, ◌⊎◌, inl, inr, ℕ, zero, suc, ◌+◌, ◌-◌, ◌≤◌, ◌<◌, ◌&&◌, Bool as Truth, true, false, cond}
 use Rattle.std.proofs.Common.{nat_eq, Option}
 use Rattle.std.proofs.Common.{Some, None, List, [], ◌∷◌, ◌++◌, length, refl, sym, ◌∙◌, ap, subst, arith}
 use Rattle.std.specs.Prelude.{unwrap_or}
-use Rattle.std.proofs.lemmas.Bool.{cases_eq, cases_lt, eqb-true, false≢true}
+use Rattle.std.proofs.lemmas.Bool.{cases_eq, cases_lt, false≢true}
 use Rattle.std.proofs.lemmas.Bool.Decides.{nat_tests}
 use Rattle.id_value.specs.declared.Kind.{Kind}
 use Rattle.id_list.specs.List.{Among}
@@ -12,11 +12,12 @@ use Rattle.id_table.specs.declared.row.Region.{Region}
 use Rattle.id_table.specs.declared.row.Row.{Row}
 use Rattle.id_table.specs.declared.row.Node.{Node}
 use Rattle.id_table.specs.declared.row.Node.TheVariants.{Param, Name, Split, Block, Binding, Def}
-use Rattle.id_table.specs.declared.row.Node.TheVariants.{Start, LoopHead, Variable, Switches, Turn, NextUse, Next, Body, Loop}
+use Rattle.id_table.specs.declared.row.Node.TheVariants.{Start, LoopHead, Variable, Switches, Turn, NextUse, Next, Body}
+use Rattle.id_table.specs.declared.row.Node.TheVariants.{Carried, Index, Span}
 use Rattle.id_table.specs.Rows.{arm_at, at, top}
 use Rattle.id_table.specs.Tables.{HasNear, begins_block, has_statements, is_binder, is_binding, is_head, is_in_loop, is_param}
 use Rattle.id_table.specs.Tables.{is_split, is_statement, is_switches, is_top, is_variable}
-use Rattle.id_table.specs.Loops.{IsLoop, IsLoopOf, IsNextOf, StandsAt}
+use Rattle.id_table.specs.Loops.{AreCarried, AreEntries, IsLoop, IsLoopOf, IsNextOf, StandsAt, an_index, nothing}
 use Rattle.id_table.specs.Regions.{Lies, here, in_arm, in_loop, in_side, IsIfOf}
 use Rattle.id_table.proofs.RegionLemmas.{InArm-either, InArm-lies, InArm-within, Lies-chain, Lies-split, Lies-trans}
 use Rattle.id_check.specs.declared.checked.Checked.{Checked}
@@ -25,24 +26,18 @@ use Rattle.id_scope.specs.Scopes.{takes, used_name}
 use Rattle.id_check.proofs.HomesLemmas.{held_binding, home, home_in, inside_loop}
 use Rattle.id_check.proofs.ProgramsLemmas.{bound_name_row, bound_use_row, next_use_row, seen_in}
 use Rattle.id_desugar.specs.Ends.{end_of, next_of}
+use Rattle.id_desugar.specs.Regions.{bound_of, carried, first_variable, has_index}
 use Rattle.id_desugar.specs.Regions.{is_outside, has, used, used_by, with_use, imports_by, imports_of, handed, is_right_in, nexts_from, nexts_of, taken}
-use Rattle.id_pieces.specs.Rows.{block, first_binder, label, label_by, node, outer_at}
-use Rattle.id_pieces.proofs.EndsLemmas.{if_is}
-use Rattle.id_pieces.proofs.LoopsLemmas.{loop_rows, next_is, start_head, the_loop}
+use Rattle.id_pieces.specs.Rows.{block, first_binder, home as label_home, home_by, label, label_by, node, outer_at}
+use Rattle.id_pieces.proofs.EndsLemmas.{if_is, turn_low}
+use Rattle.id_pieces.proofs.LoopsLemmas.{carried_index, carried_is, carried_nodes, index_carried, loop_rows, next_is, start_head, switches_high, switches_low, the_carried, the_loop}
 use Rattle.id_arcs.proofs.NamesSeen.{Sees, own, handed as sees_handed, entered as sees_entered, of_arms, of_turns}
-use Rattle.id_arcs.proofs.RegionsLemmas.{T, head_before, head_low, heads_rise, in_rows, inner, split_is, start_is, step_arm}
+use Rattle.id_arcs.proofs.RegionsLemmas.{T, head_before, head_low, heads_rise, in_rows, index_loop, index_region, index_rows, inner, not_span, split_is, start_is, step_arm}
 use Rattle.id_arcs.proofs.RegionsLemmas.{step_side, step_top, switches_head, switches_is, switches_of, switches_top, top_rows}
+use Rattle.id_arcs.proofs.OrderLemmas.{has_among}
 use Rattle.id_arcs.proofs.RowLemmas.{IsNamed, IsSeen, is_label}
 
 -- ---- lists of imports
-
-has_among : (bs : List ℕ) (b : ℕ) → has bs b ≡ true → Among b bs
-has_among [] b e = cc
-has_among (x ∷ xs) b e = go (x == b) refl e (has_among xs b)
-  where
-    go : (t : Truth) → (x == b) ≡ t → cond t true (has xs b) ≡ true → (has xs b ≡ true → Among b xs) → Among b (x ∷ xs)
-    go true f e rest = inl (sym (eqb-true x b f))
-    go false f e rest = inr (rest e)
 
 kept_use : (lo hi : ℕ) (bs : List ℕ) (o : Option ℕ) (x : ℕ) → Among x bs → Among x (with_use lo hi bs o)
 kept_use lo hi bs None x h = h
@@ -125,13 +120,14 @@ binder_opens : (m : Node) → is_binder m ≡ true → begins_block m ≡ false
 binder_opens (Param x k) e = refl
 binder_opens (Binding x a) e = refl
 binder_opens (Next x k o v) e = refl
+binder_opens (Index x) e = refl
 binder_opens _ e = absurd (false≢true e)
 
 -- what takes bindings has statements
 takes_statements : (m : Node) (z a : ℕ) → takes m (Binding z a) ≡ true → has_statements m ≡ true
 takes_statements (Block b) z a e = refl
 takes_statements Body z a e = refl
-takes_statements (Loop h w l) z a e = absurd (false≢true e)
+takes_statements Span z a e = absurd (false≢true e)
 takes_statements (Def x h k b) z a e = absurd (false≢true e)
 takes_statements _ z a e = absurd (false≢true e)
 
@@ -152,6 +148,27 @@ nexts_have P v (suc n) i low high all =
 module _ (P : Checked) where
   abbrev pub LiesIn : Region → Region → Type 0
   LiesIn q r = Lies (rows P) q r
+
+  -- a variable stands behind what its loop carries on beside
+  behind_carried : (h e c i : ℕ) → AreEntries (rows P) h e c → h < i → node P i ≡ Variable → h + c < i
+  behind_carried h e c i x low is = go x.carried refl
+    where
+      apart : (j : ℕ) {k : Kind} → node P j ≡ Carried k → i ≡ j → ⊥
+      apart j f same = (let bad : is_variable (node P j) ≡ true = ap (λ z. is_variable (node P z)) (sym same) ∙ ap is_variable is in
+          false≢true (sym (ap is_variable f) ∙ bad))
+
+      go : {d : ℕ} → AreCarried (rows P) h d → d ≡ c → h + c < i
+      go nothing k = omega (arith, k, low)
+      go (an_index a b d) k = elim (cases_eq i (h + 1)) [
+        | inl s ↦ absurd (apart (h + 1) a s)
+        | inr n1 ↦ elim (cases_eq i (h + 2)) [
+          | inl s ↦ absurd (apart (h + 2) b s)
+          | inr n2 ↦ elim (cases_eq i (h + 3)) [
+            | inl s ↦ absurd (apart (h + 3) d s)
+            | inr n3 ↦ omega (arith, k, low, n1, n2, n3)
+          ]
+        ]
+      ]
 
   -- the row is a binder
   record Binds (b : ℕ) : Type 0 where
@@ -215,11 +232,16 @@ module _ (P : Checked) where
         let i = variable_row in
         let c = (T P).loop_of i variable_in (ap is_in_loop variable_node) in
         let y = (T P).loop_is c.0 (block P i) c.1 in
-        let stands = y.stands i ((T P).block i (inner P i is_variable refl variable_in (ap is_variable variable_node))).0 c.2 refl in
-        let within_entries = subst (λ z. StandsAt (block P i) y.entries (c.1).switches y.body c.0 z i) variable_node stands in
-        let all : (j : ℕ) → h + 1 ≤ j → j ≤ i → is_variable (node P j) ≡ true = (λ j l u. y.before_test.variable j (omega (arith, l, variable_block))
-        (omega (arith, u, within_entries.1))) in
-        subst (λ z. Among z (nexts_of P h)) next_of_variable (nexts_have P (h + 1) (length (rows P)) i (omega arith) (omega (arith, variable_in)) all)
+        let before : i + 1 < c.0 = not_span P c.0 (block P i) (c.1).switches (c.1).last i y is_variable refl c.2 (ap is_variable variable_node) in
+        let stands = y.stands i ((T P).block i (inner P i is_variable refl variable_in (ap is_variable variable_node))).0 before refl in
+        let within_entries = subst (λ z. StandsAt (block P i) y.entries (c.1).switches y.turn y.body c.0 z i) variable_node stands in
+        let many : length (carried P h) ≡ y.carried =
+        ap (λ g. length (carried P g)) (sym variable_block) ∙ carried_is P (block P i) y.entries y.carried y.before_test in
+        let low : block P i + y.carried < i = behind_carried (block P i) y.entries y.carried i y.before_test within_entries.0 variable_node in
+        let first : first_variable P h ≤ i = omega (arith, many, low, variable_block) in
+        let all : (j : ℕ) → first_variable P h ≤ j → j ≤ i → is_variable (node P j) ≡ true =
+        (λ j l u. y.before_test.variable j (omega (arith, l, many, variable_block)) (omega (arith, u, within_entries.1))) in
+        subst (λ z. Among z (nexts_of P h)) next_of_variable (nexts_have P (first_variable P h) (length (rows P)) i first (omega (arith, variable_in)) all)
 
     -- it stands right in the body of its loop
     next_side : (w : ℕ) × (t : ℕ) × (w < length (rows P)) × (node P w ≡ Switches t) × (block P w ≡ block P m) × (region P m ≡ arm_at w true)
@@ -227,7 +249,8 @@ module _ (P : Checked) where
         let z = (T P).next_in m (block P m) k x next_here in
         let c = z.1 in
         let y = (T P).loop_is z.0 (block P m) c in
-        let low : c.switches < length (rows P) = omega (arith, y.body_is.low, y.last_is.low, y.last_is.ends, c.within) in
+        let high = switches_high y in
+        let low : c.switches < length (rows P) = omega (arith, high, c.within) in
         (c.switches, y.test.test, low, y.test.node, y.test.block, (z.2).region)
 
   -- what lies in a side of switches, and is none, lies where they stand
@@ -248,6 +271,7 @@ module _ (P : Checked) where
       go : (m : Node) → node P b ≡ m → is_binder m ≡ true → LiesIn (home (rows P) b) (region P b)
       go (Param y k) is e = subst (λ z. LiesIn z (region P b)) (sym (ap (home_in (block P b) (region P b)) is)) here
       go (Binding y a) is e = subst (λ z. LiesIn z (region P b)) (sym (ap (home_in (block P b) (region P b)) is)) here
+      go (Index y) is e = subst (λ z. LiesIn z (region P b)) (sym (ap (home_in (block P b) (region P b)) is)) here
       go (Next y k o v) is e =
           let s = next_side b y k o v x.within is in
           let there : region P s.0 ≡ top (block P b) = side_top s.0 s.1 s.2 s.3 ∙ ap top s.4 in
@@ -262,34 +286,53 @@ module _ (P : Checked) where
       go : (m : Node) → node P b ≡ m → is_binder m ≡ true → LiesIn z (home (rows P) b)
       go (Param y k) is e = subst (LiesIn z) (sym (ap (home_in (block P b) (region P b)) is)) l
       go (Binding y a) is e = subst (LiesIn z) (sym (ap (home_in (block P b) (region P b)) is)) l
+      go (Index y) is e = subst (LiesIn z) (sym (ap (home_in (block P b) (region P b)) is)) l
       go (Next y k o v) is e =
           let s = next_side b y k o v x.within is in
           let there : region P s.0 ≡ top (block P b) = side_top s.0 s.1 s.2 s.3 ∙ ap top s.4 in
           subst (LiesIn z) (there ∙ sym (ap (home_in (block P b) (region P b)) is)) (through_side s.0 s.1 s.2 s.3 other (subst (LiesIn z) s.5 l))
       go _ is e = absurd (false≢true e)
 
-  -- the label of a binder stands at its home
+  -- what the label of a binder gives belongs to its home; the label stands there too, or, of an index, right in the loop
   record Labelled (b : ℕ) : Type 0 where
     within : label P b < length (rows P)
     marks : is_label (node P (label P b)) ≡ true
-    region_is : region P (label P b) ≡ home (rows P) b
+    region_is : region P (label_home P b) ≡ home (rows P) b
+    side : (region P (label P b)).side ≡ (region P (label_home P b)).side
 
   labelled : (b : ℕ) → Binds b → Labelled b
   labelled b x = go (node P b) refl x.binds
     where
-      by : (i : ℕ) → label P b ≡ i → i < length (rows P) → is_label (node P i) ≡ true → region P i ≡ home (rows P) b → Labelled b
-      by i is low mark e = record {
+      by : (i j : ℕ) → label P b ≡ i → label_home P b ≡ j → i < length (rows P) → is_label (node P i) ≡ true → region P j ≡ home (rows P) b
+          → (region P i).side ≡ (region P j).side → Labelled b
+      by i j is at low mark e same = record {
         within = subst (λ z. z < length (rows P)) (sym is) low;
         marks = ap (λ z. is_label (node P z)) is ∙ mark;
-        region_is = ap (region P) is ∙ e;
+        region_is = ap (region P) at ∙ e;
+        side = ap (λ z. (region P z).side) is ∙ same ∙ ap (λ z. (region P z).side) (sym at);
       }
 
       go : (m : Node) → node P b ≡ m → is_binder m ≡ true → Labelled b
-      go (Param y k) is e = by b (ap (label_by (block P b) b) is) x.within (ap is_label is) (sym (ap (home_in (block P b) (region P b)) is))
-      go (Binding y a) is e = by b (ap (label_by (block P b) b) is) x.within (ap is_label is) (sym (ap (home_in (block P b) (region P b)) is))
+      go (Param y k) is e =
+          by b b (ap (label_by (block P b) b) is) (ap (home_by (block P b) b) is) x.within (ap is_label is)
+          (sym (ap (home_in (block P b) (region P b)) is)) refl
+      go (Binding y a) is e =
+          by b b (ap (label_by (block P b) b) is) (ap (home_by (block P b) b) is) x.within (ap is_label is)
+          (sym (ap (home_in (block P b) (region P b)) is)) refl
       go (Next y k o v) is e =
-          by (block P b + 1 + k) (ap (label_by (block P b) b) is) (variable_in b y k o v x.within is) (ap is_label (variable_node b y k o v x.within is))
-          (variable_top b y k o v x.within is ∙ sym (ap (home_in (block P b) (region P b)) is))
+          by (block P b + 1 + k) (block P b + 1 + k) (ap (label_by (block P b) b) is) (ap (home_by (block P b) b) is) (variable_in b y k o v x.within is)
+          (ap is_label (variable_node b y k o v x.within is))
+          (variable_top b y k o v x.within is ∙ sym (ap (home_in (block P b) (region P b)) is)) refl
+      go (Index y) is e =
+          let z = index_rows P b y x.within is in
+          let c = index_loop P b y x.within is in
+          let at = carried_nodes z.before_test.carried c.2 in
+          let low = switches_low z in
+          let high = switches_high z in
+          by (block P b + 1) b (ap (label_by (block P b) b) is) (ap (home_by (block P b) b) is) (omega (arith, low, high, (c.1).within)) (ap is_label at.0)
+          (sym (ap (home_in (block P b) (region P b)) is))
+          (ap (λ (r : Region). r.side) (z.before_test.stands (block P b + 1) (omega arith) (omega (arith, z.before_test.low, c.2))).1
+          ∙ sym (ap (λ (r : Region). r.side) (index_region P b y x.within is)))
       go _ is e = absurd (false≢true e)
 
   -- a parameter stands in no loop's block right
@@ -359,10 +402,12 @@ module _ (P : Checked) where
           let inner_s = inner P s has_statements refl y.within has in
           let low = top_rows P (block P w) c.0 s c.1 inner_s top_s in
           let round : i < s = grind (arith, nat_tests, y.round) in
-          let g_low : block P w < w = omega (arith, rows_are.before_test.low, rows_are.test.low, rows_are.test.behind, c.2) in
+          let g_low : block P w < w = let l = switches_low rows_are in omega (arith, l, c.2) in
+          let before : s + 1 < c.0 =
+          not_span P c.0 (block P w) (c.1).switches (c.1).last s rows_are has_statements refl low has in
           elim (cases_lt rows_are.body s) [
             | inl k ↦
-                let l = subst (LiesIn (arm_at (c.1).switches false)) top_s (rows_are.last_is.each s k low) in
+                let l = subst (LiesIn (arm_at (c.1).switches false)) top_s (rows_are.last_is.each s k before) in
                 let rise = heads_rise P l in
                 omega (arith, rise, g_low, c.2)
             | inr k ↦
@@ -413,9 +458,11 @@ module _ (P : Checked) where
       let near = (T P).part_stands m o q.within (subst (λ z. HasNear z o) (sym q.node) (inl (sym u.3))) in
       let same_block : block P o ≡ block P m = near.0 in
       let nd = next_side m x u.1 q.outer q.value q.within q.node in
-      let low : h < length (rows P) = omega (arith, y.before_test.low, y.test.low, y.test.behind, y.body_is.low, y.last_is.low, y.last_is.ends, c.within) in
+      let rise = switches_low y in
+      let high = switches_high y in
+      let low : h < length (rows P) = omega (arith, rise, high, c.within) in
       let start : y.start ≡ h - 1 = omega (arith, y.begins) in
-      let start_at : region P (h - 1) ≡ region P n = ap (region P) (sym start) ∙ (y.start_of).region in
+      let start_at : region P (h - 1) ≡ region P n = ap (region P) (sym start) ∙ (y.start_of).beside.region in
       let below : (region P (h - 1)).head ≤ h - 1 = head_low P (h - 1) (omega (arith, y.begins, low)) in
       let head_same = ap (λ (r : Region). r.head) start_at in
       record {
@@ -546,7 +593,8 @@ module _ (P : Checked) where
       (end_of P h) b ≡ true
   beside_loop h s b within is x l = not_between h (end_of P h) b (λ low high.
       let c = the_loop P h s within is in
-      let in_it = inside_loop (rows P) (T P) (end_of P h) h c b (omega (arith, low)) high in
+      let before = not_span P (end_of P h) h c.switches c.last b (loop_rows P h s within is) is_binder refl high x.binds in
+      let in_it = inside_loop (rows P) (T P) (end_of P h) h c b (omega (arith, low)) before in
       let rise = heads_rise P (Lies-trans (rows P) (through_home b x (ap is_switches is) in_it) l) in
       let at = start_is P h s within is in
       let e = head_low P s (omega (arith, at, within)) in
@@ -561,7 +609,7 @@ module _ (P : Checked) where
     -- the loop of switches hands its variables on, and what it takes
     at_switches : (w t : ℕ) (c : Truth) → w < length (rows P) → node P w ≡ Switches t → LiesIn (home (rows P) b) (region P w) → LiesIn (arm_at w c)
         (region P u.row)
-        → Among b (nexts_of P (block P w) ++ taken P (block P w))
+        → Among b (bound_of P (block P w) ++ (nexts_of P (block P w) ++ taken P (block P w)))
     at_switches w t c within is l round =
         let g = block P w in
         let head = switches_head P w t within is in
@@ -569,11 +617,14 @@ module _ (P : Checked) where
         let top_round : LiesIn (top g) (region P u.row) =
         Lies-trans (rows P) (in_side within (ap is_switches is) (subst (LiesIn (top g)) (sym here_top) here)) round in
         elim (step_top P g (g - 1) head.1 (subst (LiesIn (home (rows P) b)) here_top l)) [
-          | inl e ↦ Among-left b (nexts_of P g) (taken P g) (own_name (node P b) refl (u.bound).binds e)
+          | inl e ↦
+              Among-right b (bound_of P g) (nexts_of P g ++ taken P g)
+              (Among-left b (nexts_of P g) (taken P g) (own_name (node P b) refl (u.bound).binds e))
           | inr m ↦
               let at = in_rows P g (g - 1) head.0 head.1 i (u_inner u) not_header (Lies-trans (rows P) top_round u.further) in
-              Among-right b (nexts_of P g) (taken P g)
-              (taken_has g i b at.0 at.1 (u.uses (top g) top_round) (beside_loop g (g - 1) b head.0 head.1 u.bound m))
+              Among-right b (bound_of P g) (nexts_of P g ++ taken P g)
+              (Among-right b (nexts_of P g) (taken P g)
+              (taken_has g i b at.0 at.1 (u.uses (top g) top_round) (beside_loop g (g - 1) b head.0 head.1 u.bound m)))
         ]
       where
         behind : w < i
@@ -594,6 +645,12 @@ module _ (P : Checked) where
             let blocks : block P b ≡ block P w = ap (λ (r : Region). r.head) (sym ((T P).at_top b (u.bound).within (ap is_top at_b)) ∙ mine) in
             let head = switches_head P w t within is in
             absurd (param_elsewhere b y k (u.bound).within at_b (ap (node P) blocks ∙ head.1))
+        own_name (Index y) at_b e same =
+            let mine = sym (ap (home_in (block P b) (region P b)) at_b) ∙ same in
+            let side = sym (index_region P b y (u.bound).within at_b) ∙ mine in
+            let head = switches_head P w t within is in
+            let z = (index_rows P b y (u.bound).within at_b).test.node in
+            absurd (false≢true (sym (ap is_switches head.1) ∙ ap (λ (r : Region). is_switches (node P r.head)) (sym side) ∙ ap is_switches z))
         own_name _ at_b e same = absurd (false≢true e)
 
     -- each region from the binder's home to the use sees the binder
@@ -617,7 +674,7 @@ module _ (P : Checked) where
         (sees_from l (Lies-trans (rows P) (in_side within k here) round))
 
   seen_of : {r : Region} (b : ℕ) → Binds b → Sees P b r → IsSeen P r b
-  seen_of b x sees = let z = labelled b x in record { within = z.within; is_label = z.marks; sees = sees }
+  seen_of b x sees = let z = labelled b x in record { within = z.within; is_label = z.marks; sees = sees; side = z.side }
 
   -- what a loop takes is seen where its `Start` stands, and right in the loop
   record TakenIn (h s b : ℕ) : Type 0 where
@@ -631,7 +688,8 @@ module _ (P : Checked) where
       let c = the_loop P h s within is in
       let inside : x.row < length (rows P) = omega (arith, x.high, c.within) in
       let u = use_of h x.row b inside x.used_there in
-      let in_it = inside_loop (rows P) (T P) (end_of P h) h c x.row (omega (arith, x.low)) x.high in
+      let before = not_span P (end_of P h) h c.switches c.last x.row (loop_rows P h s within is) is_user refl x.high u.user in
+      let in_it = inside_loop (rows P) (T P) (end_of P h) h c x.row (omega (arith, x.low)) before in
       let round = u.back (top h) (ap is_switches is) x.used_there in_it in
       elim (Lies-chain (rows P) u.lies round) [
         | inl l ↦ elim (step_top P h s is l) [
@@ -649,9 +707,11 @@ module _ (P : Checked) where
           is_out (h + 1) (end_of P h) b x.out (omega (arith, at.0)) at.1
 
   the_next : (h s m : ℕ) → h < length (rows P) → node P h ≡ LoopHead s → Among m (nexts_of P h) → NextIn h m
-  the_next h s m within is among = go (h + 1) (length (rows P)) (omega arith) (omega (arith, (loop_rows P h s within is).before_test.low)) among
+  the_next h s m within is among =
+      go (first_variable P h) (length (rows P)) (omega (arith, the_carried P h s within is))
+      (omega (arith, the_carried P h s within is, (loop_rows P h s within is).before_test.low)) among
     where
-      go : (v n : ℕ) → h < v → v ≤ (loop_rows P h s within is).entries → Among m (nexts_from P v n) → NextIn h m
+      go : (v n : ℕ) → h + (loop_rows P h s within is).carried < v → v ≤ (loop_rows P h s within is).entries → Among m (nexts_from P v n) → NextIn h m
       go v zero low high k = absurd k
       go v (suc n) low high k = by (is_variable (node P v)) refl k (λ less. go (suc v) n (omega (arith, low)) less)
         where
@@ -675,16 +735,8 @@ module _ (P : Checked) where
           by true e (inl same) rest =
               let less = before e in
               let stands = y.before_test.stands v (omega (arith, low)) (omega (arith, less)) in
-              let v_in : v < length (rows P) = omega (
-                arith,
-                less,
-                y.test.low,
-                y.test.behind,
-                y.body_is.low,
-                y.last_is.low,
-                y.last_is.ends,
-                (the_loop P h s within is).within,
-              ) in
+              let high = switches_high y in
+              let v_in : v < length (rows P) = omega (arith, less, y.test.low, y.test.behind, high, (the_loop P h s within is).within) in
               let z = next_is P v v_in (variable_is (node P v) e) in
               let here_next : IsNextOf (rows P) (next_of P v)
               (block P (next_of P v)) z.index z.name = record { outer = z.outer; value = z.value; within = z.within; block = refl; node = z.node } in
@@ -708,17 +760,66 @@ module _ (P : Checked) where
       let bound : Binds b = record { within = n.within; binds = ap is_binder n.node_is } in
       (bound, own ((labelled b bound).region_is ∙ ap (home_in (block P b) (region P b)) n.node_is ∙ ap top n.block_is))
 
+  -- the entry of what a loop carries on beside is seen right in the loop
+  carried_seen : (h i : ℕ) {k : Kind} → i < length (rows P) → node P i ≡ Carried k → region P i ≡ top h → IsSeen P (top h) i
+  carried_seen h i within is at =
+      let mine : label P i ≡ i = ap (label_by (block P i) i) is in
+      let there : label_home P i ≡ i = ap (home_by (block P i) i) is in
+      record {
+        within = subst (λ z. z < length (rows P)) (sym mine) within;
+        is_label = ap (λ z. is_label (node P z)) mine ∙ ap is_label is;
+        sees = own (ap (region P) there ∙ at);
+        side = ap (λ z. (region P z).side) (mine ∙ sym there);
+      }
+
+  -- and so is the upper bound of an index
+  bound_seen : (h s b : ℕ) → h < length (rows P) → node P h ≡ LoopHead s → Among b (bound_of P h) → IsSeen P (top h) b
+  bound_seen h s b within is among = go (has_index P h) refl among
+    where
+      y : IsLoop (rows P) (end_of P h) h (the_loop P h s within is).switches (the_loop P h s within is).last
+      y = loop_rows P h s within is
+
+      there : has_index P h ≡ true → b ≡ h + 2 → IsSeen P (top h) b
+      there e at =
+          let three = index_carried P h y.entries y.carried y.before_test e in
+          let low = switches_low y in
+          let high = switches_high y in
+          subst (IsSeen P (top h)) (sym at)
+          (carried_seen h (h + 2) (omega (arith, low, high, (the_loop P h s within is).within)) (carried_nodes y.before_test.carried three).1
+          (y.before_test.stands (h + 2) (omega arith) (omega (arith, y.before_test.low, three))).1)
+
+      go : (t : Truth) → has_index P h ≡ t → Among b (cond t ((h + 2) ∷ []) []) → IsSeen P (top h) b
+      go true e (inl at) = there e at
+      go true e (inr none) = absurd none
+      go false e none = absurd none
+
   -- what switches of a loop hand on is seen where they stand
-  handed_seen : (w t b : ℕ) → w < length (rows P) → node P w ≡ Switches t → Among b (nexts_of P (block P w) ++ taken P (block P w))
-      → Binds b × Sees P b (region P w)
+  handed_seen : (w t b : ℕ) → w < length (rows P) → node P w ≡ Switches t
+      → Among b (bound_of P (block P w) ++ (nexts_of P (block P w) ++ taken P (block P w)))
+      → IsSeen P (region P w) b
   handed_seen w t b within is among =
       let g = block P w in
       let head = switches_head P w t within is in
       let here_top = switches_top P w t within is in
-      elim (Among-either b (nexts_of P g) (taken P g) among) [
-        | inl k ↦ let z = variable_seen g (g - 1) b head.0 head.1 k in (z.0, subst (Sees P b) (sym here_top) z.1)
-        | inr k ↦ let z = loop_takes g (g - 1) b head.0 head.1 k in (z.bound, subst (Sees P b) (sym here_top) z.inside)
-      ]
+      subst (λ r. IsSeen P r b) (sym here_top) (elim (Among-either b (bound_of P g) (nexts_of P g ++ taken P g) among) [
+        | inl k ↦ bound_seen g (g - 1) b head.0 head.1 k
+        | inr j ↦ elim (Among-either b (nexts_of P g) (taken P g) j) [
+          | inl k ↦ let z = variable_seen g (g - 1) b head.0 head.1 k in seen_of b z.0 z.1
+          | inr k ↦ let z = loop_takes g (g - 1) b head.0 head.1 k in seen_of b z.bound z.inside
+        ]
+      ])
+
+  -- and on both sides
+  handed_on : (w t b : ℕ) (c : Truth) → w < length (rows P) → node P w ≡ Switches t
+      → Among b (bound_of P (block P w) ++ (nexts_of P (block P w) ++ taken P (block P w))) → IsSeen P (arm_at w c) b
+  handed_on w t b c within is among =
+      let z = handed_seen w t b within is among in
+      record {
+        within = z.within;
+        is_label = z.is_label;
+        sees = sees_handed within (of_turns is) (subst (λ m. Among b (handed P w m)) (sym is) among) z.sees;
+        side = z.side;
+      }
 
 -- a name has a binder that its region sees
 pub name_seen : (P : Checked) (i x : ℕ) → i < length (rows P) → node P i ≡ Name x → IsNamed P i
@@ -754,8 +855,7 @@ split_seen P n t b within is among =
 
 -- and that of a loop's switches what they hand on
 pub switches_seen : (P : Checked) (w t b : ℕ) → w < length (rows P) → node P w ≡ Switches t → Among b (imports_of P w) → IsSeen P (region P w) b
-switches_seen P w t b within is among =
-    let z = handed_seen P w t b within is (subst (λ m. Among b (handed P w m)) is among) in seen_of P b z.0 z.1
+switches_seen P w t b within is among = handed_seen P w t b within is (subst (λ m. Among b (handed P w m)) is among)
 
 -- and that in which a loop stands what it imports
 pub loop_seen : (P : Checked) (h s b : ℕ) → h < length (rows P) → node P h ≡ LoopHead s → Among b (imports_of P h) → IsSeen P (region P s) b
@@ -769,13 +869,28 @@ turn_seen P i b within is among =
     let g = block P i in
     let y = (T P).loop_is c.0 g c.1 in
     let w = (c.1).switches in
-    let low : w < length (rows P) = omega (arith, c.2, within) in
+    let high = switches_high y in
+    let low : w < length (rows P) = omega (arith, high, (c.1).within) in
     let taken_there : Among b (taken P g) = subst (λ m. Among b (handed P g m)) y.before_test.head among in
-    let handed_on : Among b (nexts_of P (block P w) ++ taken P (block P w)) =
-    Among-right b (nexts_of P (block P w)) (taken P (block P w)) (subst (λ z. Among b (taken P z)) (sym y.test.block) taken_there) in
-    let z = handed_seen P w y.test.test b low y.test.node handed_on in
-    let at : region P i ≡ arm_at w true = ap (region P) (sym c.2) ∙ y.body_is.turn_region in
-    seen_of P b z.0 (subst (Sees P b) (sym at) (sees_handed low (of_turns y.test.node) (subst (λ m. Among b (handed P w m)) (sym y.test.node) handed_on) z.1))
+    let handed_there : Among b (bound_of P (block P w) ++ (nexts_of P (block P w) ++ taken P (block P w))) =
+    Among-right b (bound_of P (block P w)) (nexts_of P (block P w) ++ taken P (block P w))
+    (Among-right b (nexts_of P (block P w)) (taken P (block P w)) (subst (λ z. Among b (taken P z)) (sym y.test.block) taken_there)) in
+    let at : region P i ≡ arm_at w true = ap (region P) (sym c.2) ∙ (y.body_is.begins y.turn (turn_low y.body_is.turns) (omega arith)).1 in
+    subst (λ r. IsSeen P r b) (sym at) (handed_on P w y.test.test b true low y.test.node handed_there)
+
+-- and the region of a row that begins a loop's body the upper bound of its index
+pub upper_seen : (P : Checked) (n h i : ℕ) (c : IsLoopOf (rows P) n h) (y : IsLoop (rows P) n h c.switches c.last) → y.carried ≡ 3
+    → region P i ≡ arm_at c.switches true → IsSeen P (region P i) (h + 2)
+upper_seen P n h i c y three is =
+    let w = c.switches in
+    let low = switches_low y in
+    let high = switches_high y in
+    let has : has_index P h ≡ true = carried_index P h y.entries y.carried y.before_test three in
+    let mine : Among (h + 2) (bound_of P h) = subst (λ (t : Truth). Among (h + 2) (cond t ((h + 2) ∷ []) [])) (sym has) (inl refl) in
+    let there : Among (h + 2) (bound_of P (block P w) ++ (nexts_of P (block P w) ++ taken P (block P w))) =
+    Among-left (h + 2) (bound_of P (block P w)) (nexts_of P (block P w) ++ taken P (block P w))
+    (subst (λ g. Among (h + 2) (bound_of P g)) (sym y.test.block) mine) in
+    subst (λ r. IsSeen P r (h + 2)) (sym is) (handed_on P w y.test.test (h + 2) true (omega (arith, high, c.within)) y.test.node there)
 
 -- and that in which a loop stands the first values of its variables
 pub first_seen : (P : Checked) (s m : ℕ) → s < length (rows P) → node P s ≡ Start → Among m (nexts_of P (s + 1)) → IsSeen P (region P s) (first_binder P m)
@@ -790,7 +905,7 @@ first_seen P s m within is among =
     let c : IsLoopOf (rows P) z.1 (s + 1) = subst (IsLoopOf (rows P) z.1) block_is z.2 in
     let y = (T P).loop_is z.1 (s + 1) c in
     let start : y.start ≡ s = omega (arith, y.begins) in
-    let at : region P z.1 ≡ region P s = sym (y.start_of).region ∙ ap (region P) start in
+    let at : region P z.1 ≡ region P s = sym (y.start_of).beside.region ∙ ap (region P) start in
     let bound : Binds P z.0 = record { within = (z.3).within; binds = (z.3).is_binder } in
     let u = first_use P n.outer n.name z.0 z.1 w.within w.node (z.3).binder bound z.2 (z.3).stands in
     let same : first_binder P m ≡ z.0 = ap (λ q. unwrap_or (binder P (outer_at q)) 0) n.node_is ∙ ap (λ o. unwrap_or o 0) (z.3).binder in

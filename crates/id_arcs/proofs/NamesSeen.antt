@@ -11,17 +11,17 @@ use Rattle.id_table.specs.Rows.{arm_at, top}
 use Rattle.id_check.specs.declared.checked.Checked.{Checked}
 use Rattle.id_check.specs.Programs.{region, rows}
 use Rattle.id_desugar.specs.Regions.{imports_of}
-use Rattle.id_pieces.specs.Rows.{entries_row, handed_by, label, name_in, node, output, same_region, slot_of}
+use Rattle.id_pieces.specs.Rows.{entries_row, handed_by, home, label, name_in, node, output, same_region, slot_of}
 
 -- switches for the predicate t stand at the row n: those of a conditional, or of a loop
 pub data HasSwitches (P : Checked) (n t : ℕ) : Type 0 where
   of_arms : node P n ≡ Split t → HasSwitches P n t
   of_turns : node P n ≡ Switches t → HasSwitches P n t
 
--- the region sees what is bound at the row b: its label is right in the region, or switches hand it into the region, and
+-- the region sees what is bound at the row b: it has what its label gives right in the region, or switches hand it into the region, and
 -- see it where they stand themselves, or a loop takes it in, and its `Start` sees it
 pub data Sees (P : Checked) (b : ℕ) : Region → Type 0 where
-  own : {r : Region} → region P (label P b) ≡ r → Sees P b r
+  own : {r : Region} → region P (home P b) ≡ r → Sees P b r
   handed : {n t : ℕ} {c : Truth} → n < length (rows P) → HasSwitches P n t → Among b (imports_of P n) → Sees P b (region P n)
       → Sees P b (arm_at n c)
   entered : {h s : ℕ} → h < length (rows P) → node P h ≡ LoopHead s → Among b (imports_of P h) → Sees P b (region P s)
@@ -53,12 +53,12 @@ region_is r q e =
     let side = one_side r.side q.side both.1 in
     (λ i. record { head = head i; side = side i })
 
-name_by : (P : Checked) (r : Region) (b : ℕ) (t : Truth) → same_region (region P (label P b)) r ≡ t
+name_by : (P : Checked) (r : Region) (b : ℕ) (t : Truth) → same_region (region P (home P b)) r ≡ t
     → name_in P r b ≡ cond t (output (label P b)) (handed_by P r b (node P r.head))
 name_by P r b t e = ap (λ z. cond z (output (label P b)) (handed_by P r b (node P r.head))) e
 
--- a name's value comes in its label's region from the label
-pub named : (P : Checked) (r : Region) (b : ℕ) → region P (label P b) ≡ r → name_in P r b ≡ output (label P b)
+-- a name's value comes in its binder's home from the label
+pub named : (P : Checked) (r : Region) (b : ℕ) → region P (home P b) ≡ r → name_in P r b ≡ output (label P b)
 named P r b is = name_by P r b true (ap (λ z. same_region z r) is ∙ region_itself r)
 
 -- where the binder stands among those of the list
@@ -101,7 +101,7 @@ listed (x ∷ xs) (suc k) h = inr (listed xs k (omega (arith, h)))
 
 -- where a name's value comes from in a region that sees its binder
 pub data Comes (P : Checked) (r : Region) (b : ℕ) : Type 0 where
-  from_label : region P (label P b) ≡ r → name_in P r b ≡ output (label P b) → Comes P r b
+  from_label : region P (home P b) ≡ r → name_in P r b ≡ output (label P b) → Comes P r b
   from_switch : (n t k : ℕ) (c : Truth) → n < length (rows P) → HasSwitches P n t → k < length (imports_of P n)
       → get_or (imports_of P n) k 0 ≡ b → Sees P b (region P n) → r ≡ arm_at n c
       → name_in P r b ≡ record { row = n; part = suc k; side = c } → Comes P r b
@@ -121,18 +121,18 @@ switched P n t b c (of_turns is) =
 
 pub comes : (P : Checked) (r : Region) (b : ℕ) → Sees P b r → Comes P r b
 comes P r b (own is) = from_label is (named P r b is)
-comes P r b (handed {n = n} {t = t} {c = c} within is among rest) = go (same_region (region P (label P b)) (arm_at n c)) refl
+comes P r b (handed {n = n} {t = t} {c = c} within is among rest) = go (same_region (region P (home P b)) (arm_at n c)) refl
   where
-    go : (u : Truth) → same_region (region P (label P b)) (arm_at n c) ≡ u → Comes P (arm_at n c) b
-    go true e = let here = region_is (region P (label P b)) (arm_at n c) e in from_label here (named P (arm_at n c) b here)
+    go : (u : Truth) → same_region (region P (home P b)) (arm_at n c) ≡ u → Comes P (arm_at n c) b
+    go true e = let here = region_is (region P (home P b)) (arm_at n c) e in from_label here (named P (arm_at n c) b here)
     go false e =
         let slot = slot_found (imports_of P n) b among in
         from_switch n t (slot_of (imports_of P n) b) c within is slot.less slot.there rest refl
         (name_by P (arm_at n c) b false e ∙ switched P n t b c is)
-comes P r b (entered {h = h} {s = s} within is among rest) = go (same_region (region P (label P b)) (top h)) refl
+comes P r b (entered {h = h} {s = s} within is among rest) = go (same_region (region P (home P b)) (top h)) refl
   where
-    go : (u : Truth) → same_region (region P (label P b)) (top h) ≡ u → Comes P (top h) b
-    go true e = let here = region_is (region P (label P b)) (top h) e in from_label here (named P (top h) b here)
+    go : (u : Truth) → same_region (region P (home P b)) (top h) ≡ u → Comes P (top h) b
+    go true e = let here = region_is (region P (home P b)) (top h) e in from_label here (named P (top h) b here)
     go false e =
         let slot = slot_found (imports_of P h) b among in
         from_entry h s (slot_of (imports_of P h) b) within is slot.less slot.there rest refl

@@ -1,7 +1,7 @@
 -- The order in which rows are made has each row once, the answer's first.
-use Rattle.std.proofs.Common.{◌≡◌, ◌⊎◌, inl, inr, ℕ, zero, suc, ◌+◌, ◌<◌, ◌≤◌, Bool, true, false, List, [], ◌∷◌, ◌++◌, length, cond}
+use Rattle.std.proofs.Common.{◌≡◌, ◌⊎◌, inl, inr, ℕ, zero, suc, ◌+◌, ◌<◌, Bool, true, false, List, [], ◌∷◌, ◌++◌, length, cond}
 use Rattle.std.proofs.Common.{refl, ap, sym, subst, ◌∙◌, arith, eq-eqb, length-append}
-use Rattle.std.specs.Prelude.{not, ◌&&◌, nat_lt}
+use Rattle.std.specs.Prelude.{not, ◌==◌}
 use Rattle.std.proofs.lemmas.Bool.{cases_lt, eqb-true, false≢true}
 use Rattle.std.proofs.lemmas.Bool.Decides.{nat_tests}
 use Rattle.id_list.specs.List.{Among, AllDiffer}
@@ -11,7 +11,8 @@ use Rattle.id_table.specs.Rows.{at}
 use Rattle.id_check.specs.declared.checked.Checked.{Checked}
 use Rattle.id_check.specs.Programs.{rows}
 use Rattle.id_check.proofs.ProgramsLemmas.{table_of}
-use Rattle.id_desugar.specs.Regions.{in_block, in_procedure, is_loop_head, loops_by, order_by, order_of, those}
+use Rattle.id_desugar.specs.Regions.{has, in_block, in_procedure, is_loop_head, loop_heads, loops_by, order_by, order_of, those}
+use Rattle.id_desugar.proofs.HeadsLemmas.{loop_heads-differ, loop_heads-has, loop_heads-is}
 use Rattle.id_pieces.specs.Made.{first_in, pieces_in}
 use Rattle.id_pieces.specs.Rows.{answer_row, block, made, node, size, size_below}
 
@@ -66,6 +67,32 @@ those-differ f (suc n) = go (f n) (those-differ f n)
         (λ x i j. elim j [ inl e ↦ (let l = (those-is f n x i).0 in absurd (omega (arith, e, l))) | inr z ↦ absurd z ])
     go false d = d
 
+-- ---- what a list has
+
+pub has_among : (bs : List ℕ) (b : ℕ) → has bs b ≡ true → Among b bs
+has_among [] b e = cc
+has_among (x ∷ xs) b e = go (x == b) refl e (has_among xs b)
+  where
+    go : (t : Bool) → (x == b) ≡ t → cond t true (has xs b) ≡ true → (has xs b ≡ true → Among b xs) → Among b (x ∷ xs)
+    go true f e rest = inl (sym (eqb-true x b f))
+    go false f e rest = inr (rest e)
+
+among_has : (bs : List ℕ) (b : ℕ) → Among b bs → has bs b ≡ true
+among_has [] b h = absurd h
+among_has (x ∷ xs) b (inl e) = ap (λ t. cond t true (has xs b)) (eq-eqb x b (sym e))
+among_has (x ∷ xs) b (inr h) = go (x == b) (among_has xs b h)
+  where
+    go : (t : Bool) → has xs b ≡ true → cond t true (has xs b) ≡ true
+    go true e = refl
+    go false e = e
+
+has_not : (bs : List ℕ) (b : ℕ) → (Among b bs → ⊥) → has bs b ≡ false
+has_not bs b never = go (has bs b) refl
+  where
+    go : (t : Bool) → has bs b ≡ t → t ≡ false
+    go true e = absurd (never (has_among bs b e))
+    go false e = refl
+
 -- ---- the rows of the blocks of loops
 
 module _ (P : Checked) where
@@ -75,87 +102,59 @@ module _ (P : Checked) where
   in_block-has : (h i : ℕ) → block P i ≡ h → in_block P h i ≡ true
   in_block-has h i e = eq-eqb (at (rows P) i).block h e
 
-  loops-is : (n k x : ℕ) → Among x (loops_by P n k) → (x < n) × (block P x < k) × (is_loop_head (node P (block P x)) ≡ true)
-  loops-is n zero x h = absurd h
-  loops-is n (suc k) x h = go (is_loop_head (node P k)) refl h (loops-is n k x)
-    where
-      go : (t : Bool) → is_loop_head (node P k) ≡ t → Among x (cond t (loops_by P n k ++ those (in_block P k) n) (loops_by P n k))
-          → (Among x (loops_by P n k) → (x < n) × (block P x < k) × (is_loop_head (node P (block P x)) ≡ true))
-          → (x < n) × (block P x < suc k) × (is_loop_head (node P (block P x)) ≡ true)
-      go true e h rest = elim (Among-either x (loops_by P n k) (those (in_block P k) n) h) [
-        | inl i ↦ (let z = rest i in (z.0, omega (arith, z.1), z.2))
-        | inr i ↦
-            let z = those-is (in_block P k) n x i in
-            let b = in_block-is k x z.1 in
-            (z.0, omega (arith, b), ap (λ g. is_loop_head (node P g)) b ∙ e)
-      ]
-      go false e h rest = let z = rest h in (z.0, omega (arith, z.1), z.2)
+  loops-is : (n : ℕ) (hs : List ℕ) (x : ℕ) → Among x (loops_by P n hs) → (x < n) × Among (block P x) hs
+  loops-is n [] x h = absurd h
+  loops-is n (g ∷ hs) x h = elim (Among-either x (those (in_block P g) n) (loops_by P n hs) h) [
+    | inl i ↦ (let z = those-is (in_block P g) n x i in (z.0, inl (in_block-is g x z.1)))
+    | inr i ↦ (let z = loops-is n hs x i in (z.0, inr z.1))
+  ]
 
-  loops-has : (n k x : ℕ) → x < n → block P x < k → is_loop_head (node P (block P x)) ≡ true → Among x (loops_by P n k)
-  loops-has n zero x l b e = absurd (omega (arith, b))
-  loops-has n (suc k) x l b e = go (is_loop_head (node P k)) refl (loops-has n k x l)
-    where
-      which : block P x < k ⊎ (block P x ≡ k)
-      which = elim (cases_lt (block P x) k) [ inl i ↦ inl i | inr i ↦ inr (omega (arith, i, b)) ]
+  loops-has : (n : ℕ) (hs : List ℕ) (x : ℕ) → x < n → Among (block P x) hs → Among x (loops_by P n hs)
+  loops-has n [] x l h = absurd h
+  loops-has n (g ∷ hs) x l (inl e) = Among-left x (those (in_block P g) n) (loops_by P n hs) (those-has (in_block P g) n x l (in_block-has g x e))
+  loops-has n (g ∷ hs) x l (inr h) = Among-right x (those (in_block P g) n) (loops_by P n hs) (loops-has n hs x l h)
 
-      here : block P x < k ⊎ (block P x ≡ k) → (block P x < k → is_loop_head (node P (block P x)) ≡ true → Among x (loops_by P n k))
-          → Among x (loops_by P n k ++ those (in_block P k) n)
-      here (inl i) rest = Among-left x (loops_by P n k) (those (in_block P k) n) (rest i e)
-      here (inr i) rest = Among-right x (loops_by P n k) (those (in_block P k) n) (those-has (in_block P k) n x l (in_block-has k x i))
-
-      there : is_loop_head (node P k) ≡ false → block P x < k ⊎ (block P x ≡ k)
-          → (block P x < k → is_loop_head (node P (block P x)) ≡ true → Among x (loops_by P n k)) → Among x (loops_by P n k)
-      there f (inl i) rest = rest i e
-      there f (inr i) rest = absurd (false≢true (sym f ∙ sym (ap (λ g. is_loop_head (node P g)) i) ∙ e))
-
-      go : (t : Bool) → is_loop_head (node P k) ≡ t → (block P x < k → is_loop_head (node P (block P x)) ≡ true → Among x (loops_by P n k))
-          → Among x (cond t (loops_by P n k ++ those (in_block P k) n) (loops_by P n k))
-      go true f rest = here which rest
-      go false f rest = there f which rest
-
-  loops-differ : (n k : ℕ) → AllDiffer (loops_by P n k)
-  loops-differ n zero = tt
-  loops-differ n (suc k) = go (is_loop_head (node P k)) (loops-differ n k)
-    where
-      go : (t : Bool) → AllDiffer (loops_by P n k) → AllDiffer (cond t (loops_by P n k ++ those (in_block P k) n) (loops_by P n k))
-      go true d =
-          AllDiffer-append (loops_by P n k) (those (in_block P k) n) d (those-differ (in_block P k) n)
-          (λ x i j. (
-          let low = (loops-is n k x i).1 in
-          let at = in_block-is k x (those-is (in_block P k) n x j).1 in
-          omega (arith, low, at)))
-      go false d = d
+  loops-differ : (n : ℕ) (hs : List ℕ) → AllDiffer hs → AllDiffer (loops_by P n hs)
+  loops-differ n [] d = tt
+  loops-differ n (g ∷ hs) d =
+      AllDiffer-append (those (in_block P g) n) (loops_by P n hs) (those-differ (in_block P g) n) (loops-differ n hs d.1)
+      (λ x i j. (
+      let is = in_block-is g x (those-is (in_block P g) n x i).1 in
+      d.0 (subst (λ z. Among z hs) is (loops-is n hs x j).1)))
 
   -- the rows but the last, in their order
   abbrev inner : ℕ → List ℕ
-  inner n = those (in_procedure P) n ++ loops_by P n n
+  inner n = those (in_procedure P) n ++ loops_by P n (loop_heads P)
 
   inner-within : (n x : ℕ) → Among x (inner n) → x < n
-  inner-within n x h = elim (Among-either x (those (in_procedure P) n) (loops_by P n n) h) [
+  inner-within n x h = elim (Among-either x (those (in_procedure P) n) (loops_by P n (loop_heads P)) h) [
     | inl i ↦ (those-is (in_procedure P) n x i).0
-    | inr i ↦ (loops-is n n x i).0
+    | inr i ↦ (loops-is n (loop_heads P) x i).0
   ]
 
-  inner-has : (n x : ℕ) → x < n → block P x < n → Among x (inner n)
+  inner-has : (n x : ℕ) → x < n → block P x < length (rows P) → Among x (inner n)
   inner-has n x l b = go (is_loop_head (node P (block P x))) refl
     where
       go : (t : Bool) → is_loop_head (node P (block P x)) ≡ t → Among x (inner n)
-      go true e = Among-right x (those (in_procedure P) n) (loops_by P n n) (loops-has n n x l b e)
-      go false e = Among-left x (those (in_procedure P) n) (loops_by P n n) (those-has (in_procedure P) n x l (ap not e))
+      go true e =
+          Among-right x (those (in_procedure P) n) (loops_by P n (loop_heads P))
+          (loops-has n (loop_heads P) x l (loop_heads-has P (block P x) b e))
+      go false e = Among-left x (those (in_procedure P) n) (loops_by P n (loop_heads P)) (those-has (in_procedure P) n x l (ap not e))
 
   inner-differ : (n : ℕ) → AllDiffer (inner n)
   inner-differ n =
-      AllDiffer-append (those (in_procedure P) n) (loops_by P n n) (those-differ (in_procedure P) n) (loops-differ n n)
+      AllDiffer-append (those (in_procedure P) n) (loops_by P n (loop_heads P)) (those-differ (in_procedure P) n)
+      (loops-differ n (loop_heads P) (loop_heads-differ P))
       (λ x i j. (
       let no = (those-is (in_procedure P) n x i).1 in
-      let yes = (loops-is n n x j).2 in
+      let yes = (loop_heads-is P (block P x) (loops-is n (loop_heads P) x j).1).1 in
       absurd (false≢true (sym (ap not yes) ∙ no))))
 
   IsOrder-by : (n : ℕ) → length (rows P) ≡ suc n → IsOrder P (n ∷ inner n)
   IsOrder-by n e = record {
     differ = (λ h. (let l = inner-within n n h in absurd (omega (arith, l))), inner-differ n);
     covers = λ k l. elim (cases_lt k n) [
-      | inl i ↦ (let b = ((table_of P).block k (omega (arith, i, e))).0 in inr (inner-has n k i (omega (arith, b, i))))
+      | inl i ↦ (let b = ((table_of P).block k (omega (arith, i, e))).0 in inr (inner-has n k i (omega (arith, b, i, e))))
       | inr i ↦ inl (omega (arith, e, l, i))
     ];
     within = λ k h. elim h [ inl i ↦ omega (arith, e, i) | inr i ↦ (let l = inner-within n k i in omega (arith, e, l)) ];
@@ -199,130 +198,68 @@ module _ (P : Checked) where
       go true = omega (arith, counted-append (those f n) (n ∷ []), counted-one n)
       go false = omega arith
 
-  -- whether the row is in the block of one of the loops whose heads are below k
-  abbrev in_loops : ℕ → ℕ → Bool
-  in_loops k i = nat_lt (block P i) k && is_loop_head (node P (block P i))
-
-  loops-next : (n k : ℕ) → counted (loops_by P (suc n) k) ≡ counted (loops_by P n k) + if_so (in_loops k n) n
-  loops-next n zero = let no : nat_lt (block P n) 0 ≡ false = grind (arith, nat_tests) in
-      omega (arith, ap (λ t. if_so (t && is_loop_head (node P (block P n))) n) no)
-  loops-next n (suc k) = go (is_loop_head (node P k)) refl (loops-next n k)
+  -- a row is counted in the blocks with these heads where its own is one of them
+  loops-next : (n : ℕ) (hs : List ℕ) → AllDiffer hs → counted (loops_by P (suc n) hs) ≡ counted (loops_by P n hs) + if_so (has hs (block P n)) n
+  loops-next n [] d = refl
+  loops-next n (g ∷ hs) d =
+      omega (
+        arith,
+        counted-append (those (in_block P g) (suc n)) (loops_by P (suc n) hs),
+        counted-append (those (in_block P g) n) (loops_by P n hs),
+        those-next (in_block P g) n,
+        loops-next n hs d.1,
+        split (g == block P n) refl,
+      )
     where
-      lower : is_loop_head (node P k) ≡ false → in_loops (suc k) n ≡ in_loops k n
-      lower e = elim (cases_lt (block P n) k) [
-        | inl i ↦
-            let one : nat_lt (block P n) k ≡ true = grind (arith, nat_tests, i) in
-            let two : nat_lt (block P n) (suc k) ≡ true = grind (arith, nat_tests, i) in
-            ap (λ t. t && is_loop_head (node P (block P n))) (two ∙ sym one)
-        | inr i ↦ same (eq_or i)
-      ]
-        where
-          eq_or : k ≤ block P n → (block P n ≡ k) ⊎ (suc k ≤ block P n)
-          eq_or i = elim (cases_lt k (block P n)) [ inl j ↦ inr (omega (arith, j)) | inr j ↦ inl (omega (arith, i, j)) ]
-
-          none : (t u b : Bool) → t ≡ false → u ≡ false → (t && b) ≡ (u && b)
-          none t u b x y = ap (λ z. z && b) (x ∙ sym y)
-
-          off : (t : Bool) → (t && false) ≡ false
-          off true = refl
-          off false = refl
-
-          same : (block P n ≡ k) ⊎ (suc k ≤ block P n) → in_loops (suc k) n ≡ in_loops k n
-          same (inl j) =
-              let head : is_loop_head (node P (block P n)) ≡ false = ap (λ g. is_loop_head (node P g)) j ∙ e in
-              ap (λ b. nat_lt (block P n) (suc k) && b) head ∙ off (nat_lt (block P n) (suc k))
-              ∙ sym (ap (λ b. nat_lt (block P n) k && b) head ∙ off (nat_lt (block P n) k))
-          same (inr j) =
-              none (nat_lt (block P n) (suc k)) (nat_lt (block P n) k) (is_loop_head (node P (block P n))) (grind (arith, nat_tests, j))
-              (grind (arith, nat_tests, j))
-
       -- exactly one of the two is so, or none
-      split : is_loop_head (node P k) ≡ true → if_so (in_loops k n) n + if_so (in_block P k n) n ≡ if_so (in_loops (suc k) n) n
-      split e = elim (cases_lt (block P n) k) [
-        | inl i ↦
-            let one : nat_lt (block P n) k ≡ true = grind (arith, nat_tests, i) in
-            let two : nat_lt (block P n) (suc k) ≡ true = grind (arith, nat_tests, i) in
-            let no : in_block P k n ≡ false = grind (arith, nat_tests, i) in
-            omega (arith, ap (λ t. if_so (t && is_loop_head (node P (block P n))) n) (two ∙ sym one), ap (λ t. if_so t n) no)
-        | inr i ↦ same (eq_or i)
-      ]
-        where
-          eq_or : k ≤ block P n → (block P n ≡ k) ⊎ (suc k ≤ block P n)
-          eq_or i = elim (cases_lt k (block P n)) [ inl j ↦ inr (omega (arith, j)) | inr j ↦ inl (omega (arith, i, j)) ]
+      split : (t : Bool) → (g == block P n) ≡ t → if_so (in_block P g n) n + if_so (has hs (block P n)) n ≡ if_so (cond t true (has hs (block P n))) n
+      split true e =
+          let same : g ≡ block P n = eqb-true g (block P n) e in
+          let yes = in_block-has P g n (sym same) in
+          let no = has_not hs (block P n) (λ h. d.0 (subst (λ z. Among z hs) (sym same) h)) in
+          omega (arith, ap (λ t. if_so t n) yes, ap (λ t. if_so t n) no)
+      split false e =
+          let no : in_block P g n ≡ false = grind (arith, nat_tests, e) in
+          omega (arith, ap (λ t. if_so t n) no)
 
-          same : (block P n ≡ k) ⊎ (suc k ≤ block P n) → if_so (in_loops k n) n + if_so (in_block P k n) n ≡ if_so (in_loops (suc k) n) n
-          same (inl j) =
-              let head : is_loop_head (node P (block P n)) ≡ true = ap (λ g. is_loop_head (node P g)) j ∙ e in
-              let one : nat_lt (block P n) k ≡ false = grind (arith, nat_tests, j) in
-              let two : nat_lt (block P n) (suc k) ≡ true = grind (arith, nat_tests, j) in
-              let yes : in_block P k n ≡ true = in_block-has P k n j in
-              omega (
-                arith,
-                ap (λ t. if_so (t && is_loop_head (node P (block P n))) n) one,
-                ap (λ t. if_so (t && is_loop_head (node P (block P n))) n) two,
-                ap (λ t. if_so t n) head,
-                ap (λ t. if_so t n) yes,
-              )
-          same (inr j) =
-              let one : nat_lt (block P n) k ≡ false = grind (arith, nat_tests, j) in
-              let two : nat_lt (block P n) (suc k) ≡ false = grind (arith, nat_tests, j) in
-              let no : in_block P k n ≡ false = grind (arith, nat_tests, j) in
-              omega (
-                arith,
-                ap (λ t. if_so (t && is_loop_head (node P (block P n))) n) one,
-                ap (λ t. if_so (t && is_loop_head (node P (block P n))) n) two,
-                ap (λ t. if_so t n) no,
-              )
-
-      go : (t : Bool) → is_loop_head (node P k) ≡ t → counted (loops_by P (suc n) k) ≡ counted (loops_by P n k) + if_so (in_loops k n) n
-          → counted (cond t (loops_by P (suc n) k ++ those (in_block P k) (suc n)) (loops_by P (suc n) k))
-          ≡ counted (cond t (loops_by P n k ++ those (in_block P k) n) (loops_by P n k)) + if_so (in_loops (suc k) n) n
-      go true e rest =
-          omega (
-            arith,
-            rest,
-            counted-append (loops_by P (suc n) k) (those (in_block P k) (suc n)),
-            counted-append (loops_by P n k) (those (in_block P k) n),
-            those-next (in_block P k) n,
-            split e,
-          )
-      go false e rest = omega (arith, rest, ap (λ t. if_so t n) (lower e))
-
-  -- a row is in the block of a procedure, or in that of a loop whose head is no later
-  one_of : (m k : ℕ) → block P m < k → if_so (in_procedure P m) m + if_so (in_loops k m) m ≡ length (made P m)
-  one_of m k low = go (is_loop_head (node P (block P m)))
+  -- the blocks of loops are those whose heads are listed
+  has_heads : (h : ℕ) → h < length (rows P) → has (loop_heads P) h ≡ is_loop_head (node P h)
+  has_heads h l = go (is_loop_head (node P h)) refl
     where
-      less : nat_lt (block P m) k ≡ true
-      less = grind (arith, nat_tests, low)
+      go : (t : Bool) → is_loop_head (node P h) ≡ t → has (loop_heads P) h ≡ t
+      go true e = among_has (loop_heads P) h (loop_heads-has P h l e)
+      go false e = has_not (loop_heads P) h (λ i. false≢true (sym e ∙ (loop_heads-is P h i).1))
 
-      go : (t : Bool) → if_so (not t) m + if_so (nat_lt (block P m) k && t) m ≡ length (made P m)
-      go true = omega (arith, ap (λ b. if_so (b && true) m) less)
-      go false = omega (arith, ap (λ b. if_so (b && false) m) less)
-
-  -- the first m rows make what the sizes say, as far as they stand in blocks whose heads are below k
-  sum-below : (m k : ℕ) → ((i : ℕ) → i < m → block P i < k) → counted (those (in_procedure P) m) + counted (loops_by P m k) ≡ size_below P m
-  sum-below zero k low = omega (arith, no_loops k)
+  -- a row is in the block of a procedure, or in that of a loop
+  one_of : (m : ℕ) → block P m < length (rows P) → if_so (in_procedure P m) m + if_so (has (loop_heads P) (block P m)) m ≡ length (made P m)
+  one_of m l = omega (arith, ap (λ t. if_so t m) (has_heads (block P m) l), go (is_loop_head (node P (block P m))))
     where
-      no_loops : (k : ℕ) → counted (loops_by P 0 k) ≡ 0
-      no_loops zero = refl
-      no_loops (suc k) = go (is_loop_head (node P k)) (no_loops k)
-        where
-          go : (t : Bool) → counted (loops_by P 0 k) ≡ 0 → counted (cond t (loops_by P 0 k ++ []) (loops_by P 0 k)) ≡ 0
-          go true e = omega (arith, counted-append (loops_by P 0 k) [], e)
-          go false e = e
-  sum-below (suc m) k low =
-      let rest = sum-below m k (λ i l. low i (omega (arith, l))) in
-      omega (arith, rest, those-next (in_procedure P) m, loops-next m k, one_of m k (low m (omega arith)))
+      go : (t : Bool) → if_so (not t) m + if_so t m ≡ length (made P m)
+      go true = omega arith
+      go false = omega arith
+
+  -- the first m rows make what the sizes say
+  sum-below : (m : ℕ) → ((i : ℕ) → i < m → block P i < length (rows P))
+      → counted (those (in_procedure P) m) + counted (loops_by P m (loop_heads P)) ≡ size_below P m
+  sum-below zero low = omega (arith, no_loops (loop_heads P))
+    where
+      no_loops : (hs : List ℕ) → counted (loops_by P 0 hs) ≡ 0
+      no_loops [] = refl
+      no_loops (g ∷ hs) = no_loops hs
+  sum-below (suc m) low =
+      let rest = sum-below m (λ i l. low i (omega (arith, l))) in
+      omega (arith, rest, those-next (in_procedure P) m, loops-next m (loop_heads P) (loop_heads-differ P), one_of m (low m (omega arith)))
 
   order-count : (n : ℕ) → n ≡ length (rows P) → counted (order_by P n) ≡ size_below P n
   order-count zero e = refl
   order-count (suc n) e =
-      let below : (i : ℕ) → i < n → block P i < n = λ i l. (let b = ((table_of P).block i (omega (arith, l, e))).0 in omega (arith, b, l)) in
+      let below : (i : ℕ) → i < n → block P i < length (rows P) =
+      λ i l. (let b = ((table_of P).block i (omega (arith, l, e))).0 in omega (arith, b, l, e)) in
       omega (
         arith,
         length-append (made P n) (pieces_in P (inner P n)),
-        counted-append (those (in_procedure P) n) (loops_by P n n),
-        sum-below n n below,
+        counted-append (those (in_procedure P) n) (loops_by P n (loop_heads P)),
+        sum-below n below,
       )
 
 -- the size is the number of instructions

@@ -3,10 +3,11 @@ use Rattle.std.proofs.Common.{◌≡◌, ◌⊎◌, inl, inr, ℕ, ◌+◌, ◌-
 use Rattle.std.proofs.lemmas.Bool.{cases_lt, false≢true}
 use Rattle.id_table.specs.declared.row.Region.{Region}
 use Rattle.id_table.specs.declared.row.Node.{Node}
-use Rattle.id_table.specs.declared.row.Node.TheVariants.{Split, LoopHead, Switches, Program}
+use Rattle.id_table.specs.declared.row.Node.TheVariants.{Split, LoopHead, Switches, Program, Turn}
+use Rattle.id_table.specs.declared.row.Node.TheVariants.{Count, Index, Body, Span}
 use Rattle.id_table.specs.Rows.{arm_at, at, top}
-use Rattle.id_table.specs.Tables.{begins_block, is_loop, is_split, is_switches, is_top}
-use Rattle.id_table.specs.Loops.{InSide, IsLoopOf}
+use Rattle.id_table.specs.Tables.{begins_block, is_index, is_loop, is_split, is_switches, is_top}
+use Rattle.id_table.specs.Loops.{InSide, IsLoop, IsLoopOf, index_row}
 use Rattle.id_table.specs.Regions.{Lies, here, in_arm, in_loop, in_side}
 use Rattle.id_table.specs.Turns.{IsTable}
 use Rattle.id_table.proofs.RegionLemmas.{InArm-region, InArm-within, if_not_last}
@@ -15,8 +16,8 @@ use Rattle.id_check.specs.Programs.{region, rows}
 use Rattle.id_check.proofs.ProgramsLemmas.{table_of}
 use Rattle.id_desugar.specs.Ends.{end_of}
 use Rattle.id_pieces.specs.Rows.{block, node}
-use Rattle.id_pieces.proofs.EndsLemmas.{if_is, loop_same, not_last}
-use Rattle.id_pieces.proofs.LoopsLemmas.{loop_rows, the_loop}
+use Rattle.id_pieces.proofs.EndsLemmas.{body_low, if_is, loop_same, not_last}
+use Rattle.id_pieces.proofs.LoopsLemmas.{loop_rows, switches_low, the_loop, turn_nodes}
 
 pub split_is : (m : Node) → is_split m ≡ true → (t : ℕ) × (m ≡ Split t)
 split_is (Split t) e = (t, refl)
@@ -26,10 +27,16 @@ pub switches_is : (m : Node) → is_switches m ≡ true → (t : ℕ) × (m ≡ 
 switches_is (Switches t) e = (t, refl)
 switches_is _ e = absurd (false≢true e)
 
+-- ---- the sides of switches
+
 -- a row in a side of switches stands behind them, and before the loop
-side_low : (w b n i : ℕ) (c : Truth) → w + 1 < b → InSide w b n c i → w < i
+side_low : (w b n i : ℕ) (c : Truth) → w < b → InSide w b n c i → w < i
 side_low w b n i true low h = h.0
 side_low w b n i false low h = omega (arith, low, h.0)
+
+abbrev is_a_body : Node → Truth
+is_a_body Body = true
+is_a_body _ = false
 
 abbrev start_or : Node → ℕ
 start_or (LoopHead s) = s
@@ -41,6 +48,15 @@ module _ (P : Checked) where
 
   pub inner : (i : ℕ) (f : Node → Truth) → f Program ≡ false → i < length (rows P) → f (node P i) ≡ true → i + 1 < length (rows P)
   inner i f none within is = not_last P T i within (λ e. false≢true (sym none ∙ ap f (sym e) ∙ is))
+
+  -- a row of another node is not the `Span` of a loop
+  pub not_span : (n h w l i : ℕ) → IsLoop (rows P) n h w l → (f : Node → Truth) → f Span ≡ false → i < n → f (node P i) ≡ true → i + 1 < n
+  not_span n h w l i x f none low is = elim (cases_lt (i + 1) n) [
+    | inl k ↦ k
+    | inr k ↦
+        let same : i ≡ l + 2 = omega (arith, k, low, x.last_is.ends) in
+        absurd (false≢true (sym none ∙ ap f (sym x.last_is.span) ∙ ap (λ j. f (node P j)) (sym same) ∙ is))
+  ]
 
   -- ---- the `Start` of a loop
 
@@ -55,7 +71,7 @@ module _ (P : Checked) where
     start_region =
         let x = loop_rows P h s within is in
         let same : x.start ≡ s = omega (arith, start_is, x.begins) in
-        ap (region P) (sym same) ∙ (x.start_of).region
+        ap (region P) (sym same) ∙ (x.start_of).beside.region
 
     pub loop_inner : end_of P h + 1 < length (rows P)
     loop_inner = inner (end_of P h) is_loop refl (the_loop P h s within is).within (ap is_loop (the_loop P h s within is).node)
@@ -71,7 +87,7 @@ module _ (P : Checked) where
         omega (arith, e, a.0)
     | inr (inr k) ↦
         let e = ap (λ (r : Region). r.head) k.region in
-        let a = side_low k.loop.switches k.body k.row i k.side k.body_is.low k.among in
+        let a = side_low k.loop.switches k.body k.row i k.side (body_low k.body_is) k.among in
         omega (arith, e, a)
   ]
 
@@ -93,7 +109,7 @@ module _ (P : Checked) where
         omega (arith, e, a.0)
     | inr (inr k) ↦
         let e = ap (λ (r : Region). r.head) k.region in
-        let a = side_low k.loop.switches k.body k.row i k.side k.body_is.low k.among in
+        let a = side_low k.loop.switches k.body k.row i k.side (body_low k.body_is) k.among in
         omega (arith, e, a)
   ]
 
@@ -239,3 +255,72 @@ module _ (P : Checked) where
         let rise = heads_rise m in
         let low = head_before i l none in
         (omega (arith, rise, low), rows_below m i l refl)
+
+  -- ---- the index of a loop
+
+  -- an index stands right in the body of its loop
+  module _ (i x : ℕ) (within : i < length (rows P)) (is : node P i ≡ Index x) where
+    pub index_loop : (n : ℕ) × (c : IsLoopOf (rows P) n (block P i)) × ((T.loop_is n (block P i) c).carried ≡ 3) × (index_row c.switches ≡ i)
+    index_loop = T.index_of i x within is
+
+    abbrev pub index_rows : IsLoop (rows P) index_loop.0 (block P i) (index_loop.1).switches (index_loop.1).last
+    index_rows = T.loop_is index_loop.0 (block P i) index_loop.1
+
+    -- no other row of the body can be a region's head before it
+    only_switches : (j : ℕ) → (index_loop.1).switches ≤ j → j < i → (f : Node → Truth) → f Count ≡ false → f Turn ≡ false → f (node P j) ≡ true
+        → j ≡ (index_loop.1).switches
+    only_switches j low high f count turn so =
+        let w = (index_loop.1).switches in
+        let z = turn_nodes index_rows.body_is.turns index_loop.2 in
+        elim (cases_lt w j) [
+          | inr l ↦ omega (arith, l, low)
+          | inl l ↦ elim (cases_lt (w + 1) j) [
+            | inl m ↦
+                let same : j ≡ index_rows.turn = omega (arith, m, high, z.0, index_loop.3) in
+                absurd (false≢true (sym turn ∙ sym (ap f (ap (node P) same ∙ index_rows.body_is.turn)) ∙ so))
+            | inr m ↦
+                let same : j ≡ w + 1 = omega (arith, l, m) in
+                absurd (false≢true (sym count ∙ sym (ap f (ap (node P) same ∙ z.1)) ∙ so))
+          ]
+        ]
+
+    pub index_region : region P i ≡ arm_at (index_loop.1).switches true
+    index_region = elim (T.region i l) [
+      | inl k ↦
+          let e = ap (λ (r : Region). r.head) k in
+          let low = switches_low index_rows in
+          absurd (omega (arith, rise, e, low))
+      | inr (inl k) ↦
+          let e = ap (λ (r : Region). r.head) k.region in
+          let z = (T.split_of k.row k.split k.conditional).node in
+          let at = only_switches k.split (omega (arith, rise, e)) (omega (arith, before, e)) is_split refl refl (ap is_split z) in
+          absurd (false≢true (sym (ap is_split (ap (node P) at ∙ index_rows.test.node)) ∙ ap is_split z))
+      | inr (inr k) ↦
+          let e = ap (λ (r : Region). r.head) k.region in
+          let z = (T.loop_is k.row (block P i) k.loop).test.node in
+          let at = only_switches k.loop.switches (omega (arith, rise, e)) (omega (arith, before, e)) is_switches refl refl (ap is_switches z) in
+          k.region ∙ ap (λ w. arm_at w k.side) at ∙ ap (arm_at w) (on k.side k.body k.row at k.body_is.node (body_low k.body_is) k.among)
+    ]
+      where
+        w : ℕ
+        w = (index_loop.1).switches
+
+        l : i + 1 < length (rows P)
+        l = inner i is_index refl within (ap is_index is)
+
+        rise : w ≤ (region P i).head
+        rise = heads_rise (index_rows.body_is.each i (omega (arith, index_loop.3)) (omega (
+          arith,
+          index_loop.3,
+          index_rows.body_is.low,
+          (turn_nodes index_rows.body_is.turns index_loop.2).0,
+        )))
+
+        before : (region P i).head < i
+        before = head_before i l (ap begins_block is)
+
+        on : (c : Truth) (b n : ℕ) {u : ℕ} → u ≡ w → node P b ≡ Body → u < b → InSide u b n c i → c ≡ true
+        on true b n at body low among = refl
+        on false b n at body low among =
+            let bad = only_switches b (omega (arith, at, low)) among.0 is_a_body refl refl (ap is_a_body body) in
+            absurd (omega (arith, at, low, bad))

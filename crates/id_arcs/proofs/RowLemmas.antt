@@ -1,23 +1,26 @@
 -- What each row makes and is fed by: by cases on the row.
-use Rattle.std.proofs.Common.{◌≡◌, inl, inr, ℕ, zero, suc, ◌+◌, ◌-◌, ◌≤◌, ◌<◌, Bool, true, false, List, [], ◌∷◌, length, map}
+use Rattle.std.proofs.Common.{◌≡◌, inl, inr, ℕ, zero, suc, ◌+◌, ◌-◌, ◌≤◌, ◌<◌, Bool, true, false, cond, List, [], ◌∷◌, ◌++◌, length, map}
 use Rattle.std.proofs.Common.{refl, ap, sym, subst, ◌∙◌, arith, Some, length-append}
 use Rattle.std.specs.Prelude.{slice_get, IsSome}
 use Rattle.std.proofs.lemmas.Bool.{false≢true}
 use Rattle.std.proofs.lemmas.List.{length-map}
 use Rattle.id_list.specs.List.{Among, AllDiffer}
+use Rattle.id_list.proofs.AmongLemmas.{Among-either}
+use Rattle.id_list.proofs.DifferLemmas.{AllDiffer-append}
 use Rattle.id_table.specs.declared.row.Region.{Region}
 use Rattle.id_table.specs.declared.row.Node.{Node}
 use Rattle.id_table.specs.declared.row.Node.TheVariants.{Head, Param, Literal, Name, Unary as UnaryNode, Binary as BinaryNode}
 use Rattle.id_table.specs.declared.row.Node.TheVariants.{Split, If, Enter, Arg, Call, Block, Binding, Def, Program}
 use Rattle.id_table.specs.declared.row.Node.TheVariants.{Start, LoopHead, Variable, Entries, Switches, Turn, NextUse}
 use Rattle.id_table.specs.declared.row.Node.TheVariants.{Next, Body, Reset, Loop, Array, Fetch, Address, Store}
+use Rattle.id_table.specs.declared.row.Node.TheVariants.{Bounds, Carried, Within, Count, Index, Span}
 use Rattle.id_table.specs.Rows.{arm_at, at, top}
 use Rattle.id_table.specs.Tables.{is_enter}
 use Rattle.id_check.specs.declared.checked.Checked.{Checked}
 use Rattle.id_check.specs.Programs as checked
 use Rattle.id_check.specs.Programs.{rows, place, region}
 use Rattle.id_desugar.specs.Ends.{end_of, next_of}
-use Rattle.id_desugar.specs.Regions.{imports_of, nexts_of}
+use Rattle.id_desugar.specs.Regions.{carried, first_variable, has_index, imports_of, nexts_of}
 use Rattle.id_instr.specs.Ports.{port_kind}
 use Rattle.id_instr.specs.declared.instr.Op.{Op}
 use Rattle.id_instr.specs.declared.instr.Op.TheVariants.{Merge, Switch, Next as NextOp}
@@ -28,9 +31,9 @@ use Rattle.id_pieces.specs.declared.arc.Form.TheVariants.{Plain}
 use Rattle.id_pieces.specs.declared.arc.Origin.{Origin}
 use Rattle.id_pieces.specs.declared.arc.Feed.{Feed}
 use Rattle.id_pieces.specs.declared.arc.Piece.{Piece}
-use Rattle.id_pieces.specs.Rows.{Entry, block, body_of, entering, entries_row, entry_feeds, feed, feeds_of, first_binder, for_each}
+use Rattle.id_pieces.specs.Rows.{Entry, block, body_of, bounds_feeds, carried_feeds, entering, entries_row, entry_feeds, feed, feeds_of, first_binder, for_each}
 use Rattle.id_pieces.specs.Rows.{import_entries, import_feeds, label, loop_entries, made, made_of, name_in, named_in, node, op_by}
-use Rattle.id_pieces.specs.Rows.{origin, origin_of, output, piece, reply, send_to, switches, trigger_of, turn_feeds, turn_row, variable_entries}
+use Rattle.id_pieces.specs.Rows.{home as bound_home, origin, origin_of, output, param_entry, part_of, piece, reply, send_to, switches, trigger_of, turn_feeds, turn_row, variable_entries}
 use Rattle.id_pieces.specs.Schemas.{HasSide}
 use Rattle.id_arcs.proofs.NamesSeen.{Comes, HasSwitches, Sees, comes, from_entry, from_label, from_switch, of_arms, of_turns}
 
@@ -67,13 +70,17 @@ length-import_entries : (e k : ℕ) (bs : List ℕ) → length (import_entries e
 length-import_entries e k [] = refl
 length-import_entries e k (b ∷ bs) = ap suc (length-import_entries e (k + 1) bs)
 
--- a loop has one entry for each of its variables, and for each of its imports
-pub length-loop_entries : (P : Checked) (h : ℕ) → length (loop_entries P h) ≡ length (nexts_of P h) + length (imports_of P h)
+-- a loop has one entry for each of what it carries on, for each of its variables, and for each of its imports
+pub length-loop_entries : (P : Checked) (h : ℕ) → length (loop_entries P h) ≡ length (carried P h) + length (nexts_of P h) + length (imports_of P h)
 length-loop_entries P h =
+    let vs = variable_entries (first_variable P h) (nexts_of P h) in
+    let is = import_entries (entries_row P h) 0 (imports_of P h) in
     omega (
       arith,
-      length-append (variable_entries (h + 1) (nexts_of P h)) (import_entries (entries_row P h) 0 (imports_of P h)),
-      length-variable_entries (h + 1) (nexts_of P h),
+      length-append (map param_entry (carried P h)) (vs ++ is),
+      length-map (carried P h) param_entry,
+      length-append vs is,
+      length-variable_entries (first_variable P h) (nexts_of P h),
       length-import_entries (entries_row P h) 0 (imports_of P h),
     )
 
@@ -118,14 +125,14 @@ send_takes P e p qs j One l =
     record { piece = _; at = ap (slice_get (p ∷ map (send_to P e) qs)) next ∙ z.1; takes = λ _. refl }
 
 -- each feed of an entry goes to it, and each of what hands on to that
-entries_take : (ps : List Piece) (n k : ℕ) (bs : List ℕ) (f : Feed) → ((j : ℕ) → j < length bs → Takes ps (k + j) Zero)
-    → Among f (entry_feeds n k bs) → Takes ps f.part f.port
-entries_take ps n k [] f at h = absurd h
-entries_take ps n k (b ∷ bs) f at (inl i) =
+entries_take : (ps : List Piece) (n i k : ℕ) (bs : List ℕ) (f : Feed) → ((j : ℕ) → j < length bs → Takes ps (k + j) Zero)
+    → Among f (entry_feeds n i k bs) → Takes ps f.part f.port
+entries_take ps n m k [] f at h = absurd h
+entries_take ps n m k (b ∷ bs) f at (inl i) =
     let here : k + 0 ≡ k = omega arith in
     subst (λ (g : Feed). Takes ps g.part g.port) (sym i) (subst (λ m. Takes ps m Zero) here (at 0 (omega arith)))
-entries_take ps n k (b ∷ bs) f at (inr h) =
-    entries_take ps n (k + 1) bs f
+entries_take ps n m k (b ∷ bs) f at (inr h) =
+    entries_take ps n (m + 1) (k + 1) bs f
     (λ j l. (let next : k + suc j ≡ k + 1 + j = omega arith in subst (λ m. Takes ps m Zero) next (at (suc j) (omega (arith, l))))) h
 
 turn_takes : (P : Checked) (ps : List Piece) (r : Region) (k : ℕ) (bs : List ℕ) (f : Feed) → ((j : ℕ) → j < length bs → Takes ps (k + j) Zero)
@@ -151,137 +158,37 @@ next_takes P e p bs j l =
     let next : 1 + j ≡ suc j = omega arith in
     record { piece = _; at = ap (slice_get (p ∷ for_each P NextOp e bs)) next ∙ z.1; takes = λ _. refl }
 
--- each feed goes to a port of an instruction of the row
-pub feeds_take : (P : Checked) (m e : ℕ) (r : Region) (n : Node) (f : Feed) → Among f (feeds_of P m r n) → Takes (made_of P m e n) f.part f.port
-feeds_take P m e r Head f (inl i) =
-    let Z : Feed → Type 0 = λ g. Takes (made_of P m e Head) g.part g.port in
-    subst Z (sym i) (record { piece = _; at = refl; takes = λ _. refl })
-feeds_take P m e r Head f (inr h) = absurd h
-feeds_take P m e r (Param x k) f h = absurd h
-feeds_take P m e r (Literal v) f (inl i) =
-    let Z : Feed → Type 0 = λ g. Takes (made_of P m e (Literal v)) g.part g.port in
-    subst Z (sym i) (record { piece = _; at = refl; takes = λ _. refl })
-feeds_take P m e r (Literal v) f (inr h) = absurd h
-feeds_take P m e r (Name x) f h = absurd h
-feeds_take P m e r (UnaryNode o a) f (inl i) =
-    let Z : Feed → Type 0 = λ g. Takes (made_of P m e (UnaryNode o a)) g.part g.port in
-    subst Z (sym i) (record { piece = _; at = refl; takes = λ _. refl })
-feeds_take P m e r (UnaryNode o a) f (inr h) = absurd h
-feeds_take P m e r (BinaryNode o a b) f (inl i) =
-    let Z : Feed → Type 0 = λ g. Takes (made_of P m e (BinaryNode o a b)) g.part g.port in
-    subst Z (sym i) (record { piece = _; at = refl; takes = λ _. refl })
-feeds_take P m e r (BinaryNode o a b) f (inr (inl i)) =
-    let Z : Feed → Type 0 = λ g. Takes (made_of P m e (BinaryNode o a b)) g.part g.port in
-    subst Z (sym i) (record { piece = _; at = refl; takes = λ _. refl })
-feeds_take P m e r (BinaryNode o a b) f (inr (inr h)) = absurd h
-feeds_take P m e r (Split t) f (inl i) =
-    let Z : Feed → Type 0 = λ g. Takes (made_of P m e (Split t)) g.part g.port in
-    subst Z (sym i) (record { piece = _; at = refl; takes = λ _. refl })
-feeds_take P m e r (Split t) f (inr (inl i)) =
-    let Z : Feed → Type 0 = λ g. Takes (made_of P m e (Split t)) g.part g.port in
-    subst Z (sym i) (record { piece = _; at = refl; takes = λ _. refl })
-feeds_take P m e r (Split t) f (inr (inr h)) =
-    imports_take P (made_of P m e (Split t)) (origin P t) r 1 (imports_of P m) f (switch_takes P e _ (imports_of P m)) h
-feeds_take P m e r (If s x y) f (inl i) =
-    let Z : Feed → Type 0 = λ g. Takes (made_of P m e (If s x y)) g.part g.port in
-    subst Z (sym i) (record { piece = _; at = refl; takes = λ _. refl })
-feeds_take P m e r (If s x y) f (inr (inl i)) =
-    let Z : Feed → Type 0 = λ g. Takes (made_of P m e (If s x y)) g.part g.port in
-    subst Z (sym i) (record { piece = _; at = refl; takes = λ _. refl })
-feeds_take P m e r (If s x y) f (inr (inr h)) = absurd h
-feeds_take P m e r (Enter x) f (inl i) =
-    let Z : Feed → Type 0 = λ g. Takes (made_of P m e (Enter x)) g.part g.port in
-    subst Z (sym i) (record { piece = _; at = refl; takes = λ _. refl })
-feeds_take P m e r (Enter x) f (inr h) = absurd h
-feeds_take P m e r (Arg s k v) f (inl i) =
-    let Z : Feed → Type 0 = λ g. Takes (made_of P m e (Arg s k v)) g.part g.port in
-    subst Z (sym i) (record { piece = _; at = refl; takes = λ _. refl })
-feeds_take P m e r (Arg s k v) f (inr (inl i)) =
-    let Z : Feed → Type 0 = λ g. Takes (made_of P m e (Arg s k v)) g.part g.port in
-    subst Z (sym i) (record { piece = _; at = refl; takes = λ _. refl })
-feeds_take P m e r (Arg s k v) f (inr (inr h)) = absurd h
-feeds_take P m e r (Call s c) f h = absurd h
-feeds_take P m e r (Block b) f h = absurd h
-feeds_take P m e r (Binding x a) f (inl i) =
-    let Z : Feed → Type 0 = λ g. Takes (made_of P m e (Binding x a)) g.part g.port in
-    subst Z (sym i) (record { piece = _; at = refl; takes = λ _. refl })
-feeds_take P m e r (Binding x a) f (inr h) = absurd h
-feeds_take P m e r (Def x h k b) f j = absurd j
-feeds_take P m e r Program f h = absurd h
-feeds_take P m e r Start f (inl i) =
-    let Z : Feed → Type 0 = λ g. Takes (made_of P m e Start) g.part g.port in
-    subst Z (sym i) (record { piece = _; at = refl; takes = λ _. refl })
-feeds_take P m e r Start f (inr h) =
-    imports_take P (made_of P m e Start) (output m) r 1 (entering P (m + 1)) f
-    (λ j p l. send_takes P e _ (loop_entries P (m + 1)) j p (omega (arith, l, length-loop_entries P (m + 1), length-entering P (m + 1)))) h
-feeds_take P m e r (LoopHead s) f (inl i) =
-    let Z : Feed → Type 0 = λ g. Takes (made_of P m e (LoopHead s)) g.part g.port in
-    subst Z (sym i) (record { piece = _; at = refl; takes = λ _. refl })
-feeds_take P m e r (LoopHead s) f (inr (inl i)) =
-    let Z : Feed → Type 0 = λ g. Takes (made_of P m e (LoopHead s)) g.part g.port in
-    subst Z (sym i) (record { piece = _; at = refl; takes = λ _. refl })
-feeds_take P m e r (LoopHead s) f (inr (inr h)) = absurd h
-feeds_take P m e r Variable f (inl i) =
-    let Z : Feed → Type 0 = λ g. Takes (made_of P m e Variable) g.part g.port in
-    subst Z (sym i) (record { piece = _; at = refl; takes = λ _. refl })
-feeds_take P m e r Variable f (inr h) = absurd h
-feeds_take P m e r Entries f h =
-    entries_take (made_of P m e Entries) (turn_row P (block P m)) 0 (imports_of P (block P m)) f (merge_takes P e (imports_of P (block P m))) h
-feeds_take P m e r (Switches t) f (inl i) =
-    let Z : Feed → Type 0 = λ g. Takes (made_of P m e (Switches t)) g.part g.port in
-    subst Z (sym i) (record { piece = _; at = refl; takes = λ _. refl })
-feeds_take P m e r (Switches t) f (inr (inl i)) =
-    let Z : Feed → Type 0 = λ g. Takes (made_of P m e (Switches t)) g.part g.port in
-    subst Z (sym i) (record { piece = _; at = refl; takes = λ _. refl })
-feeds_take P m e r (Switches t) f (inr (inr h)) =
-    imports_take P (made_of P m e (Switches t)) (origin P t) r 1 (imports_of P m) f (switch_takes P e _ (imports_of P m)) h
-feeds_take P m e r Turn f (inl i) =
-    let Z : Feed → Type 0 = λ g. Takes (made_of P m e Turn) g.part g.port in
-    subst Z (sym i) (record { piece = _; at = refl; takes = λ _. refl })
-feeds_take P m e r Turn f (inr h) =
-    turn_takes P (made_of P m e Turn) r 1 (imports_of P (block P m)) f (next_takes P e _ (imports_of P (block P m))) h
-feeds_take P m e r (NextUse x) f h = absurd h
-feeds_take P m e r (Next x k o v) f (inl i) =
-    let Z : Feed → Type 0 = λ g. Takes (made_of P m e (Next x k o v)) g.part g.port in
-    subst Z (sym i) (record { piece = _; at = refl; takes = λ _. refl })
-feeds_take P m e r (Next x k o v) f (inr h) = absurd h
-feeds_take P m e r Body f h = absurd h
-feeds_take P m e r (Reset v) f (inl i) =
-    let Z : Feed → Type 0 = λ g. Takes (made_of P m e (Reset v)) g.part g.port in
-    subst Z (sym i) (record { piece = _; at = refl; takes = λ _. refl })
-feeds_take P m e r (Reset v) f (inr h) = absurd h
-feeds_take P m e r (Loop g w l) f h = absurd h
-feeds_take P m e r (Array a b) f (inl i) =
-    let Z : Feed → Type 0 = λ g. Takes (made_of P m e (Array a b)) g.part g.port in
-    subst Z (sym i) (record { piece = _; at = refl; takes = λ _. refl })
-feeds_take P m e r (Array a b) f (inr (inl i)) =
-    let Z : Feed → Type 0 = λ g. Takes (made_of P m e (Array a b)) g.part g.port in
-    subst Z (sym i) (record { piece = _; at = refl; takes = λ _. refl })
-feeds_take P m e r (Array a b) f (inr (inr h)) = absurd h
-feeds_take P m e r (Fetch a b) f (inl i) =
-    let Z : Feed → Type 0 = λ g. Takes (made_of P m e (Fetch a b)) g.part g.port in
-    subst Z (sym i) (record { piece = _; at = refl; takes = λ _. refl })
-feeds_take P m e r (Fetch a b) f (inr (inl i)) =
-    let Z : Feed → Type 0 = λ g. Takes (made_of P m e (Fetch a b)) g.part g.port in
-    subst Z (sym i) (record { piece = _; at = refl; takes = λ _. refl })
-feeds_take P m e r (Fetch a b) f (inr (inr (inl i))) =
-    let Z : Feed → Type 0 = λ g. Takes (made_of P m e (Fetch a b)) g.part g.port in
-    subst Z (sym i) (record { piece = _; at = refl; takes = λ _. refl })
-feeds_take P m e r (Fetch a b) f (inr (inr (inr h))) = absurd h
-feeds_take P m e r (Address a b) f (inl i) =
-    let Z : Feed → Type 0 = λ g. Takes (made_of P m e (Address a b)) g.part g.port in
-    subst Z (sym i) (record { piece = _; at = refl; takes = λ _. refl })
-feeds_take P m e r (Address a b) f (inr (inl i)) =
-    let Z : Feed → Type 0 = λ g. Takes (made_of P m e (Address a b)) g.part g.port in
-    subst Z (sym i) (record { piece = _; at = refl; takes = λ _. refl })
-feeds_take P m e r (Address a b) f (inr (inr h)) = absurd h
-feeds_take P m e r (Store a v) f (inl i) =
-    let Z : Feed → Type 0 = λ g. Takes (made_of P m e (Store a v)) g.part g.port in
-    subst Z (sym i) (record { piece = _; at = refl; takes = λ _. refl })
-feeds_take P m e r (Store a v) f (inr (inl i)) =
-    let Z : Feed → Type 0 = λ g. Takes (made_of P m e (Store a v)) g.part g.port in
-    subst Z (sym i) (record { piece = _; at = refl; takes = λ _. refl })
-feeds_take P m e r (Store a v) f (inr (inr h)) = absurd h
+-- the feeds of what a loop carries on go to the sends of that, and to what hands it on
+bounds_take : (P : Checked) (ps : List Piece) (n : ℕ) (x : Node) (f : Feed) → ((j : ℕ) (p : Port) → j < 3 → Takes ps (1 + j) p)
+    → Among f (bounds_feeds P n x) → Takes ps f.part f.port
+bounds_take P ps n (Bounds a b) f at (inl i) = subst (λ (g : Feed). Takes ps g.part g.port) (sym i) (at 0 Zero (omega arith))
+bounds_take P ps n (Bounds a b) f at (inr (inl i)) = subst (λ (g : Feed). Takes ps g.part g.port) (sym i) (at 0 One (omega arith))
+bounds_take P ps n (Bounds a b) f at (inr (inr (inl i))) = subst (λ (g : Feed). Takes ps g.part g.port) (sym i) (at 1 Zero (omega arith))
+bounds_take P ps n (Bounds a b) f at (inr (inr (inr (inl i)))) = subst (λ (g : Feed). Takes ps g.part g.port) (sym i) (at 1 One (omega arith))
+bounds_take P ps n (Bounds a b) f at (inr (inr (inr (inr (inl i))))) = subst (λ (g : Feed). Takes ps g.part g.port) (sym i) (at 2 Zero (omega arith))
+bounds_take P ps n (Bounds a b) f at (inr (inr (inr (inr (inr (inl i)))))) = subst (λ (g : Feed). Takes ps g.part g.port) (sym i) (at 2 One (omega arith))
+bounds_take P ps n (Bounds a b) f at (inr (inr (inr (inr (inr (inr h)))))) = absurd h
+bounds_take P ps n _ f at h = absurd h
+
+carried_take : (P : Checked) (ps : List Piece) (n : ℕ) (r : Region) (h : ℕ) (f : Feed) → ((j : ℕ) → j < length (carried P h) → Takes ps (1 + j) Zero)
+    → Among f (carried_feeds P n r h) → Takes ps f.part f.port
+carried_take P ps n r h f at among = go (has_index P h) at among
+  where
+    xs : List ℕ
+    xs = (h + 1) ∷ (h + 2) ∷ (h + 3) ∷ []
+
+    fs : List Feed
+    fs = feed (part_of (n - 1) 4) 1 Zero ∷ feed (name_in P r (h + 2)) 2 Zero ∷ feed (output (n - 1)) 3 Zero ∷ []
+
+    there : ((j : ℕ) → j < 3 → Takes ps (1 + j) Zero) → Among f fs → Takes ps f.part f.port
+    there at (inl i) = subst (λ (g : Feed). Takes ps g.part g.port) (sym i) (at 0 (omega arith))
+    there at (inr (inl i)) = subst (λ (g : Feed). Takes ps g.part g.port) (sym i) (at 1 (omega arith))
+    there at (inr (inr (inl i))) = subst (λ (g : Feed). Takes ps g.part g.port) (sym i) (at 2 (omega arith))
+    there at (inr (inr (inr k))) = absurd k
+
+    go : (t : Bool) → ((j : ℕ) → j < length (cond t xs []) → Takes ps (1 + j) Zero) → Among f (cond t fs []) → Takes ps f.part f.port
+    go true at k = there at k
+    go false at k = absurd k
 
 -- a side of an instruction of a row
 pub record IsOrigin (P : Checked) (s : Origin) : Type 0 where
@@ -298,12 +205,12 @@ home_of _ r s = r
 abbrev pub home : Checked → Origin → Region
 home P s = home_of (node P s.row) (region P s.row) s
 
--- an origin that belongs to the region
+-- an origin that belongs to the region, or, of an index, to that of its loop
 pub record IsOriginOf (P : Checked) (r : Region) (s : Origin) : Type 0 where
   pub is_origin : IsOrigin P s
-  pub home : home P s ≡ r
+  pub side : (home P s).side ≡ r.side
 
--- whether the value of an expression with this node is its own
+-- whether the value of an expression, or of what is in the place of a predicate, with this node is its own
 abbrev pub IsValue : Node → Type 0
 IsValue (Literal v) = Unit {0}
 IsValue (Name x) = Unit {0}
@@ -312,6 +219,7 @@ IsValue (BinaryNode o a b) = Unit {0}
 IsValue (If s x y) = Unit {0}
 IsValue (Call s c) = Unit {0}
 IsValue (Loop h w l) = Unit {0}
+IsValue (Carried k) = Unit {0}
 IsValue (Array a b) = Unit {0}
 IsValue (Fetch a b) = Unit {0}
 IsValue _ = ⊥
@@ -322,11 +230,12 @@ pub record IsPart (P : Checked) (r : Region) (e : ℕ) : Type 0 where
   pub value : IsValue (node P (at (rows P) e).value)
   pub region_of : region P (at (rows P) e).value ≡ r
 
--- whether a label stands at a row of this node: a binder's, or that of a loop's variable
+-- whether a label stands at a row of this node: a binder's, or that of a loop's variable or of what it carries on beside
 abbrev pub is_label : Node → Bool
 is_label (Param x k) = true
 is_label (Binding x a) = true
 is_label Variable = true
+is_label (Carried k) = true
 is_label _ = false
 
 -- the row is a binder with a label, and the region sees it
@@ -334,6 +243,7 @@ pub record IsSeen (P : Checked) (r : Region) (b : ℕ) : Type 0 where
   pub within : label P b < length (rows P)
   pub is_label : is_label (node P (label P b)) ≡ true
   pub sees : Sees P b r
+  pub side : (region P (label P b)).side ≡ (region P (bound_home P b)).side
 
 -- the name at the row has a binder that its region sees
 pub record IsNamed (P : Checked) (v : ℕ) : Type 0 where
@@ -364,6 +274,18 @@ pub record IsEntered (P : Checked) (e : ℕ) : Type 0 where
   pub within : e < length (rows P)
   pub is_enter : is_enter (node P e) ≡ true
 
+-- of the loop whose `Start` is at the row n, in the region, with this node before it: what feeds the sends of what it carries
+-- on
+abbrev pub SuitsBounds : Checked → ℕ → Region → Node → Type 0
+SuitsBounds P n r (Bounds a b) =
+    (has_index P (n + 1) ≡ true) × IsOrigin P (part_of (n - 1) 1) × IsPart P r b × IsOrigin P (output (n - 1))
+SuitsBounds P n r _ = Unit {0}
+
+-- what feeds the parts of the `Turn` at the row n, in the region, that hand on what the loop with the head h carries on
+abbrev pub SuitsCarried : Checked → ℕ → Region → ℕ → Type 0
+SuitsCarried P n r h =
+    has_index P h ≡ true → IsOrigin P (part_of (n - 1) 4) × IsSeen P r (h + 2) × IsOrigin P (output (n - 1))
+
 -- what stands in the region fits the rest of the table
 abbrev pub Suits : Checked → ℕ → Region → Node → Type 0
 Suits P n r Head = IsPart P (top n) (body_of (node P (end_of P n)))
@@ -375,13 +297,19 @@ Suits P n r (If s x y) = IsPart P (arm_at s true) x × IsPart P (arm_at s false)
 Suits P n r (Enter x) = IsTurned P r
 Suits P n r (Arg s k v) = IsEntered P s × IsPart P r v
 Suits P n r (Binding x a) = IsPart P r a
-Suits P n r Start = IsTurned P r × IsOrigin P (output n) × AllSeen P r (entering P (n + 1))
-Suits P n r (LoopHead s) = IsOrigin P (output (turn_row P n)) × IsOrigin P (output (end_of P n - 1))
+Suits P n r (Bounds a b) = IsPart P r a × IsPart P r b × IsOrigin P (output n)
+Suits P n r Start =
+    IsTurned P r × IsOrigin P (output n) × AllSeen P r (entering P (n + 1)) × SuitsBounds P n r (node P (n - 1))
+Suits P n r (LoopHead s) = IsOrigin P (output (turn_row P n)) × IsOrigin P (output (end_of P n - 2))
+Suits P n r (Carried k) = IsOrigin P (part_of (turn_row P (block P n)) (n - block P n))
 Suits P n r Variable = IsOrigin P (output (next_of P n))
 Suits P n r Entries =
-    (k : ℕ) → k < length (imports_of P (block P n)) → IsOrigin P (record { row = turn_row P (block P n); part = k + 1; side = true })
+    (k : ℕ) → k < length (imports_of P (block P n)) → IsOrigin P (part_of (turn_row P (block P n)) (1 + length (carried P (block P n)) + k))
 Suits P n r (Switches t) = IsPart P r t × IsTurned P r × AllSeen P r (imports_of P n)
-Suits P n r Turn = IsTurned P r × AllSeen P r (imports_of P (block P n))
+Suits P n r Count =
+    IsOrigin P (output (block P n + 1)) × IsSeen P r (block P n + 2) × IsTurned P r
+    × IsOrigin P (output n) × IsOrigin P (part_of n 1) × IsOrigin P (part_of n 2) × IsOrigin P (part_of n 3)
+Suits P n r Turn = IsTurned P r × AllSeen P r (imports_of P (block P n)) × SuitsCarried P n r (block P n)
 Suits P n r (Next x k o v) = IsPart P r v
 Suits P n r (Reset v) = IsPart P r v
 Suits P n r (Array a b) = IsPart P r a × IsPart P r b
@@ -403,9 +331,223 @@ pub record IsBuildable (P : Checked) : Type 0 where
   pub named : (v x : ℕ) → v < length (rows P) → node P v ≡ Name x → IsNamed P v
   pub entered : (h s : ℕ) → h < length (rows P) → node P h ≡ LoopHead s → HasEntries P h
 
+-- each feed goes to a port of an instruction of the row
+pub feeds_take : (P : Checked) (m e : ℕ) (r : Region) (n : Node) (f : Feed) → Suits P m r n → Among f (feeds_of P m r n)
+    → Takes (made_of P m e n) f.part f.port
+feeds_take P m e r Head f s (inl i) =
+    let Z : Feed → Type 0 = λ g. Takes (made_of P m e Head) g.part g.port in
+    subst Z (sym i) (record { piece = _; at = refl; takes = λ _. refl })
+feeds_take P m e r Head f s (inr h) = absurd h
+feeds_take P m e r (Param x k) f s h = absurd h
+feeds_take P m e r (Literal v) f s (inl i) =
+    let Z : Feed → Type 0 = λ g. Takes (made_of P m e (Literal v)) g.part g.port in
+    subst Z (sym i) (record { piece = _; at = refl; takes = λ _. refl })
+feeds_take P m e r (Literal v) f s (inr h) = absurd h
+feeds_take P m e r (Name x) f s h = absurd h
+feeds_take P m e r (UnaryNode o a) f s (inl i) =
+    let Z : Feed → Type 0 = λ g. Takes (made_of P m e (UnaryNode o a)) g.part g.port in
+    subst Z (sym i) (record { piece = _; at = refl; takes = λ _. refl })
+feeds_take P m e r (UnaryNode o a) f s (inr h) = absurd h
+feeds_take P m e r (BinaryNode o a b) f s (inl i) =
+    let Z : Feed → Type 0 = λ g. Takes (made_of P m e (BinaryNode o a b)) g.part g.port in
+    subst Z (sym i) (record { piece = _; at = refl; takes = λ _. refl })
+feeds_take P m e r (BinaryNode o a b) f s (inr (inl i)) =
+    let Z : Feed → Type 0 = λ g. Takes (made_of P m e (BinaryNode o a b)) g.part g.port in
+    subst Z (sym i) (record { piece = _; at = refl; takes = λ _. refl })
+feeds_take P m e r (BinaryNode o a b) f s (inr (inr h)) = absurd h
+feeds_take P m e r (Split t) f s (inl i) =
+    let Z : Feed → Type 0 = λ g. Takes (made_of P m e (Split t)) g.part g.port in
+    subst Z (sym i) (record { piece = _; at = refl; takes = λ _. refl })
+feeds_take P m e r (Split t) f s (inr (inl i)) =
+    let Z : Feed → Type 0 = λ g. Takes (made_of P m e (Split t)) g.part g.port in
+    subst Z (sym i) (record { piece = _; at = refl; takes = λ _. refl })
+feeds_take P m e r (Split t) f s (inr (inr h)) =
+    imports_take P (made_of P m e (Split t)) (origin P t) r 1 (imports_of P m) f (switch_takes P e _ (imports_of P m)) h
+feeds_take P m e r (If q x y) f s (inl i) =
+    let Z : Feed → Type 0 = λ g. Takes (made_of P m e (If q x y)) g.part g.port in
+    subst Z (sym i) (record { piece = _; at = refl; takes = λ _. refl })
+feeds_take P m e r (If q x y) f s (inr (inl i)) =
+    let Z : Feed → Type 0 = λ g. Takes (made_of P m e (If q x y)) g.part g.port in
+    subst Z (sym i) (record { piece = _; at = refl; takes = λ _. refl })
+feeds_take P m e r (If q x y) f s (inr (inr h)) = absurd h
+feeds_take P m e r (Enter x) f s (inl i) =
+    let Z : Feed → Type 0 = λ g. Takes (made_of P m e (Enter x)) g.part g.port in
+    subst Z (sym i) (record { piece = _; at = refl; takes = λ _. refl })
+feeds_take P m e r (Enter x) f s (inr h) = absurd h
+feeds_take P m e r (Arg q k v) f s (inl i) =
+    let Z : Feed → Type 0 = λ g. Takes (made_of P m e (Arg q k v)) g.part g.port in
+    subst Z (sym i) (record { piece = _; at = refl; takes = λ _. refl })
+feeds_take P m e r (Arg q k v) f s (inr (inl i)) =
+    let Z : Feed → Type 0 = λ g. Takes (made_of P m e (Arg q k v)) g.part g.port in
+    subst Z (sym i) (record { piece = _; at = refl; takes = λ _. refl })
+feeds_take P m e r (Arg q k v) f s (inr (inr h)) = absurd h
+feeds_take P m e r (Call q c) f s h = absurd h
+feeds_take P m e r (Block b) f s h = absurd h
+feeds_take P m e r (Binding x a) f s (inl i) =
+    let Z : Feed → Type 0 = λ g. Takes (made_of P m e (Binding x a)) g.part g.port in
+    subst Z (sym i) (record { piece = _; at = refl; takes = λ _. refl })
+feeds_take P m e r (Binding x a) f s (inr h) = absurd h
+feeds_take P m e r (Def x h k b) f s j = absurd j
+feeds_take P m e r Program f s h = absurd h
+feeds_take P m e r (Bounds a b) f s (inl i) =
+    let Z : Feed → Type 0 = λ g. Takes (made_of P m e (Bounds a b)) g.part g.port in
+    subst Z (sym i) (record { piece = _; at = refl; takes = λ _. refl })
+feeds_take P m e r (Bounds a b) f s (inr (inl i)) =
+    let Z : Feed → Type 0 = λ g. Takes (made_of P m e (Bounds a b)) g.part g.port in
+    subst Z (sym i) (record { piece = _; at = refl; takes = λ _. refl })
+feeds_take P m e r (Bounds a b) f s (inr (inr (inl i))) =
+    let Z : Feed → Type 0 = λ g. Takes (made_of P m e (Bounds a b)) g.part g.port in
+    subst Z (sym i) (record { piece = _; at = refl; takes = λ _. refl })
+feeds_take P m e r (Bounds a b) f s (inr (inr (inr (inl i)))) =
+    let Z : Feed → Type 0 = λ g. Takes (made_of P m e (Bounds a b)) g.part g.port in
+    subst Z (sym i) (record { piece = _; at = refl; takes = λ _. refl })
+feeds_take P m e r (Bounds a b) f s (inr (inr (inr (inr h)))) = absurd h
+feeds_take P m e r (Carried k) f s (inl i) =
+    let Z : Feed → Type 0 = λ g. Takes (made_of P m e (Carried k)) g.part g.port in
+    subst Z (sym i) (record { piece = _; at = refl; takes = λ _. refl })
+feeds_take P m e r (Carried k) f s (inr h) = absurd h
+feeds_take P m e r Count f s (inl i) =
+    let Z : Feed → Type 0 = λ g. Takes (made_of P m e Count) g.part g.port in
+    subst Z (sym i) (record { piece = _; at = refl; takes = λ _. refl })
+feeds_take P m e r Count f s (inr (inl i)) =
+    let Z : Feed → Type 0 = λ g. Takes (made_of P m e Count) g.part g.port in
+    subst Z (sym i) (record { piece = _; at = refl; takes = λ _. refl })
+feeds_take P m e r Count f s (inr (inr (inl i))) =
+    let Z : Feed → Type 0 = λ g. Takes (made_of P m e Count) g.part g.port in
+    subst Z (sym i) (record { piece = _; at = refl; takes = λ _. refl })
+feeds_take P m e r Count f s (inr (inr (inr (inl i)))) =
+    let Z : Feed → Type 0 = λ g. Takes (made_of P m e Count) g.part g.port in
+    subst Z (sym i) (record { piece = _; at = refl; takes = λ _. refl })
+feeds_take P m e r Count f s (inr (inr (inr (inr (inl i))))) =
+    let Z : Feed → Type 0 = λ g. Takes (made_of P m e Count) g.part g.port in
+    subst Z (sym i) (record { piece = _; at = refl; takes = λ _. refl })
+feeds_take P m e r Count f s (inr (inr (inr (inr (inr (inl i)))))) =
+    let Z : Feed → Type 0 = λ g. Takes (made_of P m e Count) g.part g.port in
+    subst Z (sym i) (record { piece = _; at = refl; takes = λ _. refl })
+feeds_take P m e r Count f s (inr (inr (inr (inr (inr (inr (inl i))))))) =
+    let Z : Feed → Type 0 = λ g. Takes (made_of P m e Count) g.part g.port in
+    subst Z (sym i) (record { piece = _; at = refl; takes = λ _. refl })
+feeds_take P m e r Count f s (inr (inr (inr (inr (inr (inr (inr (inl i)))))))) =
+    let Z : Feed → Type 0 = λ g. Takes (made_of P m e Count) g.part g.port in
+    subst Z (sym i) (record { piece = _; at = refl; takes = λ _. refl })
+feeds_take P m e r Count f s (inr (inr (inr (inr (inr (inr (inr (inr (inl i))))))))) =
+    let Z : Feed → Type 0 = λ g. Takes (made_of P m e Count) g.part g.port in
+    subst Z (sym i) (record { piece = _; at = refl; takes = λ _. refl })
+feeds_take P m e r Count f s (inr (inr (inr (inr (inr (inr (inr (inr (inr h))))))))) = absurd h
+feeds_take P m e r (Within g) f s h = absurd h
+feeds_take P m e r (Index x) f s h = absurd h
+feeds_take P m e r Span f s h = absurd h
+feeds_take P m e r Start f s (inl i) =
+    let Z : Feed → Type 0 = λ g. Takes (made_of P m e Start) g.part g.port in
+    subst Z (sym i) (record { piece = _; at = refl; takes = λ _. refl })
+feeds_take P m e r Start f s (inr h) = elim (Among-either f bs is h) [
+  | inl k ↦ bounds (node P (m - 1)) s.3 k
+  | inr k ↦
+      imports_take P (made_of P m e Start) (output m) r (1 + length (carried P (m + 1))) (entering P (m + 1)) f
+      (λ j p l. (
+      let up : 1 + (length (carried P (m + 1)) + j) ≡ 1 + length (carried P (m + 1)) + j = omega arith in
+      subst (λ z. Takes (made_of P m e Start) z p) up
+      (send_takes P e _ (loop_entries P (m + 1)) (length (carried P (m + 1)) + j) p
+      (omega (arith, l, length-loop_entries P (m + 1), length-entering P (m + 1)))))) k
+]
+  where
+    bs : List Feed
+    bs = bounds_feeds P m (node P (m - 1))
+
+    is : List Feed
+    is = import_feeds P (output m) r (1 + length (carried P (m + 1))) (entering P (m + 1))
+
+    bounds : (x : Node) → SuitsBounds P m r x → Among f (bounds_feeds P m x) → Takes (made_of P m e Start) f.part f.port
+    bounds (Bounds a b) u k =
+        let three : length (carried P (m + 1)) ≡ 3 = ap (λ (t : Bool). length (cond t ((m + 1 + 1) ∷ (m + 1 + 2) ∷ (m + 1 + 3) ∷ []) [])) u.0 in
+        bounds_take P (made_of P m e Start) m (Bounds a b) f
+        (λ j p l. send_takes P e _ (loop_entries P (m + 1)) j p (omega (arith, l, three, length-loop_entries P (m + 1)))) k
+    bounds _ u k = absurd k
+feeds_take P m e r (LoopHead q) f s (inl i) =
+    let Z : Feed → Type 0 = λ g. Takes (made_of P m e (LoopHead q)) g.part g.port in
+    subst Z (sym i) (record { piece = _; at = refl; takes = λ _. refl })
+feeds_take P m e r (LoopHead q) f s (inr (inl i)) =
+    let Z : Feed → Type 0 = λ g. Takes (made_of P m e (LoopHead q)) g.part g.port in
+    subst Z (sym i) (record { piece = _; at = refl; takes = λ _. refl })
+feeds_take P m e r (LoopHead q) f s (inr (inr h)) = absurd h
+feeds_take P m e r Variable f s (inl i) =
+    let Z : Feed → Type 0 = λ g. Takes (made_of P m e Variable) g.part g.port in
+    subst Z (sym i) (record { piece = _; at = refl; takes = λ _. refl })
+feeds_take P m e r Variable f s (inr h) = absurd h
+feeds_take P m e r Entries f s h =
+    entries_take (made_of P m e Entries) (turn_row P (block P m)) (1 + length (carried P (block P m))) 0 (imports_of P (block P m)) f (merge_takes P e (imports_of P (block P m))) h
+feeds_take P m e r (Switches t) f s (inl i) =
+    let Z : Feed → Type 0 = λ g. Takes (made_of P m e (Switches t)) g.part g.port in
+    subst Z (sym i) (record { piece = _; at = refl; takes = λ _. refl })
+feeds_take P m e r (Switches t) f s (inr (inl i)) =
+    let Z : Feed → Type 0 = λ g. Takes (made_of P m e (Switches t)) g.part g.port in
+    subst Z (sym i) (record { piece = _; at = refl; takes = λ _. refl })
+feeds_take P m e r (Switches t) f s (inr (inr h)) =
+    imports_take P (made_of P m e (Switches t)) (origin P t) r 1 (imports_of P m) f (switch_takes P e _ (imports_of P m)) h
+feeds_take P m e r Turn f s (inl i) =
+    let Z : Feed → Type 0 = λ g. Takes (made_of P m e Turn) g.part g.port in
+    subst Z (sym i) (record { piece = _; at = refl; takes = λ _. refl })
+feeds_take P m e r Turn f s (inr h) =
+    let g = block P m in
+    let cs = carried P g in
+    let all = cs ++ imports_of P g in
+    elim (Among-either f (carried_feeds P m r g) (turn_feeds P r (1 + length cs) (imports_of P g)) h) [
+      | inl k ↦
+          carried_take P (made_of P m e Turn) m r g f
+          (λ j l. next_takes P e _ all j (omega (arith, l, length-append cs (imports_of P g)))) k
+      | inr k ↦
+          turn_takes P (made_of P m e Turn) r (1 + length cs) (imports_of P g) f
+          (λ j l. (
+          let up : 1 + (length cs + j) ≡ 1 + length cs + j = omega arith in
+          subst (λ z. Takes (made_of P m e Turn) z Zero) up (next_takes P e _ all (length cs + j) (omega (arith, l, length-append cs (imports_of P g)))))) k
+    ]
+feeds_take P m e r (NextUse x) f s h = absurd h
+feeds_take P m e r (Next x k o v) f s (inl i) =
+    let Z : Feed → Type 0 = λ g. Takes (made_of P m e (Next x k o v)) g.part g.port in
+    subst Z (sym i) (record { piece = _; at = refl; takes = λ _. refl })
+feeds_take P m e r (Next x k o v) f s (inr h) = absurd h
+feeds_take P m e r Body f s h = absurd h
+feeds_take P m e r (Reset v) f s (inl i) =
+    let Z : Feed → Type 0 = λ g. Takes (made_of P m e (Reset v)) g.part g.port in
+    subst Z (sym i) (record { piece = _; at = refl; takes = λ _. refl })
+feeds_take P m e r (Reset v) f s (inr h) = absurd h
+feeds_take P m e r (Loop g w l) f s h = absurd h
+feeds_take P m e r (Array a b) f s (inl i) =
+    let Z : Feed → Type 0 = λ g. Takes (made_of P m e (Array a b)) g.part g.port in
+    subst Z (sym i) (record { piece = _; at = refl; takes = λ _. refl })
+feeds_take P m e r (Array a b) f s (inr (inl i)) =
+    let Z : Feed → Type 0 = λ g. Takes (made_of P m e (Array a b)) g.part g.port in
+    subst Z (sym i) (record { piece = _; at = refl; takes = λ _. refl })
+feeds_take P m e r (Array a b) f s (inr (inr h)) = absurd h
+feeds_take P m e r (Fetch a b) f s (inl i) =
+    let Z : Feed → Type 0 = λ g. Takes (made_of P m e (Fetch a b)) g.part g.port in
+    subst Z (sym i) (record { piece = _; at = refl; takes = λ _. refl })
+feeds_take P m e r (Fetch a b) f s (inr (inl i)) =
+    let Z : Feed → Type 0 = λ g. Takes (made_of P m e (Fetch a b)) g.part g.port in
+    subst Z (sym i) (record { piece = _; at = refl; takes = λ _. refl })
+feeds_take P m e r (Fetch a b) f s (inr (inr (inl i))) =
+    let Z : Feed → Type 0 = λ g. Takes (made_of P m e (Fetch a b)) g.part g.port in
+    subst Z (sym i) (record { piece = _; at = refl; takes = λ _. refl })
+feeds_take P m e r (Fetch a b) f s (inr (inr (inr h))) = absurd h
+feeds_take P m e r (Address a b) f s (inl i) =
+    let Z : Feed → Type 0 = λ g. Takes (made_of P m e (Address a b)) g.part g.port in
+    subst Z (sym i) (record { piece = _; at = refl; takes = λ _. refl })
+feeds_take P m e r (Address a b) f s (inr (inl i)) =
+    let Z : Feed → Type 0 = λ g. Takes (made_of P m e (Address a b)) g.part g.port in
+    subst Z (sym i) (record { piece = _; at = refl; takes = λ _. refl })
+feeds_take P m e r (Address a b) f s (inr (inr h)) = absurd h
+feeds_take P m e r (Store a v) f s (inl i) =
+    let Z : Feed → Type 0 = λ g. Takes (made_of P m e (Store a v)) g.part g.port in
+    subst Z (sym i) (record { piece = _; at = refl; takes = λ _. refl })
+feeds_take P m e r (Store a v) f s (inr (inl i)) =
+    let Z : Feed → Type 0 = λ g. Takes (made_of P m e (Store a v)) g.part g.port in
+    subst Z (sym i) (record { piece = _; at = refl; takes = λ _. refl })
+feeds_take P m e r (Store a v) f s (inr (inr h)) = absurd h
+
 label_gives : (P : Checked) (m e : ℕ) (n : Node) → is_label n ≡ true → Gives (made_of P m e n) 0 true
 label_gives P m e (Param x k) h = record { piece = _; at = refl; gives = λ _. refl }
 label_gives P m e (Binding x a) h = record { piece = _; at = refl; gives = λ _. refl }
+label_gives P m e (Carried k) h = record { piece = _; at = refl; gives = λ _. refl }
 label_gives P m e Variable h = record { piece = _; at = refl; gives = λ _. refl }
 label_gives P m e _ h = absurd (false≢true h)
 
@@ -414,6 +556,7 @@ label_home : (n : Node) (r : Region) (s : Origin) → is_label n ≡ true → ho
 label_home (Param x k) r s h = refl
 label_home (Binding x a) r s h = refl
 label_home Variable r s h = refl
+label_home (Carried k) r s h = refl
 label_home _ r s h = absurd (false≢true h)
 
 -- the switch of each import sends on both sides
@@ -448,13 +591,14 @@ named_origin P r b t h = by (comes P r b h.sees)
         let m = label P b in
         subst Z (sym is) (record {
           is_origin = record { within = h.within; gives = label_gives P m (place P m) (node P m) h.is_label };
-          home = label_home (node P m) (region P m) (output m) h.is_label ∙ here;
+          side = ap (λ (z : Region). z.side) (label_home (node P m) (region P m) (output m) h.is_label) ∙ h.side
+              ∙ ap (λ (z : Region). z.side) here;
         })
     by (from_switch n t k c within switched less there rest arm is) =
         let Z : Origin → Type 0 = IsOriginOf P r in
         subst Z (sym is) (record {
           is_origin = record { within = within; gives = switches_give P n t k c switched less };
-          home = switches_home P n t k c switched ∙ sym arm;
+          side = ap (λ (z : Region). z.side) (switches_home P n t k c switched ∙ sym arm);
         })
     by (from_entry h s k within loop less there rest right is) =
         let Z : Origin → Type 0 = IsOriginOf P r in
@@ -462,7 +606,7 @@ named_origin P r b t h = by (comes P r b h.sees)
         let o : Origin = record { row = entries_row P h; part = k; side = true } in
         subst Z (sym is) (record {
           is_origin = record { within = e.within; gives = entry_gives P h k e less };
-          home = ap (λ x. home_of x (region P (entries_row P h)) o) e.node ∙ e.region ∙ sym right;
+          side = ap (λ (z : Region). z.side) (ap (λ x. home_of x (region P (entries_row P h)) o) e.node ∙ e.region ∙ sym right);
         })
 
 -- a row of another node than a split's belongs where it stands
@@ -471,7 +615,7 @@ own : (P : Checked) (v : ℕ) (n : Node) → v < length (rows P) → node P v �
     → IsOriginOf P (region P v) (output v)
 own P v n l e h g =
     let G : Node → Type 0 = λ x. Gives (made_of P v (place P v) x) 0 true in
-    record { is_origin = record { within = l; gives = subst G (sym e) g }; home = ap (λ x. home_of x (region P v) (output v)) e ∙ h }
+    record { is_origin = record { within = l; gives = subst G (sym e) g }; side = ap (λ (z : Region). z.side) (ap (λ x. home_of x (region P v) (output v)) e ∙ h) }
 
 value_origin : (P : Checked) (v : ℕ) (n : Node) → IsBuildable P → v < length (rows P) → node P v ≡ n → IsValue n →
     IsOriginOf P (region P v) (origin_of P v (region P v) n)
@@ -484,13 +628,14 @@ value_origin P v (UnaryNode o a) t l e h = own P v (UnaryNode o a) l e refl (rec
 value_origin P v (BinaryNode o a b) t l e h = own P v (BinaryNode o a b) l e refl (record { piece = _; at = refl; gives = λ _. refl })
 value_origin P v (If s x y) t l e h = own P v (If s x y) l e refl (record { piece = _; at = refl; gives = λ _. refl })
 value_origin P v (Call s c) t l e h = own P v (Call s c) l e refl (record { piece = _; at = refl; gives = λ _. refl })
+value_origin P v (Carried k) t l e h = own P v (Carried k) l e refl (record { piece = _; at = refl; gives = λ _. refl })
 value_origin P v (Loop g w x) t l e h = own P v (Loop g w x) l e refl (record { piece = _; at = refl; gives = λ _. refl })
 value_origin P v (Array a b) t l e h = own P v (Array a b) l e refl (record { piece = _; at = refl; gives = λ _. refl })
 value_origin P v (Fetch a b) t l e h =
     let G : Node → Type 0 = λ x. Gives (made_of P v (place P v) x) 2 true in
     record {
       is_origin = record { within = l; gives = subst G (sym e) (record { piece = _; at = refl; gives = λ _. refl }) };
-      home = ap (λ x. home_of x (region P v) (reply v)) e;
+      side = ap (λ (z : Region). z.side) (ap (λ x. home_of x (region P v) (reply v)) e);
     }
 value_origin P v _ t l e h = absurd h
 
@@ -531,17 +676,45 @@ imports_come P s r k (b ∷ bs) f t g a (inl i) = from_only P s k Zero f g i
 imports_come P s r k (b ∷ bs) f t g a (inr (inl i)) = from_only P (name_in P r b) k One f (named_origin P r b t (a b (inl refl))).is_origin i
 imports_come P s r k (b ∷ bs) f t g a (inr (inr h)) = imports_come P s r (k + 1) bs f t g (λ c i. a c (inr i)) h
 
-entries_come : (P : Checked) (n k : ℕ) (bs : List ℕ) (f : Feed) → ((j : ℕ) → j < length bs → IsOrigin P (record { row = n; part = k + j + 1; side = true }))
-    → Among f (entry_feeds n k bs) → IsOrigin P f.origin
-entries_come P n k [] f all h = absurd h
-entries_come P n k (b ∷ bs) f all (inl i) =
-    let here : k + 0 + 1 ≡ k + 1 = omega arith in
-    from_only P _ k Zero f (subst (λ m. IsOrigin P (record { row = n; part = m; side = true })) here (all 0 (omega arith))) i
-entries_come P n k (b ∷ bs) f all (inr h) =
-    entries_come P n (k + 1) bs f
+entries_come : (P : Checked) (n i k : ℕ) (bs : List ℕ) (f : Feed) → ((j : ℕ) → j < length bs → IsOrigin P (part_of n (i + j)))
+    → Among f (entry_feeds n i k bs) → IsOrigin P f.origin
+entries_come P n m k [] f all h = absurd h
+entries_come P n m k (b ∷ bs) f all (inl i) =
+    let here : m + 0 ≡ m = omega arith in
+    from_only P _ k Zero f (subst (λ z. IsOrigin P (part_of n z)) here (all 0 (omega arith))) i
+entries_come P n m k (b ∷ bs) f all (inr h) =
+    entries_come P n (m + 1) (k + 1) bs f
     (λ j l. (
-    let next : k + suc j + 1 ≡ k + 1 + j + 1 = omega arith in
-    subst (λ m. IsOrigin P (record { row = n; part = m; side = true })) next (all (suc j) (omega (arith, l))))) h
+    let next : m + suc j ≡ m + 1 + j = omega arith in
+    subst (λ z. IsOrigin P (part_of n z)) next (all (suc j) (omega (arith, l))))) h
+
+bounds_come : (P : Checked) (m : ℕ) (r : Region) (x : Node) (f : Feed) → IsBuildable P → IsOrigin P (output m) → SuitsBounds P m r x
+    → Among f (bounds_feeds P m x) → IsOrigin P f.origin
+bounds_come P m r (Bounds a b) f t o s (inl i) = from_only P _ _ _ f o i
+bounds_come P m r (Bounds a b) f t o s (inr (inl i)) = from_only P _ _ _ f s.1 i
+bounds_come P m r (Bounds a b) f t o s (inr (inr (inl i))) = from_only P _ _ _ f o i
+bounds_come P m r (Bounds a b) f t o s (inr (inr (inr (inl i)))) = from_only P _ _ _ f (part_origin P r b t s.2).is_origin i
+bounds_come P m r (Bounds a b) f t o s (inr (inr (inr (inr (inl i))))) = from_only P _ _ _ f o i
+bounds_come P m r (Bounds a b) f t o s (inr (inr (inr (inr (inr (inl i)))))) = from_only P _ _ _ f s.3 i
+bounds_come P m r (Bounds a b) f t o s (inr (inr (inr (inr (inr (inr h)))))) = absurd h
+bounds_come P m r _ f t o s h = absurd h
+
+carried_come : (P : Checked) (m : ℕ) (r : Region) (g : ℕ) (f : Feed) → IsBuildable P → SuitsCarried P m r g → Among f (carried_feeds P m r g)
+    → IsOrigin P f.origin
+carried_come P m r g f t s among = go (has_index P g) refl among
+  where
+    fs : List Feed
+    fs = feed (part_of (m - 1) 4) 1 Zero ∷ feed (name_in P r (g + 2)) 2 Zero ∷ feed (output (m - 1)) 3 Zero ∷ []
+
+    there : has_index P g ≡ true → Among f fs → IsOrigin P f.origin
+    there e (inl i) = from_only P _ _ _ f (s e).0 i
+    there e (inr (inl i)) = from_only P _ _ _ f (named_origin P r (g + 2) t (s e).1).is_origin i
+    there e (inr (inr (inl i))) = from_only P _ _ _ f (s e).2 i
+    there e (inr (inr (inr h))) = absurd h
+
+    go : (b : Bool) → has_index P g ≡ b → Among f (cond b fs []) → IsOrigin P f.origin
+    go true e h = there e h
+    go false e h = absurd h
 
 turn_come : (P : Checked) (r : Region) (k : ℕ) (bs : List ℕ) (f : Feed) → IsBuildable P → AllSeen P r bs → Among f (turn_feeds P r k bs) → IsOrigin P f.origin
 turn_come P r k [] f t a h = absurd h
@@ -578,23 +751,51 @@ feeds_come P m r (Binding x a) f t s (inl i) = from_only P _ _ _ f (part_origin 
 feeds_come P m r (Binding x a) f t s (inr h) = absurd h
 feeds_come P m r (Def x g k b) f t s h = absurd h
 feeds_come P m r Program f t s h = absurd h
+feeds_come P m r (Bounds a b) f t s (inl i) = from_only P _ _ _ f (part_origin P r a t s.0).is_origin i
+feeds_come P m r (Bounds a b) f t s (inr (inl i)) = from_only P _ _ _ f (part_origin P r b t s.1).is_origin i
+feeds_come P m r (Bounds a b) f t s (inr (inr (inl i))) = from_only P _ _ _ f s.2 i
+feeds_come P m r (Bounds a b) f t s (inr (inr (inr (inl i)))) = from_only P _ _ _ f (part_origin P r a t s.0).is_origin i
+feeds_come P m r (Bounds a b) f t s (inr (inr (inr (inr h)))) = absurd h
+feeds_come P m r (Carried k) f t s (inl i) = from_only P _ _ _ f s i
+feeds_come P m r (Carried k) f t s (inr h) = absurd h
+feeds_come P m r Count f t s (inl i) = from_only P _ _ _ f s.0 i
+feeds_come P m r Count f t s (inr (inl i)) = from_only P _ _ _ f (named_origin P r (block P m + 2) t s.1).is_origin i
+feeds_come P m r Count f t s (inr (inr (inl i))) = from_only P _ _ _ f s.3 i
+feeds_come P m r Count f t s (inr (inr (inr (inl i)))) = from_only P _ _ _ f (trigger_origin P r s.2) i
+feeds_come P m r Count f t s (inr (inr (inr (inr (inl i))))) = from_only P _ _ _ f s.3 i
+feeds_come P m r Count f t s (inr (inr (inr (inr (inr (inl i)))))) = from_only P _ _ _ f s.0 i
+feeds_come P m r Count f t s (inr (inr (inr (inr (inr (inr (inl i))))))) = from_only P _ _ _ f s.4 i
+feeds_come P m r Count f t s (inr (inr (inr (inr (inr (inr (inr (inl i)))))))) = from_only P _ _ _ f s.5 i
+feeds_come P m r Count f t s (inr (inr (inr (inr (inr (inr (inr (inr (inl i))))))))) = from_only P _ _ _ f s.6 i
+feeds_come P m r Count f t s (inr (inr (inr (inr (inr (inr (inr (inr (inr h))))))))) = absurd h
+feeds_come P m r (Within g) f t s h = absurd h
+feeds_come P m r (Index x) f t s h = absurd h
+feeds_come P m r Span f t s h = absurd h
 feeds_come P m r Start f t s (inl i) = from_only P _ _ _ f (trigger_origin P r s.0) i
-feeds_come P m r Start f t s (inr h) = imports_come P (output m) r 1 (entering P (m + 1)) f t s.1 s.2 h
+feeds_come P m r Start f t s (inr h) =
+    let k = 1 + length (carried P (m + 1)) in
+    elim (Among-either f (bounds_feeds P m (node P (m - 1))) (import_feeds P (output m) r k (entering P (m + 1))) h) [
+      | inl i ↦ bounds_come P m r (node P (m - 1)) f t s.1 s.3 i
+      | inr i ↦ imports_come P (output m) r k (entering P (m + 1)) f t s.1 s.2 i
+    ]
 feeds_come P m r (LoopHead g) f t s (inl i) = from_only P _ _ _ f s.0 i
 feeds_come P m r (LoopHead g) f t s (inr (inl i)) = from_only P _ _ _ f s.1 i
 feeds_come P m r (LoopHead g) f t s (inr (inr h)) = absurd h
 feeds_come P m r Variable f t s (inl i) = from_only P _ _ _ f s i
 feeds_come P m r Variable f t s (inr h) = absurd h
 feeds_come P m r Entries f t s h =
-    entries_come P (turn_row P (block P m)) 0 (imports_of P (block P m)) f
-    (λ j l. (
-    let next : j + 1 ≡ 0 + j + 1 = omega arith in
-    subst (λ z. IsOrigin P (record { row = turn_row P (block P m); part = z; side = true })) next (s j l))) h
+    entries_come P (turn_row P (block P m)) (1 + length (carried P (block P m))) 0 (imports_of P (block P m)) f s h
 feeds_come P m r (Switches c) f t s (inl i) = from_only P _ _ _ f (part_origin P r c t s.0).is_origin i
 feeds_come P m r (Switches c) f t s (inr (inl i)) = from_only P _ _ _ f (trigger_origin P r s.1) i
 feeds_come P m r (Switches c) f t s (inr (inr h)) = imports_come P (origin P c) r 1 (imports_of P m) f t (part_origin P r c t s.0).is_origin s.2 h
 feeds_come P m r Turn f t s (inl i) = from_only P _ _ _ f (trigger_origin P r s.0) i
-feeds_come P m r Turn f t s (inr h) = turn_come P r 1 (imports_of P (block P m)) f t s.1 h
+feeds_come P m r Turn f t s (inr h) =
+    let g = block P m in
+    let k = 1 + length (carried P g) in
+    elim (Among-either f (carried_feeds P m r g) (turn_feeds P r k (imports_of P g)) h) [
+      | inl i ↦ carried_come P m r g f t s.2 i
+      | inr i ↦ turn_come P r k (imports_of P g) f t s.1 i
+    ]
 feeds_come P m r (NextUse x) f t s h = absurd h
 feeds_come P m r (Next x k o v) f t s (inl i) = from_only P _ _ _ f (part_origin P r v t s).is_origin i
 feeds_come P m r (Next x k o v) f t s (inr h) = absurd h
@@ -633,16 +834,16 @@ imports_differ P s r k (b ∷ bs) = (
   (λ h. (let later = imports_later P s r (k + 1) bs (feed (name_in P r b) k One) h in absurd (omega arith)), imports_differ P s r (k + 1) bs),
 )
 
-entries_later : (n k : ℕ) (bs : List ℕ) (f : Feed) → Among f (entry_feeds n k bs) → k ≤ f.part
-entries_later n k [] f h = absurd h
-entries_later n k (b ∷ bs) f (inl i) = omega (arith, ap (λ x. x.part) i)
-entries_later n k (b ∷ bs) f (inr h) = let rest = entries_later n (k + 1) bs f h in omega arith
+entries_later : (n m k : ℕ) (bs : List ℕ) (f : Feed) → Among f (entry_feeds n m k bs) → k ≤ f.part
+entries_later n m k [] f h = absurd h
+entries_later n m k (b ∷ bs) f (inl i) = omega (arith, ap (λ x. x.part) i)
+entries_later n m k (b ∷ bs) f (inr h) = let rest = entries_later n (m + 1) (k + 1) bs f h in omega arith
 
-entries_differ : (n k : ℕ) (bs : List ℕ) → AllDiffer (entry_feeds n k bs)
-entries_differ n k [] = tt
-entries_differ n k (b ∷ bs) = (
-  λ h. (let later = entries_later n (k + 1) bs (feed (record { row = n; part = k + 1; side = true }) k Zero) h in absurd (omega arith)),
-  entries_differ n (k + 1) bs,
+entries_differ : (n m k : ℕ) (bs : List ℕ) → AllDiffer (entry_feeds n m k bs)
+entries_differ n m k [] = tt
+entries_differ n m k (b ∷ bs) = (
+  λ h. (let later = entries_later n (m + 1) (k + 1) bs (feed (part_of n m) k Zero) h in absurd (omega arith)),
+  entries_differ n (m + 1) (k + 1) bs,
 )
 
 turn_later : (P : Checked) (r : Region) (k : ℕ) (bs : List ℕ) (f : Feed) → Among f (turn_feeds P r k bs) → k ≤ f.part
@@ -656,6 +857,75 @@ turn_differ P r k (b ∷ bs) = (
   λ h. (let later = turn_later P r (k + 1) bs (feed (name_in P r b) k Zero) h in absurd (omega arith)),
   turn_differ P r (k + 1) bs,
 )
+
+-- feeds differ that go on to a later port each
+abbrev port_rank : Port → ℕ
+port_rank Zero = 0
+port_rank One = 1
+
+abbrev feed_rank : Feed → ℕ
+feed_rank f = f.part + f.part + port_rank f.port
+
+abbrev Rising : ℕ → List Feed → Type 0
+Rising k [] = Unit {0}
+Rising k (f ∷ fs) = (k ≤ feed_rank f) × Rising (suc (feed_rank f)) fs
+
+rising_later : (k : ℕ) (fs : List Feed) (f : Feed) → Rising k fs → Among f fs → k ≤ feed_rank f
+rising_later k [] f u h = absurd h
+rising_later k (x ∷ fs) f u (inl i) = omega (arith, u.0, ap feed_rank i)
+rising_later k (x ∷ fs) f u (inr h) = let rest = rising_later (suc (feed_rank x)) fs f u.1 h in omega (arith, u.0, rest)
+
+rising_differ : (k : ℕ) (fs : List Feed) → Rising k fs → AllDiffer fs
+rising_differ k [] u = tt
+rising_differ k (x ∷ fs) u = (
+  λ h. (let later = rising_later (suc (feed_rank x)) fs x u.1 h in absurd (omega (arith, later))),
+  rising_differ (suc (feed_rank x)) fs u.1,
+)
+
+carried_rise : (P : Checked) (m : ℕ) (r : Region) (g : ℕ) → Rising 1 (carried_feeds P m r g)
+carried_rise P m r g = go (has_index P g)
+  where
+    go : (t : Bool) → Rising 1 (cond t (feed (part_of (m - 1) 4) 1 Zero ∷ feed (name_in P r (g + 2)) 2 Zero ∷ feed (output (m - 1)) 3 Zero ∷ []) [])
+    go true = (omega arith, (omega arith, (omega arith, tt)))
+    go false = tt
+
+bounds_rise : (P : Checked) (m : ℕ) (x : Node) → Rising 1 (bounds_feeds P m x)
+bounds_rise P m (Bounds a b) = (omega arith, (omega arith, (omega arith, (omega arith, (omega arith, (omega arith, tt))))))
+bounds_rise P m _ = tt
+
+-- they go to no other parts than those of what is carried on
+carried_early : (P : Checked) (m : ℕ) (r : Region) (g : ℕ) (f : Feed) → Among f (carried_feeds P m r g) → (1 ≤ f.part) × (f.part ≤ length (carried P g))
+carried_early P m r g f among = go (has_index P g) among
+  where
+    fs : List Feed
+    fs = feed (part_of (m - 1) 4) 1 Zero ∷ feed (name_in P r (g + 2)) 2 Zero ∷ feed (output (m - 1)) 3 Zero ∷ []
+
+    there : Among f fs → (1 ≤ f.part) × (f.part ≤ 3)
+    there (inl i) = let e = ap (λ (x : Feed). x.part) i in (omega (arith, e), omega (arith, e))
+    there (inr (inl i)) = let e = ap (λ (x : Feed). x.part) i in (omega (arith, e), omega (arith, e))
+    there (inr (inr (inl i))) = let e = ap (λ (x : Feed). x.part) i in (omega (arith, e), omega (arith, e))
+    there (inr (inr (inr h))) = absurd h
+
+    go : (t : Bool) → Among f (cond t fs []) → (1 ≤ f.part) × (f.part ≤ length (cond t ((g + 1) ∷ (g + 2) ∷ (g + 3) ∷ []) []))
+    go true h = there h
+    go false h = absurd h
+
+bounds_early : (P : Checked) (m : ℕ) (r : Region) (x : Node) (f : Feed) → SuitsBounds P m r x → Among f (bounds_feeds P m x)
+    → (1 ≤ f.part) × (f.part ≤ length (carried P (m + 1)))
+bounds_early P m r (Bounds a b) f s among = let z = there among in (z.0, omega (arith, z.1, three))
+  where
+    three : length (carried P (m + 1)) ≡ 3
+    three = ap (λ (t : Bool). length (cond t ((m + 1 + 1) ∷ (m + 1 + 2) ∷ (m + 1 + 3) ∷ []) [])) s.0
+
+    there : Among f (bounds_feeds P m (Bounds a b)) → (1 ≤ f.part) × (f.part ≤ 3)
+    there (inl i) = let e = ap (λ (x : Feed). x.part) i in (omega (arith, e), omega (arith, e))
+    there (inr (inl i)) = let e = ap (λ (x : Feed). x.part) i in (omega (arith, e), omega (arith, e))
+    there (inr (inr (inl i))) = let e = ap (λ (x : Feed). x.part) i in (omega (arith, e), omega (arith, e))
+    there (inr (inr (inr (inl i)))) = let e = ap (λ (x : Feed). x.part) i in (omega (arith, e), omega (arith, e))
+    there (inr (inr (inr (inr (inl i))))) = let e = ap (λ (x : Feed). x.part) i in (omega (arith, e), omega (arith, e))
+    there (inr (inr (inr (inr (inr (inl i)))))) = let e = ap (λ (x : Feed). x.part) i in (omega (arith, e), omega (arith, e))
+    there (inr (inr (inr (inr (inr (inr h)))))) = absurd h
+bounds_early P m r _ f s among = absurd among
 
 -- the feeds of switches differ
 switches_differ : (P : Checked) (m c : ℕ) (r : Region)
@@ -683,10 +953,9 @@ feeds_differ P m r (Split c) t s = switches_differ P m c r
 feeds_differ P m r (If g x y) t s = (
   λ h. elim h [
     | inl i ↦ (
-        let one = (part_origin P (arm_at g true) x t s.0).home in
-        let two = (part_origin P (arm_at g false) y t s.1).home in
-        let same = sym one ∙ ap (home P) (ap (λ z. z.origin) i) ∙ two in
-        let sides = ap (λ z. z.side) same in
+        let one = (part_origin P (arm_at g true) x t s.0).side in
+        let two = (part_origin P (arm_at g false) y t s.1).side in
+        let sides : true ≡ false = sym one ∙ ap (λ z. (home P z).side) (ap (λ z. z.origin) i) ∙ two in
         cc
         )
     | inr i ↦ i
@@ -700,18 +969,45 @@ feeds_differ P m r (Block b) t s = tt
 feeds_differ P m r (Binding x a) t s = (λ h. h, tt)
 feeds_differ P m r (Def x g k b) t s = tt
 feeds_differ P m r Program t s = tt
-feeds_differ P m r Start t s = (
-  λ h. (let later = imports_later P (output m) r 1 (entering P (m + 1)) (feed (trigger_of r) 0 Zero) h in absurd (omega arith)),
-  imports_differ P (output m) r 1 (entering P (m + 1)),
-)
+feeds_differ P m r (Bounds a b) t s =
+    rising_differ 0 (feeds_of P m r (Bounds a b)) (omega arith, (omega arith, (omega arith, (omega arith, tt))))
+feeds_differ P m r (Carried k) t s = (λ h. h, tt)
+feeds_differ P m r (Within g) t s = tt
+feeds_differ P m r Count t s =
+    rising_differ 0 (feeds_of P m r Count)
+    (omega arith, (omega arith, (omega arith, (omega arith, (omega arith, (omega arith, (omega arith, (omega arith, (omega arith, tt)))))))))
+feeds_differ P m r (Index x) t s = tt
+feeds_differ P m r Span t s = tt
+feeds_differ P m r Start t s =
+    let k = 1 + length (carried P (m + 1)) in
+    let bs = bounds_feeds P m (node P (m - 1)) in
+    let is = import_feeds P (output m) r k (entering P (m + 1)) in
+    let early : (f : Feed) → Among f bs → (1 ≤ f.part) × (f.part ≤ length (carried P (m + 1))) = λ f h. bounds_early P m r (node P (m - 1)) f s.3 h in
+    let late : (f : Feed) → Among f is → k ≤ f.part = λ f h. imports_later P (output m) r k (entering P (m + 1)) f h in (
+      λ h. elim (Among-either (feed (trigger_of r) 0 Zero) bs is h) [
+        | inl i ↦ (let z = early (feed (trigger_of r) 0 Zero) i in absurd (omega (arith, z.0)))
+        | inr i ↦ (let z = late (feed (trigger_of r) 0 Zero) i in absurd (omega (arith, z)))
+      ],
+      AllDiffer-append bs is (rising_differ 1 bs (bounds_rise P m (node P (m - 1)))) (imports_differ P (output m) r k (entering P (m + 1)))
+          (λ f i j. (let y = early f i in let z = late f j in absurd (omega (arith, y.1, z)))),
+    )
 feeds_differ P m r (LoopHead g) t s = (λ h. elim h [ inl i ↦ (let e = ap (λ f. f.port) i in cc) | inr i ↦ i ], (λ h. h, tt))
 feeds_differ P m r Variable t s = (λ h. h, tt)
-feeds_differ P m r Entries t s = entries_differ (turn_row P (block P m)) 0 (imports_of P (block P m))
+feeds_differ P m r Entries t s = entries_differ (turn_row P (block P m)) (1 + length (carried P (block P m))) 0 (imports_of P (block P m))
 feeds_differ P m r (Switches c) t s = switches_differ P m c r
-feeds_differ P m r Turn t s = (
-  λ h. (let later = turn_later P r 1 (imports_of P (block P m)) (feed (trigger_of r) 0 Zero) h in absurd (omega arith)),
-  turn_differ P r 1 (imports_of P (block P m)),
-)
+feeds_differ P m r Turn t s =
+    let g = block P m in
+    let k = 1 + length (carried P g) in
+    let cs = carried_feeds P m r g in
+    let is = turn_feeds P r k (imports_of P g) in
+    let late : (f : Feed) → Among f is → k ≤ f.part = λ f h. turn_later P r k (imports_of P g) f h in (
+      λ h. elim (Among-either (feed (trigger_of r) 0 Zero) cs is h) [
+        | inl i ↦ (let z = carried_early P m r g (feed (trigger_of r) 0 Zero) i in absurd (omega (arith, z.0)))
+        | inr i ↦ (let z = late (feed (trigger_of r) 0 Zero) i in absurd (omega (arith, z)))
+      ],
+      AllDiffer-append cs is (rising_differ 1 cs (carried_rise P m r g)) (turn_differ P r k (imports_of P g))
+          (λ f i j. (let y = carried_early P m r g f i in let z = late f j in absurd (omega (arith, y.1, z)))),
+    )
 feeds_differ P m r (NextUse x) t s = tt
 feeds_differ P m r (Next x k o v) t s = (λ h. h, tt)
 feeds_differ P m r Body t s = tt

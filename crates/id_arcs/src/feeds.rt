@@ -4,9 +4,9 @@ ghost use Rattle.std.specs.Prelude.{◌≡◌, ◌++◌, ◌<◌, ◌+◌, ◌-�
 ghost use Rattle.id_check.specs.Programs as programs;
 ghost use Rattle.id_desugar.specs.Regions as regions;
 ghost use Rattle.id_pieces.specs.Rows.{body_of, entry_feeds, feeds, feeds_of, first_binder, import_feeds};
-ghost use Rattle.id_pieces.specs.Rows.{turn_feeds};
+ghost use Rattle.id_pieces.specs.Rows.{bounds_feeds, carried_feeds, turn_feeds};
 ghost use Rattle.id_pieces.specs.Rows as rows;
-ghost use Rattle.id_table.specs.declared.row.Node.TheVariants.{Start};
+ghost use Rattle.id_table.specs.declared.row.Node.TheVariants.{Start, Count};
 ghost use Rattle.id_table.specs.Rows.{at};
 ghost use Rattle.id_table.specs.Tables.{is_thing};
 ghost use Rattle.id_instr.specs.declared.dests.Port.TheVariants.{Zero, One};
@@ -14,9 +14,9 @@ ghost use Rattle.id_desugar.specs.Ends.{end_of};
 ghost use Rattle.id_pieces.specs.Made.{arc_of, arc_to, is_of_loop, number_by};
 ghost use Rattle.id_pieces.specs.Slots.{AreSlots};
 
-use crate::origins::{name_in, origin, output, trigger_of};
+use crate::origins::{name_in, origin, output, part_of, trigger_of};
 use id_check::Checked;
-use id_desugar::row_at;
+use id_desugar::{carried_count, has_index, row_at};
 use id_instr::Port;
 use id_pieces::{Arc, BuildError, Origin, Slots, first_binder, nexts_at, turn_row};
 use id_table::{Node, Region, Row};
@@ -44,7 +44,7 @@ pub fn push_feeds(
 {
     let row = row_at(checked, n);
     match row.node {
-        Node::Param { .. } | Node::Name { .. } | Node::Block { .. } => Ok(()),
+        Node::Param { .. } | Node::Name { .. } | Node::Block { .. } | Node::Index { .. } => Ok(()),
         Node::Call { .. } | Node::Loop { .. } | Node::Def { .. } => Ok(()),
         Node::Literal { .. } => arcs.push_first(trigger_of(row.region), n),
         Node::Unary { operand, .. } | Node::Binding { value: operand, .. } => {
@@ -55,6 +55,7 @@ pub fn push_feeds(
         | Node::Array {
             low: left,
             high: right,
+            ..
         } => push_operands(checked, slots, n, left, right, arcs),
         Node::Store { address, value } => push_behind(checked, slots, n, address, value, arcs),
         Node::If {
@@ -96,7 +97,10 @@ fn push_marker(
         Node::Split { test } | Node::Switches { test } => {
             push_split(checked, slots, n, row.region, test, arcs)
         }
-        Node::Start | Node::LoopHead { .. } | Node::Variable | Node::Entries | Node::Turn => {
+        Node::Bounds { .. } | Node::Start | Node::LoopHead { .. } | Node::Carried { .. } => {
+            push_of_loop(checked, slots, n, row, arcs)
+        }
+        Node::Variable | Node::Entries | Node::Count | Node::Turn => {
             push_of_loop(checked, slots, n, row, arcs)
         }
         _ => Ok(()),
@@ -122,8 +126,11 @@ fn push_of_loop(
     ensures memory { IfErr result (λ e. e ≡ BuildError.Memory) }
 {
     match row.node {
+        Node::Bounds { low, high } => push_bounds(checked, slots, n, low, high, arcs),
         Node::Start => push_start(checked, slots, n, row.region, arcs),
         Node::LoopHead { .. } => push_loop_head(checked, slots, n, arcs),
+        Node::Carried { .. } => push_carried(checked, slots, n, row.block as usize, arcs),
+        Node::Count => push_count(checked, slots, n, row.region, arcs),
         Node::Variable => arcs.push_first(output(slots.columns.next(checked, n)), n),
         Node::Entries => push_entries(checked, slots, n, row.block as usize, arcs),
         Node::Turn => push_turn(checked, slots, n, row.region, row.block as usize, arcs),
@@ -330,30 +337,152 @@ fn push_start(
 {
     let head = n + 1;
     arcs.push_first(trigger_of(region), n)?;
+    push_bounds_sends(checked, slots, n, arcs)?;
+    let first = 1 + carried_count(checked, head);
     let nexts = nexts_at(checked, slots.columns, head);
-    push_firsts(checked, slots, n, region, nexts, arcs)?;
+    push_firsts(checked, slots, n, region, first, nexts, arcs)?;
     let imports = slots.columns.imports(checked, head);
-    let from = 1 + nexts.len();
+    let from = first + nexts.len();
     push_imports(checked, slots, n, output(n), region, from, imports, arcs)
 }
 
-/// Adds the arcs to the `send`s of the first values of the variables with these `next` statements, in the loop that
-/// begins at the row n in this region.
+/// Adds the arcs to what tells whether the loop with an index between these bounds has a first one, at the row n.
+fn push_bounds(
+    checked: &Checked,
+    slots: &Slots<'_>,
+    n: usize,
+    low: usize,
+    high: usize,
+    arcs: &mut Arcs,
+) -> Result<(), BuildError>
+    requires slots { AreSlots checked.now slots.now }
+    ensures list { OnOk result (arcs.new.list.items ≡ arcs.old.list.items ++ map (arc_of arcs.old.firsts.items n)
+        (rows.feed (rows.origin checked.now low) 0 Zero ∷ rows.feed (rows.origin checked.now high) 0 One
+        ∷ rows.feed (rows.output n) 1 Zero ∷ rows.feed (rows.origin checked.now low) 1 One ∷ [])) }
+    ensures firsts { arcs.new.firsts.items ≡ arcs.old.firsts.items }
+    ensures memory { IfErr result (λ e. e ≡ BuildError.Memory) }
+{
+    push_operands(checked, slots, n, low, high, arcs)?;
+    let first = number_by(arcs.firsts.as_slice(), n);
+    arcs.push_two(output(n), origin(checked, slots, low), first + 1)
+}
+
+/// Adds the arcs to the `send`s of what the loop that begins at the row n carries on, if it has an index.
+fn push_bounds_sends(
+    checked: &Checked,
+    slots: &Slots<'_>,
+    n: usize,
+    arcs: &mut Arcs,
+) -> Result<(), BuildError>
+    requires slots { AreSlots checked.now slots.now }
+    ensures list { OnOk result (arcs.new.list.items ≡ arcs.old.list.items ++ map (arc_of arcs.old.firsts.items n)
+        (bounds_feeds checked.now n (rows.node checked.now (n - 1)))) }
+    ensures firsts { arcs.new.firsts.items ≡ arcs.old.firsts.items }
+    ensures memory { IfErr result (λ e. e ≡ BuildError.Memory) }
+{
+    let bounds = n.saturating_sub(1);
+    match row_at(checked, bounds).node {
+        Node::Bounds { high, .. } => {
+            let first = number_by(arcs.firsts.as_slice(), n);
+            arcs.push_two(output(n), part_of(bounds, 1), first + 1)?;
+            arcs.push_two(output(n), origin(checked, slots, high), first + 2)?;
+            arcs.push_two(output(n), output(bounds), first + 3)
+        }
+        _ => Ok(()),
+    }
+}
+
+/// Adds the arc to the entry at the row n of what the loop with this head carries on.
+fn push_carried(
+    checked: &Checked,
+    slots: &Slots<'_>,
+    n: usize,
+    head: usize,
+    arcs: &mut Arcs,
+) -> Result<(), BuildError>
+    requires slots { AreSlots checked.now slots.now }
+    requires within { head < length (programs.rows checked.now) }
+    requires few { n - head < 2 ^ 62 }
+    ensures list { OnOk result (arcs.new.list.items ≡ arcs.old.list.items ++ map (arc_of arcs.old.firsts.items n)
+        (rows.feed (rows.part_of (rows.turn_row checked.now head) (n - head)) 0 Zero ∷ [])) }
+    ensures firsts { arcs.new.firsts.items ≡ arcs.old.firsts.items }
+    ensures memory { IfErr result (λ e. e ≡ BuildError.Memory) }
+{
+    let turn = turn_row(checked, slots.columns, head);
+    arcs.push_first(part_of(turn, n.saturating_sub(head)), n)
+}
+
+/// Adds the arcs to what tells whether a loop has a next index, and gives that, at the row n in this region.
+fn push_count(
+    checked: &Checked,
+    slots: &Slots<'_>,
+    n: usize,
+    region: Region,
+    arcs: &mut Arcs,
+) -> Result<(), BuildError>
+    requires slots { AreSlots checked.now slots.now }
+    ensures list { OnOk result (arcs.new.list.items
+        ≡ arcs.old.list.items ++ map (arc_of arcs.old.firsts.items n) (feeds_of checked.now n region Count)) }
+    ensures firsts { arcs.new.firsts.items ≡ arcs.old.firsts.items }
+    ensures memory { IfErr result (λ e. e ≡ BuildError.Memory) }
+{
+    let head = row_at(checked, n).block as usize;
+    let first = number_by(arcs.firsts.as_slice(), n);
+    let index = output(head + 1);
+    let bound = name_in(checked, slots, region, head + 2);
+    arcs.push_two(index, bound, first)?;
+    arcs.push_two(output(n), trigger_of(region), first + 1)?;
+    arcs.push_two(output(n), index, first + 2)?;
+    arcs.push(part_of(n, 1), first + 3, Port::Zero)?;
+    arcs.push_two(part_of(n, 2), part_of(n, 3), first + 4)
+}
+
+/// Adds the arcs to what hands on what the loop with this head carries on, at the row n in this region.
+fn push_carried_turns(
+    checked: &Checked,
+    slots: &Slots<'_>,
+    n: usize,
+    region: Region,
+    head: usize,
+    arcs: &mut Arcs,
+) -> Result<(), BuildError>
+    requires slots { AreSlots checked.now slots.now }
+    requires within { head < length (programs.rows checked.now) }
+    ensures list { OnOk result (arcs.new.list.items ≡ arcs.old.list.items
+        ++ map (arc_of arcs.old.firsts.items n) (carried_feeds checked.now n region head)) }
+    ensures firsts { arcs.new.firsts.items ≡ arcs.old.firsts.items }
+    ensures memory { IfErr result (λ e. e ≡ BuildError.Memory) }
+{
+    if !has_index(checked, head) {
+        return Ok(());
+    }
+    let first = number_by(arcs.firsts.as_slice(), n);
+    let count = n.saturating_sub(1);
+    arcs.push(part_of(count, 4), first + 1, Port::Zero)?;
+    let bound = name_in(checked, slots, region, head + 2);
+    arcs.push(bound, first + 2, Port::Zero)?;
+    arcs.push(output(count), first + 3, Port::Zero)
+}
+
+/// Adds the arcs to the `send`s of the first values of the variables with these `next` statements, of which the first is
+/// the part `first`, in the loop that begins at the row n in this region.
 fn push_firsts(
     checked: &Checked,
     slots: &Slots<'_>,
     n: usize,
     region: Region,
+    first: usize,
     nexts: &[u32],
     arcs: &mut Arcs,
 ) -> Result<(), BuildError>
     requires slots { AreSlots checked.now slots.now }
+    requires few { first < 2 ^ 61 }
     ensures list { OnOk result (arcs.new.list.items ≡ arcs.old.list.items ++ map (arc_of arcs.old.firsts.items n)
-        (import_feeds checked.now (rows.output n) region 1 (map (first_binder checked.now) nexts.now))) }
+        (import_feeds checked.now (rows.output n) region first (map (first_binder checked.now) nexts.now))) }
     ensures firsts { arcs.new.firsts.items ≡ arcs.old.firsts.items }
     ensures memory { IfErr result (λ e. e ≡ BuildError.Memory) }
 {
-    let mut to = number_by(arcs.firsts.as_slice(), n) + 1;
+    let mut to = number_by(arcs.firsts.as_slice(), n) + first;
     for next in nexts {
         let binder = first_binder(checked, *next as usize);
         arcs.push_two(output(n), name_in(checked, slots, region, binder), to)?;
@@ -374,14 +503,14 @@ fn push_loop_head(
     ensures list { OnOk result (arcs.new.list.items
         ≡ arcs.old.list.items
         ++ arc_of arcs.old.firsts.items n (rows.feed (rows.output (rows.turn_row checked.now n)) 0 Zero)
-        ∷ arc_of arcs.old.firsts.items n (rows.feed (rows.output (end_of checked.now n - 1)) 1 One) ∷ []) }
+        ∷ arc_of arcs.old.firsts.items n (rows.feed (rows.output (end_of checked.now n - 2)) 1 One) ∷ []) }
     ensures firsts { arcs.new.firsts.items ≡ arcs.old.firsts.items }
     ensures memory { IfErr result (λ e. e ≡ BuildError.Memory) }
 {
     let first = number_by(arcs.firsts.as_slice(), n);
     let turn = turn_row(checked, slots.columns, n);
     arcs.push(output(turn), first, Port::Zero)?;
-    let reset = slots.columns.end(checked, n).saturating_sub(1);
+    let reset = slots.columns.end(checked, n).saturating_sub(2);
     arcs.push(output(reset), first + 1, Port::One)
 }
 
@@ -396,19 +525,16 @@ fn push_entries(
     requires slots { AreSlots checked.now slots.now }
     requires within { head < length (programs.rows checked.now) }
     ensures list { OnOk result (arcs.new.list.items ≡ arcs.old.list.items ++ map (arc_of arcs.old.firsts.items n)
-        (entry_feeds (rows.turn_row checked.now head) 0 (regions.imports_of checked.now head))) }
+        (entry_feeds (rows.turn_row checked.now head) (1 + length (regions.carried checked.now head)) 0
+        (regions.imports_of checked.now head))) }
     ensures firsts { arcs.new.firsts.items ≡ arcs.old.firsts.items }
     ensures memory { IfErr result (λ e. e ≡ BuildError.Memory) }
 {
     let first = number_by(arcs.firsts.as_slice(), n);
     let turn = turn_row(checked, slots.columns, head);
+    let handed = 1 + carried_count(checked, head);
     for part in 0..slots.columns.imports(checked, head).len() {
-        let from = Origin {
-            row: turn,
-            part: part + 1,
-            side: true,
-        };
-        arcs.push(from, first + part, Port::Zero)?;
+        arcs.push(part_of(turn, part + handed), first + part, Port::Zero)?;
     }
     Ok(())
 }
@@ -423,14 +549,18 @@ fn push_turn(
     arcs: &mut Arcs,
 ) -> Result<(), BuildError>
     requires slots { AreSlots checked.now slots.now }
+    requires within { head < length (programs.rows checked.now) }
     ensures list { OnOk result (arcs.new.list.items ≡ arcs.old.list.items ++ map (arc_of arcs.old.firsts.items n)
-        (rows.feed (rows.trigger_of region) 0 Zero
-        ∷ turn_feeds checked.now region 1 (regions.imports_of checked.now head))) }
+        (rows.feed (rows.trigger_of region) 0 Zero ∷ carried_feeds checked.now n region head
+        ++ turn_feeds checked.now region (1 + length (regions.carried checked.now head))
+        (regions.imports_of checked.now head))) }
     ensures firsts { arcs.new.firsts.items ≡ arcs.old.firsts.items }
     ensures memory { IfErr result (λ e. e ≡ BuildError.Memory) }
 {
-    let mut to = number_by(arcs.firsts.as_slice(), n);
-    arcs.push(trigger_of(region), to, Port::Zero)?;
+    let first = number_by(arcs.firsts.as_slice(), n);
+    arcs.push(trigger_of(region), first, Port::Zero)?;
+    push_carried_turns(checked, slots, n, region, head, arcs)?;
+    let mut to = first + carried_count(checked, head);
     for binder in slots.columns.imports(checked, head) {
         to += 1;
         let binder = *binder as usize;

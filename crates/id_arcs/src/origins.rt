@@ -1,13 +1,13 @@
 //! Where values come from (docs/GRAPH.md, "Sources").
 
 ghost use Rattle.std.specs.Prelude.{◌≡◌, ◌<◌, ◌^◌};
-ghost use Rattle.id_pieces.specs.Rows.{handed_by, name_in, named_in, node, origin, output, reply};
+ghost use Rattle.id_pieces.specs.Rows.{handed_by, name_in, named_in, node, origin, output, part_of, reply};
 ghost use Rattle.id_pieces.specs.Rows.{same_region, trigger_of};
 ghost use Rattle.id_pieces.specs.Slots.{AreSlots};
 
 use id_check::Checked;
 use id_desugar::{binder_at, row_at};
-use id_pieces::{Origin, Slots, entries_row, label, slot_of};
+use id_pieces::{Origin, Slots, entries_row, home, label, slot_of};
 use id_table::{Node, Region};
 
 /// What the first instruction of a row gives.
@@ -28,6 +28,17 @@ fn reply(row: usize) -> Origin
     Origin {
         row,
         part: 2,
+        side: true,
+    }
+}
+
+/// This part of a row, on its true side.
+pub fn part_of(row: usize, part: usize) -> Origin
+    ensures { result ≡ part_of row part }
+{
+    Origin {
+        row,
+        part,
         side: true,
     }
 }
@@ -83,9 +94,8 @@ pub fn name_in(checked: &Checked, slots: &Slots<'_>, region: Region, binder: usi
     ensures origin { result ≡ name_in checked.now region binder }
     ensures few { result.part < 2 ^ 62 }
 {
-    let label = label(checked, binder);
-    if same_region(row_at(checked, label).region, region) {
-        output(label)
+    if same_region(row_at(checked, home(checked, binder)).region, region) {
+        output(label(checked, binder))
     } else {
         handed(checked, slots, region, binder)
     }

@@ -18,17 +18,19 @@ use Rattle.id_runs.specs.Keys.{Key, key_of}
 use Rattle.id_runs.specs.OneMessage.{count_for}
 use Rattle.id_runs.specs.Runs.{Reach, Moving, flying, handled}
 use Rattle.id_runs.proofs.Keys.{count_append, count_cons, counted, counts, hit_itself}
-use Rattle.id_runs.proofs.OneMessage.{at_most_one}
+use Rattle.id_runs.proofs.OneMessage.{at_most_one, fired_once}
 use Rattle.id_runs.proofs.RecordsOfRuns.{told_all}
 use Rattle.id_runs.proofs.Runs.{reached}
 use Rattle.id_laws.specs.Activations.{PathOf}
 use Rattle.id_laws.specs.Laws.{events, messages}
 use Rattle.id_laws.proofs.Assumed.{IsKnown}
+use Rattle.id_laws.proofs.FiringMeans.{IsBacked}
 use Rattle.id_laws.proofs.Known.{known}
 use Rattle.id_laws.proofs.Seats.{live_path}
 use Rattle.id_laws.proofs.Sites.{one_activation}
 use Rattle.id_laws.proofs.SoundRuns.{alone}
 use Rattle.id_laws.proofs.StartTells.{all_tell, seats}
+use Rattle.id_laws.proofs.Wholes.{AreWhole, are_whole, wholes}
 use Rattle.id_bounds.specs.Bounded.{Bounded, IsActive, IsBounded, messages_at_once}
 use Rattle.id_bounds.proofs.Counting.{Decides, EachOnce, each_once, few_by, sum_by_same}
 use Rattle.id_bounds.proofs.Told.{IsLive, told_live, under}
@@ -69,8 +71,12 @@ keys_differ (x ∷ xs) few = (
   keys_differ xs (λ k. omega (arith, few k, count_cons k x xs)),
 )
 
-module _ (S : Source) (known : IsKnown S.checked) (g : Parts) (number : ℕ → ℕ → ℕ) (numbered : Numbered S.checked g number) (count : ℕ)
-    (s : World) (run : List Event) (r : Reach g S.inputs count s run) where
+module _ (S : Source) (known : IsKnown S.checked) (are : AreWhole S) (g : Parts) (number : ℕ → ℕ → ℕ) (numbered : Numbered S.checked g number)
+    (count : ℕ) (s : World) (run : List Event) (r : Reach g S.inputs count s run) where
+  -- a tag fires once in the run, and each number that a place Has is one of the language
+  pub backed : IsBacked S run
+  backed = record { once = fired_once g S.inputs count (alone S known are g number numbered count) s run r; wholes = λ p e i. wholes S are }
+
   -- what the messages are for
   abbrev pub keys : List Key
   keys = map key_of (messages s)
@@ -84,7 +90,7 @@ module _ (S : Source) (known : IsKnown S.checked) (g : Parts) (number : ℕ → 
         arith,
         count_append k shown (flying s),
         told_all g S.inputs count s run r k,
-        at_most_one g S.inputs count (alone S known g number numbered count) s run r k,
+        at_most_one g S.inputs count (alone S known are g number numbered count) s run r k,
       )
 
   pub keys_are_apart : AllDiffer keys
@@ -116,13 +122,13 @@ module _ (S : Source) (known : IsKnown S.checked) (g : Parts) (number : ℕ → 
   key_live k h =
       let m = moved k h in
       subst (λ j. IsLive S number run (under j)) (sym m.has)
-      (told_live S number run m.payload (all_tell S known g number numbered run count s r m.payload m.moving))
+      (told_live S number run m.payload (all_tell S known g number numbered run count s r backed m.payload m.moving))
 
   key_among : (k : Key) → Among k keys → Among k (keys_of g (under k))
   key_among k h =
       let m = moved k h in
       subst (λ j. Among j (keys_of g (under j))) (sym m.has)
-      (told_key S number run g numbered m.payload (all_tell S known g number numbered run count s r m.payload m.moving))
+      (told_key S number run g numbered m.payload (all_tell S known g number numbered run count s r backed m.payload m.moving))
 
   -- the activations of the messages, each once
   pub acting : EachOnce Activation (map under keys)
@@ -173,7 +179,7 @@ module _ (S : Source) (known : IsKnown S.checked) (g : Parts) (number : ℕ → 
         differ = (
           λ h.
               let x = rest.each path.0 h in
-              let one = one_activation S known g number numbered count s run r here.1 x.live.1 path.1 x.path_of in
+              let one = one_activation S known g number numbered count s run r backed here.1 x.live.1 path.1 x.path_of in
               differ.0 (subst (λ b. Among b xs) (sym one) x.among),
           rest.differ,
         );
@@ -207,4 +213,4 @@ module _ (S : Source) (known : IsKnown S.checked) (g : Parts) (number : ℕ → 
 pub bounded : Bounded
 bounded = λ S inputs r.
     let x = reached r.graph S.inputs r.count r.positions in
-    bounded_at S (known S.checked) r.graph r.schemas.number r.schemas.numbered r.count _ x.events x.reach
+    bounded_at S (known S.checked) (are_whole S inputs) r.graph r.schemas.number r.schemas.numbered r.count _ x.events x.reach

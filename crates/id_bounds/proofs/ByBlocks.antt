@@ -9,7 +9,6 @@ use Rattle.id_list.specs.List.{Among, AllDiffer}
 use Rattle.id_list.proofs.AmongLemmas.{Among-from_map, Among-left, Among-map, Among-right}
 use Rattle.id_list.proofs.DifferLemmas.{AllDiffer-few}
 use Rattle.id_table.specs.declared.row.Node.TheVariants.{Fetch, Program, Store}
-use Rattle.id_table.specs.Tables.{is_expression}
 use Rattle.id_check.specs.declared.checked.Checked.{Checked}
 use Rattle.id_check.specs.Programs.{place}
 use Rattle.id_instr.specs.declared.dests.Port.{Port}
@@ -37,7 +36,7 @@ use Rattle.id_laws.specs.Laws.{messages}
 use Rattle.id_laws.specs.Topics.{Told, ToldToken}
 use Rattle.id_laws.proofs.Arcs.{doing, fetches, makes, stores}
 use Rattle.id_laws.proofs.Assumed.{IsKnown}
-use Rattle.id_laws.proofs.HasKinds.{expression_thing}
+use Rattle.id_laws.proofs.FiringMeans.{IsBacked}
 use Rattle.id_laws.proofs.Known.{known}
 use Rattle.id_laws.proofs.Opened.{OpenedFor}
 use Rattle.id_laws.proofs.Seats.{live_path}
@@ -46,18 +45,15 @@ use Rattle.id_laws.proofs.Sites.{one_activation}
 use Rattle.id_laws.proofs.Start.{started}
 use Rattle.id_laws.proofs.StartTells.{all_tell, seats}
 use Rattle.id_laws.proofs.Tokens.{one_part, token_is}
-use Rattle.id_laws.proofs.TurnedOn.{turned_on}
+use Rattle.id_laws.proofs.Wholes.{AreWhole, are_whole}
 use Rattle.id_bounds.specs.ByBlock.{BoundedByBlock, IsBoundedByBlock, IsTurn, Turn, messages_in_block, messages_of}
-use Rattle.id_bounds.proofs.BlockKeys.{block_key, block_keys, block_long, row_key, row_keys, row_long, stands_in, sum_by_alike}
+use Rattle.id_bounds.proofs.BlockKeys.{block_key, block_keys, block_long, row_key, row_keys, row_long, sum_by_alike}
 use Rattle.id_bounds.proofs.Blocks.{answer_main, one_block, part_block, row_block}
-use Rattle.id_bounds.proofs.Bounds.{acting, acting_live, keys, keys_are_apart, moved}
+use Rattle.id_bounds.proofs.Bounds.{acting, acting_live, backed as is_backed, keys, keys_are_apart, moved}
 use Rattle.id_bounds.proofs.Counting.{Among-flat_map, length-flat_map}
 use Rattle.id_bounds.proofs.Keys.{part_key}
-use Rattle.id_bounds.proofs.Paid.{lives}
+use Rattle.id_bounds.proofs.Paid.{pays}
 use Rattle.id_bounds.proofs.Told.{IsLive, under}
-
-true_false : true ≡ false → ⊥
-true_false h = cc
 
 no_fetch : {t i : ℕ} → Fetch t i ≡ Program → ⊥
 no_fetch e = cc
@@ -75,10 +71,13 @@ sum_by_map : {A B : Type 0} (f : B → ℕ) (h : A → B) (xs : List A) → sum_
 sum_by_map f h [] = refl
 sum_by_map f h (x ∷ xs) = omega (arith, sum_by-cons f (h x) (map h xs), sum_by-cons (λ z. f (h z)) x xs, sum_by_map f h xs)
 
-module _ (S : Source) (known : IsKnown S.checked) (g : Parts) (number : ℕ → ℕ → ℕ) (numbered : Numbered S.checked g number) (count : ℕ)
-    (s : World) (run : List Event) (r : Reach g S.inputs count s run) where
+module _ (S : Source) (known : IsKnown S.checked) (are : AreWhole S) (g : Parts) (number : ℕ → ℕ → ℕ) (numbered : Numbered S.checked g number)
+    (count : ℕ) (s : World) (run : List Event) (r : Reach g S.inputs count s run) where
   abbrev P : Checked
   P = S.checked
+
+  backed : IsBacked S run
+  backed = is_backed S known are g number numbered count s run r
 
   -- ---- keys
 
@@ -114,7 +113,7 @@ module _ (S : Source) (known : IsKnown S.checked) (g : Parts) (number : ℕ → 
 
       by : Among x (starting g S.inputs) ⊎ SentBy g run x → y.activation ≡ main_activation
       by (inl h) = let z = started S g number numbered known x h in ap activation_of (token_is (sym y.is ∙ z.is)).0
-      by (inr h) = of_event h.event (sent_so S g number numbered count s run r known (all_tell S known g number numbered run count s r) h.event h.among x h.sends)
+      by (inr h) = of_event h.event (sent_so S g number numbered count s run r known (all_tell S known g number numbered run count s r backed) h.event h.among x h.sends)
 
   -- a token's key is the answer's, or one of the row's block
   token_keyed : (x : Payload) → Moving s run x → (y : ToldToken S number run x)
@@ -157,10 +156,10 @@ module _ (S : Source) (known : IsKnown S.checked) (g : Parts) (number : ℕ → 
             refl (inr (inr (inl refl)));
       }))
 
-  key_keyed : (k : Key) → Among k (keys S known g number numbered count s run r) → Keyed k
+  key_keyed : (k : Key) → Among k (keys S known are g number numbered count s run r) → Keyed k
   key_keyed k h =
-      let m = moved S known g number numbered count s run r k h in
-      subst Keyed (sym m.has) (keyed m.payload m.moving (all_tell S known g number numbered run count s r m.payload m.moving))
+      let m = moved S known are g number numbered count s run r k h in
+      subst Keyed (sym m.has) (keyed m.payload m.moving (all_tell S known g number numbered run count s r backed m.payload m.moving))
 
   -- ---- turns
 
@@ -198,8 +197,8 @@ module _ (S : Source) (known : IsKnown S.checked) (g : Parts) (number : ℕ → 
       let rest = turns_of xs differ.1 (λ b h. live b (inr h)) in
       let here = live a (inl refl) in
       let path = live_path here.1 in
-      let x = lives S known number run here.1 in
-      let now : Acted = record { activation = a; path = path.0; head = block P x.row } in
+      let x = pays S known number run (seats S known g number numbered run count s r) here.1 path.1 in
+      let now : Acted = record { activation = a; path = path.0; head = x.head } in
       record {
         list = now ∷ rest.list;
         differ = (
@@ -208,7 +207,7 @@ module _ (S : Source) (known : IsKnown S.checked) (g : Parts) (number : ℕ → 
               let y = Among-from_map turn_of t.0 rest.list t.1 in
               let z = rest.each y.0 y.1 in
               let same : path.0 ≡ (y.0).path = t.2 ∙ ap (λ (t : Turn). t.path) y.2 in
-              let one = one_activation S known g number numbered count s run r here.1 (z.live).1 (subst (PathOf S number run a) same path.1) z.path_of in
+              let one = one_activation S known g number numbered count s run r backed here.1 (z.live).1 (subst (PathOf S number run a) same path.1) z.path_of in
               differ.0 (subst (λ b. Among b xs) (sym one) z.among),
           rest.differ,
         );
@@ -217,13 +216,7 @@ module _ (S : Source) (known : IsKnown S.checked) (g : Parts) (number : ℕ → 
             among = inl refl;
             live = here;
             path_of = path.1;
-            turn = record {
-              row = x.row;
-              within = x.within;
-              thing = expression_thing (node P x.row) x.expression;
-              stands = stands_in number a P x.row (block P x.row) refl;
-              on = turned_on S known (seats S known g number numbered run count s r) x.live path.1 ((known.table).turned x.row x.within x.expression);
-            };
+            turn = x.turn;
           })
           | inr old ↦ let z = rest.each y old in record { among = inr z.among; live = z.live; path_of = z.path_of; turn = z.turn }
         ];
@@ -232,17 +225,16 @@ module _ (S : Source) (known : IsKnown S.checked) (g : Parts) (number : ℕ → 
             acted = now;
             among = inl refl;
             is = sym e;
-            opened = subst (λ c. OpenedFor S number run c.context (block P x.row)) (sym e)
-                (row_block S known number run x.within (λ p. true_false (sym x.expression ∙ ap is_expression p)) x.live);
+            opened = subst (λ c. OpenedFor S number run c.context x.head) (sym e) x.opened;
           }
           | inr old ↦ let z = rest.all b old in record { acted = z.acted; among = inr z.among; is = z.is; opened = z.opened }
         ];
       }
 
-  turns : Turns (acting S known g number numbered count s run r).list
+  turns : Turns (acting S known are g number numbered count s run r).list
   turns =
-      let as_all = acting S known g number numbered count s run r in
-      turns_of as_all.list as_all.differ (acting_live S known g number numbered count s run r)
+      let as_all = acting S known are g number numbered count s run r in
+      turns_of as_all.list as_all.differ (acting_live S known are g number numbered count s run r)
 
   -- ---- the bound
 
@@ -252,12 +244,12 @@ module _ (S : Source) (known : IsKnown S.checked) (g : Parts) (number : ℕ → 
   abbrev all_keys : List Key
   all_keys = answer_keys ++ flat_map acted_keys turns.list
 
-  key_in : (k : Key) → Among k (keys S known g number numbered count s run r) → Among k all_keys
+  key_in : (k : Key) → Among k (keys S known are g number numbered count s run r) → Among k all_keys
   key_in k h = elim (key_keyed k h) [
     | inl answer ↦ Among-left k answer_keys (flat_map acted_keys turns.list) answer
     | inr x ↦
-        let as_all = acting S known g number numbered count s run r in
-        let y = turns.all (under k) (as_all.all (under k) (Among-map under k (keys S known g number numbered count s run r) h)) in
+        let as_all = acting S known are g number numbered count s run r in
+        let y = turns.all (under k) (as_all.all (under k) (Among-map under k (keys S known are g number numbered count s run r) h)) in
         let head = one_block S known number run g numbered (contexts_apart g S.inputs count s run r) x.opened y.opened in
         Among-right k answer_keys (flat_map acted_keys turns.list)
         (Among-flat_map acted_keys k y.acted turns.list y.among
@@ -273,7 +265,7 @@ module _ (S : Source) (known : IsKnown S.checked) (g : Parts) (number : ℕ → 
     few = omega (
       arith,
       length-map (messages s) key_of,
-      AllDiffer-few (keys S known g number numbered count s run r) all_keys (keys_are_apart S known g number numbered count s run r) key_in,
+      AllDiffer-few (keys S known are g number numbered count s run r) all_keys (keys_are_apart S known are g number numbered count s run r) key_in,
       length-append answer_keys (flat_map acted_keys turns.list),
       answer_long,
       length-flat_map acted_keys turns.list,
@@ -285,4 +277,4 @@ module _ (S : Source) (known : IsKnown S.checked) (g : Parts) (number : ℕ → 
 pub bounded_by_block : BoundedByBlock
 bounded_by_block = λ S inputs r.
     let x = reached r.graph S.inputs r.count r.positions in
-    by_block S (known S.checked) r.graph r.schemas.number r.schemas.numbered r.count _ x.events x.reach
+    by_block S (known S.checked) (are_whole S inputs) r.graph r.schemas.number r.schemas.numbered r.count _ x.events x.reach

@@ -32,7 +32,7 @@ use Rattle.id_laws.specs.Activations.{of_call, of_loop}
 use Rattle.id_laws.specs.Topics.{Tells, Told, ToldToken, topic_at, wants}
 use Rattle.id_laws.proofs.Arcs.{Does, starts, enters, constant, unary, joins, names, answers, doing, makes}
 use Rattle.id_laws.proofs.Arcs.{opens, gets, varies, takes_in, moves_on, moves_name, advances, resets}
-use Rattle.id_laws.proofs.Arcs.{gets_last, fetches, gets_reply, stores}
+use Rattle.id_laws.proofs.Arcs.{carries, has_one, gets_last, fetches, gets_reply, stores}
 use Rattle.id_bounds.specs.Bounded.{messages_for, messages_at_once}
 use Rattle.id_bounds.proofs.Told.{under}
 
@@ -149,6 +149,8 @@ module _ (S : Source) (number : ℕ → ℕ → ℕ) (run : List Event) where
   second_port a v n part o (gets_last is) h = absurd (none_at a v n 0 is (λ z. z) h)
   second_port a v n part o (fetches is) h = absurd (none_at a v n 1 is (λ z. z) h)
   second_port a v n part o (gets_reply is) h = absurd (none_at a v n 2 is (λ z. z) h)
+  second_port a v n part o (carries is) h = absurd (none_at a v n 0 is (λ z. z) h)
+  second_port a v n part o (has_one is) h = absurd (none_at a v n 3 is (λ z. z) h)
   second_port a v n part o (answers is) h = absurd (none_at a v n 0 is (λ z. z) h)
   second_port a v n part o _ h = refl
 

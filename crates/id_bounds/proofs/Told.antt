@@ -11,6 +11,8 @@ use Rattle.id_runs.specs.Events.{Event}
 use Rattle.id_runs.specs.Keys.{Key, AtPort, ByFetch, ByStore, key_of}
 use Rattle.id_laws.specs.Activations.{Live, at_start, on_side, entered, again, ReturnsTo, to_answer, to_row}
 use Rattle.id_laws.specs.Topics.{Topic, Turned, ValueOf, NameIn, TestOf, ResultOf, WayBack, ContextOf, CellOf, Nothing}
+use Rattle.id_laws.specs.Topics.{SaidOf, BoundIn, IndexOf, FlagOf, SaidIndex, FirstIndex, FirstFlag, SaidFirst, NextIndex, NextFlag, SaidNext, LastIndex}
+use Rattle.id_laws.specs.Topics.{AndOne, GoesFurther}
 use Rattle.id_laws.specs.Topics.{Tells, Told, topic_at}
 use Rattle.id_laws.proofs.Tokens.{token_is}
 
@@ -49,6 +51,20 @@ module _ (S : Source) (number : ℕ → ℕ → ℕ) (run : List Event) where
   topic_live a (WayBack h) v told = moved_live a told.at_first (return_live told.returns)
   topic_live a (ContextOf n) v told = (_, told.live)
   topic_live a (CellOf n) v told = (_, told.live)
+  topic_live a (SaidOf e) v told = (_, told.0)
+  topic_live a (BoundIn r h) v told = (r, told.0)
+  topic_live a (IndexOf h) v told = (_, told.live)
+  topic_live a (FlagOf h) v told = (_, told.live)
+  topic_live a (SaidIndex h) v told = (_, told.0)
+  topic_live a (FirstIndex h) v told = (_, told.0)
+  topic_live a (FirstFlag h) v told = (_, told.0)
+  topic_live a (SaidFirst h) v told = (_, told.0)
+  topic_live a (NextIndex h) v told = (_, (told.0).live)
+  topic_live a (NextFlag h) v told = (_, told.live)
+  topic_live a (SaidNext h) v told = (_, (told.0).live)
+  topic_live a (LastIndex h) v told = (_, (told.counts).live)
+  topic_live a (AndOne h) v told = (_, (told.1).live)
+  topic_live a (GoesFurther h) v told = (_, (told.1).live)
   topic_live a Nothing v told = absurd told
 
   -- the activation of a message that tells what its port wants, asks or puts is live

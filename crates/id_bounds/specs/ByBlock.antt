@@ -1,13 +1,16 @@
 -- How many messages a run has, by the blocks of which its paths are turns (docs/MEANING.md, "Laws").
 use Rattle.std.specs.Prelude.{◌≡◌, ◌<◌, ◌≤◌, ℕ, suc, true, List, length, map, sum_by}
 use Rattle.id_list.specs.List.{Among, AllDiffer}
+use Rattle.id_table.specs.declared.row.Node.TheVariants.{Index}
 use Rattle.id_table.specs.Tables.{is_thing}
 use Rattle.id_check.specs.declared.checked.Checked.{Checked}
-use Rattle.id_check.specs.Programs.{place, rows}
+use Rattle.id_check.specs.Programs.{Stands, place, rows}
 use Rattle.id_desugar.specs.Regions.{in_block, those}
 use Rattle.id_core.specs.Machines.{World}
 use Rattle.id_source.specs.declared.Path.{Path}
-use Rattle.id_source.specs.declared.Fact.TheVariants.{On}
+use Rattle.id_source.specs.declared.SourceValue.{SourceValue}
+use Rattle.id_source.specs.declared.Fact.TheVariants.{On, Has}
+use Rattle.id_source.specs.Facts.{ForStands, below}
 use Rattle.id_source.specs.Sources.{Source, AreInputs}
 use Rattle.id_source.specs.Rounds.{Holds}
 use Rattle.id_pieces.specs.declared.arc.Form.{Form}
@@ -38,13 +41,15 @@ pub record Turn : Type 0 where
   pub path : Path
   pub head : ℕ
 
--- a thing that stands in the block is On at the path
-pub record IsTurn (S : Source) (t : Turn) : Type 0 where
-  pub row : ℕ
-  pub within : row < length (rows S.checked)
-  pub thing : is_thing (node S.checked row) ≡ true
-  pub stands : in_block S.checked t.head row ≡ true
-  pub on : Holds S (On t.path (place S.checked row))
+-- a thing that stands in the block is On at the path, or its index Has a value there, or the block is that of an On
+-- `for` and the path its first iteration
+pub data IsTurn (S : Source) (t : Turn) : Type 0 where
+  something_on : {i : ℕ} → i < length (rows S.checked) → is_thing (node S.checked i) ≡ true
+      → in_block S.checked t.head i ≡ true → Holds S (On t.path (place S.checked i)) → IsTurn S t
+  index_has : {x name : ℕ} {v : SourceValue} → Stands S.checked x (Index name) → in_block S.checked t.head x ≡ true
+      → Holds S (Has t.path (place S.checked x) v) → IsTurn S t
+  loop_begins : {n w x a b l : ℕ} {q : Path} → (f : ForStands S.checked n w x a b l) → t.head ≡ f.head
+      → Holds S (On q (place S.checked n)) → t.path ≡ below q (place S.checked n) 0 → IsTurn S t
 
 -- what was handled and what is in flight in this state is paid for by turns of blocks at so many different paths, save
 -- the answer

@@ -1,25 +1,25 @@
 -- When the facts of a source have come to an end (docs/MEANING.md, "Laws").
 use Rattle.std.specs.Prelude.{◌≤◌, ℕ, suc, List, length}
 use Rattle.id_list.specs.List.{Among, AllDiffer}
+use Rattle.id_check.specs.declared.checked.Checked.{Checked}
 use Rattle.id_source.specs.declared.Path.{Path}
 use Rattle.id_source.specs.declared.Fact.{Fact}
-use Rattle.id_source.specs.declared.Fact.TheVariants.{On}
 use Rattle.id_source.specs.Sources.{Source}
 use Rattle.id_source.specs.Rounds.{Holds}
 use Rattle.id_source.specs.Computed.{AreFacts}
-use Rattle.id_bounds.specs.Bounded.{AreActive}
+use Rattle.id_bounds.specs.Bounded.{AreActive, IsActiveBy}
 
--- these are the paths at which the facts say that something is On, each once
-pub record AreOnPaths (fs : List Fact) (ps : List Path) : Type 0 where
-  pub each : (p : Path) (e : ℕ) → Among (On p e) fs → Among p ps
-  pub only : (p : Path) → Among p ps → (e : ℕ) × Among (On p e) fs
+-- these are the paths at which a run may do something by the facts, each once
+pub record AreActiveBy (P : Checked) (fs : List Fact) (ps : List Path) : Type 0 where
+  pub each : (p : Path) → IsActiveBy P (λ f. Among f fs) p → Among p ps
+  pub only : (p : Path) → Among p ps → IsActiveBy P (λ f. Among f fs) p
   pub once : AllDiffer ps
 
--- the facts are all that the source has, and something is On at their paths alone, which are no more than they
+-- the facts are all that the source has, and a run may do something at their paths alone, which are no more than they
 pub record AreAllFacts (S : Source) (fs : List Fact) : Type 0 where
   pub all : (f : Fact) → Holds S f → Among f fs
   pub paths : List Path
-  pub at : AreOnPaths fs paths
+  pub at : AreActiveBy S.checked fs paths
   pub active : AreActive S paths
   pub few : length paths ≤ length fs
 

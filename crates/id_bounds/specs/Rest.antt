@@ -31,8 +31,8 @@ pub record ComesToRest (S : Source) (r : RunOf S) (most : ℕ) : Type 0 where
   pub quiet : (end_of S r).flight ≡ [] → FaultFree S → IsQuiet (end_of S r)
   pub faulty : (end_of S r).flight ≡ [] → (f : SourceFault) → Faulty S f → faults r.graph (end_of S r) ≢ []
 
--- *Comes to rest*: where something is On at these paths alone, each run of the source on one element or more does so,
--- after as many messages as its graph may have at once for each of the paths
+-- *Comes to rest*: where these paths alone are active, each run of the source on one element or more does so, after as
+-- many messages as its graph may have at once for each of the paths
 abbrev pub Rest : Type 0
 Rest = (S : Source) (ps : List Path) → AreInputs S.checked S.inputs → AreActive S ps → (r : RunOf S) → 0 < r.count
     → messages_at_once r.graph * length ps < 2 ^ 64 - 1 → ComesToRest S r (messages_at_once r.graph * length ps)

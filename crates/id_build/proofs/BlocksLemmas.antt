@@ -15,11 +15,11 @@ use Rattle.id_check.specs.Programs.{rows}
 use Rattle.id_instr.specs.declared.instr.Block.{Block}
 use Rattle.id_pieces.specs.Made.{number_by}
 use Rattle.id_desugar.specs.Ends.{end_of}
-use Rattle.id_desugar.specs.Regions.{is_loop_head}
-use Rattle.id_pieces.specs.Rows.{Entry, entries, entries_by, node, param_entry}
-use Rattle.id_pieces.specs.Schemas.{block_of, loop_heads_below}
+use Rattle.id_desugar.specs.Regions.{carried, first_variable, has_index, is_loop_head, loop_heads, nexts_of}
+use Rattle.id_desugar.proofs.HeadsLemmas.{loop_heads-is}
+use Rattle.id_pieces.specs.Rows.{Entry, entries, entries_by, node, param_entry, variable_entries}
+use Rattle.id_pieces.specs.Schemas.{block_of}
 use Rattle.id_list.specs.List.{Among}
-use Rattle.id_list.proofs.AmongLemmas.{Among-either}
 use Rattle.id_check.proofs.ProgramsLemmas.{table_of}
 use Rattle.id_table.proofs.BlocksLemmas.{not_last}
 use Rattle.id_pieces.proofs.EndsLemmas.{end_is}
@@ -32,10 +32,6 @@ takes P h i = is_param (node P i) && nat_eq (at (rows P) i).block h
 head_of : (n : Node) → is_head n ≡ true → n ≡ Head
 head_of Head e = refl
 head_of _ e = absurd (false≢true e)
-
--- the head of a procedure is none of a loop
-pub head_no_loop : (n : Node) → is_head n ≡ true → is_loop_head n ≡ false
-head_no_loop n e = ap is_loop_head (head_of n e)
 
 both : (a b : Bool) → (a && b) ≡ true → (a ≡ true) × (b ≡ true)
 both true b e = (refl, e)
@@ -151,36 +147,37 @@ heads_same P h t =
     let next : h + 1 ≡ suc h = omega arith in
     ap (heads_below (rows P)) next ∙ ap (λ b. cond b (heads_below (rows P) h ++ h ∷ []) (heads_below (rows P) h)) t
 
-pub loop_heads_next : (P : Checked) (h : ℕ) → is_loop_head (node P h) ≡ true → loop_heads_below P (h + 1) ≡ loop_heads_below P h ++ h ∷ []
-loop_heads_next P h t =
-    let next : h + 1 ≡ suc h = omega arith in
-    ap (loop_heads_below P) next ∙ ap (λ b. cond b (loop_heads_below P h ++ h ∷ []) (loop_heads_below P h)) t
-
-pub loop_heads_same : (P : Checked) (h : ℕ) → is_loop_head (node P h) ≡ false → loop_heads_below P (h + 1) ≡ loop_heads_below P h
-loop_heads_same P h t =
-    let next : h + 1 ≡ suc h = omega arith in
-    ap (loop_heads_below P) next ∙ ap (λ b. cond b (loop_heads_below P h ++ h ∷ []) (loop_heads_below P h)) t
-
 -- each listed head of a loop is one
-abbrev IsHeadBelow : Checked → ℕ → ℕ → Type 0
-IsHeadBelow P n x = (x < n) × (is_loop_head (node P x) ≡ true)
+pub loop_head_at : (P : Checked) (xs : List ℕ) (i : ℕ) → xs ≡ loop_heads P → i < length xs
+    → (get_or xs i 0 < length (rows P)) × (is_loop_head (node P (get_or xs i 0)) ≡ true)
+loop_head_at P xs i e l = loop_heads-is P (get_or xs i 0) (subst (Among (get_or xs i 0)) e (Among-get_or xs i l))
 
-one_more : (P : Checked) (n x : ℕ) (t : Bool) → is_loop_head (node P n) ≡ t → (Among x (loop_heads_below P n) → IsHeadBelow P n x)
-    → Among x (cond t (loop_heads_below P n ++ n ∷ []) (loop_heads_below P n)) → IsHeadBelow P (suc n) x
-one_more P n x true is old a = elim (Among-either x (loop_heads_below P n) (n ∷ []) a) [
-  | inl b ↦ let w = old b in (omega (arith, w.0), w.1)
-  | inr (inl e) ↦ (omega (arith, e), ap (λ k. is_loop_head (node P k)) e ∙ is)
-  | inr (inr z) ↦ absurd z
-]
-one_more P n x false is old a = let w = old a in (omega (arith, w.0), w.1)
+-- the entries of what a loop carries on beside its variables stand before those, one row each
+pub carried_entries : (P : Checked) (F : List ℕ) (h : ℕ)
+    → map (λ (q : Entry). number_by F q.row q.part) (variable_entries (h + 1) (carried P h ++ nexts_of P h))
+    ≡ map (λ (q : Entry). number_by F q.row q.part) (map param_entry (carried P h) ++ variable_entries (first_variable P h) (nexts_of P h))
+carried_entries P F h = go (has_index P h)
+  where
+    ns : List ℕ
+    ns = nexts_of P h
 
-head_below : (P : Checked) (n x : ℕ) → Among x (loop_heads_below P n) → IsHeadBelow P n x
-head_below P zero x a = absurd a
-head_below P (suc n) x a = one_more P n x (is_loop_head (node P n)) refl (head_below P n x) a
+    xs : List ℕ
+    xs = (h + 1) ∷ (h + 2) ∷ (h + 3) ∷ []
 
-pub loop_head_at : (P : Checked) (xs : List ℕ) (n i : ℕ) → xs ≡ loop_heads_below P n → i < length xs
-    → (get_or xs i 0 < n) × (is_loop_head (node P (get_or xs i 0)) ≡ true)
-loop_head_at P xs n i e l = head_below P n (get_or xs i 0) (subst (Among (get_or xs i 0)) e (Among-get_or xs i l))
+    go : (t : Bool)
+        → map (λ (q : Entry). number_by F q.row q.part) (variable_entries (h + 1) (cond t xs [] ++ ns))
+        ≡ map (λ (q : Entry). number_by F q.row q.part) (map param_entry (cond t xs []) ++ variable_entries (h + 1 + length (cond t xs [])) ns)
+    go true =
+        let two : h + 1 + 1 ≡ h + 2 = omega arith in
+        let three : h + 1 + 1 + 1 ≡ h + 3 = omega arith in
+        let four : h + 1 + 1 + 1 + 1 ≡ h + 1 + 3 = omega arith in
+        ap (λ k. number_by F (h + 1) 0 ∷ number_by F k 0 ∷ number_by F (h + 1 + 1 + 1) 0
+        ∷ map (λ (q : Entry). number_by F q.row q.part) (variable_entries (h + 1 + 1 + 1 + 1) ns)) two
+        ∙ ap (λ k. number_by F (h + 1) 0 ∷ number_by F (h + 2) 0 ∷ number_by F k 0
+        ∷ map (λ (q : Entry). number_by F q.row q.part) (variable_entries (h + 1 + 1 + 1 + 1) ns)) three
+        ∙ ap (λ k. number_by F (h + 1) 0 ∷ number_by F (h + 2) 0 ∷ number_by F (h + 3) 0
+        ∷ map (λ (q : Entry). number_by F q.row q.part) (variable_entries k ns)) four
+    go false = ap (λ v. map (λ (q : Entry). number_by F q.row q.part) (variable_entries v ns)) (sym (add-zero (h + 1)))
 
 -- with one more block
 pub blocks_push : (P : Checked) (F : List ℕ) (xs : List ℕ) (bs new : List Block) (h : ℕ) → bs ≡ map (block_of P (number_by F)) xs

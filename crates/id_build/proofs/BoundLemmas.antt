@@ -11,9 +11,9 @@ use Rattle.id_check.specs.Programs.{place, rows}
 use Rattle.id_scope.specs.Scopes.{first_of}
 use Rattle.id_check.proofs.ProgramsLemmas.{table_of}
 use Rattle.id_desugar.specs.Ends.{end_at, end_of, ends_what}
-use Rattle.id_desugar.specs.Regions.{handed, has, imports_by, imports_of, is_loop_head, is_outside, nexts_of, taken, used, with_use}
+use Rattle.id_desugar.specs.Regions.{bound_of, carried, first_variable, handed, has, has_index, imports_by, imports_of, is_loop_head, is_outside, nexts_of, taken, used, with_use}
 use Rattle.id_pieces.specs.Rows.{block, made, made_of, node}
-use Rattle.id_pieces.proofs.LoopsLemmas.{entries_are, head_inside, loop_rows, start_head}
+use Rattle.id_pieces.proofs.LoopsLemmas.{entries_are, head_inside, loop_rows, start_head, switches_high}
 use Rattle.id_build.proofs.SizeLemmas.{length-entries, length-split, length-start, length-switches, length-turn}
 
 -- what begins at a row ends at one of the rows
@@ -54,8 +54,24 @@ taken-length P h = imports_by-length (used P h) (h + 1) (end_of P h) (end_of P h
 nexts-length : (P : Checked) (h s : ℕ) → h < length (rows P) → node P h ≡ LoopHead s → length (nexts_of P h) ≤ end_of P h - (h + 1)
 nexts-length P h s within is =
     let z = loop_rows P h s within is in
-    let count : h + 1 + length (nexts_of P h) ≡ z.entries = entries_are P h s within is in
-    omega (arith, count, z.test.low, z.test.behind, z.body_is.low, z.last_is.low, z.last_is.ends)
+    let count : first_variable P h + length (nexts_of P h) ≡ z.entries = entries_are P h s within is in
+    let high = switches_high z in
+    omega (arith, count, z.test.low, z.test.behind, high)
+
+-- what it carries on beside is no more than an index, its upper bound and a flag
+carried-length : (P : Checked) (h : ℕ) → length (carried P h) ≤ 3
+carried-length P h = by (has_index P h)
+  where
+    by : (t : Bool) → length (if t then ((h + 1) ∷ (h + 2) ∷ (h + 3) ∷ []) else []) ≤ 3
+    by true = omega arith
+    by false = omega arith
+
+bound-length : (P : Checked) (h : ℕ) → length (bound_of P h) ≤ 1
+bound-length P h = by (has_index P h)
+  where
+    by : (t : Bool) → length (if t then ((h + 2) ∷ []) else []) ≤ 1
+    by true = omega arith
+    by false = omega arith
 
 -- the marker of a loop stands in the block of its head
 pub block_head : (P : Checked) (n : ℕ) → n < length (rows P) → is_in_loop (node P n) ≡ true
@@ -78,20 +94,30 @@ split-most P n t is =
     omega (arith, same, imported, length-split P n (place P n) t, taken-length P n)
 
 pub switches-most : (P : Checked) (n t : ℕ) → n < length (rows P) → node P n ≡ Switches t
-    → length (made P n) ≤ 2 * (end_of P (block P n) - (block P n + 1)) + 1
+    → length (made P n) ≤ 2 * (end_of P (block P n) - (block P n + 1)) + 2
 switches-most P n t within is =
     let g = block P n in
     let head = block_head P n within (ap is_in_loop is) in
     let same : length (made P n) ≡ length (made_of P n (place P n) (Switches t)) = ap (λ m. length (made_of P n (place P n) m)) is in
-    let imported : length (imports_of P n) ≡ length (nexts_of P g ++ taken P g) = ap (λ m. length (handed P n m)) is in
+    let imported : length (imports_of P n) ≡ length (bound_of P g ++ (nexts_of P g ++ taken P g)) = ap (λ m. length (handed P n m)) is in
     let variables = nexts-length P g (g - 1) head.0 head.1 in
-    omega (arith, same, imported, length-append (nexts_of P g) (taken P g), length-switches P n (place P n) t, taken-length P g, variables)
+    omega (
+      arith,
+      same,
+      imported,
+      length-append (bound_of P g) (nexts_of P g ++ taken P g),
+      bound-length P g,
+      length-append (nexts_of P g) (taken P g),
+      length-switches P n (place P n) t,
+      taken-length P g,
+      variables,
+    )
 
-pub start-most : (P : Checked) (n : ℕ) → n < length (rows P) → node P n ≡ Start → length (made P n) ≤ 2 * (end_of P (n + 1) - (n + 1 + 1)) + 1
+pub start-most : (P : Checked) (n : ℕ) → n < length (rows P) → node P n ≡ Start → length (made P n) ≤ 2 * (end_of P (n + 1) - (n + 1 + 1)) + 4
 start-most P n within is =
     let head = start_head P n within is in
     let same : length (made P n) ≡ length (made_of P n (place P n) Start) = ap (λ m. length (made_of P n (place P n) m)) is in
-    omega (arith, same, length-start P n (place P n), head-length P (n + 1) n head.1, nexts-length P (n + 1) n head.0 head.1)
+    omega (arith, same, length-start P n (place P n), head-length P (n + 1) n head.1, nexts-length P (n + 1) n head.0 head.1, carried-length P (n + 1))
 
 pub entries-most : (P : Checked) (n : ℕ) → n < length (rows P) → node P n ≡ Entries → length (made P n) ≤ end_of P (block P n) - (block P n + 1)
 entries-most P n within is =
@@ -100,9 +126,9 @@ entries-most P n within is =
     let same : length (made P n) ≡ length (made_of P n (place P n) Entries) = ap (λ m. length (made_of P n (place P n) m)) is in
     omega (arith, same, length-entries P n (place P n), head-length P g (g - 1) head.1)
 
-pub turn-most : (P : Checked) (n : ℕ) → n < length (rows P) → node P n ≡ Turn → length (made P n) ≤ (end_of P (block P n) - (block P n + 1)) + 1
+pub turn-most : (P : Checked) (n : ℕ) → n < length (rows P) → node P n ≡ Turn → length (made P n) ≤ (end_of P (block P n) - (block P n + 1)) + 4
 turn-most P n within is =
     let g = block P n in
     let head = block_head P n within (ap is_in_loop is) in
     let same : length (made P n) ≡ length (made_of P n (place P n) Turn) = ap (λ m. length (made_of P n (place P n) m)) is in
-    omega (arith, same, length-turn P n (place P n), head-length P g (g - 1) head.1)
+    omega (arith, same, length-turn P n (place P n), head-length P g (g - 1) head.1, carried-length P g)

@@ -1,5 +1,5 @@
 -- The entries that `send`s name, and the replies of `fetch`es, have numbers that an instruction can have.
-use Rattle.std.proofs.Common.{◌≡◌, inl, inr, ℕ, zero, suc, ◌+◌, ◌<◌, ◌≤◌, Bool, true, false, cond, eqb, List, [], ◌∷◌, ◌++◌, length, map, get_or}
+use Rattle.std.proofs.Common.{◌≡◌, ◌⊎◌, inl, inr, ℕ, zero, suc, ◌+◌, ◌<◌, ◌≤◌, Bool, true, false, cond, eqb, List, [], ◌∷◌, ◌++◌, length, map, get_or}
 use Rattle.std.proofs.Common.{refl, ap, sym, subst, ◌∙◌, arith, Some, eq-eqb, length-append}
 use Rattle.std.specs.Prelude.{All, slice_get}
 use Rattle.std.proofs.Math.ListN.{get_or-eq_default}
@@ -12,11 +12,12 @@ use Rattle.id_table.specs.declared.row.Node.{Node}
 use Rattle.id_table.specs.declared.row.Node.TheVariants.{Head, Param, Literal, Name, Unary, Binary, Split, If, Enter, Arg, Call}
 use Rattle.id_table.specs.declared.row.Node.TheVariants.{Block, Binding, Def, Program, Start, LoopHead, Variable, Entries, Switches}
 use Rattle.id_table.specs.declared.row.Node.TheVariants.{Turn, NextUse, Next, Body, Reset, Loop, Array, Fetch, Address, Store}
+use Rattle.id_table.specs.declared.row.Node.TheVariants.{Bounds, Carried, Within, Count, Index, Span}
 use Rattle.id_table.specs.Rows.{no_row}
 use Rattle.id_table.specs.Tables.{is_param}
 use Rattle.id_check.specs.declared.checked.Checked.{Checked}
 use Rattle.id_check.specs.Programs.{place, rows}
-use Rattle.id_desugar.specs.Regions.{imports_of, nexts_of}
+use Rattle.id_desugar.specs.Regions.{carried, first_variable, has_index, imports_of, nexts_of}
 use Rattle.id_instr.specs.declared.instr.Op.{Op}
 use Rattle.id_instr.specs.declared.instr.PortKind.{PortKind}
 use Rattle.id_instr.specs.declared.instr.Op.TheVariants.{Merge, Switch, Next as NextOp}
@@ -24,7 +25,7 @@ use Rattle.id_pieces.specs.declared.arc.Form.{Form}
 use Rattle.id_pieces.specs.declared.arc.Form.TheVariants.{Plain, EnterAt, SendTo, FetchAt}
 use Rattle.id_pieces.specs.declared.arc.Piece.{Piece}
 use Rattle.id_pieces.specs.Made.{AreFirsts, EntriesFit, Fits, first_in, number_by, pieces_in}
-use Rattle.id_pieces.specs.Rows.{block, called, entries_row, for_each, import_entries, made, made_of, node, param_at, send_to, variable_entries}
+use Rattle.id_pieces.specs.Rows.{block, called, entries_row, for_each, import_entries, made, made_of, node, param_at, param_entry, send_to, variable_entries}
 use Rattle.id_pieces.proofs.LoopsLemmas.{entries_node, entries_stand, entries_within, start_head}
 use Rattle.id_arcs.proofs.OrderLemmas.{IsOrder}
 use Rattle.id_build.proofs.SizeLemmas.{length-entries}
@@ -61,6 +62,15 @@ each_import : (P : Checked) (e n k : ℕ) (bs : List ℕ) → n < length (rows P
     Each P (map (send_to P e) (import_entries n k bs))
 each_import P e n k [] w l = tt
 each_import P e n k (b ∷ bs) w l = ((w, omega (arith, l)), each_import P e n (k + 1) bs w (omega (arith, l)))
+
+each_carried : (P : Checked) (e h : ℕ) → h + 3 < length (rows P) ⊎ (has_index P h ≡ false) → Each P (map (send_to P e) (map param_entry (carried P h)))
+each_carried P e h (inr none) =
+    subst (λ t. Each P (map (send_to P e) (map param_entry (cond t ((h + 1) ∷ (h + 2) ∷ (h + 3) ∷ []) [])))) (sym none) tt
+each_carried P e h (inl low) = go (has_index P h)
+  where
+    go : (t : Bool) → Each P (map (send_to P e) (map param_entry (cond t ((h + 1) ∷ (h + 2) ∷ (h + 3) ∷ []) [])))
+    go true = ((omega (arith, low), omega arith), (((omega (arith, low), omega arith), (((omega (arith, low), omega arith), tt)))))
+    go false = tt
 
 -- as many entries stand there as a loop has imports
 entries_count : (P : Checked) (h s : ℕ) → h < length (rows P) → node P h ≡ LoopHead s → length (made P (entries_row P h)) ≡ length (imports_of P h)
@@ -100,16 +110,36 @@ each_made P n e Start l is =
     let h = n + 1 in
     let w = entries_within P h n z.0 z.1 in
     let count = entries_count P h n z.0 z.1 in
-    let first : List Piece = map (send_to P e) (variable_entries (h + 1) (nexts_of P h)) in
+    let v = first_variable P h in
+    let zeroth : List Piece = map (send_to P e) (map param_entry (carried P h)) in
+    let first : List Piece = map (send_to P e) (variable_entries v (nexts_of P h)) in
     let last : List Piece = map (send_to P e) (import_entries (entries_row P h) 0 (imports_of P h)) in
-    let both = each_both P first last (each_variable P e (h + 1) (nexts_of P h) (omega (arith, w)))
+    let both = each_both P first last (each_variable P e v (nexts_of P h) (omega (arith, w)))
     (each_import P e (entries_row P h) 0 (imports_of P h) w (omega (arith, count))) in
-    (tt, subst (Each P) (sym (map-append (send_to P e) (variable_entries (h + 1) (nexts_of P h)) (import_entries (entries_row P h) 0 (imports_of P h)))) both)
+    let behind = subst (Each P) (sym (map-append (send_to P e) (variable_entries v (nexts_of P h)) (import_entries (entries_row P h) 0 (imports_of P h)))) both in (
+      tt,
+      subst (Each P) (sym (map-append (send_to P e) (map param_entry (carried P h))
+          (variable_entries v (nexts_of P h) ++ import_entries (entries_row P h) 0 (imports_of P h))))
+          (each_both P zeroth _ (each_carried P e h (low_or (has_index P h) refl w)) behind),
+    )
+  where
+    low_or : (t : Bool) → has_index P (n + 1) ≡ t → entries_row P (n + 1) < length (rows P)
+        → (n + 1 + 3 < length (rows P)) ⊎ (has_index P (n + 1) ≡ false)
+    low_or false e w = inr e
+    low_or true e w =
+        let many = ap (λ (t : Bool). length (cond t ((n + 1 + 1) ∷ (n + 1 + 2) ∷ (n + 1 + 3) ∷ []) [])) e in
+        inl (omega (arith, w, many))
+each_made P n e (Bounds a b) l is = (tt, (tt, tt))
+each_made P n e (Carried k) l is = (tt, tt)
+each_made P n e (Within f) l is = tt
+each_made P n e Count l is = (tt, (tt, (tt, (tt, (tt, tt)))))
+each_made P n e (Index x) l is = tt
+each_made P n e Span l is = tt
 each_made P n e (LoopHead s) l is = (tt, (tt, tt))
 each_made P n e Variable l is = (tt, tt)
 each_made P n e Entries l is = each_plain P (λ k. Merge k) e (imports_of P (block P n))
 each_made P n e (Switches t) l is = (tt, each_plain P (λ k. Switch k) e (imports_of P n))
-each_made P n e Turn l is = (tt, each_plain P (λ k. NextOp k) e (imports_of P (block P n)))
+each_made P n e Turn l is = (tt, each_plain P (λ k. NextOp k) e (carried P (block P n) ++ imports_of P (block P n)))
 each_made P n e (NextUse x) l is = tt
 each_made P n e (Next x k o v) l is = (tt, tt)
 each_made P n e Body l is = tt

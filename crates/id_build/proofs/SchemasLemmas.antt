@@ -87,8 +87,8 @@ number-apart P order F n k n' k' p p' o fs l l' h h' e =
     (sym (number_is P order F n k fs l) ∙ e ∙ number_is P order F n' k' fs l')
 
 -- the row of a feed
-Feeds-row : (P : Checked) (n : ℕ) (f : Feed) → Among f (feeds P n) → Takes (made P n) f.part f.port
-Feeds-row P n f h = feeds_take P n (place P n) (region P n) (node P n) f h
+Feeds-row : (P : Checked) (n : ℕ) (f : Feed) → IsBuildable P → n < length (rows P) → Among f (feeds P n) → Takes (made P n) f.part f.port
+Feeds-row P n f t l h = feeds_take P n (place P n) (region P n) (node P n) f (t.suits n l) h
 
 Feeds-origin : (P : Checked) (n : ℕ) (f : Feed) → IsBuildable P → n < length (rows P) → Among f (feeds P n) → IsOrigin P f.origin
 Feeds-origin P n f t l h = feeds_come P n (region P n) (node P n) f t (t.suits n l) h
@@ -98,8 +98,8 @@ tells : (P : Checked) (order F : List ℕ) → IsBuildable P → IsOrder P order
 tells P order F t o fs n n' f f' i i' h h' e =
     let l = o.within n i in
     let l' = o.within n' i' in
-    let to = Feeds-row P n f h in
-    let to' = Feeds-row P n' f' h' in
+    let to = Feeds-row P n f t l h in
+    let to' = Feeds-row P n' f' t l' h' in
     let goal = number-apart P order F n f.part n' f'.part to.piece to'.piece o fs l l' to.at to'.at (ap (λ a. a.to) e) in
     let from = Feeds-origin P n f t l h in
     let from' = Feeds-origin P n' f' t l' h' in
@@ -198,7 +198,7 @@ Numbered-graph_by P order F t o fs = record {
       );
   ports = λ m b to h. (
       let c = arcs_in-from P F order _ (sent P order F m b to h.instr h.at h.lists) in
-      let takes = Feeds-row P c.n c.fed c.among in
+      let takes = Feeds-row P c.n c.fed t (o.within c.n c.at) c.among in
       let number : number_by F c.n c.fed.part ≡ to.instr = sym (ap (λ x. x.to) c.is) in
       let port : c.fed.port ≡ to.port = sym (ap (λ x. x.port) c.is) in
       let A : ℕ → Type 0 = λ x. slice_get (graph_by P order F).instrs x ≡ Some (joined F (number_by F c.n c.fed.part) takes.piece (arcs_in P F order)) in
@@ -232,7 +232,7 @@ IsFrom-arcs_in P order F t o fs k d lt =
     let a = get_or (arcs_in P F order) k d in
     let c = arcs_in-from P F order a (Among-from_at a (arcs_in P F order) k (slice_get-get_or (arcs_in P F order) k d lt)) in
     let l = o.within c.n c.at in
-    let to = Feeds-row P c.n c.fed c.among in
+    let to = Feeds-row P c.n c.fed t l c.among in
     let from = Feeds-origin P c.n c.fed t l c.among in
     let one = slice_get_within (pieces_in P order) (number_by F c.fed.origin.row c.fed.origin.part) from.gives.piece
     (stands P order F c.fed.origin.row c.fed.origin.part from.gives.piece o fs from.within from.gives.at) in

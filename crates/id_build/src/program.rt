@@ -5,13 +5,13 @@ ghost use Rattle.std.specs.Prelude.{◌^◌, All, IfOk, IfErr, OnOk, fold};
 ghost use Rattle.id_list.specs.List.{AllDiffer, Among};
 ghost use Rattle.id_check.specs.Programs as programs;
 ghost use Rattle.id_desugar.specs.Regions as regions;
-ghost use Rattle.id_desugar.specs.Regions.{imports_of, nexts_of};
+ghost use Rattle.id_desugar.specs.Regions.{carried, first_variable, imports_of, loop_heads, nexts_of};
 ghost use Rattle.id_instr.specs.Graph.{parts};
 ghost use Rattle.id_table.specs.Tables as tables;
 ghost use Rattle.id_table.specs.Turns.{heads_below};
 ghost use Rattle.id_pieces.specs.Rows as rows;
-ghost use Rattle.id_pieces.specs.Rows.{feeds, import_entries, made, size, variable_entries};
-ghost use Rattle.id_pieces.specs.Schemas.{Schemas, all_heads, block_of, loop_heads_below};
+ghost use Rattle.id_pieces.specs.Rows.{feeds, import_entries, made, param_entry, size, variable_entries};
+ghost use Rattle.id_pieces.specs.Schemas.{Schemas, all_heads, block_of};
 ghost use Rattle.id_pieces.specs.Made.{AreFirsts, EntriesFit, Fits, IsBetween, arc_of, connected, graph_by};
 ghost use Rattle.id_pieces.specs.Made.{instrs_from, number_by, pieces_in};
 ghost use Rattle.id_pieces.specs.Slots.{AreColumns, AreSlots};
@@ -43,18 +43,22 @@ pub fn build(alloc: Global, kernel: &Kernel<'_>) -> Result<Graph, BuildError>
         ends: &kernel.ends,
         nexts: &kernel.nexts,
     };
-    let (blocks, instrs) = build_parts(alloc, kernel.checked, columns, order)?;
+    let loops = kernel.loops.as_slice();
+    let (blocks, instrs) = build_parts(alloc, kernel.checked, columns, loops, order)?;
     Ok(Graph::known(blocks, instrs))
 }
 
-/// The blocks and instructions of the program, where this is the order of its rows, with these imports.
+/// The blocks and instructions of the program, where this is the order of its rows, with these heads of loops and these
+/// imports.
 fn build_parts(
     alloc: Global,
     checked: &Checked,
     columns: Columns<'_>,
+    loops: &[u32],
     order: &[u32],
 ) -> Result<(Vec<Block>, Vec<Instr>), BuildError>
     requires columns { AreColumns checked.now columns }
+    requires loops { loops.now ≡ loop_heads checked.now }
     requires order { order.now ≡ regions.order_of checked.now }
     ensures parts { MatchResult result
         (λ g. Schemas checked.now (parts g.0.items g.1.items) × (length g.1.items ≤ 1000000))
@@ -62,18 +66,21 @@ fn build_parts(
     ensures small { OnOk result (size checked.now ≤ 1000000) }
 {
     let numbers = number(alloc, checked, columns, order)?;
-    parts_by(alloc, checked, columns, order, numbers)
+    parts_by(alloc, checked, columns, loops, order, numbers)
 }
 
-/// The blocks and instructions of the program, where this is the order of its rows, with these imports and numbers.
+/// The blocks and instructions of the program, where this is the order of its rows, with these heads of loops, imports
+/// and numbers.
 fn parts_by(
     alloc: Global,
     checked: &Checked,
     columns: Columns<'_>,
+    loops: &[u32],
     order: &[u32],
     numbers: Numbers,
 ) -> Result<(Vec<Block>, Vec<Instr>), BuildError>
     requires columns { AreColumns checked.now columns }
+    requires loops { loops.now ≡ loop_heads checked.now }
     requires order { order.now ≡ regions.order_of checked.now }
     requires firsts { AreFirsts checked.now order.now numbers.firsts.items }
     requires few { length (pieces_in checked.now order.now) ≤ 1000000 }
@@ -81,7 +88,7 @@ fn parts_by(
         (λ g. Schemas checked.now (parts g.0.items g.1.items) × (length g.1.items ≤ 1000000))
         (λ e. e ≡ BuildError.Memory) }
 {
-    let blocks = blocks(alloc, checked, columns, numbers.firsts.as_slice())?;
+    let blocks = blocks(alloc, checked, columns, loops, numbers.firsts.as_slice())?;
     let instrs = connected(alloc, checked, columns, order, numbers)?;
     Ok((blocks, instrs))
 }
@@ -258,44 +265,30 @@ fn connect_row(
 }
 
 /// The blocks of the program, where the rows' first instructions have these numbers: those of the procedures, and then
-/// those of the loops.
+/// those of the loops, which have these heads.
 fn blocks(
     alloc: Global,
     checked: &Checked,
     columns: Columns<'_>,
+    loops: &[u32],
     firsts: &[u32],
 ) -> Result<Vec<Block>, BuildError>
     requires columns { AreColumns checked.now columns }
+    requires loops { loops.now ≡ loop_heads checked.now }
     requires fit { EntriesFit checked.now firsts.now }
     ensures blocks { IfOk result (λ v. v.items
         ≡ map (block_of checked.now (number_by firsts.now)) (all_heads checked.now)) }
     ensures memory { IfErr result (λ e. e ≡ BuildError.Memory) }
 {
     let mut blocks = Vec::new(alloc);
-    let mut loops = Vec::new(alloc);
     for head in 0..checked.table.rows.len() {
-        add_head(
-            alloc,
-            checked,
-            columns,
-            firsts,
-            head,
-            &mut blocks,
-            &mut loops,
-        )?;
+        add_head(alloc, checked, columns, firsts, head, &mut blocks)?;
     }
-    push_loops(
-        alloc,
-        checked,
-        columns,
-        firsts,
-        loops.as_slice(),
-        &mut blocks,
-    )?;
+    push_loops(alloc, checked, columns, firsts, loops, &mut blocks)?;
     Ok(blocks)
 }
 
-/// Adds the block of the procedure that begins at a row, or the row to the heads of loops where a loop begins there.
+/// Adds the block of the procedure that begins at a row, if one does.
 #[inline]
 fn add_head(
     alloc: Global,
@@ -304,24 +297,17 @@ fn add_head(
     firsts: &[u32],
     head: usize,
     blocks: &mut Vec<Block>,
-    loops: &mut Vec<usize>,
 ) -> Result<(), BuildError>
     requires columns { AreColumns checked.now columns }
     requires within { head < length (programs.rows checked.now) }
     requires blocks { blocks.old.items
         ≡ map (block_of checked.now (number_by firsts.now)) (heads_below (programs.rows checked.now) head) }
-    requires loops { loops.old.items ≡ loop_heads_below checked.now head }
     ensures blocks { OnOk result (blocks.new.items
         ≡ map (block_of checked.now (number_by firsts.now)) (heads_below (programs.rows checked.now) (head + 1))) }
-    ensures loops { OnOk result (loops.new.items ≡ loop_heads_below checked.now (head + 1)) }
     ensures memory { IfErr result (λ e. e ≡ BuildError.Memory) }
 {
-    let node = row_at(checked, head).node;
-    if is_head(node) {
+    if is_head(row_at(checked, head).node) {
         return add_procedure(alloc, checked, columns, firsts, head, blocks);
-    }
-    if is_loop_head(node) {
-        loops.push(head)?;
     }
     Ok(())
 }
@@ -353,18 +339,18 @@ fn push_loops(
     checked: &Checked,
     columns: Columns<'_>,
     firsts: &[u32],
-    heads: &[usize],
+    heads: &[u32],
     blocks: &mut Vec<Block>,
 ) -> Result<(), BuildError>
     requires columns { AreColumns checked.now columns }
     requires fit { EntriesFit checked.now firsts.now }
-    requires heads { heads.now ≡ loop_heads_below checked.now (length (programs.rows checked.now)) }
+    requires heads { heads.now ≡ loop_heads checked.now }
     ensures blocks { OnOk result (blocks.new.items
         ≡ blocks.old.items ++ map (block_of checked.now (number_by firsts.now)) heads.now) }
     ensures memory { IfErr result (λ e. e ≡ BuildError.Memory) }
 {
     for head in heads {
-        add_loop(alloc, checked, columns, firsts, *head, blocks)?;
+        add_loop(alloc, checked, columns, firsts, *head as usize, blocks)?;
     }
     Ok(())
 }
@@ -444,7 +430,7 @@ fn push_param(entries: &mut Vec<u32>, firsts: &[u32], n: usize) -> Result<(), Bu
     Ok(())
 }
 
-/// The numbers of the entries of the loop with this head: its variables, and then its imports.
+/// The numbers of the entries of the loop with this head: what it carries on, its variables, and then its imports.
 fn loop_entries(
     alloc: Global,
     checked: &Checked,
@@ -467,7 +453,8 @@ fn loop_entries(
     Ok(entries)
 }
 
-/// Adds the entries of the variables of the loop with this head, up to the row of those of its imports.
+/// Adds the entries of what the loop with this head carries on and of its variables, up to the row of those of its
+/// imports.
 #[inline]
 fn push_variables(
     checked: &Checked,
@@ -479,7 +466,8 @@ fn push_variables(
     requires within { head < length (programs.rows checked.now) }
     requires imported { imported ≡ rows.entries_row checked.now head }
     ensures entries { OnOk result (entries.new.items ≡ entries.old.items
-        ++ map (λ q. number_by firsts.now q.row q.part) (variable_entries (head + 1) (nexts_of checked.now head))) }
+        ++ map (λ q. number_by firsts.now q.row q.part) (map param_entry (carried checked.now head)
+        ++ variable_entries (first_variable checked.now head) (nexts_of checked.now head))) }
     ensures memory { IfErr result (λ e. e ≡ BuildError.Memory) }
 {
     let _ = checked;
@@ -516,10 +504,4 @@ fn is_head(node: Node) -> bool
     ensures { result ≡ tables.is_head node }
 {
     matches!(node, Node::Head)
-}
-
-fn is_loop_head(node: Node) -> bool
-    ensures { result ≡ regions.is_loop_head node }
-{
-    matches!(node, Node::LoopHead { .. })
 }

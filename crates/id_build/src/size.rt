@@ -8,7 +8,7 @@ ghost use Rattle.id_pieces.specs.Rows.{HasNoSplit, is_plain, made, made_of, size
 ghost use Rattle.id_pieces.specs.Slots.{AreColumns};
 
 use id_check::Checked;
-use id_desugar::{Column, Kernel, end_of, find_ends, row_at};
+use id_desugar::{Column, Kernel, carried_count, end_of, find_ends, row_at};
 use id_pieces::{Columns, nexts_at};
 use id_table::Node;
 use std::alloc::{AllocError, Global};
@@ -76,15 +76,15 @@ fn most_made(checked: &Checked, ends: &Column, n: usize) -> usize
     requires ends { AreEnds checked.now ends.now }
     requires within { n < length (programs.rows checked.now) }
     ensures most { length (made checked.now n) ≤ result }
-    ensures few { result ≤ 2000001 }
+    ensures few { result ≤ 2000004 }
 {
     let row = row_at(checked, n);
     match row.node {
         Node::Split { .. } => rows_in(checked, ends, n) + 1,
-        Node::Switches { .. } => 2 * rows_in(checked, ends, row.block as usize) + 1,
-        Node::Start => 2 * rows_in(checked, ends, n + 1) + 1,
+        Node::Switches { .. } => 2 * rows_in(checked, ends, row.block as usize) + 2,
+        Node::Start => 2 * rows_in(checked, ends, n + 1) + 4,
         Node::Entries => rows_in(checked, ends, row.block as usize),
-        Node::Turn => rows_in(checked, ends, row.block as usize) + 1,
+        Node::Turn => rows_in(checked, ends, row.block as usize) + 4,
         node => plain_count(node).unwrap_or(0),
     }
 }
@@ -113,11 +113,16 @@ pub fn made_count(checked: &Checked, columns: Columns<'_>, n: usize) -> usize
         Node::Split { .. } => columns.imports(checked, n).len() + 1,
         Node::Switches { .. } => columns.imports(checked, n).len() + 1,
         Node::Start => {
-            let nexts = nexts_at(checked, columns, n + 1);
-            nexts.len() + columns.imports(checked, n + 1).len() + 1
+            let head = n + 1;
+            let nexts = nexts_at(checked, columns, head);
+            let carried = carried_count(checked, head);
+            nexts.len() + columns.imports(checked, head).len() + carried + 1
         }
         Node::Entries => columns.imports(checked, row.block as usize).len(),
-        Node::Turn => columns.imports(checked, row.block as usize).len() + 1,
+        Node::Turn => {
+            let head = row.block as usize;
+            columns.imports(checked, head).len() + carried_count(checked, head) + 1
+        }
         node => plain_count(node).unwrap_or(0),
     }
 }
@@ -125,7 +130,7 @@ pub fn made_count(checked: &Checked, columns: Columns<'_>, n: usize) -> usize
 /// How many instructions a row of this node makes, unless that depends on what is imported. Takes no memory.
 fn plain_count(node: Node) -> Option<usize>
     ensures some { IfSome result (λ k. (P : Checked) (n e : ℕ) → length (made_of P n e node) ≡ k) }
-    ensures few { IfSome result (λ k. k ≤ 3) }
+    ensures few { IfSome result (λ k. k ≤ 5) }
     ensures exact { IsSome result ↔ (is_plain node ≡ true) }
 {
     match node {
@@ -135,7 +140,11 @@ fn plain_count(node: Node) -> Option<usize>
         Node::Enter { .. } | Node::Arg { .. } | Node::Call { .. } => Some(1),
         Node::Variable | Node::Next { .. } | Node::Reset { .. } | Node::Loop { .. } => Some(1),
         Node::Name { .. } | Node::Block { .. } | Node::Def { .. } => Some(0),
-        Node::NextUse { .. } | Node::Body => Some(0),
+        Node::NextUse { .. } | Node::Body | Node::Span => Some(0),
+        Node::Within { .. } | Node::Index { .. } => Some(0),
+        Node::Carried { .. } => Some(1),
+        Node::Bounds { .. } => Some(2),
+        Node::Count => Some(5),
         Node::Array { .. } | Node::Address { .. } | Node::Store { .. } => Some(1),
         Node::Fetch { .. } => Some(3),
         Node::Split { .. } | Node::Switches { .. } => None,

@@ -4,7 +4,6 @@ use Rattle.std.specs.Prelude.{List, [], ◌∷◌, length}
 use Rattle.std.proofs.Common.{Vec, Global}
 use Rattle.id_cells.specs.declared.queues.Queues.{Queues}
 use Rattle.id_cells.specs.declared.queues.Wait.{Wait}
-use Rattle.id_cells.specs.Cells.{items}
 use Rattle.std.specs.Prelude.{◌≡◌, ◌<◌}
 use Rattle.id_list.specs.List.{Among}
 

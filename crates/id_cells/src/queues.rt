@@ -11,9 +11,9 @@ use std::alloc::{AllocError, Global};
 #[derive(Clone, Copy)]
 pub struct Wait {
     pub path: Trail,
-    /// The row that is On: a name or a loop.
+    /// The row that is On, a name or a loop, or the index that has a value.
     pub row: usize,
-    /// The row that is to have the binder's value: the name, or a `next` of the loop.
+    /// The row that waits: the name, a `next` of the loop, or the index.
     pub user: usize,
 }
 

@@ -1,7 +1,7 @@
-//! Names and loops that wait for binders (docs/MEANING.md, "Rules").
+//! Names, loops and indices that wait for values (docs/MEANING.md, "Rules").
 //!
-//! A name that is On waits in a queue for its binder, and a loop for those of its variables' names outside, so that a
-//! value leads to those alone that are On.
+//! A name that is On waits in a queue for its binder, a loop for those of its variables' names outside, and an index
+//! that has a value for its upper bound, so that a value leads to those alone that are On or count.
 
 ghost use Rattle.std.specs.Prelude.{[], ◌∷◌, OnOk};
 ghost use Rattle.id_cells.specs.Cells.{items};
@@ -15,7 +15,7 @@ use id_links::{Links, awaited, distance, node_of};
 use id_table::Node;
 use std::alloc::AllocError;
 
-/// Lets all wait for their binders that wait where these facts turn rows On.
+/// Lets all wait that wait by these facts.
 pub fn wait_all(
     waits: &mut Queues,
     checked: &Checked,
@@ -31,7 +31,7 @@ pub fn wait_all(
     Ok(())
 }
 
-/// Lets all wait that wait where this fact turns a row On.
+/// Lets all wait that wait by this fact.
 fn wait(
     waits: &mut Queues,
     checked: &Checked,
@@ -54,6 +54,10 @@ fn wait(
                     links.args.of(head as usize),
                 )
             }
+            _ => Ok(()),
+        },
+        RowFact::Has { path, row, .. } => match node_of(checked, row) {
+            Node::Index { .. } => wait_for(waits, checked, cells, path, row, row),
             _ => Ok(()),
         },
         _ => Ok(()),

@@ -1,20 +1,22 @@
 -- Where the binder that a name has stands: round the name, or round the loop that has its first value by the name.
-use Rattle.std.proofs.Common.{◌≡◌, ◌⊎◌, inl, inr, ◌+◌, ◌<◌, ◌≤◌, ℕ, zero, suc, Bool as Truth, true, false, List}
+use Rattle.std.proofs.Common.{◌≡◌, ◌⊎◌, inl, inr, ◌+◌, ◌-◌, ◌<◌, ◌≤◌, ℕ, zero, suc, Bool as Truth, true, false, List}
 use Rattle.std.proofs.Common.{Some, None, length, refl, ap, sym, ◌∙◌, subst, arith}
 use Rattle.std.specs.Prelude.{◌&&◌, ◌||◌}
-use Rattle.std.proofs.lemmas.Bool.{cases_lt, false≢true}
+use Rattle.std.proofs.lemmas.Bool.{cases_eq, cases_lt, false≢true}
 use Rattle.std.proofs.lemmas.Bool.Decides.{nat_tests}
 use Rattle.id_value.specs.declared.Kind.{Kind}
 use Rattle.id_table.specs.declared.row.Region.{Region}
 use Rattle.id_table.specs.declared.row.Row.{Row}
 use Rattle.id_table.specs.declared.row.Node.{Node}
-use Rattle.id_table.specs.declared.row.Node.TheVariants.{Head, Param, Name, Block, Binding, Def, Start, LoopHead, NextUse, Next, Body, Loop}
+use Rattle.id_table.specs.declared.row.Node.TheVariants.{Head, Param, Name, Block, Binding, Def, Start, LoopHead}
+use Rattle.id_table.specs.declared.row.Node.TheVariants.{Count, Index, NextUse, Next, Body, Span, Loop}
 use Rattle.id_table.specs.Rows.{arm_at, at, top}
-use Rattle.id_table.specs.Tables.{around, has_statements, is_head, is_param, is_split, is_statement, is_switches, is_top}
-use Rattle.id_table.specs.Loops.{IsLoop, IsLoopOf}
-use Rattle.id_table.specs.Regions.{Lies, here, in_arm, in_loop, in_side}
+use Rattle.id_table.specs.Tables.{around, has_statements, is_head, is_index, is_next, is_param, is_split, is_statement, is_switches, is_top}
+use Rattle.id_table.specs.Loops.{InSide, IsBody, IsLoop, IsLoopOf, IsTurn, StandsInSide, behind_count, index_row, right}
+use Rattle.id_table.specs.Regions.{Lies, StandsInArm, here, in_arm, in_loop, in_side}
 use Rattle.id_table.specs.Turns.{AreParamsOf, IsTable, in_block}
-use Rattle.id_table.proofs.RegionLemmas.{Lies-trans}
+use Rattle.id_table.proofs.BlocksLemmas.{not_last}
+use Rattle.id_table.proofs.RegionLemmas.{InArm-within, Lies-trans}
 use Rattle.id_scope.specs.Scopes.{bound_name, closes, confines, held, looks, sees_own, takes}
 
 -- the home of a binder's value is where the binder stands, and for a loop's variable the beginning of the loop
@@ -77,7 +79,7 @@ held_by R b (suc s) e = by (held R b s) refl e (held_by R b s)
 closes_binding : (m : Node) (y a : ℕ) → closes m (Binding y a) ≡ has_statements m
 closes_binding (Block b) y a = refl
 closes_binding Body y a = refl
-closes_binding (Loop h w l) y a = refl
+closes_binding Span y a = refl
 closes_binding _ y a = refl
 
 pub held_binding : (R : List Row) (b n y a : ℕ) → (at R b).node ≡ Binding y a → held R b n ≡ in_block R b n
@@ -88,9 +90,35 @@ held_binding R b (suc s) y a e =
 
 -- ---- loops
 
+-- the `Turn` and the body of a loop stand behind its switches
+turn_low : {R : List Row} {w v c : ℕ} → IsTurn R w v c → w < v
+turn_low (right e) = omega arith
+turn_low (behind_count e f g) = omega arith
+
+pub body_low : {R : List Row} {h w v b c : ℕ} → IsBody R h w v b c → w < b
+body_low z = let l = turn_low z.turns in omega (arith, z.low)
+
+-- a row in a side of switches stands behind them
+side_low : (w b n i : ℕ) (c : Truth) → w < b → InSide w b n c i → w < i
+side_low w b n i true low h = h.0
+side_low w b n i false low h = omega (arith, low, h.0)
+
+-- behind the switches of a loop with an index stand what counts and the `Turn`
+counted : {R : List Row} {w v c : ℕ} → IsTurn R w v c → c ≡ 3 → (v ≡ w + 2) × ((at R (w + 1)).node ≡ Count)
+counted (right f) g = absurd (omega arith)
+counted (behind_count f g h) k = (f, g)
+
+abbrev start_or : ℕ → Node → ℕ
+start_or d (LoopHead s) = s
+start_or d _ = d
+
+abbrev switches_or : ℕ → Node → ℕ
+switches_or d (Loop h w l) = w
+switches_or d _ = d
+
 module _ (R : List Row) (t : IsTable R) where
-  -- the rows of a loop from its head on lie in its beginning
-  pub inside_loop : (n h : ℕ) → IsLoopOf R n h → (i : ℕ) → h ≤ i → i < n → Lies R (top h) (at R i).region
+  -- the rows of a loop from its head on, before its `Span`, lie in its beginning
+  pub inside_loop : (n h : ℕ) → IsLoopOf R n h → (i : ℕ) → h ≤ i → i + 1 < n → Lies R (top h) (at R i).region
   inside_loop n h c i low high = by (cases_lt c.switches i) (cases_lt l.body i)
     where
       l : IsLoop R n h c.switches c.last
@@ -98,7 +126,7 @@ module _ (R : List Row) (t : IsTable R) where
 
       side : (b : Truth) → Lies R (top h) (arm_at c.switches b)
       side b =
-          let e = (l.body_is).low in
+          let e = body_low (l.body_is) in
           let f = (l.last_is).low in
           let g = (l.last_is).ends in
           let k = c.within in
@@ -109,20 +137,52 @@ module _ (R : List Row) (t : IsTable R) where
       by (inl e) (inr f) = Lies-trans R (side true) ((l.body_is).each i e f)
       by (inl e) (inl f) = Lies-trans R (side false) ((l.last_is).each i f high)
 
-  -- a loop with a row in it that is not its `Start` has its head before that
-  head_before : (n h : ℕ) (c : IsLoopOf R n h) (i : ℕ) → (at R n).first ≤ i → ((at R i).node ≡ Start → ⊥) → h ≤ i
-  head_before n h c i low other =
-      let l = t.loop_is n h c in
-      let e = l.begins in
-      let f = (l.start_of).first in
-      by (cases_lt l.start i)
+  -- where a loop's `Span` stands, behind the last expression and the `Reset`
+  abbrev span_of : (n h : ℕ) → IsLoopOf R n h → ℕ
+  span_of n h c = c.last + 2
+
+  span_is : (n h : ℕ) (c : IsLoopOf R n h) → (at R (span_of n h c)).node ≡ Span
+  span_is n h c = (t.loop_is n h c).last_is.span
+
+  span_first : (n h : ℕ) (c : IsLoopOf R n h) → (at R (span_of n h c)).first ≡ (t.loop_is n h c).start
+  span_first n h c = (t.loop_is n h c).last_is.span_first
+
+  span_ends : (n h : ℕ) (c : IsLoopOf R n h) → span_of n h c + 1 ≡ n
+  span_ends n h c = let e = (t.loop_is n h c).last_is.ends in omega arith
+
+  span_start : (m n h : ℕ) (c : IsLoopOf R n h) → m + 1 ≡ n → (at R m).first ≡ (t.loop_is n h c).start
+  span_start m n h c e =
+      let f = span_ends n h c in
+      let same : span_of n h c ≡ m = omega arith in
+      ap (λ k. (at R k).first) (sym same) ∙ span_first n h c
+
+  -- a row behind a loop's `Start` stands behind its head, or is that
+  head_before : (n h : ℕ) (c : IsLoopOf R n h) (i : ℕ) → (t.loop_is n h c).start ≤ i → ((at R i).node ≡ Start → ⊥) → h ≤ i
+  head_before n h c i low other = by (cases_lt (t.loop_is n h c).start i)
     where
       by : ((t.loop_is n h c).start < i) ⊎ (i ≤ (t.loop_is n h c).start) → h ≤ i
       by (inl g) = let e = (t.loop_is n h c).begins in omega arith
       by (inr g) =
-          let f = ((t.loop_is n h c).start_of).first in
           let same : i ≡ (t.loop_is n h c).start = omega arith in
           absurd (other (ap (λ k. (at R k).node) same ∙ ((t.loop_is n h c).start_of).node))
+
+  and_is : (a b : Truth) → a ≡ true → b ≡ true → (a && b) ≡ true
+  and_is true b f g = g
+  and_is false b f g = f
+
+  -- a scope that takes what another one closes is not behind that
+  not_before : (n s b : ℕ) → held R b s ≡ false → confines R n b ≡ true → s ≤ n
+  not_before n s b f g = elim (cases_lt n s) [
+    | inl h ↦ absurd (false≢true (sym f ∙ held_from R b n s h g))
+    | inr h ↦ h
+  ]
+
+  -- and where it stands in that, so do its rows
+  outside : (n s : ℕ) → n < length R → (at R n).first ≤ s → s ≤ n → (at R n).first ≤ (at R s).first
+  outside n s f g h = elim (cases_lt s n) [
+    | inl j ↦ (t.nested).each s n j f g
+    | inr j ↦ let same : s ≡ n = omega arith in let z = ap (λ k. (at R k).first) same in omega arith
+  ]
 
   -- what is seen where a loop's variable is stands in the loop
   next_inside : (s b i x k o v : ℕ) → (at R b).node ≡ Next x k o v → b < length R → s < length R → around R s b ≡ true → held R b s ≡ false
@@ -132,41 +192,34 @@ module _ (R : List Row) (t : IsTable R) where
       let n = q.0 in
       let c = q.1 in
       let d = c.within in
-      let l = t.loop_is n (at R b).block c in
-      let below = (q.2).behind in
+      let m = span_of n (at R b).block c in
+      let ends : m + 1 ≡ n = span_ends n (at R b).block c in
+      let node : (at R m).node ≡ Span = span_is n (at R b).block c in
+      let first = span_first n (at R b).block c in
+      let begins = (t.loop_is n (at R b).block c).begins in
+      let behind = (q.2).behind in
+      let below : b < m = before m behind ends node in
       let low : (at R b).block ≤ b = (t.block b (omega arith)).0 in
-      let begins = l.begins in
-      let first = (l.start_of).first in
-      let shuts : closes (at R n).node (at R b).node ≡ true = ap (λ m. closes m (at R b).node) c.node ∙ ap (closes (Loop (at R b).block c.switches c.last)) e in
-      let own : confines R n b ≡ true = and_is (closes (at R n).node (at R b).node) (around R n b) shuts (around_is R n b (omega arith) below) in
-      let outer : s ≤ n = not_before n s b bare own in
-      let g = around_from R s b inside in
+      let shuts : closes (at R m).node (at R b).node ≡ true = ap (λ z. closes z (at R b).node) node ∙ ap (closes Span) e in
+      let own : confines R m b ≡ true = and_is (closes (at R m).node (at R b).node) (around R m b) shuts (around_is R m b (omega arith) below) in
+      let outer : s ≤ m = not_before m s b bare own in
       let j = around_below R s b inside in
-      let out : (at R n).first ≤ (at R s).first = outside n s d (omega arith) outer in
+      let out : (at R m).first ≤ (at R s).first = outside m s (omega arith) (omega arith) outer in
       let p = around_from R s i round in
       let r = around_below R s i round in
       inside_loop n (at R b).block c i (head_before n (at R b).block c i (omega arith) other) (omega arith)
     where
-      and_is : (a b : Truth) → a ≡ true → b ≡ true → (a && b) ≡ true
-      and_is true b f g = g
-      and_is false b f g = f
-
-      not_before : (n s b : ℕ) → held R b s ≡ false → confines R n b ≡ true → s ≤ n
-      not_before n s b f g = elim (cases_lt n s) [
-        | inl h ↦ absurd (false≢true (sym f ∙ held_from R b n s h g))
-        | inr h ↦ h
-      ]
-
-      outside : (n s : ℕ) → n < length R → (at R n).first ≤ s → s ≤ n → (at R n).first ≤ (at R s).first
-      outside n s f g h = elim (cases_lt s n) [
-        | inl j ↦ (t.nested).each s n j f g
-        | inr j ↦ let same : s ≡ n = omega arith in let z = ap (λ k. (at R k).first) same in omega arith
+      before : (m : ℕ) {n : ℕ} → b < n → m + 1 ≡ n → (at R m).node ≡ Span → b < m
+      before m l f g = elim (cases_lt b m) [
+        | inl h ↦ h
+        | inr h ↦ let same : b ≡ m = omega arith in
+            absurd (false≢true (sym (ap is_next (sym e ∙ ap (λ k. (at R k).node) same ∙ g))))
       ]
 
   -- a loop with the use of a first value in it is the one whose variable has that, or round it
-  own_loop_first : (o x n m h : ℕ) → (at R o).node ≡ NextUse x → o + 1 < length R → IsLoopOf R n (at R o).block → o < n → IsLoopOf R m h
-      → around R m o ≡ true → n ≤ m
-  own_loop_first o x n m h e less c below d round = elim (cases_lt m n) [
+  own_loop_first : (o x n m h : ℕ) → (at R o).node ≡ NextUse x → o + 1 < length R → IsLoopOf R n (at R o).block → o < n → (d : IsLoopOf R m h)
+      → (t.loop_is m h d).start ≤ o → o + 1 < m → n ≤ m
+  own_loop_first o x n m h e less c below d round inside = elim (cases_lt m n) [
     | inl f ↦ absurd (never f)
     | inr f ↦ f
   ]
@@ -182,37 +235,187 @@ module _ (R : List Row) (t : IsTable R) where
       never f =
           let k = t.loop_is n (at R o).block c in
           let l = t.loop_is m h d in
-          let low = (t.block o less).0 in
           let a = k.begins in
-          let b = (k.start_of).first in
           let p = l.begins in
-          let q = (l.start_of).first in
+          let low = (t.block o less).0 in
           let in_rows = c.within in
-          let r = around_from R m o round in
-          let s = around_below R m o round in
-          let head = head_before m h d o r no_start in
-          let up : h ≤ (at R o).block = l.blocks o head s in
-          let down : (at R n).first ≤ (at R m).first = (t.nested).each m n f in_rows (omega arith) in
+          let g = span_ends n (at R o).block c in
+          let j = span_ends m h d in
+          let q = span_first n (at R o).block c in
+          let r = span_first m h d in
+          let head = head_before m h d o round no_start in
+          let up : h ≤ (at R o).block = l.blocks o head inside in
+          let down : (at R (span_of n (at R o).block c)).first ≤ (at R (span_of m h d)).first =
+          (t.nested).each (span_of m h d) (span_of n (at R o).block c) (omega arith) (omega arith) (omega arith) in
           let same : h ≡ (at R o).block = omega arith in
           let one = t.one_loop m n (at R o).block (subst (IsLoopOf R m) same d) c in
           omega arith
 
   -- a scope that the use of a first value sees is round its loop
-  pub seen_outside : (o x n s : ℕ) → (at R o).node ≡ NextUse x → o + 1 < length R → IsLoopOf R n (at R o).block → o < n → s < length R → around R s o ≡ true
-      → (sees_own (NextUse x) || held R o s) ≡ true → around R s n ≡ true
-  seen_outside o x n s e less c below in_rows round out =
+  pub seen_outside : (o x n s : ℕ) → (at R o).node ≡ NextUse x → o + 1 < length R → IsLoopOf R n (at R o).block → o < n → s < length R
+      → looks (at R s).node (NextUse x) ≡ true → around R s o ≡ true → (sees_own (NextUse x) || held R o s) ≡ true → around R s n ≡ true
+  seen_outside o x n s e less c below in_rows look round out =
       let w = held_by R o s out in
       let m = w.0 in
-      let loop = closing_loop (at R m).node x (sym (ap (closes (at R m).node) e) ∙ and_first (closes (at R m).node (at R o).node) (around R m o) w.2) in
       let before = w.1 in
+      let span = closing_span (at R m).node x (sym (ap (closes (at R m).node) e) ∙ and_first (closes (at R m).node (at R o).node) (around R m o) w.2) in
+      let inside = and_second (closes (at R m).node (at R o).node) (around R m o) w.2 in
+      let from = around_from R m o inside in
+      let to = around_below R m o inside in
+      let z = t.span_of_loop m (omega arith) span in
+      let ends : m + 1 ≡ z.0 = z.3 in
+      let start = span_start m z.0 z.1 z.2 ends in
       let first = around_from R s o round in
-      let low = own_loop_first o x n m loop.0 e less c below (record { switches = loop.1; last = loop.2; within = omega arith; node = loop.3 })
-      (and_second (closes (at R m).node (at R o).node) (around R m o) w.2) in
-      around_is R s n (omega arith) (omega arith)
+      let low = own_loop_first o x n z.0 z.1 e less c below z.2 (omega arith) (omega arith) in
+      around_is R s n (omega arith) (no_loop (omega arith))
     where
-      closing_loop : (m : Node) (x : ℕ) → closes m (NextUse x) ≡ true → (h : ℕ) × (w : ℕ) × (l : ℕ) × (m ≡ Loop h w l)
-      closing_loop (Loop h w l) x f = (h, w, l, refl)
-      closing_loop _ x f = absurd (false≢true f)
+      closing_span : (m : Node) (x : ℕ) → closes m (NextUse x) ≡ true → m ≡ Span
+      closing_span Span x f = refl
+      closing_span _ x f = absurd (false≢true f)
+
+      no_loop : n ≤ s → n < s
+      no_loop f = elim (cases_lt n s) [
+        | inl g ↦ g
+        | inr g ↦ let same : s ≡ n = omega arith in
+            absurd (false≢true (sym (ap (λ k. looks (at R k).node (NextUse x)) same ∙ ap (λ m. looks m (NextUse x)) c.node) ∙ look))
+      ]
+
+  -- ---- where an index stands
+
+  -- the head of the region of a row is no later row
+  head_low : (i : ℕ) → i + 1 < length R → ((at R i).region).head ≤ i
+  head_low i l = elim (t.region i l) [
+    | inl k ↦ let e = ap (λ (r : Region). r.head) k in let low = (t.block i l).0 in omega (arith, e, low)
+    | inr (inl k) ↦
+        let e = ap (λ (r : Region). r.head) k.region in
+        let a = InArm-within R t k.row k.split i k.side k.conditional k.among in
+        omega (arith, e, a.0)
+    | inr (inr k) ↦
+        let e = ap (λ (r : Region). r.head) k.region in
+        let a = side_low k.loop.switches k.body k.row i k.side (body_low k.body_is) k.among in
+        omega (arith, e, a)
+  ]
+
+  -- the head of a region that lies in another stands behind that one's, or is it
+  heads_rise : {q r : Region} → Lies R q r → q.head ≤ r.head
+  heads_rise here = omega arith
+  heads_rise (in_arm {s = s} w k l) =
+      let low = heads_rise l in
+      let e = head_low s (not_last R t is_split refl s w k) in
+      omega (arith, low, e)
+  heads_rise (in_loop {h = h} {s = s} w k l) =
+      let low = heads_rise l in
+      let d = t.has_loop h s w k in
+      let x = t.loop_is d.0 h d.1 in
+      let same : s ≡ h - 1 = ap (start_or 0) (sym k ∙ x.before_test.head) in
+      let e = head_low s (omega (arith, same, x.begins, w)) in
+      omega (arith, low, e, same)
+  heads_rise (in_side {w = w} l k m) =
+      let low = heads_rise m in
+      let e = head_low w (not_last R t is_switches refl w l k) in
+      omega (arith, low, e)
+
+  -- an index stands right in the body of its loop
+  module _ (b x : ℕ) (e : (at R b).node ≡ Index x) (less : b < length R) where
+    abbrev index_loop : (n : ℕ) × (c : IsLoopOf R n (at R b).block) × ((t.loop_is n (at R b).block c).carried ≡ 3) × (index_row c.switches ≡ b)
+    index_loop = t.index_of b x less e
+
+    abbrev h : ℕ
+    h = (at R b).block
+
+    abbrev n : ℕ
+    n = index_loop.0
+
+    abbrev c : IsLoopOf R n h
+    c = index_loop.1
+
+    abbrev l : IsLoop R n h c.switches c.last
+    l = t.loop_is n h c
+
+    index_is : c.switches + 3 ≡ b
+    index_is = index_loop.3
+
+    counts : (l.turn ≡ c.switches + 2) × ((at R (c.switches + 1)).node ≡ Count)
+    counts = counted (l.body_is).turns index_loop.2
+
+    index_low : b < l.body
+    index_low = elim (cases_lt b l.body) [
+      | inl f ↦ f
+      | inr f ↦ let g = (l.body_is).low in
+          let same : b ≡ l.body = omega (arith, f, g, counts.0, index_is) in
+          absurd (false≢true (sym (ap is_index (sym e ∙ ap (λ k. (at R k).node) same ∙ (l.body_is).node))))
+    ]
+
+    index_first : (at R l.body).first ≡ b
+    index_first = let f = (l.body_is).first in omega (arith, f, counts.0, index_is)
+
+    index_lies : Lies R (arm_at c.switches true) (at R b).region
+    index_lies = (l.body_is).each b (omega (arith, index_is)) (omega (arith, index_low))
+
+    index_region : (at R b).region ≡ arm_at c.switches true
+    index_region = elim (t.region b (not_last R t is_index refl b less (ap is_index e))) [
+      | inl k ↦
+          let f = heads_rise (subst (Lies R (arm_at c.switches true)) k index_lies) in
+          let g = (l.before_test).low in
+          let j = (l.test).low in
+          let m = (l.test).behind in
+          absurd (omega (arith, f, g, j, m))
+      | inr (inl k) ↦ absurd (in_no_arm k)
+      | inr (inr k) ↦ in_body k k.side refl
+    ]
+      where
+        at_split : {m : Node} {s : ℕ} (k : StandsInArm R b) → k.split ≡ s → (at R s).node ≡ m → is_split m ≡ false → ⊥
+        at_split k f g j = false≢true (sym (sym (ap is_split ((t.split_of k.row k.split k.conditional).node)) ∙ ap (λ z. is_split (at R z).node) f ∙ ap is_split g ∙ j))
+
+        in_no_arm : StandsInArm R b → ⊥
+        in_no_arm k =
+            let f = heads_rise (subst (Lies R (arm_at c.switches true)) k.region index_lies) in
+            let g = (InArm-within R t k.row k.split b k.side k.conditional k.among).0 in
+            elim (cases_eq k.split c.switches) [
+              | inl j ↦ at_split k j (l.test).node refl
+              | inr j ↦ elim (cases_eq k.split (c.switches + 1)) [
+                | inl m ↦ at_split k m counts.1 refl
+                | inr m ↦ at_split k (omega (arith, f, g, j, m, index_is, counts.0)) (l.body_is).turn refl
+              ]
+            ]
+
+        in_body : (k : StandsInSide R b) (a : Truth) → k.side ≡ a → (at R b).region ≡ arm_at c.switches true
+        in_body k a f = of a f k.region k.among
+          where
+            same_row : k.row ≡ n
+            same_row = t.one_loop k.row n h k.loop c
+
+            same : (k.loop).switches ≡ c.switches
+            same = ap (switches_or 0) (sym (k.loop).node ∙ ap (λ z. (at R z).node) same_row ∙ c.node)
+
+            of : (a : Truth) → k.side ≡ a → (at R b).region ≡ arm_at (k.loop).switches k.side → InSide (k.loop).switches k.body k.row k.side b
+                → (at R b).region ≡ arm_at c.switches true
+            of true g j m = j ∙ ap (λ z. arm_at z k.side) same ∙ ap (arm_at c.switches) g
+            of false g j m =
+                let behind : k.body < b = (subst (λ z. InSide (k.loop).switches k.body k.row z b) g m).0 in
+                let low = (k.body_is).low in
+                let turn = turn_low (k.body_is).turns in
+                let at_turn : k.body ≡ l.turn = omega (arith, behind, low, turn, same, counts.0, index_is) in
+                absurd (false≢true (ap has_statements (sym (l.body_is).turn ∙ ap (λ z. (at R z).node) (sym at_turn) ∙ (k.body_is).node)))
+
+    -- what is seen where an index is stands in the body
+    index_inside : (s i : ℕ) → s < length R → around R s b ≡ true → held R b s ≡ false → around R s i ≡ true → Lies R (at R b).region (at R i).region
+    index_inside s i within inside bare round =
+        let d = l.body in
+        let first = index_first in
+        let below = index_low in
+        let in_rows = c.within in
+        let behind = (l.last_is).low in
+        let ends = (l.last_is).ends in
+        let shuts : closes (at R d).node (at R b).node ≡ true = ap (λ z. closes z (at R b).node) (l.body_is).node ∙ ap (closes Body) e in
+        let own : confines R d b ≡ true = and_is (closes (at R d).node (at R b).node) (around R d b) shuts (around_is R d b (omega arith) below) in
+        let outer : s ≤ d = not_before d s b bare own in
+        let j = around_below R s b inside in
+        let out : (at R d).first ≤ (at R s).first = outside d s (omega arith) (omega arith) outer in
+        let p = around_from R s i round in
+        let r = around_below R s i round in
+        let at_index = index_is in
+        subst (λ q. Lies R q (at R i).region) (sym index_region) ((l.body_is).each i (omega arith) (omega arith))
 
   -- ---- definitions
 
@@ -296,13 +499,15 @@ module _ (R : List Row) (t : IsTable R) where
       by (Block c) (Binding y a) f g l k j = statement_home s b i y a less (ap has_statements f) g inside bare inner round
       by Body (Binding y a) f g l k j = statement_home s b i y a less (ap has_statements f) g inside bare inner round
       by Body (Next y k o v) f g l e j = next y k o v g
-      by (Loop h w c) (Next y k o v) f g l e j = next y k o v g
+      by Body (Index y) f g l e j =
+          subst (λ r. Lies R r (at R i).region) (sym (ap (home_in (at R b).block (at R b).region) g)) (index_inside b y g within s i less inside bare round)
+      by Span (Next y k o v) f g l e j = next y k o v g
       by (Def y h q c) (Param z k) f g l e j =
           let here = param_home s b y h c z q k f g less within inside inner ∙ sym (ap (home_in (at R b).block (at R b).region) g) in
           subst (λ r. Lies R r (at R i).region) here (t.inside s i inner round)
       by (Block c) n f g l k j = absurd (false≢true k)
       by Body n f g l k j = absurd (false≢true k)
-      by (Loop h w c) (NextUse y) f g l k j = let d : None ≡ Some x = j in cc
-      by (Loop h w c) n f g l k j = absurd (false≢true k)
+      by Span (NextUse y) f g l k j = let d : None ≡ Some x = j in cc
+      by Span n f g l k j = absurd (false≢true k)
       by (Def y h q c) n f g l k j = absurd (false≢true k)
       by _ n f g l k j = absurd (false≢true l)

@@ -20,11 +20,12 @@ use Rattle.id_table.specs.declared.row.Row.{Row}
 use Rattle.id_table.specs.declared.row.Node.{Node}
 use Rattle.id_table.specs.declared.row.Node.TheVariants.{Head, Param, Literal, Name, Unary, Binary, Split, If, Enter, Arg, Call, Block, Binding, Def, Program}
 use Rattle.id_table.specs.declared.row.Node.TheVariants.{Start, LoopHead, Variable, Entries, Switches, Turn, NextUse, Next, Body, Reset, Loop}
+use Rattle.id_table.specs.declared.row.Node.TheVariants.{Bounds, Carried, Within, Count, Index, Span}
 use Rattle.id_table.specs.declared.row.Node.TheVariants.{Fetch, Address, Store}
 use Rattle.id_table.specs.declared.row.Node.TheVariants as node
 use Rattle.id_table.specs.Loops.{IsLoopOf}
 use Rattle.id_table.specs.Rows.{at, no_row}
-use Rattle.id_table.specs.Tables.{HasOperand, around, is_binder, is_def, is_expression, is_in_loop, is_param}
+use Rattle.id_table.specs.Tables.{HasOperand, around, is_binder, is_def, is_expression, is_in_loop, is_param, is_within}
 use Rattle.id_table.specs.Regions.{Lies}
 use Rattle.id_table.specs.Turns.{IsTable, params_at}
 use Rattle.id_table.proofs.RegionLemmas.{HasPart-operand}
@@ -214,19 +215,20 @@ taken_binder : (m n : Node) (x : ℕ) → looks m (Name 0) ≡ true → takes m 
 taken_binder (Block b) (Binding y a) x e f g = refl
 taken_binder Body (Binding y a) x e f g = refl
 taken_binder Body (Next y k o v) x e f g = refl
-taken_binder (Loop h w l) (Next y k o v) x e f g = refl
-taken_binder (Loop h w l) (NextUse y) x e f g = let d : None ≡ Some x = g in cc
+taken_binder Body (Index y) x e f g = refl
+taken_binder Span (Next y k o v) x e f g = refl
+taken_binder Span (NextUse y) x e f g = let d : None ≡ Some x = g in cc
 taken_binder (Def z h k b) (Param y j) x e f g = refl
 taken_binder (Block b) n x e f g = absurd (false≢true f)
 taken_binder Body n x e f g = absurd (false≢true f)
-taken_binder (Loop h w l) n x e f g = absurd (false≢true f)
+taken_binder Span n x e f g = absurd (false≢true f)
 taken_binder (Def z h k b) n x e f g = absurd (false≢true f)
 taken_binder _ n x e f g = absurd (false≢true e)
 
 looks_any : (m n : Node) → uses_value n ≡ true → looks m n ≡ true → looks m (Name 0) ≡ true
 looks_any (Block b) n u e = refl
 looks_any Body n u e = refl
-looks_any (Loop h w l) n u e = refl
+looks_any Span n u e = refl
 looks_any (Def z h k b) n u e = refl
 looks_any Program n u e = absurd (false≢true (sym (no_procedure n u) ∙ e))
   where
@@ -283,7 +285,7 @@ bound_use_row P o x h =
     let w = seen_in P o x e.0 (NextUse x) h refl e.1 in
     let l = (table_of P).loop_of o h.within (ap is_in_loop h.node) in
     let s = seen_outside (rows P) (table_of P) o x l.0 w.0 h.node (not_last (rows P) (table_of P) is_in_loop refl o h.within (ap is_in_loop h.node)) l.1 l.2
-    (w.1).within (w.1).round
+    (w.1).within (sym (ap (looks (at (rows P) w.0).node) h.node) ∙ (w.1).look) (w.1).round
     (subst (λ m. (sees_own m || held (rows P) o w.0) ≡ true) h.node (w.1).out) in
     (e.0, l.0, l.1, bound_at P o x e.0 l.0 w.0 (NextUse x) h refl e.1 w.1 s (λ f. absurd (false≢true (sym (ap is_expression f) ∙ ap is_expression (l.1).node))))
 
@@ -292,7 +294,7 @@ taken_def : (m n : Node) (x : ℕ) → looks m (Enter x) ≡ true → takes m n 
 taken_def Program n x e f = f
 taken_def (Block b) n x e f = absurd (false≢true e)
 taken_def Body n x e f = absurd (false≢true e)
-taken_def (Loop h w l) n x e f = absurd (false≢true e)
+taken_def Span n x e f = absurd (false≢true e)
 taken_def (Def z h k b) n x e f = absurd (false≢true e)
 taken_def _ n x e f = absurd (false≢true e)
 
@@ -390,14 +392,20 @@ nowhere P i (NextUse x) h v e =
     let d : To w.0 ≡ Nowhere = sym (ap link_of_name (w.3).binder) ∙ e in cc
 nowhere P i (Next x k o a) h v e = let d : To o ≡ Nowhere = e in cc
 nowhere P i (Loop g w l) h v e = let d : To l ≡ Nowhere = e in cc
+nowhere P i (Bounds a b) h v e = false≢true v
 nowhere P i Start h v e = false≢true v
 nowhere P i (LoopHead s) h v e = false≢true v
+nowhere P i (Carried k) h v e = false≢true v
 nowhere P i Variable h v e = false≢true v
 nowhere P i Entries h v e = false≢true v
+nowhere P i (Within f) h v e = false≢true v
 nowhere P i (Switches t) h v e = false≢true v
+nowhere P i Count h v e = false≢true v
 nowhere P i Turn h v e = false≢true v
+nowhere P i (Index x) h v e = let d : Fixed Int ≡ Nowhere = e in cc
 nowhere P i Body h v e = false≢true v
 nowhere P i (Reset a) h v e = false≢true v
+nowhere P i Span h v e = false≢true v
 nowhere P i (node.Array a b) h v e = let d : Fixed Array ≡ Nowhere = e in cc
 nowhere P i (Fetch t j) h v e = let d : Fixed Int ≡ Nowhere = e in cc
 nowhere P i (Address t j) h v e = false≢true v
@@ -449,14 +457,20 @@ goes P i j (Next x k o v) h e =
 goes P i j (Loop g w l) h e =
     let z = part_row P i l (Loop g w l) h refl in
     subst (λ a. (a < length (rows P)) × IsValued (at (rows P) a).node) (to_same l j e) (z.0, valued_expression (at (rows P) l).node z.1)
+goes P i j (Bounds a b) h e = let d : Nowhere ≡ To j = e in cc
 goes P i j Start h e = let d : Nowhere ≡ To j = e in cc
 goes P i j (LoopHead s) h e = let d : Nowhere ≡ To j = e in cc
+goes P i j (Carried k) h e = let d : Fixed k ≡ To j = e in cc
 goes P i j Variable h e = let d : Nowhere ≡ To j = e in cc
 goes P i j Entries h e = let d : Nowhere ≡ To j = e in cc
+goes P i j (Within f) h e = let d : Fixed Bool ≡ To j = e in cc
 goes P i j (Switches t) h e = let d : Nowhere ≡ To j = e in cc
+goes P i j Count h e = let d : Nowhere ≡ To j = e in cc
 goes P i j Turn h e = let d : Nowhere ≡ To j = e in cc
+goes P i j (Index x) h e = let d : Fixed Int ≡ To j = e in cc
 goes P i j Body h e = let d : Nowhere ≡ To j = e in cc
 goes P i j (Reset a) h e = let d : Nowhere ≡ To j = e in cc
+goes P i j Span h e = let d : Nowhere ≡ To j = e in cc
 goes P i j (node.Array a b) h e = let d : Fixed Array ≡ To j = e in cc
 goes P i j (Fetch t k) h e = let d : Fixed Int ≡ To j = e in cc
 goes P i j (Address t k) h e = let d : Nowhere ≡ To j = e in cc
@@ -584,6 +598,10 @@ two_wanted P i a b n j k h f g e =
 pub array_row : (P : Checked) (i a b : ℕ) → Stands P i (node.Array a b) → (kind P a ≡ Some Int) × (kind P b ≡ Some Int)
 array_row P i a b h = two_wanted P i a b (node.Array a b) Int Int h (inl refl) (inr refl) (none_in P i (node.Array a b) h)
 
+-- and so are those of an index
+pub bounds_row : (P : Checked) (i a b : ℕ) → Stands P i (node.Bounds a b) → (kind P a ≡ Some Int) × (kind P b ≡ Some Int)
+bounds_row P i a b h = two_wanted P i a b (node.Bounds a b) Int Int h (inl refl) (inr refl) (none_in P i (node.Bounds a b) h)
+
 -- the target of a fetch is an array, and its index a number
 pub fetch_row : (P : Checked) (i t j : ℕ) → Stands P i (Fetch t j) → (kind P t ≡ Some Array) × (kind P j ≡ Some Int)
 fetch_row P i t j h = two_wanted P i t j (Fetch t j) Array Int h (inl refl) (inr refl) (none_in P i (Fetch t j) h)
@@ -626,9 +644,33 @@ if_row P i s x y h = (sym along, other ∙ sym along)
 
 -- ---- loops
 
--- the predicate of a loop is a truth value
+-- what is carried on for an index has its kind, the flag of a `for` is a truth value, and an index a number
+pub carried_kind : (P : Checked) (i : ℕ) (k : Kind) → Stands P i (Carried k) → kind P i ≡ Some k
+carried_kind P i k h = kind_fixed P i (Carried k) k h refl
+
+pub within_kind : (P : Checked) (i f : ℕ) → Stands P i (Within f) → kind P i ≡ Some Bool
+within_kind P i f h = kind_fixed P i (Within f) Bool h refl
+
+pub index_kind : (P : Checked) (i x : ℕ) → Stands P i (Index x) → kind P i ≡ Some Int
+index_kind P i x h = kind_fixed P i (Index x) Int h refl
+
+-- its bounds are numbers
+pub bounds_kinds : (P : Checked) (i a b : ℕ) → Stands P i (Bounds a b) → (kind P a ≡ Some Int) × (kind P b ≡ Some Int)
+bounds_kinds P i a b h = two_wanted P i a b (Bounds a b) Int Int h (inl refl) (inr refl) (none_in P i (Bounds a b) h)
+
+-- the predicate of a loop is a truth value, and so is what a `for` has in its place
 pub switches_row : (P : Checked) (w t : ℕ) → Stands P w (Switches t) → kind P t ≡ Some Bool
-switches_row P w t h = let z = part_row P w t (Switches t) h refl in wanted_kind P Bool t z.0 z.1 (none_in P w (Switches t) h)
+switches_row P w t h = by (at (rows P) t).node refl
+  where
+    within : t < length (rows P)
+    within = part_of t P.table.formed h.within h.node refl
+
+    expression : is_within (at (rows P) t).node ≡ false → kind P t ≡ Some Bool
+    expression e = wanted_kind P Bool t within ((table_of P).test_is w t h.within h.node e) (none_in P w (Switches t) h)
+
+    by : (n : Node) → (at (rows P) t).node ≡ n → kind P t ≡ Some Bool
+    by (Within f) e = within_kind P t f (record { within = within; node = e })
+    by n e = expression (ap is_within e)
 
 -- a loop has the kind of its last expression
 pub loop_row : (P : Checked) (n h w l : ℕ) → Stands P n (Loop h w l) → kind P n ≡ kind P l

@@ -13,12 +13,12 @@ use Rattle.id_table.specs.declared.row.Row.{Row}
 use Rattle.id_table.specs.declared.row.Node.{Node}
 use Rattle.id_table.specs.declared.row.Node.TheVariants.{Param, Literal, Name, Unary, Binary, Split, If, Enter}
 use Rattle.id_table.specs.declared.row.Node.TheVariants.{Arg, Call, Block, Binding, Def, Switches, NextUse, Next, Loop}
-use Rattle.id_table.specs.declared.row.Node.TheVariants.{Fetch, Address, Store}
+use Rattle.id_table.specs.declared.row.Node.TheVariants.{Bounds, Within, Index, Fetch, Address, Store}
 use Rattle.id_table.specs.declared.row.Node.TheVariants as node
 use Rattle.id_grammar.specs.Tree.{Tree}
 use Rattle.id_tree.specs.Distinct.{HasPlace}
 use Rattle.id_table.specs.Rows.{at, rows_of}
-use Rattle.id_table.specs.Tables.{HasOperand, is_expression, is_param, is_thing}
+use Rattle.id_table.specs.Tables.{HasOperand, is_expression, is_param, is_thing, is_within}
 use Rattle.id_table.specs.Turns.{IsTable, params_at, params_below}
 use Rattle.id_table.proofs.PlacesLemmas.{HasPlace-rows_of}
 use Rattle.id_table.proofs.RegionLemmas.{HasPart-operand}
@@ -57,6 +57,7 @@ bound_thing : (n : Node) (x : ℕ) → bound_name n ≡ Some x → is_thing n �
 bound_thing (Param y k) x e = refl
 bound_thing (Binding y a) x e = refl
 bound_thing (Next y k o v) x e = refl
+bound_thing (Index y) x e = refl
 bound_thing (Def y h k b) x e = refl
 bound_thing _ x e = let d : None ≡ Some x = e in cc
 
@@ -138,16 +139,37 @@ operand_thing : (R : List Row) (i a : ℕ) (n : Node) → IsTable R → i < leng
 operand_thing R i a n t less e h =
     (part_of a t.formed less e (HasPart-operand n a h), expression_thing (at R a).node (t.operand_is i a less (subst (λ z. HasOperand z a) (sym e) h)))
 
-wrong_standing : (R : List Row) (κ : ℕ → Option Kind) (wanted : Kind) (a : ℕ) (c : CheckCause) → IsThing R a → Among c (wrong R κ wanted a) → IsStanding R c
-wrong_standing R κ wanted a c h g = by (κ a) g
+placed_standing : (R : List Row) (κ : ℕ → Option Kind) (wanted : Kind) (a : ℕ) (c : CheckCause) → IsThingAt R (at R a).place
+    → Among c (wrong R κ wanted a) → IsStanding R c
+placed_standing R κ wanted a c h g = by (κ a) g
   where
     at_kind : (found : Kind) (t : Truth) → Among c (if t then [] else (WrongKind (at R a).place wanted found ∷ [])) → IsStanding R c
     at_kind found true f = absurd f
-    at_kind found false f = one R c (WrongKind (at R a).place wanted found) (a, h.0, h.1, refl) f
+    at_kind found false f = one R c (WrongKind (at R a).place wanted found) h f
 
     by : (o : Option Kind) → Among c (unless_found wanted o (at R a).place) → IsStanding R c
     by None f = absurd f
     by (Some found) f = at_kind found (same_kind found wanted) f
+
+wrong_standing : (R : List Row) (κ : ℕ → Option Kind) (wanted : Kind) (a : ℕ) (c : CheckCause) → IsThing R a → Among c (wrong R κ wanted a) → IsStanding R c
+wrong_standing R κ wanted a c h g = placed_standing R κ wanted a c (a, h.0, h.1, refl) g
+
+-- the predicate of a loop stands where a thing does, and what a `for` has in its place where the loop does
+test_placed : (R : List Row) (w t : ℕ) → IsTable R → w < length R → (at R w).node ≡ Switches t → IsThingAt R (at R t).place
+test_placed R w t f less e = by (at R t).node refl
+  where
+    within : t < length R
+    within = part_of t f.formed less e refl
+
+    expression : is_within (at R t).node ≡ false → IsThingAt R (at R t).place
+    expression g = (t, within, expression_thing (at R t).node (f.test_is w t less e g), refl)
+
+    by : (n : Node) → (at R t).node ≡ n → IsThingAt R (at R t).place
+    by (Within k) g =
+        let z = f.within_of t k within g in
+        let x = f.loop_is z.0 (at R t).block z.1 in
+        (z.0, z.1.within, ap is_thing z.1.node, sym ((x.place_carried).within z.2 t z.3))
+    by n g = expression (ap is_within g)
 
 both_standing : (R : List Row) (κ : ℕ → Option Kind) (wanted : Kind) (a b : ℕ) (c : CheckCause) → IsThing R a → IsThing R b
     → Among c (wrong_both R κ wanted a b) → IsStanding R c
@@ -283,7 +305,8 @@ causes_in_standing R β κ i c t less a = by (at R i).node refl a
     by (Binary p x y) e b = operands_standing R κ p x y c (thing x (Binary p x y) e (inl refl)) (thing y (Binary p x y) e (inr refl)) b
     by (Split t) e b = wrong_standing R κ Bool t c (thing t (Split t) e refl) b
     by (If s x y) e b = like_standing R κ y c (thing y (If s x y) e (inr refl)) (κ x) b
-    by (Switches t) e b = wrong_standing R κ Bool t c (thing t (Switches t) e refl) b
+    by (Bounds x y) e b = both_standing R κ Int x y c (thing x (Bounds x y) e (inl refl)) (thing y (Bounds x y) e (inr refl)) b
+    by (Switches k) e b = placed_standing R κ Bool k c (test_placed R i k t less e) b
     by (NextUse x) e b = no_binder (β i) (next_here x e) b
     by (Next x k u v) e b = like_standing R κ v c (thing v (Next x k u v) e refl) (κ u) b
     by (node.Array x y) e b = both_standing R κ Int x y c (thing x (node.Array x y) e (inl refl)) (thing y (node.Array x y) e (inr refl)) b

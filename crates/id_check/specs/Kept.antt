@@ -2,8 +2,8 @@
 use Rattle.std.specs.Prelude.{ℕ}
 use Rattle.std.specs.Coded.{×_prop, Π_prop, →_prop, Unit-prop}
 use Rattle.id_grammar.specs.Tree.{Tree, literal, unary, binary, name, conditional, call, block, binding, param, define}
-use Rattle.id_grammar.specs.Tree.{none, more, loop, next, array, fetch, store}
-use Rattle.id_tree.specs.Distinct.{Apart, Distinct, HasPlace}
+use Rattle.id_grammar.specs.Tree.{none, more, loop, next, array, fetch, store, for_loop}
+use Rattle.id_tree.specs.Distinct.{Apart, Distinct, HasPlace, Spares}
 
 -- there is at most one proof that nothing stands in a type
 not-prop : {A : Type 0} → IsProp (A → ⊥)
@@ -12,6 +12,10 @@ not-prop = →_prop (λ x y. absurd x)
 -- there is at most one proof that two trees are apart
 Apart-prop : (a b : Tree) → IsProp (Apart a b)
 Apart-prop a b = Π_prop (λ q. →_prop not-prop)
+
+-- there is at most one proof that a tree has neither of two places
+Spares-prop : (p i : ℕ) (a : Tree) → IsProp (Spares p i a)
+Spares-prop p i a = ×_prop not-prop not-prop
 
 -- there is at most one proof that the places of two trees and another one are distinct
 two-prop : (a b : Tree) (p : ℕ) → IsProp (Distinct a) → IsProp (Distinct b)
@@ -44,6 +48,23 @@ Distinct-prop (conditional t x y p) = three-prop t x y p (Distinct-prop t) (Dist
 Distinct-prop (call x a p) = ×_prop not-prop (Distinct-prop a)
 Distinct-prop (block a b p) = two-prop a b p (Distinct-prop a) (Distinct-prop b)
 Distinct-prop (loop t a b p) = three-prop t a b p (Distinct-prop t) (Distinct-prop a) (Distinct-prop b)
+Distinct-prop (for_loop x q a b c d p) = λ v w j. (
+  not-prop v.0 w.0 j,
+  Spares-prop p q a v.1 w.1 j,
+  Spares-prop p q b v.2 w.2 j,
+  Spares-prop p q c v.3 w.3 j,
+  Spares-prop p q d v.4 w.4 j,
+  Apart-prop a b v.5 w.5 j,
+  Apart-prop a c v.6 w.6 j,
+  Apart-prop a d v.7 w.7 j,
+  Apart-prop b c v.8 w.8 j,
+  Apart-prop b d v.9 w.9 j,
+  Apart-prop c d v.10 w.10 j,
+  Distinct-prop a v.11 w.11 j,
+  Distinct-prop b v.12 w.12 j,
+  Distinct-prop c v.13 w.13 j,
+  Distinct-prop d v.14 w.14 j,
+)
 Distinct-prop (array a b p) = two-prop a b p (Distinct-prop a) (Distinct-prop b)
 Distinct-prop (fetch t i p) = two-prop t i p (Distinct-prop t) (Distinct-prop i)
 Distinct-prop (store t i a p) = three-prop t i a p (Distinct-prop t) (Distinct-prop i) (Distinct-prop a)

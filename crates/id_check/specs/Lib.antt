@@ -2,6 +2,7 @@
 pub mod Programs
 pub mod Kept
 pub mod Noted
+pub mod Literals
 -- For use inside.
 pub mod Counts
 pub mod Depths

@@ -5,7 +5,7 @@ use Rattle.id_value.specs.declared.Kind.TheVariants.{Int, Bool}
 use Rattle.id_table.specs.declared.row.Row.{Row}
 use Rattle.id_table.specs.declared.row.Node.{Node}
 use Rattle.id_table.specs.declared.row.Node.TheVariants.{Unary, Binary, Split, If, Switches, Next}
-use Rattle.id_table.specs.declared.row.Node.TheVariants.{Fetch, Address, Store}
+use Rattle.id_table.specs.declared.row.Node.TheVariants.{Fetch, Address, Store, Bounds}
 use Rattle.id_table.specs.declared.row.Node.TheVariants as node
 use Rattle.id_scope.specs.declared.cause.CheckCause.{CheckCause}
 use Rattle.id_scope.specs.Causes.{wrong, wrong_both, wrong_cell, wrong_like, wrong_operands}
@@ -17,6 +17,7 @@ wrong_parts R κ (Unary p a) = wrong R κ (unary_kind p) a
 wrong_parts R κ (Binary p a b) = wrong_operands R κ p a b
 wrong_parts R κ (Split t) = wrong R κ Bool t
 wrong_parts R κ (If s x y) = wrong_like R κ (κ x) y
+wrong_parts R κ (Bounds a b) = wrong_both R κ Int a b
 wrong_parts R κ (Switches t) = wrong R κ Bool t
 wrong_parts R κ (Next x k u v) = wrong_like R κ (κ u) v
 wrong_parts R κ (node.Array a b) = wrong_both R κ Int a b

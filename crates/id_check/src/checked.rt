@@ -1,9 +1,10 @@
 //! The checked program.
 
-ghost use Rattle.std.specs.Prelude.{◌≡◌, []};
+ghost use Rattle.std.specs.Prelude.{◌≡◌, [], length};
 ghost use Rattle.std.proofs.Props.{props};
 ghost use Rattle.id_tree.specs.Distinct.{Distinct};
 ghost use Rattle.id_check.specs.Kept.{Distinct-prop};
+ghost use Rattle.id_check.specs.Literals.{AreLiterals};
 ghost use Rattle.id_check.specs.Noted.{tree_in};
 ghost use Rattle.id_table.specs.Rows.{parts_of, rows_of};
 ghost use Rattle.id_scope.specs.Causes.{IsMain, causes};
@@ -38,4 +39,5 @@ pub struct Checked {
     pub ghost deep: { HasDepths table.rows.items depths.items } by { Prim.hlevel props },
     pub ghost accepted: { causes table.rows.items (column binders.items)
         (column kinds.items) ≡ [] } by { Prim.hlevel props },
+    pub ghost literals: { AreLiterals table.rows.items (length table.rows.items) } by { Prim.hlevel props },
 }

@@ -2,7 +2,7 @@
 //!
 //! Keeps: the rows are those of the program's tree; which definition is `main`; which binder each use of a name
 //! has, which kind each row, and how many loops are round it; that no cause to refuse the program holds; that no two
-//! things have one place.
+//! things have one place; that the number of each literal is one of the language.
 //! Errors: `CheckError`, the refusals 7 to 13 or want of memory, with the program handed back.
 //! Read first: `Checked`, `specs/Programs.antt`, then `check`; docs/LANGUAGE.md ("Names", "Kinds").
 //! Not here: binders, and of what kinds come (`id_scope`), the table of parts (`id_parts`), the graph (`id_build`).
@@ -10,6 +10,7 @@
 
 mod access;
 mod checked;
+mod literals;
 mod numbers;
 mod params;
 mod program;

@@ -18,6 +18,7 @@ ghost use Rattle.id_check.specs.Noted.{tree_in};
 ghost use Rattle.id_scope.specs.Scopes.{AreBinders};
 
 use crate::checked::Checked;
+use crate::literals::see_literals;
 use crate::numbers::{Numbers, find_numbers};
 use crate::tabled::Tabled;
 use crate::wants::note_rows;
@@ -155,6 +156,7 @@ fn with_columns(tabled: Tabled, main: usize, columns: Columns) -> Checked
     requires { IsJudged tabled.table.rows.items main columns }
     ensures { result.tree ≡ tabled.tree }
 {
+    see_literals(tabled.table.rows.as_slice());
     let Tabled { tree, table } = tabled;
     let Columns {
         binders,

@@ -119,7 +119,9 @@ fn note_parts(first: &mut Option<CheckCause>, rows: &[Row], kinds: &[Option<Kind
         Node::Split { test } => note_wrong(first, rows, kinds, Kind::Bool, test),
         Node::Switches { test } => note_wrong(first, rows, kinds, Kind::Bool, test),
         Node::Next { outer, value, .. } => note_next(first, rows, kinds, outer, value),
-        Node::Array { low, high } => note_both(first, rows, kinds, Kind::Int, low, high),
+        Node::Array { low, high } | Node::Bounds { low, high } => {
+            note_both(first, rows, kinds, Kind::Int, low, high)
+        }
         Node::Fetch { target, index } => note_cell(first, rows, kinds, target, index),
         Node::Address { target, index } => note_cell(first, rows, kinds, target, index),
         Node::Store { value, .. } => note_wrong(first, rows, kinds, Kind::Int, value),

@@ -13,7 +13,7 @@ use Rattle.id_table.specs.Tables.{is_switches}
 use Rattle.id_check.specs.declared.checked.Checked.{Checked}
 use Rattle.id_check.specs.Programs.{rows}
 use Rattle.id_desugar.specs.Ends.{end_of, end_row}
-use Rattle.id_desugar.specs.Regions.{all_imports, handed, imports, imports_below, imports_by, imports_of, is_loop_head, nexts_of, taken, used}
+use Rattle.id_desugar.specs.Regions.{all_imports, bound_of, handed, imports, imports_below, imports_by, imports_of, is_loop_head, nexts_of, taken, used}
 use Rattle.id_desugar.specs.Gathering.{AreFilled, AreGathered, AreTurned, EndsNothing, IsInner, is_before, is_opening, may_import, used_in, uses_of}
 use Rattle.id_desugar.proofs.EndsLemmas.{end_begins, end_behind}
 use Rattle.id_desugar.proofs.NotesLemmas.{uses-are}
@@ -144,16 +144,19 @@ split_imports P s (LoopHead t) is a b = cc
 split_imports P s (Switches t) is a b = cc
 split_imports P s _ is a b = refl
 
--- the switches of a loop hand on its variables and its imports
+-- the switches of a loop hand on the bound of its index, its variables and its imports
 pub switches_hand : (P : Checked) (w g : ℕ) → is_switches (at (rows P) w).node ≡ true → g ≡ (at (rows P) w).block → is_loop_head (at (rows P) g).node ≡ true
-    → nexts_of P g ++ imports_of P g ≡ imports_of P w
-switches_hand P w g e is f = ap (λ z. nexts_of P g ++ z) (head (at (rows P) g).node f) ∙ ap (λ z. nexts_of P z ++ taken P z) is ∙ by (at (rows P) w).node e
+    → bound_of P g ++ (nexts_of P g ++ imports_of P g) ≡ imports_of P w
+switches_hand P w g e is f =
+    ap (λ z. bound_of P g ++ (nexts_of P g ++ z)) (head (at (rows P) g).node f) ∙ ap (λ z. bound_of P z ++ (nexts_of P z ++ taken P z)) is
+    ∙ by (at (rows P) w).node e
   where
     head : (n : Node) → is_loop_head n ≡ true → handed P g n ≡ taken P g
     head (LoopHead s) h = refl
     head _ h = absurd (false≢true h)
 
-    by : (n : Node) → is_switches n ≡ true → nexts_of P (at (rows P) w).block ++ taken P (at (rows P) w).block ≡ handed P w n
+    by : (n : Node) → is_switches n ≡ true
+        → (let b = (at (rows P) w).block in bound_of P b ++ (nexts_of P b ++ taken P b)) ≡ handed P w n
     by (Switches t) h = refl
     by _ h = absurd (false≢true h)
 

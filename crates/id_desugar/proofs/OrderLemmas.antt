@@ -1,8 +1,8 @@
 -- The rows of blocks, chain by chain.
 use Rattle.std.proofs.Common.{◌≡◌, inl, inr, ℕ, zero, suc, ◌+◌, ◌-◌, ◌<◌, ◌≤◌, Bool, true, false, List, [], ◌∷◌, ◌++◌, Option, Some, None}
-use Rattle.std.proofs.Common.{refl, ap, sym, ◌∙◌, append-nil, subst, arith, length, get_or, slice_set}
-use Rattle.std.specs.Option.{is_some}
-use Rattle.std.specs.Prelude.{◌==◌, if◌then◌else◌}
+use Rattle.std.proofs.Common.{refl, ap, sym, ◌∙◌, append-nil, append_assoc, subst, arith, length, get_or, slice_set}
+use Rattle.std.specs.Prelude.{◌==◌, if◌then◌else◌, take}
+use Rattle.std.proofs.Math.Seq.{take-suc}
 use Rattle.std.proofs.lemmas.Bool.{cases_lt}
 use Rattle.std.proofs.lemmas.Grind.{common_steps}
 use Rattle.std.proofs.lemmas.Bool.{eqb-true}
@@ -12,7 +12,7 @@ use Rattle.id_table.specs.Rows.{at}
 use Rattle.id_check.specs.declared.checked.Checked.{Checked}
 use Rattle.id_check.specs.Programs.{rows}
 use Rattle.id_check.proofs.ProgramsLemmas.{table_of}
-use Rattle.id_desugar.specs.Regions.{in_block, is_loop_head, loops_by, those}
+use Rattle.id_desugar.specs.Regions.{in_block, loops_by, those}
 use Rattle.id_desugar.specs.Gathering.{AreChains, IsFirstFrom}
 
 -- one more number
@@ -148,24 +148,20 @@ next_of_block P h n j F N c l e =
 
 -- ---- blocks of loops
 
-pub loops-yes : (P : Checked) (n k : ℕ) → is_loop_head (at (rows P) k).node ≡ true → loops_by P n (k + 1) ≡ loops_by P n k ++ those (in_block P k) n
-loops-yes P n k e =
-    let next : k + 1 ≡ suc k = omega arith in
-    ap (loops_by P n) next ∙ ap (λ t. if t then loops_by P n k ++ those (in_block P k) n else loops_by P n k) e
+pub loops_by-append : (P : Checked) (n : ℕ) (hs gs : List ℕ) → loops_by P n (hs ++ gs) ≡ loops_by P n hs ++ loops_by P n gs
+loops_by-append P n [] gs = refl
+loops_by-append P n (h ∷ hs) gs =
+    ap (λ z. those (in_block P h) n ++ z) (loops_by-append P n hs gs) ∙ sym (append_assoc (those (in_block P h) n) (loops_by P n hs) (loops_by P n gs))
 
-pub loops-no : (P : Checked) (n k : ℕ) → is_loop_head (at (rows P) k).node ≡ false → loops_by P n (k + 1) ≡ loops_by P n k
-loops-no P n k e =
-    let next : k + 1 ≡ suc k = omega arith in
-    ap (loops_by P n) next ∙ ap (λ t. if t then loops_by P n k ++ those (in_block P k) n else loops_by P n k) e
+-- one more block
+pub loops_by-next : (P : Checked) (n i : ℕ) (hs : List ℕ) → i < length hs
+    → loops_by P n (take (suc i) hs) ≡ loops_by P n (take i hs) ++ those (in_block P (get_or hs i 0)) n
+loops_by-next P n i hs l =
+    let h = get_or hs i 0 in
+    ap (loops_by P n) (take-suc hs i 0 l) ∙ loops_by-append P n (take i hs) (h ∷ [])
+    ∙ ap (λ z. loops_by P n (take i hs) ++ z) (append-nil (those (in_block P h) n))
 
--- where no row stands in its block, it adds none
-pub loops-empty : (P : Checked) (n k : ℕ) → IsFirstFrom (in_block P k) 0 n None → loops_by P n (k + 1) ≡ loops_by P n k
-loops-empty P n k none = by (is_loop_head (at (rows P) k).node) refl
-  where
-    by : (t : Bool) → is_loop_head (at (rows P) k).node ≡ t → loops_by P n (k + 1) ≡ loops_by P n k
-    by true e = loops-yes P n k e ∙ ap (λ z. loops_by P n k ++ z) (those-same (in_block P k) 0 n (omega arith) none) ∙ append-nil (loops_by P n k)
-    by false e = loops-no P n k e
-
-pub none_is : (o : Option ℕ) → is_some o ≡ false → o ≡ None
-none_is None e = refl
-none_is (Some x) e = cc
+-- without heads there is none
+pub loops_by-none : (P : Checked) (n : ℕ) (hs : List ℕ) → (length hs == 0) ≡ true → loops_by P n hs ≡ []
+loops_by-none P n [] e = refl
+loops_by-none P n (h ∷ hs) e = let no = eqb-true (length (h ∷ hs)) 0 e in absurd (omega (arith, no))

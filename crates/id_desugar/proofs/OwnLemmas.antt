@@ -6,13 +6,14 @@ use Rattle.std.proofs.lemmas.List.{get_or_past}
 use Rattle.id_table.specs.declared.row.Region.{Region}
 use Rattle.id_table.specs.declared.row.Row.{Row}
 use Rattle.id_table.specs.declared.row.Node.{Node}
-use Rattle.id_table.specs.declared.row.Node.TheVariants.{Head, Split, If, Enter, Call, Def, LoopHead, Switches, Loop}
+use Rattle.id_table.specs.declared.row.Node.TheVariants.{Head, Name, Split, If, Enter, Call, Def, LoopHead, Switches, NextUse, Loop}
 use Rattle.id_table.specs.Rows.{arm_at, at, no_row, top}
 use Rattle.id_table.specs.Tables.{begins_block, is_split, is_switches, is_top}
-use Rattle.id_table.specs.Loops.{InSide, IsLoop, IsLoopOf}
+use Rattle.id_table.specs.Loops.{InSide, IsLoop, IsLoopOf, IsTurn, right, behind_count}
 use Rattle.id_table.specs.Regions.{Lies, here, in_arm, in_loop, in_side, IsIfOf}
 use Rattle.id_table.specs.Turns.{IsTable}
 use Rattle.id_table.proofs.RegionLemmas.{InArm-either, InArm-within}
+use Rattle.id_scope.specs.Scopes.{is_next_use}
 use Rattle.id_check.specs.declared.checked.Checked.{Checked}
 use Rattle.id_check.specs.Programs.{binder, rows}
 use Rattle.id_check.proofs.ProgramsLemmas.{table_of}
@@ -55,6 +56,11 @@ switches_top : (n : Node) → is_switches n ≡ true → is_top n ≡ true
 switches_top (Switches t) e = refl
 switches_top _ e = absurd (false≢true e)
 
+-- the `Turn` is behind the switches
+turn_behind : {R : List Row} {w t c : ℕ} → IsTurn R w t c → w < t
+turn_behind (right e) = omega (arith, e)
+turn_behind (behind_count e f g) = omega (arith, e)
+
 module _ (R : List Row) (t : IsTable R) where
   -- switches of a loop are no last row
   inner_switches : (w : ℕ) → w < length R → is_switches (at R w).node ≡ true → w + 1 < length R
@@ -87,11 +93,11 @@ module _ (R : List Row) (t : IsTable R) where
         omega (arith, is, low)
     | inr (inr a) ↦
         let is : (at R i).region.head ≡ a.loop.switches = ap (λ (r : Region). r.head) a.region in
-        let low = side a.loop.switches a.body a.row i a.side a.body_is.low a.among in
+        let low = side a.loop.switches a.body a.row i a.side (omega (arith, turn_behind a.body_is.turns, a.body_is.low)) a.among in
         omega (arith, is, low)
   ]
     where
-      side : (w b n i : ℕ) (c : Bool) → w + 1 < b → InSide w b n c i → w < i
+      side : (w b n i : ℕ) (c : Bool) → w < b → InSide w b n c i → w < i
       side w b n i true l m = m.0
       side w b n i false l m = omega (arith, l, m.0)
 
@@ -195,14 +201,19 @@ module _ (R : List Row) (t : IsTable R) where
       (λ z. false≢true (sym (ap is_switches d.node) ∙ ap (λ y. is_switches (at R y).node) z ∙ own.switches))
       ((t.arms e s c).each a.0 i a.1) own.head
 
-  -- nor within a loop in it
-  not_in_loop : (g s e i w : ℕ) → IsLoopOf R e s → g < s → s < i → i < e → IsRightIn R g i w → ⊥
-  not_in_loop g s e i w c behind low high own = elim (cases_lt d.body i) [
-    | inl m ↦ not_in g i w own (arm_at c.switches false) after apart (d.last_is.each i m high) own.head
-    | inr m ↦ elim (cases_lt c.switches i) [
-      | inl k ↦ not_in g i w own (arm_at c.switches true) after apart (d.body_is.each i k m) own.head
-      | inr k ↦ not_in g i w own (top s) behind head_apart (d.test.each i (omega (arith, low)) k) own.head
+  -- nor within a loop in it, where only the `Span` stands outside
+  not_in_loop : (g s e i w : ℕ) → IsLoopOf R e s → g < s → s < i → i < e → IsRightIn R g i w → is_next_use (at R i).node ≡ false
+  not_in_loop g s e i w c behind low high own = elim (cases_lt (i + 1) e) [
+    | inl l ↦ elim (cases_lt d.body i) [
+      | inl m ↦ absurd (not_in g i w own (arm_at c.switches false) after apart (d.last_is.each i m l) own.head)
+      | inr m ↦ elim (cases_lt c.switches i) [
+        | inl k ↦ absurd (not_in g i w own (arm_at c.switches true) after apart (d.body_is.each i k m) own.head)
+        | inr k ↦ absurd (not_in g i w own (top s) behind head_apart (d.test.each i (omega (arith, low)) k) own.head)
+      ]
     ]
+    | inr l ↦
+        let is : i ≡ c.last + 2 = omega (arith, l, high, d.last_is.ends) in
+        ap is_next_use (ap (λ z. (at R z).node) is ∙ d.last_is.span)
   ]
     where
       d : IsLoop R e s c.switches c.last
@@ -243,36 +254,40 @@ right_in P g i e =
       block = eqb-true (at (rows P) w).block g (and_second (is_switches (at (rows P) w).node) (nat_eq (at (rows P) w).block g) e);
     }
 
--- a use counts where the row stands right in no side
-counts : (P : Checked) (g i : ℕ) → (is_right_in P g i ≡ true → ⊥) → used P g i ≡ used_in P None i
-counts P g i never = ap (λ z. used_by z (binder P i) (at (rows P) i).node) (by (is_right_in P g i) refl)
+-- a use counts where the row stands right in no side, or is no first value
+counts : (P : Checked) (g i : ℕ) → (is_right_in P g i ≡ true → is_next_use (at (rows P) i).node ≡ false) → used P g i ≡ used_in P None i
+counts P g i never = by (is_right_in P g i) refl (at (rows P) i).node refl
   where
-    by : (z : Bool) → is_right_in P g i ≡ z → is_right_in P g i ≡ false
-    by true e = absurd (never e)
-    by false e = e
+    by : (z : Bool) → is_right_in P g i ≡ z → (n : Node) → (at (rows P) i).node ≡ n → used_by z (binder P i) n ≡ used_by false (binder P i) n
+    by false e n is = refl
+    by true e (NextUse x) is = absurd (false≢true (sym (never e) ∙ ap is_next_use is))
+    by true e (Name x) is = refl
+    by true e _ is = refl
 
 -- for a conditional each use counts
 pub split_counts : (P : Checked) (s t i : ℕ) → (at (rows P) s).node ≡ Split t → used P s i ≡ used_in P None i
 split_counts P s t i is = counts P s i (λ e.
     let own = right_in P s i e in
     let begins = block_begins (rows P) (table_of P) (at (rows P) i).region.head own.within own.switches in
-    false≢true (sym (ap begins_block is) ∙ ap (λ z. begins_block (at (rows P) z).node) (sym own.block) ∙ begins))
+    absurd (false≢true (sym (ap begins_block is) ∙ ap (λ z. begins_block (at (rows P) z).node) (sym own.block) ∙ begins)))
 
 -- and for a loop each in the constructs in it
 pub loop_counts : (P : Checked) (g hi : ℕ) → AllCount P (Some g) (g + 1) hi
 loop_counts P g hi = record { each = λ s e i n low high. counts P g i (λ f. by s e i n low high (right_in P g i f)) }
   where
-    by : (s e i : ℕ) → IsInner P (g + 1) hi s e → s < i → i < e → IsRightIn (rows P) g i (at (rows P) i).region.head → ⊥
+    by : (s e i : ℕ) → IsInner P (g + 1) hi s e → s < i → i < e → IsRightIn (rows P) g i (at (rows P) i).region.head
+        → is_next_use (at (rows P) i).node ≡ false
     by s e i n low high own =
         opens (is_split (at (rows P) s).node) refl (is_loop_head (at (rows P) s).node) refl n.opening
       where
-        opens : (a : Bool) → is_split (at (rows P) s).node ≡ a → (b : Bool) → is_loop_head (at (rows P) s).node ≡ b → (a || b) ≡ true → ⊥
+        opens : (a : Bool) → is_split (at (rows P) s).node ≡ a → (b : Bool) → is_loop_head (at (rows P) s).node ≡ b → (a || b) ≡ true
+            → is_next_use (at (rows P) i).node ≡ false
         opens true f b h o =
             let w = end_begins P s e n.ends in
-            not_in_if (rows P) (table_of P) g s e i (at (rows P) i).region.head (ends_if (rows P) (table_of P) s e w.0 w.1 f)
-            (omega (arith, n.low)) low high own
+            absurd (not_in_if (rows P) (table_of P) g s e i (at (rows P) i).region.head (ends_if (rows P) (table_of P) s e w.0 w.1 f)
+            (omega (arith, n.low)) low high own)
         opens false f true h o =
             let w = end_begins P s e n.ends in
             not_in_loop (rows P) (table_of P) g s e i (at (rows P) i).region.head (ends_loop (rows P) (table_of P) s e w.0 w.1 h)
             (omega (arith, n.low)) low high own
-        opens false f false h o = false≢true o
+        opens false f false h o = absurd (false≢true o)

@@ -1,12 +1,13 @@
 -- The order in which rows are made into instructions, and the names that regions import (docs/GRAPH.md, "Imports").
 use Rattle.std.specs.Prelude.{ℕ, zero, suc, ◌+◌, ◌-◌, ◌==◌, Bool, true, false, if◌then◌else◌, ◌||◌, ◌&&◌, not, nat_eq}
-use Rattle.std.specs.Prelude.{nat_lt, nat_le, List, [], ◌∷◌, ◌++◌, length, Option, None, Some}
+use Rattle.std.specs.Prelude.{nat_lt, nat_le, max, List, [], ◌∷◌, ◌++◌, length, Option, None, Some}
 use Rattle.id_table.specs.declared.row.Node.{Node}
 use Rattle.id_table.specs.declared.row.Node.TheVariants.{Name, Split, LoopHead, Switches, NextUse}
 use Rattle.id_table.specs.Rows.{at}
-use Rattle.id_table.specs.Tables.{is_switches, is_variable}
+use Rattle.id_table.specs.Tables.{is_carried, is_switches, is_variable}
 use Rattle.id_check.specs.declared.checked.Checked.{Checked}
 use Rattle.id_check.specs.Programs.{rows, binder}
+use Rattle.id_scope.specs.Scopes.{first_of}
 use Rattle.id_desugar.specs.Ends.{end_of, next_of}
 
 -- ---- the order
@@ -15,6 +16,11 @@ use Rattle.id_desugar.specs.Ends.{end_of, next_of}
 abbrev pub those : (ℕ → Bool) → ℕ → List ℕ
 those f zero = []
 those f (suc n) = if f n then those f n ++ n ∷ [] else those f n
+
+-- the number, if there is one
+abbrev pub only : Option ℕ → List ℕ
+only None = []
+only (Some a) = a ∷ []
 
 -- whether a loop's block begins at a row of this node
 abbrev pub is_loop_head : Node → Bool
@@ -29,17 +35,35 @@ in_block P h i = nat_eq (at (rows P) i).block h
 abbrev pub in_procedure : Checked → ℕ → Bool
 in_procedure P i = not (is_loop_head (at (rows P) (at (rows P) i).block).node)
 
--- of the first n rows those in the blocks of loops, block by block, as far as the first k rows are their heads
-abbrev pub loops_by : Checked → ℕ → ℕ → List ℕ
-loops_by P n zero = []
-loops_by P n (suc k) =
-    if is_loop_head (at (rows P) k).node then loops_by P n k ++ those (in_block P k) n else loops_by P n k
+-- the row n, if a loop's block begins there at the place p
+abbrev pub head_at : Checked → ℕ → ℕ → Option ℕ
+head_at P p n = let r = at (rows P) n in if is_loop_head r.node && nat_eq r.place p then Some n else None
+
+-- one more than the greatest place of a loop's block that begins at one of the first n rows
+abbrev pub reach : Checked → ℕ → ℕ
+reach P zero = 0
+reach P (suc n) =
+    let r = at (rows P) n in if is_loop_head r.node then max (reach P n) (suc r.place) else reach P n
+
+-- the heads of loops whose places are below p, in order of place
+abbrev pub loop_heads_by : Checked → ℕ → List ℕ
+loop_heads_by P zero = []
+loop_heads_by P (suc p) = loop_heads_by P p ++ only (first_of (head_at P p) (length (rows P)))
+
+-- those of all loops
+abbrev pub loop_heads : Checked → List ℕ
+loop_heads P = loop_heads_by P (reach P (length (rows P)))
+
+-- of the first n rows those in the blocks with these heads, block by block
+abbrev pub loops_by : Checked → ℕ → List ℕ → List ℕ
+loops_by P n [] = []
+loops_by P n (h ∷ hs) = those (in_block P h) n ++ loops_by P n hs
 
 -- the first n rows in the order in which they are made: the last, which makes the answer's instruction, then those of
 -- the procedures, then those of the loops, in order of place
 abbrev pub order_by : Checked → ℕ → List ℕ
 order_by P zero = []
-order_by P (suc n) = n ∷ (those (in_procedure P) n ++ loops_by P n n)
+order_by P (suc n) = n ∷ (those (in_procedure P) n ++ loops_by P n (loop_heads P))
 
 abbrev pub order_of : Checked → List ℕ
 order_of P = order_by P (length (rows P))
@@ -96,16 +120,34 @@ abbrev pub nexts_from : Checked → ℕ → ℕ → List ℕ
 nexts_from P v zero = []
 nexts_from P v (suc n) = if is_variable (at (rows P) v).node then next_of P v ∷ nexts_from P (suc v) n else []
 
--- the rows of the `next`s of the loop with the head h, by index
+-- whether the loop with the head h has an index
+abbrev pub has_index : Checked → ℕ → Bool
+has_index P h = is_carried (at (rows P) (h + 1)).node
+
+-- the entries of what the loop with the head h carries on beside its variables: nothing, or its index, the upper bound
+-- and the flag
+abbrev pub carried : Checked → ℕ → List ℕ
+carried P h = if has_index P h then ((h + 1) ∷ (h + 2) ∷ (h + 3) ∷ []) else []
+
+-- those of which its switches hand on the true side: the upper bound
+abbrev pub bound_of : Checked → ℕ → List ℕ
+bound_of P h = if has_index P h then ((h + 2) ∷ []) else []
+
+-- the row of its first variable
+abbrev pub first_variable : Checked → ℕ → ℕ
+first_variable P h = h + 1 + length (carried P h)
+
+-- the rows of the `next`s of the loop with the head h, in order
 abbrev pub nexts_of : Checked → ℕ → List ℕ
-nexts_of P h = nexts_from P (h + 1) (length (rows P))
+nexts_of P h = nexts_from P (first_variable P h) (length (rows P))
 
 -- the binders that the row h of this node imports for what it turns on: a procedure's body imports none, the arms of a
--- conditional and a loop those that they use from outside; a loop's switches have its variables before them
+-- conditional and a loop those that they use from outside; a loop's switches have the upper bound of its index, if it
+-- has one, and its variables before them
 abbrev pub handed : Checked → ℕ → Node → List ℕ
 handed P h (Split t) = taken P h
 handed P h (LoopHead s) = taken P h
-handed P h (Switches t) = let g = (at (rows P) h).block in nexts_of P g ++ taken P g
+handed P h (Switches t) = let g = (at (rows P) h).block in bound_of P g ++ (nexts_of P g ++ taken P g)
 handed P h _ = []
 
 -- the binders that the row h imports

@@ -1,12 +1,12 @@
 //! The columns of a checked program, read by row. Nothing here takes memory.
 
-ghost use Rattle.std.specs.Prelude.{◌≡◌, ◌<◌, length};
+ghost use Rattle.std.specs.Prelude.{◌≡◌, ◌<◌, ◌≤◌, length};
 ghost use Rattle.id_check.specs.Programs as programs;
 ghost use Rattle.id_table.specs.Rows as table;
 ghost use Rattle.id_table.specs.Tables.{is_variable};
 ghost use Rattle.id_desugar.specs.Ends.{AreEnds, AreNexts, end_of, next_of};
 ghost use Rattle.id_desugar.specs.Gathering.{is_own, is_opening, may_import, used_in};
-ghost use Rattle.id_desugar.specs.Regions.{is_loop_head, is_right_in};
+ghost use Rattle.id_desugar.specs.Regions.{carried, first_variable, has_index, is_loop_head, is_right_in};
 
 use crate::column::Column;
 use id_check::Checked;
@@ -84,6 +84,31 @@ pub fn is_variable(node: Node) -> bool
     ensures { result ≡ is_variable node }
 {
     matches!(node, Node::Variable)
+}
+
+/// Whether the loop with this head has an index.
+pub fn has_index(checked: &Checked, head: usize) -> bool
+    requires { head < length (programs.rows checked.now) }
+    ensures { result ≡ has_index checked.now head }
+{
+    matches!(row_at(checked, head + 1).node, Node::Carried { .. })
+}
+
+/// How many entries the loop with this head carries on beside those of its variables: none, or three with an index.
+pub fn carried_count(checked: &Checked, head: usize) -> usize
+    requires { head < length (programs.rows checked.now) }
+    ensures count { result ≡ length (carried checked.now head) }
+    ensures few { result ≤ 3 }
+{
+    if has_index(checked, head) { 3 } else { 0 }
+}
+
+/// The row of the first variable of the loop with this head.
+pub fn first_variable(checked: &Checked, head: usize) -> usize
+    requires { head < length (programs.rows checked.now) }
+    ensures { result ≡ first_variable checked.now head }
+{
+    head + 1 + carried_count(checked, head)
 }
 
 /// Whether a construct that uses names from outside begins at a row of this node: a conditional's arms or a loop.

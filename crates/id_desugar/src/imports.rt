@@ -3,7 +3,7 @@
 //! since what is round the loop uses them; they are no imports of the loop, which are gathered after that.
 
 ghost use Rattle.std.specs.Prelude.{◌≡◌, ◌↔◌, IsTrue, ◌≤◌, ◌<◌, ◌+◌, ◌-◌, ◌⊎◌, true, [], length, get_or};
-ghost use Rattle.std.specs.Prelude.{replicate, IfOk, IfSome, OnOk, Some, None};
+ghost use Rattle.std.specs.Prelude.{◌++◌, replicate, IfOk, IfSome, OnOk, Some, None};
 ghost use Rattle.id_check.specs.Programs as programs;
 ghost use Rattle.id_desugar.specs.Ends.{AreEnds, AreNexts, end_row};
 ghost use Rattle.id_desugar.specs.Regions.{all_imports, imports, imports_by, imports_of, nexts_of, taken, with_use};
@@ -13,7 +13,10 @@ ghost use Rattle.id_list.specs.List.{Among};
 ghost use Rattle.id_table.specs.Rows.{at};
 ghost use Rattle.id_table.specs.Tables as table;
 
-use crate::access::{end_of, is_opening, is_variable, may_import, next_of, row_at, used_at};
+use crate::access::{
+    end_of, first_variable, has_index, is_opening, is_variable, may_import, next_of, row_at,
+    used_at,
+};
 use crate::column::{Column, MOST};
 use crate::ends::begun_at;
 use crate::list::{AllImports, Imports};
@@ -245,7 +248,8 @@ fn imports_of_loop(
     Imports::new(alloc, list)
 }
 
-/// What the switches of a loop hand on: its variables, and what its head imports.
+/// What the switches of a loop hand on: the upper bound of its index, if it has one, its variables, and what its head
+/// imports.
 fn handed_on(
     alloc: Global,
     checked: &Checked,
@@ -260,32 +264,37 @@ fn handed_on(
     requires node { table.is_switches (at (programs.rows checked.now) switches).node ≡ true }
     requires head { head ≡ (at (programs.rows checked.now) switches).block }
     requires low { head < switches }
+    requires few { length (programs.rows checked.now) ≤ MOST }
     ensures { IfOk result (λ i. i ≡ imports_of checked.now switches) }
 {
-    let mut list = next_rows(alloc, checked, nexts, head)?;
+    let mut list = Vec::new(alloc);
+    if has_index(checked, head) {
+        list.push((head + 2) as u32)?;
+    }
+    add_nexts(checked, nexts, &mut list, head)?;
     list.extend_from_slice(lists[head].as_slice())?;
     Imports::new(alloc, list)
 }
 
-/// The rows of the `next`s of the loop with this head, by index.
-fn next_rows(
-    alloc: Global,
+/// Adds the rows of the `next`s of the loop with this head, in order.
+fn add_nexts(
     checked: &Checked,
     nexts: &Column,
+    list: &mut Vec<u32>,
     head: usize,
-) -> Result<Vec<u32>, AllocError>
+) -> Result<(), AllocError>
     requires nexts { AreNexts checked.now nexts.now }
+    requires few { length (programs.rows checked.now) ≤ MOST }
     requires within { head < length (programs.rows checked.now) }
-    ensures { IfOk result (λ v. v.items ≡ nexts_of checked.now head) }
+    ensures { OnOk result (list.new.items ≡ list.old.items ++ nexts_of checked.now head) }
 {
-    let mut list = Vec::new(alloc);
-    for row in head + 1..checked.table.rows.len() {
+    for row in first_variable(checked, head)..checked.table.rows.len() {
         if !is_variable(row_at(checked, row).node) {
             break;
         }
         list.push(next_of(checked, nexts, row))?;
     }
-    Ok(list)
+    Ok(())
 }
 
 /// The binders outside the span that uses in it mean, each once, in order of first use.

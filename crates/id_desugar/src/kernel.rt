@@ -3,13 +3,13 @@
 ghost use Rattle.std.specs.Prelude.{◌≡◌, IfOk};
 ghost use Rattle.std.proofs.Props.{props};
 ghost use Rattle.id_desugar.specs.Ends.{AreEnds, AreNexts};
-ghost use Rattle.id_desugar.specs.Regions.{all_imports, order_of};
+ghost use Rattle.id_desugar.specs.Regions.{all_imports, loop_heads, order_of};
 
 use crate::column::Column;
 use crate::ends::{EndsAndNexts, find_ends_and_nexts};
 use crate::imports::all_imports;
 use crate::list::AllImports;
-use crate::order::order_of;
+use crate::order::{loop_heads, order_of};
 use id_check::Checked;
 use std::alloc::{AllocError, Global};
 
@@ -19,12 +19,15 @@ use std::alloc::{AllocError, Global};
 pub struct Kernel<'a> {
     pub checked: &'a Checked,
     pub order: Vec<u32>,
+    /// The heads of loops, in order of place.
+    pub loops: Vec<u32>,
     /// For each row the row where what begins there ends, if something does.
     pub ends: Column,
     /// For each row of a variable of a loop the row of its `next`.
     pub nexts: Column,
     pub imports: AllImports,
     pub ghost ordered: { order.items ≡ order_of checked.now } by { Prim.hlevel props },
+    pub ghost headed: { loops.items ≡ loop_heads checked.now } by { Prim.hlevel props },
     pub ghost ended: { AreEnds checked.now ends } by { Prim.hlevel props },
     pub ghost nexted: { AreNexts checked.now nexts } by { Prim.hlevel props },
     pub ghost imported: { imports ≡ all_imports checked.now } by { Prim.hlevel props },
@@ -34,12 +37,14 @@ pub struct Kernel<'a> {
 pub fn regions<'a>(alloc: Global, checked: &'a Checked) -> Result<Kernel<'a>, AllocError>
     ensures { IfOk result (λ k. k.checked.now ≡ checked.now) }
 {
-    let order = order_of(alloc, checked)?;
+    let loops = loop_heads(alloc, checked)?;
+    let order = order_of(alloc, checked, loops.as_slice())?;
     let EndsAndNexts { ends, nexts } = find_ends_and_nexts(alloc, checked)?;
     let imports = all_imports(alloc, checked, &ends, &nexts)?;
     Ok(Kernel {
         checked,
         order,
+        loops,
         ends,
         nexts,
         imports,

@@ -1,9 +1,12 @@
 //! The order in which rows are made into instructions (docs/GRAPH.md, "Schemas").
 
-ghost use Rattle.std.specs.Prelude.{◌≡◌, ◌<◌, ◌≤◌, ◌+◌, ◌++◌, [], length, IfOk, OnOk};
+ghost use Rattle.std.specs.Prelude.{◌≡◌, ◌<◌, ◌≤◌, ◌+◌, ◌++◌, ℕ, None, get_or, length, IfOk, OnOk};
 ghost use Rattle.id_check.specs.Programs.{rows};
 ghost use Rattle.id_desugar.specs.Gathering.{AreChains};
-ghost use Rattle.id_desugar.specs.Regions.{in_block, in_procedure, loops_by, order_of, those};
+ghost use Rattle.id_desugar.specs.Regions.{head_at, in_block, in_procedure, loop_heads, loops_by, order_of, reach};
+ghost use Rattle.id_desugar.specs.Regions.{those};
+ghost use Rattle.id_list.specs.List.{Among};
+ghost use Rattle.std.specs.Option.{option_or};
 
 use crate::access::{is_loop_head, row_at};
 use crate::column::{Column, MOST};
@@ -19,8 +22,63 @@ struct Chains {
     nexts: Column,
 }
 
-/// The order in which the rows are made: the last, then those of procedures, then those of each loop's block.
-pub fn order_of(alloc: Global, checked: &Checked) -> Result<Vec<u32>, AllocError>
+/// The heads of loops, in order of place.
+pub fn loop_heads(alloc: Global, checked: &Checked) -> Result<Vec<u32>, AllocError>
+    ensures { IfOk result (λ v. v.items ≡ loop_heads checked.now) }
+{
+    let count = checked.table.rows.len();
+    let reach = reach(checked);
+    if count > MOST || reach > MOST {
+        return Err(AllocError);
+    }
+    let mut heads = Vec::new(alloc);
+    if reach == 0 {
+        return Ok(heads);
+    }
+    let mut placed = Column::none(alloc, reach)?;
+    for row in 0..count {
+        place_head(checked, &mut placed, row);
+    }
+    for place in 0..reach {
+        if let Some(head) = placed.get(place) {
+            heads.push(head)?;
+        }
+    }
+    Ok(heads)
+}
+
+/// One more than the greatest place of a loop, or 0. Takes no memory.
+fn reach(checked: &Checked) -> usize
+    ensures { result ≡ reach checked.now (length (rows checked.now)) }
+{
+    let mut reach = 0usize;
+    for row in 0..checked.table.rows.len() {
+        let row = row_at(checked, row);
+        if is_loop_head(row.node) {
+            reach = reach.max(row.place as usize + 1);
+        }
+    }
+    reach
+}
+
+/// Notes the row by its place, if a loop's block begins there and none is noted there yet. Takes no memory.
+fn place_head(checked: &Checked, placed: &mut Column, n: usize)
+    requires few { n < MOST }
+    ensures long { length placed.new ≡ length placed.old }
+    ensures each { (p : ℕ) → p < length placed.old
+        → get_or placed.new p None ≡ option_or (get_or placed.old p None) (head_at checked.now p n) }
+{
+    let row = row_at(checked, n);
+    let place = row.place as usize;
+    if is_loop_head(row.node) && place < placed.len() && placed.get(place).is_none() {
+        placed.set(place, Some(n as u32));
+    }
+}
+
+/// The order in which the rows are made, where these are the heads of loops: the last, then those of procedures, then
+/// those of each loop's block.
+pub fn order_of(alloc: Global, checked: &Checked, loops: &[u32]) -> Result<Vec<u32>, AllocError>
+    requires { loops.now ≡ loop_heads checked.now }
     ensures { IfOk result (λ v. v.items ≡ order_of checked.now) }
 {
     let count = checked.table.rows.len();
@@ -31,7 +89,7 @@ pub fn order_of(alloc: Global, checked: &Checked) -> Result<Vec<u32>, AllocError
     if count > 0 {
         order.push((count - 1) as u32)?;
         push_procedures(checked, &mut order, count - 1)?;
-        push_loops(alloc, checked, &mut order, count - 1)?;
+        push_loops(alloc, checked, &mut order, loops, count - 1)?;
     }
     Ok(order)
 }
@@ -56,41 +114,27 @@ fn is_in_procedure(checked: &Checked, row: usize) -> bool
     !is_loop_head(row_at(checked, row_at(checked, row).block as usize).node)
 }
 
-/// Those of the first `last` rows that stand in blocks of loops, block by block.
+/// Those of the first `last` rows that stand in the blocks of the loops with these heads, block by block.
 fn push_loops(
     alloc: Global,
     checked: &Checked,
     order: &mut Vec<u32>,
+    loops: &[u32],
     last: usize,
 ) -> Result<(), AllocError>
     requires few { last ≤ MOST }
     requires last { last + 1 ≡ length (rows checked.now) }
-    ensures { OnOk result (order.new.items ≡ order.old.items ++ loops_by checked.now last last) }
+    requires loops { (h : ℕ) → Among h loops.now → h < last }
+    ensures { OnOk result (order.new.items ≡ order.old.items ++ loops_by checked.now last loops.now) }
 {
-    let first = first_loop(checked, last);
-    if first == last {
+    if loops.is_empty() {
         return Ok(());
     }
     let chains = find_chains(alloc, checked, last)?;
-    for head in first..last {
-        if chains.firsts.get(head).is_some() && is_loop_head(row_at(checked, head).node) {
-            push_block(checked, &chains, order, last, head)?;
-        }
+    for head in loops {
+        push_block(checked, &chains, order, last, *head as usize)?;
     }
     Ok(())
-}
-
-/// The first of the first `last` rows at which a loop's block begins, or `last`. Takes no memory.
-fn first_loop(checked: &Checked, last: usize) -> usize
-    ensures within { result ≤ last }
-    ensures none { loops_by checked.now last result ≡ [] }
-{
-    for row in 0..last {
-        if is_loop_head(row_at(checked, row).node) {
-            return row;
-        }
-    }
-    last
 }
 
 /// Those that stand in the block with this head.

@@ -1,8 +1,9 @@
 -- What follows from a fact by one rule, row by row, with others that cells have.
-use Rattle.std.specs.Prelude.{ℕ, ◌+◌, ◌-◌, Bool as Truth, true, false, ◌&&◌, nat_eq, nat_lt}
+use Rattle.std.specs.Prelude.{ℕ, ℤ, pos, ◌+◌, ◌-◌, ◌+ℤ◌, int_le, int_lt, Bool as Truth, true, false, ◌&&◌, nat_eq, nat_lt}
 use Rattle.std.specs.Prelude.{List, [], ◌∷◌, ◌++◌, length, Option, None, Some, if◌then◌else◌}
 use Rattle.id_table.specs.declared.row.Node.{Node}
 use Rattle.id_table.specs.declared.row.Node.TheVariants as node
+use Rattle.id_table.specs.Loops.{index_row, lower_at, upper_at}
 use Rattle.id_table.specs.Rows.{at}
 use Rattle.id_check.specs.declared.checked.Checked.{Checked}
 use Rattle.id_check.specs.Programs.{binder, rows}
@@ -17,6 +18,7 @@ use Rattle.id_facts.specs.declared.facts.Trail.{Trail}
 use Rattle.id_facts.specs.declared.facts.Trail.TheVariants.{Outermost, Below}
 use Rattle.id_links.specs.declared.links.Links.{Links}
 use Rattle.id_effects.specs.declared.loops.Iteration.{Iteration}
+use Rattle.id_effects.specs.declared.counts.Counting.{Counting}
 use Rattle.id_cells.specs.declared.queues.Queues.{Queues}
 use Rattle.id_cells.specs.declared.queues.Wait.{Wait}
 use Rattle.id_cells.specs.Cells.{asks, find, items, named, next_of, out_of, puts, queue_of}
@@ -26,6 +28,11 @@ use Rattle.id_links.specs.Links.{awaited, far_from, some_row, targets, test_of_l
 use Rattle.id_facts.specs.Firsts.{ons, haves}
 use Rattle.id_given.specs.Given.{seen, answered, given}
 use Rattle.id_cells.specs.Queues.{queue}
+
+-- whether it is this row
+abbrev pub is_row : Option ℕ → ℕ → Truth
+is_row None n = false
+is_row (Some m) n = nat_eq m n
 
 -- ---- calls
 
@@ -118,7 +125,7 @@ firsts P c g p n q h (m ∷ ms) =
 -- the facts that come by the loop at the row n of this node, which may be On by the fact of this number
 abbrev pub start_by : Checked → Links → Cells → RowFact → Trail → ℕ → Option ℕ → Node → List RowFact
 start_by P l c g p n (Some i) (node.Loop h w t) =
-    ons (Below i 0) (some_row (test_of_loop (at (rows P) w).node))
+    ons (Below i 0) (some_row (test_of_loop (rows P) (at (rows P) w).node))
     ++ firsts P c g p n (Below i 0) h (targets l.args.rows.items h)
 start_by P l c g p n _ _ = []
 
@@ -141,16 +148,6 @@ woken_by P w v (Some i) (node.Loop h s t) (node.Next x k o u) =
     if nat_eq (at (rows P) w.user).block h then Has (Below i 0) w.user v ∷ [] else []
 woken_by P w v _ _ _ = []
 
--- the fact that comes where the row m Has the value at the path q, if this waits for it
-abbrev pub woken : Checked → Cells → Trail → ℕ → RowValue → Wait → List RowFact
-woken P c q m v w =
-    if is_awaited P c q m w
-    then woken_by P w v (find c w.path w.row) (at (rows P) w.row).node (at (rows P) w.user).node else []
-
-abbrev pub all_woken : Checked → Cells → Trail → ℕ → RowValue → List Wait → List RowFact
-all_woken P c q m v [] = []
-all_woken P c q m v (w ∷ ws) = woken P c q m v w ++ all_woken P c q m v ws
-
 -- the iteration of a loop at a row of this node
 abbrev pub iteration_by : Node → Option Iteration
 iteration_by (node.Loop h w l) = Some (record { head = h; switches = w; last = l })
@@ -165,6 +162,83 @@ iteration_in P _ = None
 abbrev pub iteration_of : Checked → Cells → Trail → Option Iteration
 iteration_of P c Outermost = None
 iteration_of P c (Below i k) = iteration_in P (fact_at (items c) i)
+
+-- ---- loops with an index
+
+-- the facts that come where a loop goes on with this value of its index, or does not
+abbrev pub goes_on : Links → Counting → ℤ → Truth → List RowFact
+goes_on l r v true = Has r.path r.index (Int v) ∷ ons r.path (targets l.turns.rows.items r.switches)
+goes_on l r v false = On r.path r.last ∷ []
+
+-- those that come by a value, the lower bound of the index or its last value, with this upper bound, with these, and by
+-- these values with these
+abbrev pub counted_by : Links → Counting → RowValue → RowValue → List RowFact
+counted_by l r (Int v) (Int b) =
+    if r.first then goes_on l r v (int_le v b) else goes_on l r (v +ℤ pos 1) (int_lt v b)
+counted_by l r _ _ = []
+
+abbrev pub counted_with : Links → Counting → RowValue → List RowValue → List RowFact
+counted_with l r v [] = []
+counted_with l r v (b ∷ bs) = counted_by l r v b ++ counted_with l r v bs
+
+abbrev pub counted : Links → Counting → List RowValue → List RowValue → List RowFact
+counted l r [] bs = []
+counted l r (v ∷ vs) bs = counted_with l r v bs ++ counted l r vs bs
+
+-- the facts that come by the bounds of the loop at the row n of this node, which may be On by the fact of this number
+abbrev pub begin_by : Checked → Links → Cells → RowFact → Trail → Option ℕ → Node → List RowFact
+begin_by P l c g p (Some i) (node.Loop h w t) =
+    counted l (record { path = Below i 0; index = index_row w; switches = w; last = t; first = true })
+    (seen c g p (lower_at (rows P) h)) (seen c g p (upper_at (rows P) h))
+begin_by P l c g p _ _ = []
+
+abbrev pub begin_at : Checked → Links → Cells → RowFact → Trail → ℕ → List RowFact
+begin_at P l c g p n = begin_by P l c g p (find c p n) (at (rows P) n).node
+
+-- what comes next where the index at the row x has a value in this iteration, whose next one is at this path
+abbrev pub counting_by : Checked → ℕ → Option Iteration → Option Trail → Option Counting
+counting_by P x (Some r) (Some q) =
+    if nat_eq (at (rows P) x).block r.head
+    then Some (record { path = q; index = x; switches = r.switches; last = r.last; first = false }) else None
+counting_by P x _ _ = None
+
+abbrev pub counting_of : Checked → Cells → Trail → ℕ → Option Counting
+counting_of P c p x = counting_by P x (iteration_of P c p) (next_of p)
+
+-- the facts that come by these values of an index with these of its upper bound, if it counts
+abbrev pub counted_on : Links → Option Counting → List RowValue → List RowValue → List RowFact
+counted_on l None vs bs = []
+counted_on l (Some r) vs bs = counted l r vs bs
+
+-- those that come where the row n of this node has the value at the path, if it is an index
+abbrev pub index_by : Checked → Links → Cells → Trail → ℕ → RowValue → Node → List RowFact
+index_by P l c p n v (node.Index x) =
+    counted_on l (counting_of P c p n) (v ∷ [])
+    (seen c (Has p n v) (out_of (items c) (far_from P n (awaited P n)) p) (awaited P n))
+index_by P l c p n v _ = []
+
+abbrev pub index_at : Checked → Links → Cells → Trail → ℕ → RowValue → List RowFact
+index_at P l c p n v = index_by P l c p n v (at (rows P) n).node
+
+-- those that come where what this waits for, by the fact g, has the value, if it is an index at a row of this node
+abbrev pub index_woken : Checked → Links → Cells → RowFact → Wait → RowValue → Node → List RowFact
+index_woken P l c g w v (node.Index x) =
+    if nat_eq w.user w.row
+    then counted_on l (counting_of P c w.path w.row) (values c g w.path w.row) (v ∷ []) else []
+index_woken P l c g w v _ = []
+
+-- the facts that come where the row m Has the value at the path q, if this waits for it
+abbrev pub woken : Checked → Links → Cells → Trail → ℕ → RowValue → Wait → List RowFact
+woken P l c q m v w =
+    if is_awaited P c q m w
+    then woken_by P w v (find c w.path w.row) (at (rows P) w.row).node (at (rows P) w.user).node
+    ++ index_woken P l c (Has q m v) w v (at (rows P) w.row).node else []
+
+abbrev pub all_woken : Checked → Links → Cells → Trail → ℕ → RowValue → List Wait → List RowFact
+all_woken P l c q m v [] = []
+all_woken P l c q m v (w ∷ ws) = woken P l c q m v w ++ all_woken P l c q m v ws
+
+-- ---- iterations
 
 -- the row is On, or Has the value, at the path, if there is one
 abbrev pub on_at : Option Trail → ℕ → List RowFact
@@ -196,7 +270,8 @@ next_by P p (Some r) m v = if nat_eq (at (rows P) m).block r.head then has_at (n
 -- a `next` of the iteration that the path ends in
 abbrev pub loop_by : Checked → Links → Cells → Trail → ℕ → RowValue → ℕ → Node → List RowFact
 loop_by P l c p n v m (node.Switches t) =
-    if nat_eq t n then switches_by l p (iteration_of P c p) m t v else []
+    if is_row (test_of_loop (rows P) (node.Switches t)) n
+    then switches_by l p (iteration_of P c p) m t v else []
 loop_by P l c p n v m (node.Next x k o a) =
     if nat_eq a n then next_by P p (iteration_of P c p) m v else []
 loop_by P l c p n v m _ = []
@@ -205,10 +280,6 @@ loop_by P l c p n v m _ = []
 
 -- whether the row is the body of the procedure, or the last expression, of the call or loop of this node, whose path
 -- has this number: 0 at a call
-abbrev pub is_row : Option ℕ → ℕ → Truth
-is_row None n = false
-is_row (Some m) n = nat_eq m n
-
 abbrev pub is_end : Checked → Node → ℕ → ℕ → Truth
 is_end P (node.Call e c) k n = nat_eq k 0 && is_row (body_in (callee_of P e)) n
 is_end P (node.Loop h w l) k n = nat_eq l n
@@ -230,7 +301,8 @@ exit_at P c (Below i k) n v = exit_by P k n v (fact_at (items c) i)
 abbrev pub gain : Checked → Links → Cells → Trail → ℕ → RowValue → ℕ → List RowFact
 gain P l c p n v m =
     let z = (at (rows P) m).node in
-    given P c (Has p n v) p m ++ (pass_of P l c p n v z ++ loop_by P l c p n v m z)
+    given P c (Has p n v) p m
+    ++ (pass_of P l c p n v z ++ (loop_by P l c p n v m z ++ begin_at P l c (Has p n v) p m))
 
 abbrev pub gains : Checked → Links → Cells → Trail → ℕ → RowValue → List ℕ → List RowFact
 gains P l c p n v [] = []
@@ -246,14 +318,15 @@ reached P l c s (q ∷ qs) =
 abbrev pub turned : Checked → Links → Cells → Trail → ℕ → List RowFact
 turned P l c p n =
     ons p (targets l.turns.rows.items n)
-    ++ (given P c (On p n) p n ++ (call_at P l c (On p n) p n ++ start_at P l c (On p n) p n))
+    ++ (given P c (On p n) p n ++ (call_at P l c (On p n) p n
+    ++ (start_at P l c (On p n) p n ++ begin_at P l c (On p n) p n)))
 
 -- the facts that follow from this one, with others of the cells, by one rule, where this waits
 abbrev pub effects : Checked → Links → Queues → Cells → RowFact → List RowFact
 effects P l W c (On p n) = turned P l c p n
 effects P l W c (Has p n v) =
     gains P l c p n v (targets l.reads.rows.items n)
-    ++ (all_woken P c p n v (queue W.queues.items (queue_of p n)) ++ exit_at P c p n v)
+    ++ (all_woken P l c p n v (queue W.queues.items (queue_of p n)) ++ (exit_at P c p n v ++ index_at P l c p n v))
 effects P l W c (Shape s lo hi) = reached P l c s (named c s)
 effects P l W c (Put p n s j v) = answered v (asks c s j)
 effects P l W c (Ask p n s j) = haves p n (puts c s j)

@@ -7,6 +7,7 @@ ghost use Rattle.id_effects.specs.Effects.{all_woken, effects, exit_at, exit_by,
 ghost use Rattle.id_effects.specs.Effects.{turned};
 
 use crate::calls::{add_call, add_pass, body_called};
+use crate::counts::{add_begin, add_index};
 use crate::loops::{add_loop, add_start, add_woken};
 use id_cells::{Cells, Point, Queues, Wait, queue_of};
 use id_check::Checked;
@@ -69,7 +70,8 @@ fn add_from_turned(
     add_ons(found, path, links.turns.of(row))?;
     add_given(alloc, found, checked, cells, fact, path, row)?;
     add_call(alloc, found, checked, links, cells, fact, path, row)?;
-    add_start(alloc, found, checked, links, cells, fact, path, row)
+    add_start(alloc, found, checked, links, cells, fact, path, row)?;
+    add_begin(alloc, found, checked, links, cells, fact, path, row)
 }
 
 /// Adds the facts that follow from this, that the row Has the value at the path.
@@ -99,15 +101,18 @@ fn add_from_value(
         links.reads.of(row),
     )?;
     add_all_woken(
+        alloc,
         found,
         checked,
+        links,
         cells,
         path,
         row,
         value,
         waits.of(queue_of(path, row)),
     )?;
-    add_exit(found, checked, cells, path, row, value)
+    add_exit(found, checked, cells, path, row, value)?;
+    add_index(alloc, found, checked, links, cells, path, row, value)
 }
 
 /// Adds the facts that come where the structure, which has new bounds, is a value.
@@ -150,7 +155,7 @@ fn add_gains(
 }
 
 /// Adds the facts that come where the row Has the value, at a row that reads it, and at the calls whose argument and
-/// the loops whose predicate or `next` this is.
+/// the loops whose predicate, `next` or bound this is.
 fn add_gain(
     alloc: Global,
     found: &mut Vec<RowFact>,
@@ -169,7 +174,8 @@ fn add_gain(
     add_given(alloc, found, checked, cells, followed, path, reader)?;
     let node = node_of(checked, reader);
     add_pass(found, checked, links, cells, path, row, value, node)?;
-    add_loop(found, checked, links, cells, path, row, value, reader)
+    add_loop(found, checked, links, cells, path, row, value, reader)?;
+    add_begin(alloc, found, checked, links, cells, followed, path, reader)
 }
 
 /// Adds the facts that come where the structure, which has new bounds, is a value.
@@ -203,8 +209,10 @@ fn add_reached(
 
 /// Adds the facts that come where the binder has the value that these wait for.
 fn add_all_woken(
+    alloc: Global,
     found: &mut Vec<RowFact>,
     checked: &Checked,
+    links: &Links,
     cells: &Cells,
     path: Trail,
     row: usize,
@@ -212,10 +220,10 @@ fn add_all_woken(
     waits: &[Wait],
 ) -> Result<(), AllocError>
     ensures { OnOk result (found.new.items ≡ found.old.items
-        ++ all_woken checked.now cells.now path row value waits.now) }
+        ++ all_woken checked.now links.now cells.now path row value waits.now) }
 {
     for wait in waits {
-        add_woken(found, checked, cells, path, row, value, *wait)?;
+        add_woken(alloc, found, checked, links, cells, path, row, value, *wait)?;
     }
     Ok(())
 }
@@ -275,7 +283,7 @@ fn is_end(checked: &Checked, node: Node, number: u64, row: usize) -> bool
 }
 
 /// Whether it is this row.
-fn is_row(one: Option<usize>, row: usize) -> bool
+pub fn is_row(one: Option<usize>, row: usize) -> bool
     ensures { result ≡ is_row one row }
 {
     match one {

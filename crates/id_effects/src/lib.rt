@@ -7,6 +7,7 @@
 #![tactic(auto)]
 
 mod calls;
+mod counts;
 mod effects;
 mod loops;
 

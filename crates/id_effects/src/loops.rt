@@ -9,11 +9,13 @@ ghost use Rattle.id_effects.specs.Effects.{start_at, switches_by, turn_by, woken
 ghost use Rattle.id_effects.specs.Effects.{woken_by};
 ghost use Rattle.id_links.specs.Links.{test_of_loop};
 
+use crate::counts::add_index_woken;
+use crate::effects::is_row;
 use id_cells::{Cells, Wait, next_of};
 use id_check::Checked;
 use id_facts::{RowFact, RowValue, Trail, add_has, add_on, add_ons, same_trail};
 use id_given::add_seen;
-use id_links::{Links, awaited, binder_of, block_of, distance, node_of};
+use id_links::{Links, awaited, binder_of, block_of, distance, node_of, test_of_loop};
 use id_table::Node;
 use std::alloc::{AllocError, Global};
 
@@ -26,14 +28,11 @@ pub struct Iteration {
     pub last: usize,
 }
 
-/// The predicate that a row of this node follows, if it is the switches of a loop.
-fn test_of(node: Node) -> Option<usize>
-    ensures { result ≡ test_of_loop node }
+/// The predicate that a row of this node follows, if it is the switches of a loop that has one.
+fn test_of(checked: &Checked, node: Node) -> Option<usize>
+    ensures { result ≡ test_of_loop (rows checked.now) node }
 {
-    match node {
-        Node::Switches { test } => Some(test),
-        _ => None,
-    }
+    test_of_loop(checked.table.rows.as_slice(), node)
 }
 
 /// Adds the facts that come by the loop at the row at the path, where it is On and this fact is followed.
@@ -53,7 +52,8 @@ pub fn add_start(
     match (cells.find(path, row), node_of(checked, row)) {
         (Some(spot), Node::Loop { head, switches, .. }) => {
             let first = Trail::Below { spot, number: 0 };
-            add_on(found, first, test_of(node_of(checked, switches as usize)))?;
+            let test = test_of(checked, node_of(checked, switches as usize));
+            add_on(found, first, test)?;
             add_firsts(
                 alloc,
                 found,
@@ -121,10 +121,12 @@ fn add_first(
     }
 }
 
-/// Adds the fact that comes where the row Has the value at the path, if this waits for it.
+/// Adds the facts that come where the row Has the value at the path, if this waits for it.
 pub fn add_woken(
+    alloc: Global,
     found: &mut Vec<RowFact>,
     checked: &Checked,
+    links: &Links,
     cells: &Cells,
     path: Trail,
     row: usize,
@@ -132,17 +134,22 @@ pub fn add_woken(
     wait: Wait,
 ) -> Result<(), AllocError>
     ensures { OnOk result (found.new.items ≡ found.old.items
-        ++ woken checked.now cells.now path row value wait) }
+        ++ woken checked.now links.now cells.now path row value wait) }
 {
     if is_awaited(checked, cells, path, row, wait) {
+        let node = node_of(checked, wait.row);
         add_woken_by(
             found,
             checked,
             wait,
             value,
             cells.find(wait.path, wait.row),
-            node_of(checked, wait.row),
+            node,
             node_of(checked, wait.user),
+        )?;
+        let followed = RowFact::Has { path, row, value };
+        add_index_woken(
+            alloc, found, checked, links, cells, followed, wait, value, node,
         )
     } else {
         Ok(())
@@ -190,7 +197,7 @@ fn is_awaited(checked: &Checked, cells: &Cells, path: Trail, row: usize, wait: W
 }
 
 /// The iteration that the path ends in, if it ends in one.
-fn iteration_of(checked: &Checked, cells: &Cells, path: Trail) -> Option<Iteration>
+pub fn iteration_of(checked: &Checked, cells: &Cells, path: Trail) -> Option<Iteration>
     ensures { result ≡ iteration_of checked.now cells.now path }
 {
     match path {
@@ -243,7 +250,7 @@ pub fn add_loop(
         ++ loop_by checked.now links.now cells.now path row value reader (at (rows checked.now) reader).node) }
 {
     match node_of(checked, reader) {
-        Node::Switches { test } if test == row => {
+        Node::Switches { test } if is_row(test_of(checked, Node::Switches { test }), row) => {
             let iteration = iteration_of(checked, cells, path);
             add_switches(found, links, path, iteration, reader, test, value)
         }

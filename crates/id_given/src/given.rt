@@ -190,7 +190,7 @@ fn add_if(
 }
 
 /// What the row Has at the path, if there is one.
-fn seen(
+pub fn seen(
     alloc: Global,
     cells: &Cells,
     followed: RowFact,

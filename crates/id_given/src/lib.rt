@@ -10,5 +10,5 @@ mod given;
 mod operators;
 mod structures;
 
-pub use given::{add_given, add_seen};
+pub use given::{add_given, add_seen, seen};
 pub use structures::{add_asked, add_put};

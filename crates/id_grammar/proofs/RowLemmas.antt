@@ -6,7 +6,7 @@ use Rattle.id_text.specs.contracts.token.Symbol as symbol
 use Rattle.id_text.specs.declared.token.Token.{Token}
 use Rattle.id_text.specs.declared.token.TokenKind.{TokenKind}
 use Rattle.id_text.specs.declared.token.TokenKind.TheVariants.{Key, Sign}
-use Rattle.id_text.specs.declared.token.Keyword.TheVariants.{While, And, Or}
+use Rattle.id_text.specs.declared.token.Keyword.TheVariants.{While, For, And, Or}
 use Rattle.id_text.specs.declared.token.Symbol.TheVariants.{LeftParen, RightParen, LeftBracket, Comma, Equal}
 use Rattle.id_text.specs.declared.token.Symbol.TheVariants.{NotEqual, Less, LessEqual, Greater, GreaterEqual, Plus}
 use Rattle.id_text.specs.declared.token.Symbol.TheVariants.{Minus}
@@ -105,6 +105,7 @@ abbrev pub Bars : Phrase → Word → Rest → Type 0
 Bars s0 w (done e) = (k : TokenKind) → Quiet s0 k → is_word w k ≡ false
 Bars s0 w (word v r) = is_word w (kind_of v) ≡ false
 Bars s0 w (part (Tail o) f) = (k : TokenKind) (p : ℕ) (r : Rest) → Opens (Tail o) k p r → is_word w k ≡ false
+Bars s0 w (either v r q) = (is_word w (kind_of v) ≡ false) × Bars s0 w q
 Bars s0 w _ = ⊥
 
 -- no part is gone on by what stands behind it, nor a production that could go on
@@ -175,6 +176,11 @@ Quiet-fetch e = rw e refl
 not_while : (k : TokenKind) (p : ℕ) (r : Rest) → Opens (Tail scope.Block) k p r → is_word (the.Key While) k ≡ false
 not_while k p r by_statement = refl
 not_while k p r by_body = refl
+
+-- nor with the word `for`
+not_for : (k : TokenKind) (p : ℕ) (r : Rest) → Opens (Tail scope.Block) k p r → is_word (the.Key For) k ≡ false
+not_for k p r by_statement = refl
+not_for k p r by_body = refl
 
 -- behind an argument comes a comma or the closing bracket
 pub arguments_parts : (s0 : Phrase) → Parts s0 arguments_of
@@ -264,10 +270,21 @@ valid by_array = record {
   roomy = λ n d h. (h, λ a. (h, λ b. tt));
 }
 valid by_braces = record {
-  parts = (not_while, λ p t. ((refl, (refl, (refl, (refl, (refl, refl))))), λ a. (λ k q. tt, tt)), λ a. (λ k q. tt, tt));
+  parts = (
+    (refl, not_while),
+    λ p t. ((refl, (refl, (refl, (refl, (refl, refl))))), λ a. (λ k q. tt, tt)),
+    (
+      not_for,
+      λ p x i low. ((refl, (refl, (refl, (refl, (refl, refl))))), λ high. ((refl, (refl, (refl, (refl, (refl, refl))))), λ a. (λ k q. tt, tt))),
+      λ a. (λ k q. tt, tt),
+    ),
+  );
   high = omega arith;
-  needs = (λ p. (0, omega arith, λ t. (0, omega arith, λ a. omega arith)), (0, omega arith, λ a. omega arith));
-  roomy = λ n d h. (λ p. (h, λ t. (h, λ a. tt)), (h, λ a. tt));
+  needs = (
+    λ p. (0, omega arith, λ t. (0, omega arith, λ a. omega arith)),
+    (λ p x i. (0, omega arith, λ low. (0, omega arith, λ high. (0, omega arith, λ a. omega arith))), (0, omega arith, λ a. omega arith)),
+  );
+  roomy = λ n d h. (λ p. (h, λ t. (h, λ a. tt)), (λ p x i. (h, λ low. (h, λ high. (h, λ a. tt))), (h, λ a. tt)));
 }
 valid no_arguments = record { parts = tt; high = omega arith; needs = omega arith; roomy = λ n d h. tt }
 valid last_argument = record { parts = tt; high = omega arith; needs = omega arith; roomy = λ n d h. tt }

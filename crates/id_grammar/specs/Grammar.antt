@@ -4,12 +4,12 @@ use Rattle.id_text.specs.declared.token.Token.{Token}
 use Rattle.id_text.specs.declared.token.TokenKind.{TokenKind}
 use Rattle.id_text.specs.declared.token.TokenKind.TheVariants.{Name, Number, Key, Sign, End}
 use Rattle.id_text.specs.declared.token.Keyword.TheVariants.{Def, If, Then, Else, While, Do, Next, Finally, In, True}
-use Rattle.id_text.specs.declared.token.Keyword.TheVariants.{False, Int, Bool, Array, Div, Rem, And, Or, Not}
+use Rattle.id_text.specs.declared.token.Keyword.TheVariants.{False, Int, Bool, Array, Div, Rem, And, Or, Not, For, To}
 use Rattle.id_text.specs.declared.token.Symbol.{Symbol}
 use Rattle.id_text.specs.declared.token.Symbol.TheVariants.{LeftParen, RightParen, LeftBrace, RightBrace}
 use Rattle.id_text.specs.declared.token.Symbol.TheVariants.{LeftBracket, RightBracket, Comma}
 use Rattle.id_text.specs.declared.token.Symbol.TheVariants.{Semicolon, Colon, Becomes, Equal, NotEqual, Less, LessEqual}
-use Rattle.id_text.specs.declared.token.Symbol.TheVariants.{Greater, GreaterEqual, Plus, Minus, Star}
+use Rattle.id_text.specs.declared.token.Symbol.TheVariants.{Greater, GreaterEqual, Plus, Minus, Star, Arrow}
 use Rattle.id_value.specs.declared.Kind.{Kind}
 use Rattle.id_value.specs.declared.Kind.TheVariants as kind
 use Rattle.id_value.specs.declared.Constant.TheVariants as constant
@@ -27,7 +27,7 @@ use Rattle.id_grammar.specs.declared.tokens.Word.{Word}
 use Rattle.id_grammar.specs.declared.tokens.Word.TheVariants as the
 use Rattle.id_grammar.specs.Tree as tree
 use Rattle.id_grammar.specs.Tree.{Tree, literal, unary, conditional, call, block, loop, array, fetch, binding, next}
-use Rattle.id_grammar.specs.Tree.{store}
+use Rattle.id_grammar.specs.Tree.{store, for_loop}
 use Rattle.id_grammar.specs.Tree.{param, define, binary, none, more}
 
 -- What a rule is for: a definition; its parameters behind the bracket, and more of them behind one; an expression of
@@ -151,6 +151,11 @@ abbrev pub loop_with_tail : Tree → Tree → ℕ → Tree
 loop_with_tail t (more a e) p = loop t a e p
 loop_with_tail t _ p = none
 
+-- the `for` with this index, these bounds and this tail
+abbrev pub for_with_tail : List ℕ → ℕ → Tree → Tree → Tree → ℕ → Tree
+for_with_tail x q low high (more a e) p = for_loop x q low high a e p
+for_with_tail x q low high _ p = none
+
 -- behind the brace of a block: its tail
 abbrev pub block_of : ℕ → Rest
 block_of p = part (Tail scope.Block) (λ a. done (with_tail a p))
@@ -158,6 +163,20 @@ block_of p = part (Tail scope.Block) (λ a. done (with_tail a p))
 -- behind the word `while`: the predicate, "do", the tail
 abbrev pub loop_of : ℕ → Rest
 loop_of p = enclosed (the.Key Do) (λ t. part (Tail scope.Loop) (λ a. done (loop_with_tail t a p)))
+
+-- behind the index of a `for`: "<-", the lower bound, "to", the upper bound, "do", the tail
+abbrev pub indexed_of : ℕ → List ℕ → ℕ → Rest
+indexed_of p x q =
+    sign Arrow (enclosed (the.Key To) (λ low. enclosed (the.Key Do) (λ high.
+    part (Tail scope.Loop) (λ a. done (for_with_tail x q low high a p)))))
+
+-- behind the word `for`: the index, and what stands behind it
+abbrev pub for_of : ℕ → Rest
+for_of p = name (indexed_of p)
+
+-- behind a brace: a `while`, a `for`, or else a block
+abbrev pub braces_of : ℕ → Rest
+braces_of p = either (the.Key While) (λ _. loop_of p) (either (the.Key For) (λ _. for_of p) (block_of p))
 
 -- The productions that begin with a token of their own: a phrase, the token's kind and place, and what is left behind
 -- it.
@@ -176,7 +195,7 @@ pub data Opens : Phrase → TokenKind → ℕ → Rest → Type 0 where
   parens : {p : ℕ} → Opens Atom (Sign LeftParen) p (enclosed (the.Sign RightParen) (λ e. done e))
   by_name : {x : List ℕ} {p : ℕ} → Opens Atom (Name x) p (named_of x p)
   by_array : {p : ℕ} → Opens Atom (Key Array) p (array_of p)
-  by_braces : {p : ℕ} → Opens Atom (Sign LeftBrace) p (either (the.Key While) (λ _. loop_of p) (block_of p))
+  by_braces : {p : ℕ} → Opens Atom (Sign LeftBrace) p (braces_of p)
   no_arguments : {p : ℕ} → Opens Arguments (Sign RightParen) p (done none)
   last_argument : {p : ℕ} → Opens MoreArguments (Sign RightParen) p (done none)
   next_argument : {p : ℕ} → Opens MoreArguments (Sign Comma) p arguments_of

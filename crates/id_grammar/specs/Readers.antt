@@ -27,7 +27,7 @@ use Rattle.id_grammar.specs.Tree.{Tree, tree_of, stmt_tree, def_tree, unary, par
 use Rattle.id_grammar.specs.Grammar.{Phrase, Definition, Parameters, MoreParameters, Arguments, MoreArguments, Tail}
 use Rattle.id_grammar.specs.Grammar.{Rest}
 use Rattle.id_grammar.specs.Grammar.{named_of, assigned_of, done, of_kind, part, sign, enclosed, with_statement, Opens}
-use Rattle.id_grammar.specs.Grammar.{Grouped, word, operand, operator_of}
+use Rattle.id_grammar.specs.Grammar.{Grouped, word, operand, operator_of, for_of, for_with_tail}
 use Rattle.id_grammar.specs.Machine.{Frame, Left, Target, Inside, again, Begin, Want, Have, Next, Outcome, Refused}
 use Rattle.id_grammar.specs.Machine.{name_in, run}
 
@@ -311,6 +311,20 @@ pub record Stacks (ts : List Token) (o : Scope) (d : ℕ) (us : List Token) (ss 
 -- the same, whatever stands round the block or the loop
 pub record Gathers (ts : List Token) (o : Scope) (d : ℕ) (us : List Token) (ss : List Stmt) (h : ℕ) : Type 0 where
   pub stacks : (K : List Frame) → Stacks ts o d us ss h K
+
+-- behind the index and the bounds of a `for`: its tail
+abbrev pub ranged : ℕ → List ℕ → ℕ → Tree → Tree → Rest
+ranged p x q low high = part (Tail scope.Loop) (λ a. done (for_with_tail x q low high a p))
+
+-- from behind the word `for` the run takes the index and its bounds
+pub record Ranges (ts : List Token) (d : ℕ) (us : List Token) (x : List ℕ) (q : ℕ) (low high : Tree) (h : ℕ)
+    : Type 0 where
+  pub comes : (p m c : ℕ) (K : List Frame) →
+      run 200 ts (Next (for_of p) m d c K) ≡ run 200 us (Next (ranged p x q low high) (max m h) d c K)
+
+-- from behind that word the run ends so, at the index or its bounds
+pub record Misranges (ts : List Token) (d : ℕ) (y : TreeError) : Type 0 where
+  pub fails : (p m c : ℕ) (K : List Frame) → EndsBy (run 200 ts (Next (for_of p) m d c K)) y
 
 -- statements with values of at most this height fit into that many expressions, and these tokens are left
 pub record IsGathered (tokens rest : List Token) (depth height : ℕ) : Type 0 where

@@ -4,8 +4,8 @@ use Rattle.id_value.specs.declared.Kind.{Kind}
 use Rattle.id_value.specs.declared.Constant.{Constant}
 use Rattle.id_value.specs.declared.UnaryOp.{UnaryOp}
 use Rattle.id_value.specs.declared.BinaryOp.{BinaryOp}
-use Rattle.id_grammar.specs.declared.tree.Expr.{Expr, Literal, Unary', Binary', Name, If', Call', Block', Loop', Array'}
-use Rattle.id_grammar.specs.declared.tree.Expr.{Fetch', Row_of-Expr, end_of-Expr, more_of-Expr, Row_of-Stmt}
+use Rattle.id_grammar.specs.declared.tree.Expr.{Expr, Literal, Unary', Binary', Name, If', Call', Block', Loop', For'}
+use Rattle.id_grammar.specs.declared.tree.Expr.{Array', Fetch', Row_of-Expr, end_of-Expr, more_of-Expr, Row_of-Stmt}
 use Rattle.id_grammar.specs.declared.tree.Expr.{end_of-Stmt}
 use Rattle.id_grammar.specs.declared.tree.Expr.{more_of-Stmt}
 use Rattle.id_grammar.specs.declared.tree.Stmt.{Stmt, Binding, Next, Store'}
@@ -15,6 +15,7 @@ use Rattle.id_grammar.specs.declared.tree.Program.{Program}
 
 -- An expression, a statement, a parameter, a definition with its parameters and its body, or a list of trees; a call
 -- has the list of its arguments, a block its statements and its body, a loop its predicate, its statements and its last
+-- expression, a `for` the name and the place of its index, its lower and its upper bound, its statements and its last
 -- expression, an array its lower and its upper bound, a fetch its target and its index, a store its target, its index
 -- and its value. The last number of a thing is its place.
 pub data Tree : Type 0 where
@@ -26,6 +27,7 @@ pub data Tree : Type 0 where
   call : List ℕ → Tree → ℕ → Tree
   block : Tree → Tree → ℕ → Tree
   loop : Tree → Tree → Tree → ℕ → Tree
+  for_loop : List ℕ → ℕ → Tree → Tree → Tree → Tree → ℕ → Tree
   array : Tree → Tree → ℕ → Tree
   fetch : Tree → Tree → ℕ → Tree
   binding : List ℕ → Tree → ℕ → Tree
@@ -47,6 +49,8 @@ abbrev mutual
   tree_of (Call' place p x n args) = call x (args_tree args) place
   tree_of (Block' place p n statements body) = block (row_tree statements) (tree_of body) place
   tree_of (Loop' place p test n statements last) = loop (tree_of test) (row_tree statements) (tree_of last) place
+  tree_of (For' place p x q low high n statements last) =
+      for_loop x q (tree_of low) (tree_of high) (row_tree statements) (tree_of last) place
   tree_of (Array' place p a b) = array (tree_of a) (tree_of b) place
   tree_of (Fetch' place p a b) = fetch (tree_of a) (tree_of b) place
 

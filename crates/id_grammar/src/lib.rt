@@ -25,9 +25,9 @@ mod tree;
 
 pub use operators::{begins_with_bracket, denies, open_behind, open_first, operator_within};
 pub use part::{
-    ArgumentList, Part, Statement, StatementList, add_argument, add_statement, array, binary,
-    binding, block, call, conditional, fetch, first_argument, fitted, name, next, no_arguments,
-    no_statements, number, store, truth, unary, whole_loop, with_rest,
+    ArgumentList, IndexPart, Part, Statement, StatementList, add_argument, add_statement, array,
+    binary, binding, block, call, conditional, fetch, first_argument, fitted, indexed, name, next,
+    no_arguments, no_statements, number, store, truth, unary, whole_for, whole_loop, with_rest,
 };
 pub use phrase::{Level, Scope};
 pub use tokens::{
@@ -35,5 +35,5 @@ pub use tokens::{
     split, truth_of, unexpected,
 };
 pub use tree::{
-    Block, Call, Def, Expr, Loop, MAX_NESTING, Pair, Param, Program, Stmt, TreeError, Triple,
+    Block, Call, Def, Expr, For, Loop, MAX_NESTING, Pair, Param, Program, Stmt, TreeError, Triple,
 };

@@ -8,7 +8,7 @@ ghost use Rattle.id_grammar.specs.Tree.{tree_of, stmt_tree, none};
 ghost use Rattle.id_grammar.specs.Tree as tree;
 ghost use Rattle.id_grammar.specs.Readers.{onto, passed};
 
-use crate::tree::{Block, Call, Expr, Loop, Pair, Stmt, TreeError, Triple};
+use crate::tree::{Block, Call, Expr, For, Loop, Pair, Stmt, TreeError, Triple};
 use id_text::{Identifier, Token};
 use id_value::{BinaryOp, Constant, UnaryOp};
 use std::alloc::Global;
@@ -65,6 +65,28 @@ impl Drop for ArgumentList {
     }
 }
 
+/// The index of a `for`, at its name, and its bounds, with the greater height of the two.
+pub struct IndexPart {
+    pub name: Identifier,
+    pub place: u32,
+    pub low: Expr,
+    pub high: Expr,
+    pub height: usize,
+}
+
+/// A drop of its own, like that of `Part`.
+impl Drop for IndexPart {
+    fn drop(self) {
+        let IndexPart {
+            name: _,
+            place: _,
+            low: _,
+            high: _,
+            height: _,
+        } = self;
+    }
+}
+
 impl Part {
     /// The expression alone.
     pub fn into_expr(self) -> Expr
@@ -92,6 +114,34 @@ impl StatementList {
     {
         let StatementList { list, height: _ } = self;
         list
+    }
+}
+
+impl IndexPart {
+    /// The `for` of the index, with these statements and this last expression.
+    fn into_for(self, statements: Vec<Stmt>, last: Expr) -> For
+        ensures name { result.name ≡ self.name }
+        ensures index { result.index ≡ self.place }
+        ensures low { result.low ≡ self.low }
+        ensures high { result.high ≡ self.high }
+        ensures statements { result.statements ≡ statements }
+        ensures last { result.last ≡ last }
+    {
+        let IndexPart {
+            name,
+            place,
+            low,
+            high,
+            height: _,
+        } = self;
+        For {
+            name,
+            index: place,
+            low,
+            high,
+            statements,
+            last,
+        }
     }
 }
 
@@ -435,6 +485,51 @@ pub fn whole_loop(
         },
     )?;
     let expr = Expr::Loop { place, inside };
+    Ok(Part { expr, height })
+}
+
+/// An index between two bounds.
+pub fn indexed(name: Identifier, place: u32, low: Part, high: Part) -> IndexPart
+    ensures name { result.name ≡ name }
+    ensures place { result.place ≡ place }
+    ensures low { result.low ≡ low.expr }
+    ensures high { result.high ≡ high.expr }
+    ensures height { result.height ≡ max low.height high.height }
+{
+    let height = low.height.max(high.height);
+    let low = low.into_expr();
+    let high = high.into_expr();
+    IndexPart {
+        name,
+        place,
+        low,
+        high,
+        height,
+    }
+}
+
+/// The index, the statements and the last expression of a `for`.
+pub fn whole_for(
+    alloc: Global,
+    index: IndexPart,
+    statements: StatementList,
+    last: Part,
+    place: u32,
+) -> Result<Part, TreeError>
+    requires low { index.height < 2 ^ 63 }
+    requires middle { statements.height < 2 ^ 63 }
+    requires high { last.height < 2 ^ 63 }
+    ensures { MatchResult result
+        (λ p. (p.height ≡ max (max index.height statements.height) last.height + 1)
+        × (tree_of p.expr ≡ tree.for_loop index.name index.place (tree_of index.low) (tree_of index.high)
+        (onto statements.list.items none) (tree_of last.expr) place))
+        (λ e. e ≡ Memory) }
+{
+    let height = index.height.max(statements.height).max(last.height) + 1;
+    let statements = fitted(statements.into_list());
+    let last = last.into_expr();
+    let inside = Box::new(alloc, index.into_for(statements, last))?;
+    let expr = Expr::For { place, inside };
     Ok(Part { expr, height })
 }
 

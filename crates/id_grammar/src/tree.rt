@@ -48,10 +48,15 @@ pub enum Expr {
         place: u32,
         inside: Box<Block>,
     },
-    /// A loop, at the brace.
+    /// A loop with a predicate, at the brace.
     Loop {
         place: u32,
         inside: Box<Loop>,
+    },
+    /// A loop with an index, at the brace.
+    For {
+        place: u32,
+        inside: Box<For>,
     },
     /// A new structure between its lower and its upper bound, at the word `array`.
     Array {
@@ -103,6 +108,19 @@ pub struct Block {
 #[cycle(tree)]
 pub struct Loop {
     pub test: Expr,
+    pub statements: Vec<Stmt>,
+    pub last: Expr,
+}
+
+/// The name and the place of an index, its lower and its upper bound, statements in whatever order, and the last
+/// expression, which gives the value.
+#[derive(Drop)]
+#[cycle(tree)]
+pub struct For {
+    pub name: Identifier,
+    pub index: u32,
+    pub low: Expr,
+    pub high: Expr,
     pub statements: Vec<Stmt>,
     pub last: Expr,
 }

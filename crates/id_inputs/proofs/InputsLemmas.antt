@@ -13,6 +13,7 @@ use Rattle.std.proofs.lemmas.Option.{slice_get_within}
 use Rattle.std.proofs.lemmas.Str.Pattern.{IsSplitOnceResult, split_once_first}
 use Rattle.id_value.specs.declared.Kind.{Kind}
 use Rattle.id_value.specs.declared.Kind.TheVariants as kind
+use Rattle.id_value.specs.Results.{is_whole}
 use Rattle.id_list.specs.List.{Among}
 use Rattle.id_table.specs.declared.row.Node.{Node}
 use Rattle.id_table.specs.declared.row.Node.TheVariants.{Param}
@@ -25,7 +26,7 @@ use Rattle.id_value.specs.declared.Constant.{Constant}
 use Rattle.id_value.specs.declared.Constant.TheVariants as value
 use Rattle.id_inputs.specs.declared.inputs.InputError.{InputError}
 use Rattle.id_inputs.specs.declared.inputs.InputError.TheVariants.{MissingInput, UnknownInput, RepeatedInput, BadInput, Memory}
-use Rattle.id_source.specs.Sources.{AreFor, AreInputs, SuitsParam, constant_kind, head_of, main_params}
+use Rattle.id_source.specs.Sources.{AreFor, AreInputs, IsWhole, SuitsParam, constant_kind, head_of, main_params}
 use Rattle.id_source.proofs.ParamsLemmas.{params-among}
 use Rattle.id_inputs.specs.Inputs.{AreInputsOf, Cut, begun, cut, wanted, wanted_of, number_of, are_digits, number_spelled, whole_value, value_spelled, Said}
 use Rattle.id_inputs.specs.Inputs.{Nothing, Says, said_of, said_by, said, named_by, has, option_bad, word_cause, first_cause, value_in, value_for, IsCauseOf}
@@ -259,64 +260,68 @@ word_at ps ws j d inside = ap (said ps) (get_or-map (λ (w : Bor (List ℕ)). w.
 
 -- ---- kinds
 
-whole-kind : (v : Bool) (n : ℤ) (o : Constant) → (if v then Some (value.Int n) else None) ≡ Some o → constant_kind o ≡ kind.Int
-whole-kind true n o e = ap constant_kind (sym (let same : value.Int n ≡ o = cc in same))
-whole-kind false n o e = cc
+-- a value of the language, of this kind
+abbrev IsOf : Constant → Kind → Type 0
+IsOf o k = (constant_kind o ≡ k) × IsWhole o
 
-number-kind : (r : Option ℤ) (o : Constant) → option_and_then whole_value r ≡ Some o → constant_kind o ≡ kind.Int
+whole-kind : (v : Bool) (n : ℤ) (o : Constant) → is_whole n ≡ v → (if v then Some (value.Int n) else None) ≡ Some o → IsOf o kind.Int
+whole-kind true n o w e = let same : value.Int n ≡ o = cc in subst (λ z. IsOf z kind.Int) same (refl, w)
+whole-kind false n o w e = cc
+
+number-kind : (r : Option ℤ) (o : Constant) → option_and_then whole_value r ≡ Some o → IsOf o kind.Int
 number-kind None o e = cc
-number-kind (Some n) o e = whole-kind _ n o e
+number-kind (Some n) o e = whole-kind _ n o refl e
 
 truth-kind : (v w : Bool) (o : Constant) → (if v then Some (value.Bool true) else (if w then Some (value.Bool false) else None)) ≡ Some o
-    → constant_kind o ≡ kind.Bool
-truth-kind true w o e = ap constant_kind (sym (let same : value.Bool true ≡ o = cc in same))
-truth-kind false true o e = ap constant_kind (sym (let same : value.Bool false ≡ o = cc in same))
+    → IsOf o kind.Bool
+truth-kind true w o e = let same : value.Bool true ≡ o = cc in subst (λ z. IsOf z kind.Bool) same (refl, tt)
+truth-kind false true o e = let same : value.Bool false ≡ o = cc in subst (λ z. IsOf z kind.Bool) same (refl, tt)
 truth-kind false false o e = cc
 
-spelled-kind : (k : Kind) (cs : List ℕ) (o : Constant) → value_spelled k cs ≡ Some o → constant_kind o ≡ k
+spelled-kind : (k : Kind) (cs : List ℕ) (o : Constant) → value_spelled k cs ≡ Some o → IsOf o k
 spelled-kind kind.Int cs o e = number-kind (number_spelled cs) o e
 spelled-kind kind.Bool cs o e = truth-kind _ _ o e
 spelled-kind kind.Array cs o e = cc
 
 param-kind : (q : Option Wanted) (p : Wanted) (cs : List ℕ) (o : Constant) → q ≡ Some p → option_and_then (λ r. value_spelled r.kind cs) q ≡ Some o
-    → constant_kind o ≡ p.kind
+    → IsOf o p.kind
 param-kind q p cs o is e = spelled-kind p.kind cs o (rw is at e)
 
 -- what a word says of a parameter has its kind
 in-kind : (v : Bool) (ps : List Wanted) (cs : List ℕ) (n m : ℕ) (p : Wanted) (o : Constant) → eqb m n ≡ v → slice_get ps n ≡ Some p
-    → (if v then option_and_then (λ r. value_spelled r.kind cs) (slice_get ps m) else None) ≡ Some o → constant_kind o ≡ p.kind
+    → (if v then option_and_then (λ r. value_spelled r.kind cs) (slice_get ps m) else None) ≡ Some o → IsOf o p.kind
 in-kind true ps cs n m p o e is h = param-kind (slice_get ps m) p cs o (ap (slice_get ps) (eqb-true m n e) ∙ is) h
 in-kind false ps cs n m p o e is h = cc
 
 said-kind : (ps : List Wanted) (cs : List ℕ) (a : Option ℕ) (n : ℕ) (p : Wanted) (o : Constant) → slice_get ps n ≡ Some p
-    → value_in n (said_of ps cs a) ≡ Some o → constant_kind o ≡ p.kind
+    → value_in n (said_of ps cs a) ≡ Some o → IsOf o p.kind
 said-kind ps cs None n p o is e = cc
 said-kind ps cs (Some m) n p o is e = in-kind (eqb m n) ps cs n m p o refl is e
 
 word-kind : (ps : List Wanted) (w : Option Cut) (n : ℕ) (p : Wanted) (o : Constant) → slice_get ps n ≡ Some p → value_in n (said_by ps w) ≡ Some o
-    → constant_kind o ≡ p.kind
+    → IsOf o p.kind
 word-kind ps None n p o is e = cc
 word-kind ps (Some w) n p o is e = said-kind ps w.value (number_of ps w.name) n p o is e
 
-or-kind : (a b : Option Constant) (k : Kind) (o : Constant) → option_or a b ≡ Some o → (a ≡ Some o → constant_kind o ≡ k) → (b ≡ Some o → constant_kind o ≡ k)
-    → constant_kind o ≡ k
+or-kind : (a b : Option Constant) (k : Kind) (o : Constant) → option_or a b ≡ Some o → (a ≡ Some o → IsOf o k) → (b ≡ Some o → IsOf o k)
+    → IsOf o k
 or-kind None b k o e first second = second e
 or-kind (Some v) b k o e first second = first e
 
 for-kind : (ps : List Wanted) (ws : List (List ℕ)) (n : ℕ) (p : Wanted) (o : Constant) → slice_get ps n ≡ Some p → value_for ps ws n ≡ Some o
-    → constant_kind o ≡ p.kind
+    → IsOf o p.kind
 for-kind ps [] n p o is e = cc
 for-kind ps (w ∷ ws) n p o is e = or-kind (value_in n (said ps w)) (value_for ps ws n) p.kind o e (word-kind ps (cut w) n p o is) (for-kind ps ws n p o is)
 
 -- the parameter at a row of this node has the kind that is wanted
-suits : (P : Checked) (z : Node) (v : Constant) → is_param z ≡ true → constant_kind v ≡ (wanted_of P z).kind → SuitsParam z v
+suits : (P : Checked) (z : Node) (v : Constant) → is_param z ≡ true → IsOf v (wanted_of P z).kind → SuitsParam z v
 suits P (Param x k) v h e = e
 suits P _ v h e = absurd (false≢true h)
 
 -- one value for each parameter, of its kind
 are-for : (P : Checked) (bs : List ℕ) (vs : List Constant) → ((b : ℕ) → Among b bs → is_param (at (rows P) b).node ≡ true) → length vs ≡ length bs
     → ((n : ℕ) (p : Wanted) (v : Constant) → slice_get (map (λ b. wanted_of P (at (rows P) b).node) bs) n ≡ Some p → slice_get vs n ≡ Some v →
-    constant_kind v ≡ p.kind) → AreFor P bs vs
+    IsOf v p.kind) → AreFor P bs vs
 are-for P [] [] are e h = tt
 are-for P [] (v ∷ vs) are e h = absurd (omega arith)
 are-for P (b ∷ bs) [] are e h = absurd (omega arith)
@@ -336,8 +341,8 @@ module _ (P : Checked) (ps : List Wanted) (ws : List (List ℕ)) (vs : List Cons
   are-inputs =
       let R = rows P in
       let wide : length (wanted P) ≡ length (main_params P) = wide-map (λ b. wanted_of P (at R b).node) (main_params P) in
-      let kinds : (n : ℕ) (p : Wanted) (v : Constant) → slice_get ps n ≡ Some p → slice_get vs n ≡ Some v → constant_kind v ≡ p.kind =
+      let kinds : (n : ℕ) (p : Wanted) (v : Constant) → slice_get ps n ≡ Some p → slice_get vs n ≡ Some v → IsOf v p.kind =
       λ n p v is at. for-kind ps ws n p v is (sym (given.values n (slice_get_within vs n v at)) ∙ at) in
       are-for P (main_params P) vs (λ b i. (params-among R (head_of (at R P.main).node) (length R) b i).1) (given.enough ∙ ap length same ∙ wide)
-      (subst (λ (qs : List Wanted). (n : ℕ) (p : Wanted) (v : Constant) → slice_get qs n ≡ Some p → slice_get vs n ≡ Some v → constant_kind v ≡ p.kind) same
+      (subst (λ (qs : List Wanted). (n : ℕ) (p : Wanted) (v : Constant) → slice_get qs n ≡ Some p → slice_get vs n ≡ Some v → IsOf v p.kind) same
       kinds)

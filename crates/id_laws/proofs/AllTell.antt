@@ -72,7 +72,7 @@ use Rattle.id_laws.proofs.Movers.{moved_by}
 use Rattle.id_laws.proofs.Feeding.{feeds_tell, moves_tell}
 use Rattle.id_laws.proofs.TurnedOn.{holds_by, turned_on, without_none}
 use Rattle.id_laws.proofs.Firing.{firing_means}
-use Rattle.id_laws.proofs.FiringMeans.{Returned, Passed, Given, Entering, Means, OperandsTell, one, two}
+use Rattle.id_laws.proofs.FiringMeans.{IsBacked, Returned, Passed, Given, Entering, Means, OperandsTell, one, two}
 use Rattle.id_laws.proofs.Started.{Starts, first, second, starts_as}
 
 -- ---- the part that a firing is of
@@ -111,7 +111,7 @@ fired_part {P} {g} {number} {run} {t} {f} {ops} numbered h =
     }
 
 module _ (S : Source) (known : IsKnown S.checked) (g : Parts) (number : ℕ → ℕ → ℕ) (numbered : Numbered S.checked g number) (run : List Event)
-    (seats : OneSeat S number run) (structures : StructuresApart g run) where
+    (seats : OneSeat S number run) (structures : StructuresApart g run) (backed : IsBacked S run) where
   abbrev P : Checked
   P = S.checked
 
@@ -140,7 +140,7 @@ module _ (S : Source) (known : IsKnown S.checked) (g : Parts) (number : ℕ → 
       let tell = operands_tell hs all t _ x.operands y.row y.part y.is_part y.at h.handled_are in (
         y,
         subst (Means S number run (activation_of t) y.row y.part) (sym y.is)
-            (firing_means S known number run seats (activation_of t) y.row ((y.is_part).makes).within t refl y.fresh y.part y.form x.operands
+            (firing_means S known number run seats backed.once backed.wholes (activation_of t) y.row ((y.is_part).makes).within t refl y.fresh y.part y.form x.operands
             (ap (λ (u : Tag). u.instr) (sym y.at)) y.does tell),
       )
 

@@ -1,19 +1,28 @@
 -- Which parts a row has and what feeds them, by cases on its node.
-use Rattle.std.proofs.Common.{◌≡◌, ◌⊎◌, inl, inr, ℕ, zero, suc, ◌+◌, ◌-◌, ◌<◌, true, Option, Some, None, List, []}
-use Rattle.std.proofs.Common.{◌∷◌, ◌++◌, map, length, slice_get, get_or, refl, sym, ◌∙◌, ap}
+use Rattle.std.proofs.Common.{◌≡◌, ◌⊎◌, inl, inr, ℕ, zero, suc, ◌+◌, ◌-◌, ◌<◌, Bool as Truth, true, false, cond, Option, Some, None, List, []}
+use Rattle.std.proofs.Common.{◌∷◌, ◌++◌, map, length, slice_get, get_or, unwrap_or, refl, sym, ◌∙◌, ap}
 use Rattle.std.proofs.Common.{subst, arith}
+use Rattle.std.specs.Prelude.{pos}
+use Rattle.id_value.specs.declared.Comparison.TheVariants.{Lt, Le}
+use Rattle.id_value.specs.declared.Arithmetic.TheVariants.{Add}
+use Rattle.id_value.specs.declared.Constant.TheVariants as constants
+use Rattle.id_instr.specs.declared.instr.Dyadic.TheVariants as dyadic
 use Rattle.id_value.specs.declared.Kind.{Kind}
 use Rattle.id_value.specs.declared.Constant.{Constant}
 use Rattle.id_value.specs.declared.UnaryOp.{UnaryOp}
 use Rattle.id_value.specs.declared.BinaryOp.{BinaryOp}
 use Rattle.id_list.specs.List.{Among}
+use Rattle.id_list.proofs.AmongLemmas.{Among-either}
 use Rattle.id_table.specs.declared.row.Region.{Region}
 use Rattle.id_table.specs.declared.row.Node.{Node}
 use Rattle.id_table.specs.declared.row.Node.TheVariants.{Head, Param, Literal, Name, Unary, Binary, Split, If, Enter, Arg, Call, Block}
 use Rattle.id_table.specs.declared.row.Node.TheVariants.{Binding, Def, Program}
 use Rattle.id_table.specs.declared.row.Node.TheVariants.{Start, LoopHead, Variable, Entries, Switches, Turn, NextUse, Next, Body, Reset, Loop}
-use Rattle.id_table.specs.declared.row.Node.TheVariants.{Array, Fetch, Address, Store}
-use Rattle.id_table.specs.Tables.{begins_block}
+use Rattle.id_table.specs.declared.row.Node.TheVariants.{Array, Fetch, Address, Store, Bounds, Carried, Within, Count, Index, Span}
+use Rattle.id_table.specs.Tables.{begins_block, is_carried}
+use Rattle.id_table.specs.Loops.{IsLoop, IsLoopOf, AreCarried, nothing, an_index, upper_of}
+use Rattle.id_table.specs.Turns.{IsTable}
+use Rattle.id_check.proofs.ProgramsLemmas.{table_of}
 use Rattle.id_check.specs.declared.checked.Checked.{Checked}
 use Rattle.id_check.specs.Programs.{place, region, rows}
 use Rattle.id_instr.specs.declared.dests.Port.{Port}
@@ -21,13 +30,15 @@ use Rattle.id_instr.specs.declared.dests.Port.TheVariants.{Zero, One}
 use Rattle.id_instr.specs.declared.instr.Op.TheVariants as op
 use Rattle.id_instr.specs.declared.instr.PortKind.TheVariants.{Signal, Int}
 use Rattle.id_desugar.specs.Ends.{end_of}
-use Rattle.id_desugar.specs.Regions.{imports_of, nexts_of}
+use Rattle.id_desugar.specs.Regions.{carried, first_variable, has_index, imports_of, nexts_of}
 use Rattle.id_pieces.specs.declared.arc.Origin.{Origin}
 use Rattle.id_pieces.specs.declared.arc.Form.{Form}
 use Rattle.id_pieces.specs.declared.arc.Form.TheVariants.{Plain, EnterAt, SendTo, FetchAt}
 use Rattle.id_pieces.specs.Rows.{node, body_of, result_of, port_of, port_at, binary_op, made_of, feed, feeds_of, import_feeds, name_in, origin}
 use Rattle.id_pieces.specs.Rows.{output, param_of, trigger_of, piece, block, Entry, loop_entries, entering, turn_row, next_of}
 use Rattle.id_pieces.specs.Rows.{entry_feeds, turn_feeds, send_to, for_each, import_entries, variable_entries, entries_row, first_binder}
+use Rattle.id_pieces.specs.Rows.{bounds_feeds, carried_feeds, param_entry}
+use Rattle.id_pieces.specs.Rows as pieces
 use Rattle.id_instr.specs.declared.instr.Op.{Op}
 use Rattle.id_instr.specs.declared.instr.PortKind.{PortKind}
 use Rattle.id_pieces.specs.declared.arc.Piece.{Piece}
@@ -35,7 +46,15 @@ use Rattle.id_pieces.specs.Schemas.{Makes, Feeds}
 use Rattle.id_laws.specs.Activations.{Begins, of_call, of_loop, Tests, of_arms, of_turns}
 use Rattle.id_laws.specs.Topics.{Addresses, of_fetch, of_store, IsPart}
 
+pub append_length : (xs ys : List ℕ) → length (xs ++ ys) ≡ length xs + length ys
+append_length [] ys = omega arith
+append_length (x ∷ xs) ys = let rest = append_length xs ys in omega (arith, rest)
+
 -- ---- parts
+
+-- what the loop with the head h hands on to its next iteration beside the trigger: what it carries on, and its imports
+abbrev pub turned : Checked → ℕ → List ℕ
+turned P h = carried P h ++ imports_of P h
 
 -- the part of the row n has this form of operator
 pub data Does (P : Checked) (n : ℕ) : ℕ → Form → Type 0 where
@@ -59,8 +78,8 @@ pub data Does (P : Checked) (n : ℕ) : ℕ → Form → Type 0 where
   takes_in : (k : ℕ) → node P n ≡ Entries → k < length (imports_of P (block P n)) →
       Does P n k (Plain (op.Merge (port_at P (get_or (imports_of P (block P n)) k 0))))
   moves_on : node P n ≡ Turn → Does P n 0 (Plain (op.Next Signal))
-  moves_name : (k : ℕ) → node P n ≡ Turn → k < length (imports_of P (block P n))
-      → Does P n (suc k) (Plain (op.Next (port_at P (get_or (imports_of P (block P n)) k 0))))
+  moves_name : (k : ℕ) → node P n ≡ Turn → k < length (turned P (block P n))
+      → Does P n (suc k) (Plain (op.Next (port_at P (get_or (turned P (block P n)) k 0))))
   advances : {x k o v : ℕ} → node P n ≡ Next x k o v → Does P n 0 (Plain (op.Next (port_at P n)))
   resets : {v : ℕ} → node P n ≡ Reset v → Does P n 0 (Plain (op.Reset (port_at P v)))
   gets_last : {h w l : ℕ} → node P n ≡ Loop h w l → Does P n 0 (Plain (op.Merge (port_at P n)))
@@ -69,6 +88,14 @@ pub data Does (P : Checked) (n : ℕ) : ℕ → Form → Type 0 where
   fetches : {t i : ℕ} → node P n ≡ Fetch t i → Does P n 1 (FetchAt n)
   gets_reply : {t i : ℕ} → node P n ≡ Fetch t i → Does P n 2 (Plain (op.Merge Int))
   stores : {a v : ℕ} → node P n ≡ Store a v → Does P n 0 (Plain op.Store)
+  bounds_meet : {a b : ℕ} → node P n ≡ Bounds a b → Does P n 0 (Plain (op.Binary (dyadic.Comparison Le)))
+  begins_index : {a b : ℕ} → node P n ≡ Bounds a b → Does P n 1 (Plain (op.Switch Int))
+  carries : {k : Kind} → node P n ≡ Carried k → Does P n 0 (Plain (op.Merge (port_of k)))
+  meets_bound : node P n ≡ Count → Does P n 0 (Plain (op.Binary (dyadic.Comparison Lt)))
+  goes_further : node P n ≡ Count → Does P n 1 (Plain (op.Switch Signal))
+  hands_index : node P n ≡ Count → Does P n 2 (Plain (op.Switch Int))
+  has_one : node P n ≡ Count → Does P n 3 (Plain (op.Const (constants.Int (pos 1))))
+  adds_one : node P n ≡ Count → Does P n 4 (Plain (op.Binary (dyadic.Arithmetic Add)))
   answers : node P n ≡ Program → Does P n 0 (Plain (op.Merge (port_of (result_of (node P P.main)))))
 
 -- the place that the part of a row with this node shows: the answer's is main's, any other's its row's
@@ -196,7 +223,7 @@ made_by P n (suc k) f e (Switches t) is h =
 made_by P n zero f e Turn is h = let b = same_form _ f _ e h in
     record { does = subst (Does P n _) b.0 (moves_on is); place_is = b.1 ∙ ap (place_shown P (place P n)) (sym is) }
 made_by P n (suc k) f e Turn is h =
-    let z = piece_at P op.Next (place P n) (imports_of P (block P n)) k f e h in
+    let z = piece_at P op.Next (place P n) (turned P (block P n)) k f e h in
     record { does = subst (Does P n _) (sym z.form) (moves_name k is z.within); place_is = z.place ∙ ap (place_shown P (place P n)) (sym is) }
 made_by P n j f e (NextUse x) is h = cc
 made_by P n zero f e (Next x k o v) is h = let b = same_form _ f _ e h in
@@ -225,6 +252,28 @@ made_by P n (suc j) f e (Address u i) is h = cc
 made_by P n zero f e (Store u v) is h =
     let b = same_form _ f _ e h in record { does = subst (Does P n _) b.0 (stores is); place_is = b.1 ∙ ap (place_shown P (place P n)) (sym is) }
 made_by P n (suc j) f e (Store u v) is h = cc
+made_by P n zero f e (Bounds u w) is h =
+    let b = same_form _ f _ e h in record { does = subst (Does P n _) b.0 (bounds_meet is); place_is = b.1 ∙ ap (place_shown P (place P n)) (sym is) }
+made_by P n (suc zero) f e (Bounds u w) is h =
+    let b = same_form _ f _ e h in record { does = subst (Does P n _) b.0 (begins_index is); place_is = b.1 ∙ ap (place_shown P (place P n)) (sym is) }
+made_by P n (suc (suc j)) f e (Bounds u w) is h = cc
+made_by P n zero f e (Carried k) is h =
+    let b = same_form _ f _ e h in record { does = subst (Does P n _) b.0 (carries is); place_is = b.1 ∙ ap (place_shown P (place P n)) (sym is) }
+made_by P n (suc j) f e (Carried k) is h = cc
+made_by P n j f e (Within w) is h = cc
+made_by P n zero f e Count is h =
+    let b = same_form _ f _ e h in record { does = subst (Does P n _) b.0 (meets_bound is); place_is = b.1 ∙ ap (place_shown P (place P n)) (sym is) }
+made_by P n (suc zero) f e Count is h =
+    let b = same_form _ f _ e h in record { does = subst (Does P n _) b.0 (goes_further is); place_is = b.1 ∙ ap (place_shown P (place P n)) (sym is) }
+made_by P n (suc (suc zero)) f e Count is h =
+    let b = same_form _ f _ e h in record { does = subst (Does P n _) b.0 (hands_index is); place_is = b.1 ∙ ap (place_shown P (place P n)) (sym is) }
+made_by P n (suc (suc (suc zero))) f e Count is h =
+    let b = same_form _ f _ e h in record { does = subst (Does P n _) b.0 (has_one is); place_is = b.1 ∙ ap (place_shown P (place P n)) (sym is) }
+made_by P n (suc (suc (suc (suc zero)))) f e Count is h =
+    let b = same_form _ f _ e h in record { does = subst (Does P n _) b.0 (adds_one is); place_is = b.1 ∙ ap (place_shown P (place P n)) (sym is) }
+made_by P n (suc (suc (suc (suc (suc j))))) f e Count is h = cc
+made_by P n j f e (Index x) is h = cc
+made_by P n j f e Span is h = cc
 made_by P n zero f e Program is h = let b = same_form _ f _ e h in
     record { does = subst (Does P n _) b.0 (answers is); place_is = b.1 ∙ ap (place_shown P (place P n)) (sym is) }
 made_by P n (suc j) f e Program is h = cc
@@ -270,7 +319,7 @@ makes {P} {n} within (gives_back {s = s} is) = made_at P n 1 (LoopHead s) _ with
 makes {P} {n} within (varies is) = made_at P n 0 Variable _ within is refl
 makes {P} {n} within (takes_in k is less) = made_at P n k Entries _ within is (piece_made P op.Merge (place P n) (imports_of P (block P n)) k less)
 makes {P} {n} within (moves_on is) = made_at P n 0 Turn _ within is refl
-makes {P} {n} within (moves_name k is less) = made_at P n (suc k) Turn _ within is (piece_made P op.Next (place P n) (imports_of P (block P n)) k less)
+makes {P} {n} within (moves_name k is less) = made_at P n (suc k) Turn _ within is (piece_made P op.Next (place P n) (turned P (block P n)) k less)
 makes {P} {n} within (advances {x = x} {k = k} {o = o} {v = v} is) = made_at P n 0 (Next x k o v) _ within is refl
 makes {P} {n} within (resets {v = v} is) = made_at P n 0 (Reset v) _ within is refl
 makes {P} {n} within (gets_last {h = h} {w = w} {l = l} is) = made_at P n 0 (Loop h w l) _ within is refl
@@ -280,12 +329,24 @@ makes {P} {n} within (addresses {t = t} {i = i} (of_store is)) = made_at P n 0 (
 makes {P} {n} within (fetches {t = t} {i = i} is) = made_at P n 1 (Fetch t i) _ within is refl
 makes {P} {n} within (gets_reply {t = t} {i = i} is) = made_at P n 2 (Fetch t i) _ within is refl
 makes {P} {n} within (stores {a = a} {v = v} is) = made_at P n 0 (Store a v) _ within is refl
+makes {P} {n} within (bounds_meet {a = a} {b = b} is) = made_at P n 0 (Bounds a b) _ within is refl
+makes {P} {n} within (begins_index {a = a} {b = b} is) = made_at P n 1 (Bounds a b) _ within is refl
+makes {P} {n} within (carries {k = k} is) = made_at P n 0 (Carried k) _ within is refl
+makes {P} {n} within (meets_bound is) = made_at P n 0 Count _ within is refl
+makes {P} {n} within (goes_further is) = made_at P n 1 Count _ within is refl
+makes {P} {n} within (hands_index is) = made_at P n 2 Count _ within is refl
+makes {P} {n} within (has_one is) = made_at P n 3 Count _ within is refl
+makes {P} {n} within (adds_one is) = made_at P n 4 Count _ within is refl
 makes {P} {n} within (answers is) = made_at P n 0 Program _ within is refl
 
 pub part_of : {P : Checked} {n part : ℕ} {f : Form} → n < length (rows P) → Does P n part f → IsPart P n part
 part_of within d = record { form = _; place = _; makes = makes within d }
 
 -- ---- arcs
+
+-- how many entries the loop with the head h carries on beside those of its variables
+abbrev pub carries_on : Checked → ℕ → ℕ
+carries_on P h = length (carried P h)
 
 -- what comes from there feeds this port of the part of the row n
 pub data Arc (P : Checked) (n : ℕ) : ℕ → Port → Origin → Type 0 where
@@ -304,16 +365,24 @@ pub data Arc (P : Checked) (n : ℕ) : ℕ → Port → Origin → Type 0 where
   to_context : {e k v : ℕ} → node P n ≡ Arg e k v → Arc P n 0 Zero (output e)
   to_argument : {e k v : ℕ} → node P n ≡ Arg e k v → Arc P n 0 One (origin P v)
   to_label : {x a : ℕ} → node P n ≡ Binding x a → Arc P n 0 Zero (origin P a)
-  to_loop_context : (k : ℕ) → node P n ≡ Start → k < length (entering P (n + 1)) → Arc P n (suc k) Zero (output n)
-  to_entering : (k : ℕ) → node P n ≡ Start → k < length (entering P (n + 1)) → Arc P n (suc k) One (name_in P (region P n) (get_or (entering P (n + 1)) k 0))
+  to_loop_context : (k : ℕ) → node P n ≡ Start → k < length (entering P (n + 1)) → Arc P n (suc (carries_on P (n + 1) + k)) Zero (output n)
+  to_entering : (k : ℕ) → node P n ≡ Start → k < length (entering P (n + 1)) →
+      Arc P n (suc (carries_on P (n + 1) + k)) One (name_in P (region P n) (get_or (entering P (n + 1)) k 0))
+  to_carried_context : {a b : ℕ} (k : ℕ) → node P n ≡ Start → node P (n - 1) ≡ Bounds a b → has_index P (n + 1) ≡ true → k < 3 → Arc P n (suc k) Zero (output n)
+  to_first_index : {a b : ℕ} → node P n ≡ Start → node P (n - 1) ≡ Bounds a b → has_index P (n + 1) ≡ true → Arc P n 1 One (pieces.part_of (n - 1) 1)
+  to_first_bound : {a b : ℕ} → node P n ≡ Start → node P (n - 1) ≡ Bounds a b → has_index P (n + 1) ≡ true → Arc P n 2 One (origin P b)
+  to_first_flag : {a b : ℕ} → node P n ≡ Start → node P (n - 1) ≡ Bounds a b → has_index P (n + 1) ≡ true → Arc P n 3 One (output (n - 1))
   to_head : {s : ℕ} → node P n ≡ LoopHead s → Arc P n 0 Zero (output (turn_row P n))
-  to_loop_back : {s : ℕ} → node P n ≡ LoopHead s → Arc P n 1 One (output (end_of P n - 1))
+  to_loop_back : {s : ℕ} → node P n ≡ LoopHead s → Arc P n 1 One (output (end_of P n - 2))
   to_variable : node P n ≡ Variable → Arc P n 0 Zero (output (next_of P n))
   to_entry : (k : ℕ) → node P n ≡ Entries → k < length (imports_of P (block P n)) →
-      Arc P n k Zero (record { row = turn_row P (block P n); part = suc k; side = true })
+      Arc P n k Zero (pieces.part_of (turn_row P (block P n)) (suc (carries_on P (block P n) + k)))
   to_turn : node P n ≡ Turn → Arc P n 0 Zero (trigger_of (region P n))
   to_turn_name : (k : ℕ) → node P n ≡ Turn → k < length (imports_of P (block P n)) →
-      Arc P n (suc k) Zero (name_in P (region P n) (get_or (imports_of P (block P n)) k 0))
+      Arc P n (suc (carries_on P (block P n) + k)) Zero (name_in P (region P n) (get_or (imports_of P (block P n)) k 0))
+  to_next_index : node P n ≡ Turn → has_index P (block P n) ≡ true → Arc P n 1 Zero (pieces.part_of (n - 1) 4)
+  to_next_bound : node P n ≡ Turn → has_index P (block P n) ≡ true → Arc P n 2 Zero (name_in P (region P n) (block P n + 2))
+  to_next_flag : node P n ≡ Turn → has_index P (block P n) ≡ true → Arc P n 3 Zero (output (n - 1))
   to_next : {x k o v : ℕ} → node P n ≡ Next x k o v → Arc P n 0 Zero (origin P v)
   to_reset : {v : ℕ} → node P n ≡ Reset v → Arc P n 0 Zero (origin P v)
   to_low : {a b : ℕ} → node P n ≡ Array a b → Arc P n 0 Zero (origin P a)
@@ -323,6 +392,20 @@ pub data Arc (P : Checked) (n : ℕ) : ℕ → Port → Origin → Type 0 where
   to_fetch : {t i : ℕ} → node P n ≡ Fetch t i → Arc P n 1 Zero (output n)
   to_store : {a v : ℕ} → node P n ≡ Store a v → Arc P n 0 Zero (output a)
   to_stored : {a v : ℕ} → node P n ≡ Store a v → Arc P n 0 One (origin P v)
+  to_lower : {a b : ℕ} → node P n ≡ Bounds a b → Arc P n 0 Zero (origin P a)
+  to_upper : {a b : ℕ} → node P n ≡ Bounds a b → Arc P n 0 One (origin P b)
+  to_first_test : {a b : ℕ} → node P n ≡ Bounds a b → Arc P n 1 Zero (output n)
+  to_first : {a b : ℕ} → node P n ≡ Bounds a b → Arc P n 1 One (origin P a)
+  to_carried : {k : Kind} → node P n ≡ Carried k → Arc P n 0 Zero (pieces.part_of (turn_row P (block P n)) (n - block P n))
+  to_index_now : node P n ≡ Count → Arc P n 0 Zero (output (block P n + 1))
+  to_bound : node P n ≡ Count → Arc P n 0 One (name_in P (region P n) (block P n + 2))
+  to_further_test : node P n ≡ Count → Arc P n 1 Zero (output n)
+  to_further : node P n ≡ Count → Arc P n 1 One (trigger_of (region P n))
+  to_last_test : node P n ≡ Count → Arc P n 2 Zero (output n)
+  to_last : node P n ≡ Count → Arc P n 2 One (output (block P n + 1))
+  to_one : node P n ≡ Count → Arc P n 3 Zero (pieces.part_of n 1)
+  to_add : node P n ≡ Count → Arc P n 4 Zero (pieces.part_of n 2)
+  to_add_one : node P n ≡ Count → Arc P n 4 One (pieces.part_of n 3)
 
 moved : {P : Checked} {n : ℕ} (s t : Origin) (part k : ℕ) (p q : Port) → feed s part p ≡ feed t k q → Arc P n k q t → Arc P n part p s
 moved {P} {n} s t part k p q is a =
@@ -366,56 +449,84 @@ as_arc {P} {n} {t} {s} {part} {p} is (by_name k less at q from) =
 
 -- the sends to the entries of a loop
 as_send : {P : Checked} {n : ℕ} {s : Origin} {part : ℕ} {p : Port} → node P n ≡ Start
-    → ImportFed P (output n) (region P n) 1 (entering P (n + 1)) s part p → Arc P n part p s
+    → ImportFed P (output n) (region P n) (1 + carries_on P (n + 1)) (entering P (n + 1)) s part p → Arc P n part p s
 as_send {P} {n} {s} {part} {p} is (by_test k less at q from) =
-    let part_is : part ≡ suc k = omega (arith, at) in
-    subst (λ (z : ℕ × (Port × Origin)). Arc P n z.0 z.1.0 z.1.1) {x = (suc k, (Zero, output n))} {y = (part, (p, s))}
+    let part_is : part ≡ suc (carries_on P (n + 1) + k) = omega (arith, at) in
+    subst (λ (z : ℕ × (Port × Origin)). Arc P n z.0 z.1.0 z.1.1) {x = (suc (carries_on P (n + 1) + k), (Zero, output n))} {y = (part, (p, s))}
     (λ i. (sym part_is i, (sym q i, sym from i))) (to_loop_context k is less)
 as_send {P} {n} {s} {part} {p} is (by_name k less at q from) =
-    let part_is : part ≡ suc k = omega (arith, at) in
-    subst (λ (z : ℕ × (Port × Origin)). Arc P n z.0 z.1.0 z.1.1) {x = (suc k, (One, name_in P (region P n) (get_or (entering P (n + 1)) k 0)))}
+    let part_is : part ≡ suc (carries_on P (n + 1) + k) = omega (arith, at) in
+    subst (λ (z : ℕ × (Port × Origin)). Arc P n z.0 z.1.0 z.1.1)
+    {x = (suc (carries_on P (n + 1) + k), (One, name_in P (region P n) (get_or (entering P (n + 1)) k 0)))}
     {y = (part, (p, s))}
     (λ i. (sym part_is i, (sym q i, sym from i))) (to_entering k is less)
 
+-- a loop whose `Start` has bounds before it has an index
+some_three : (P : Checked) {n h w l : ℕ} (x : IsLoop (rows P) n h w l) → x.carried ≡ 3 → has_index P h ≡ true
+some_three P {h = h} x three = go x.carried three (x.before_test).carried
+  where
+    go : (c : ℕ) → c ≡ 3 → AreCarried (rows P) h c → has_index P h ≡ true
+    go c e nothing = absurd (omega (arith, e))
+    go c e (an_index i b f) = ap is_carried i
+
+bounds_has : (P : Checked) (n a b : ℕ) → n < length (rows P) → node P n ≡ Start → node P (n - 1) ≡ Bounds a b → has_index P (n + 1) ≡ true
+bounds_has P zero a b within is at = let bad : Start ≡ Bounds a b = sym is ∙ at in cc
+bounds_has P (suc n) a b within is at =
+    let back : suc n - 1 ≡ n = omega arith in
+    let z = (table_of P).bounds_of n a b (omega (arith, within)) (ap (node P) (sym back) ∙ at) in
+    let head : n + 2 ≡ suc n + 1 = omega arith in
+    ap (has_index P) (sym head) ∙ some_three P ((table_of P).loop_is z.0 (n + 2) z.1) z.2
+
+-- the sends to the entries of what it carries on
+bounds_arc : (P : Checked) (s : Origin) (n part : ℕ) (p : Port) (m : Node) → n < length (rows P) → node P n ≡ Start → node P (n - 1) ≡ m
+    → Among (feed s part p) (bounds_feeds P n m) → Arc P n part p s
+bounds_arc P s n part p (Bounds a b) within is at (inl h) = moved s _ part 1 p Zero h (to_carried_context 0 is at (bounds_has P n a b within is at) (omega arith))
+bounds_arc P s n part p (Bounds a b) within is at (inr (inl h)) = moved s _ part 1 p One h (to_first_index is at (bounds_has P n a b within is at))
+bounds_arc P s n part p (Bounds a b) within is at (inr (inr (inl h))) =
+    moved s _ part 2 p Zero h (to_carried_context 1 is at (bounds_has P n a b within is at) (omega arith))
+bounds_arc P s n part p (Bounds a b) within is at (inr (inr (inr (inl h)))) = moved s _ part 2 p One h (to_first_bound is at (bounds_has P n a b within is at))
+bounds_arc P s n part p (Bounds a b) within is at (inr (inr (inr (inr (inl h))))) =
+    moved s _ part 3 p Zero h (to_carried_context 2 is at (bounds_has P n a b within is at) (omega arith))
+bounds_arc P s n part p (Bounds a b) within is at (inr (inr (inr (inr (inr (inl h)))))) =
+    moved s _ part 3 p One h (to_first_flag is at (bounds_has P n a b within is at))
+bounds_arc P s n part p (Bounds a b) within is at (inr (inr (inr (inr (inr (inr h)))))) = absurd h
+bounds_arc P s n part p _ within is at h = absurd h
+
 -- what feeds the entries of a loop's imports
-record EntryFed (w j : ℕ) (bs : List ℕ) (s : Origin) (part : ℕ) (p : Port) : Type 0 where
+record EntryFed (w i j : ℕ) (bs : List ℕ) (s : Origin) (part : ℕ) (p : Port) : Type 0 where
   slot : ℕ
   less : slot < length bs
   at : part ≡ j + slot
   port : p ≡ Zero
-  from : s ≡ record { row = w; part = j + slot + 1; side = true }
+  from : s ≡ pieces.part_of w (i + slot)
 
-entry_fed : (w j : ℕ) (bs : List ℕ) (s : Origin) (part : ℕ) (p : Port) → Among (feed s part p) (entry_feeds w j bs) → EntryFed w j bs s part p
-entry_fed w j [] s part p h = absurd h
-entry_fed w j (b ∷ bs) s part p (inl is) =
+entry_fed : (w i j : ℕ) (bs : List ℕ) (s : Origin) (part : ℕ) (p : Port) → Among (feed s part p) (entry_feeds w i j bs) → EntryFed w i j bs s part p
+entry_fed w i j [] s part p h = absurd h
+entry_fed w i j (b ∷ bs) s part p (inl is) =
     let first : j ≡ j + 0 = omega arith in
+    let from : i ≡ i + 0 = omega arith in
     record {
       slot = 0;
       less = omega arith;
       at = ap (λ (y : Rattle.id_pieces.specs.declared.arc.Feed.Feed). y.part) is ∙ first;
       port = ap (λ (y : Rattle.id_pieces.specs.declared.arc.Feed.Feed). y.port) is;
-      from = ap (λ (y : Rattle.id_pieces.specs.declared.arc.Feed.Feed). y.origin) is ∙ ap (λ z. record { row = w; part = z + 1; side = true }) first;
+      from = ap (λ (y : Rattle.id_pieces.specs.declared.arc.Feed.Feed). y.origin) is ∙ ap (pieces.part_of w) from;
     }
-entry_fed w j (b ∷ bs) s part p (inr h) =
-    let z = entry_fed w (j + 1) bs s part p h in
+entry_fed w i j (b ∷ bs) s part p (inr h) =
+    let z = entry_fed w (i + 1) (j + 1) bs s part p h in
     let up : j + 1 + z.slot ≡ j + suc z.slot = omega arith in
-    record {
-      slot = suc z.slot;
-      less = omega (arith, z.less);
-      at = z.at ∙ up;
-      port = z.port;
-      from = z.from ∙ ap (λ y. record { row = w; part = y + 1; side = true }) up;
-    }
+    let over : i + 1 + z.slot ≡ i + suc z.slot = omega arith in
+    record { slot = suc z.slot; less = omega (arith, z.less); at = z.at ∙ up; port = z.port; from = z.from ∙ ap (pieces.part_of w) over }
 
 as_entry : {P : Checked} {n : ℕ} {s : Origin} {part : ℕ} {p : Port} → node P n ≡ Entries
-    → EntryFed (turn_row P (block P n)) 0 (imports_of P (block P n)) s part p → Arc P n part p s
+    → EntryFed (turn_row P (block P n)) (1 + carries_on P (block P n)) 0 (imports_of P (block P n)) s part p → Arc P n part p s
 as_entry {P} {n} {s} {part} {p} is x =
+    let h = block P n in
     let part_is : part ≡ x.slot = omega (arith, x.at) in
-    let next : 0 + x.slot + 1 ≡ suc x.slot = omega arith in
-    let from : s ≡ record { row = turn_row P (block P n); part = suc x.slot; side = true } = x.from ∙
-    ap (λ z. record { row = turn_row P (block P n); part = z; side = true }) next in
+    let next : 1 + carries_on P h + x.slot ≡ suc (carries_on P h + x.slot) = omega arith in
+    let from : s ≡ pieces.part_of (turn_row P h) (suc (carries_on P h + x.slot)) = x.from ∙ ap (pieces.part_of (turn_row P h)) next in
     subst (λ (z : ℕ × (Port × Origin)). Arc P n z.0 z.1.0 z.1.1)
-    {x = (x.slot, (Zero, record { row = turn_row P (block P n); part = suc x.slot; side = true }))} {y = (part, (p, s))}
+    {x = (x.slot, (Zero, pieces.part_of (turn_row P h) (suc (carries_on P h + x.slot))))} {y = (part, (p, s))}
     (λ i. (sym part_is i, (sym x.port i, sym from i))) (to_entry x.slot is x.less)
 
 -- what feeds the parts that hand imports on
@@ -444,79 +555,126 @@ turn_fed P r j (b ∷ bs) s part p (inr h) =
     record { slot = suc z.slot; less = omega (arith, z.less); at = z.at ∙ up; port = z.port; from = z.from }
 
 as_turn : {P : Checked} {n : ℕ} {s : Origin} {part : ℕ} {p : Port} → node P n ≡ Turn
-    → TurnFed P (region P n) 1 (imports_of P (block P n)) s part p → Arc P n part p s
+    → TurnFed P (region P n) (1 + carries_on P (block P n)) (imports_of P (block P n)) s part p → Arc P n part p s
 as_turn {P} {n} {s} {part} {p} is x =
-    let part_is : part ≡ suc x.slot = omega (arith, x.at) in
+    let c = carries_on P (block P n) in
+    let part_is : part ≡ suc (c + x.slot) = omega (arith, x.at) in
     subst (λ (z : ℕ × (Port × Origin)). Arc P n z.0 z.1.0 z.1.1)
-    {x = (suc x.slot, (Zero, name_in P (region P n) (get_or (imports_of P (block P n)) x.slot 0)))} {y = (part, (p, s))}
+    {x = (suc (c + x.slot), (Zero, name_in P (region P n) (get_or (imports_of P (block P n)) x.slot 0)))} {y = (part, (p, s))}
     (λ i. (sym part_is i, (sym x.port i, sym x.from i))) (to_turn_name x.slot is x.less)
 
-arc_by : (P : Checked) (s : Origin) (n part : ℕ) (p : Port) (m : Node) → node P n ≡ m → Among (feed s part p) (feeds_of P n (region P n) m) → Arc P n part p s
-arc_by P s n part p Head is (inl h) = moved s _ part 1 p One h (to_back is)
-arc_by P s n part p Head is (inr h) = absurd h
-arc_by P s n part p (Param x k) is h = absurd h
-arc_by P s n part p (Literal c) is (inl h) = moved s _ part 0 p Zero h (to_literal is)
-arc_by P s n part p (Literal c) is (inr h) = absurd h
-arc_by P s n part p (Name x) is h = absurd h
-arc_by P s n part p (Unary o a) is (inl h) = moved s _ part 0 p Zero h (to_unary is)
-arc_by P s n part p (Unary o a) is (inr h) = absurd h
-arc_by P s n part p (Binary o a b) is (inl h) = moved s _ part 0 p Zero h (to_left is)
-arc_by P s n part p (Binary o a b) is (inr (inl h)) = moved s _ part 0 p One h (to_right is)
-arc_by P s n part p (Binary o a b) is (inr (inr h)) = absurd h
-arc_by P s n part p (Split t) is (inl h) = moved s _ part 0 p Zero h (to_test (of_arms is))
-arc_by P s n part p (Split t) is (inr (inl h)) = moved s _ part 0 p One h (to_trigger (of_arms is))
-arc_by P s n part p (Split t) is (inr (inr h)) = as_arc (of_arms is) (import_fed P (origin P t) (region P n) 1 (imports_of P n) s part p h)
-arc_by P s n part p (If t x y) is (inl h) = moved s _ part 0 p Zero h (to_then is)
-arc_by P s n part p (If t x y) is (inr (inl h)) = moved s _ part 0 p Zero h (to_else is)
-arc_by P s n part p (If t x y) is (inr (inr h)) = absurd h
-arc_by P s n part p (Enter x) is (inl h) = moved s _ part 0 p Zero h (to_enter (of_call is))
-arc_by P s n part p (Enter x) is (inr h) = absurd h
-arc_by P s n part p (Arg e k v) is (inl h) = moved s _ part 0 p Zero h (to_context is)
-arc_by P s n part p (Arg e k v) is (inr (inl h)) = moved s _ part 0 p One h (to_argument is)
-arc_by P s n part p (Arg e k v) is (inr (inr h)) = absurd h
-arc_by P s n part p (Call e c) is h = absurd h
-arc_by P s n part p (Block b) is h = absurd h
-arc_by P s n part p (Binding x a) is (inl h) = moved s _ part 0 p Zero h (to_label is)
-arc_by P s n part p (Binding x a) is (inr h) = absurd h
-arc_by P s n part p (Def x g k b) is h = absurd h
-arc_by P s n part p Start is (inl h) = moved s _ part 0 p Zero h (to_enter (of_loop is))
-arc_by P s n part p Start is (inr h) = as_send is (import_fed P (output n) (region P n) 1 (entering P (n + 1)) s part p h)
-arc_by P s n part p (LoopHead t) is (inl h) = moved s _ part 0 p Zero h (to_head is)
-arc_by P s n part p (LoopHead t) is (inr (inl h)) = moved s _ part 1 p One h (to_loop_back is)
-arc_by P s n part p (LoopHead t) is (inr (inr h)) = absurd h
-arc_by P s n part p Variable is (inl h) = moved s _ part 0 p Zero h (to_variable is)
-arc_by P s n part p Variable is (inr h) = absurd h
-arc_by P s n part p Entries is h = as_entry is (entry_fed (turn_row P (block P n)) 0 (imports_of P (block P n)) s part p h)
-arc_by P s n part p (Switches t) is (inl h) = moved s _ part 0 p Zero h (to_test (of_turns is))
-arc_by P s n part p (Switches t) is (inr (inl h)) = moved s _ part 0 p One h (to_trigger (of_turns is))
-arc_by P s n part p (Switches t) is (inr (inr h)) = as_arc (of_turns is) (import_fed P (origin P t) (region P n) 1 (imports_of P n) s part p h)
-arc_by P s n part p Turn is (inl h) = moved s _ part 0 p Zero h (to_turn is)
-arc_by P s n part p Turn is (inr h) = as_turn is (turn_fed P (region P n) 1 (imports_of P (block P n)) s part p h)
-arc_by P s n part p (NextUse x) is h = absurd h
-arc_by P s n part p (Next x k o v) is (inl h) = moved s _ part 0 p Zero h (to_next is)
-arc_by P s n part p (Next x k o v) is (inr h) = absurd h
-arc_by P s n part p Body is h = absurd h
-arc_by P s n part p (Reset v) is (inl h) = moved s _ part 0 p Zero h (to_reset is)
-arc_by P s n part p (Reset v) is (inr h) = absurd h
-arc_by P s n part p (Loop g w l) is h = absurd h
-arc_by P s n part p (Array a b) is (inl h) = moved s _ part 0 p Zero h (to_low is)
-arc_by P s n part p (Array a b) is (inr (inl h)) = moved s _ part 0 p One h (to_high is)
-arc_by P s n part p (Array a b) is (inr (inr h)) = absurd h
-arc_by P s n part p (Fetch t i) is (inl h) = moved s _ part 0 p Zero h (to_target (of_fetch is))
-arc_by P s n part p (Fetch t i) is (inr (inl h)) = moved s _ part 0 p One h (to_index (of_fetch is))
-arc_by P s n part p (Fetch t i) is (inr (inr (inl h))) = moved s _ part 1 p Zero h (to_fetch is)
-arc_by P s n part p (Fetch t i) is (inr (inr (inr h))) = absurd h
-arc_by P s n part p (Address t i) is (inl h) = moved s _ part 0 p Zero h (to_target (of_store is))
-arc_by P s n part p (Address t i) is (inr (inl h)) = moved s _ part 0 p One h (to_index (of_store is))
-arc_by P s n part p (Address t i) is (inr (inr h)) = absurd h
-arc_by P s n part p (Store a v) is (inl h) = moved s _ part 0 p Zero h (to_store is)
-arc_by P s n part p (Store a v) is (inr (inl h)) = moved s _ part 0 p One h (to_stored is)
-arc_by P s n part p (Store a v) is (inr (inr h)) = absurd h
-arc_by P s n part p Program is h = absurd h
+-- and what the loop carries on
+carried_arc : (P : Checked) (s : Origin) (n part : ℕ) (p : Port) → node P n ≡ Turn → Among (feed s part p) (carried_feeds P n (region P n) (block P n))
+    → Arc P n part p s
+carried_arc P s n part p is among = go (has_index P (block P n)) refl among
+  where
+    go : (t : Truth) → has_index P (block P n) ≡ t
+        → Among (feed s part p) (cond t (feed (pieces.part_of (n - 1) 4) 1 Zero ∷ feed (name_in P (region P n) (block P n + 2)) 2 Zero
+        ∷ feed (output (n - 1)) 3 Zero ∷ []) [])
+        → Arc P n part p s
+    go true has (inl h) = moved s _ part 1 p Zero h (to_next_index is has)
+    go true has (inr (inl h)) = moved s _ part 2 p Zero h (to_next_bound is has)
+    go true has (inr (inr (inl h))) = moved s _ part 3 p Zero h (to_next_flag is has)
+    go true has (inr (inr (inr h))) = absurd h
+    go false has h = absurd h
+
+arc_by : (P : Checked) (s : Origin) (n part : ℕ) (p : Port) (m : Node) → n < length (rows P) → node P n ≡ m
+    → Among (feed s part p) (feeds_of P n (region P n) m) → Arc P n part p s
+arc_by P s n part p Head within is (inl h) = moved s _ part 1 p One h (to_back is)
+arc_by P s n part p Head within is (inr h) = absurd h
+arc_by P s n part p (Param x k) within is h = absurd h
+arc_by P s n part p (Literal c) within is (inl h) = moved s _ part 0 p Zero h (to_literal is)
+arc_by P s n part p (Literal c) within is (inr h) = absurd h
+arc_by P s n part p (Name x) within is h = absurd h
+arc_by P s n part p (Unary o a) within is (inl h) = moved s _ part 0 p Zero h (to_unary is)
+arc_by P s n part p (Unary o a) within is (inr h) = absurd h
+arc_by P s n part p (Binary o a b) within is (inl h) = moved s _ part 0 p Zero h (to_left is)
+arc_by P s n part p (Binary o a b) within is (inr (inl h)) = moved s _ part 0 p One h (to_right is)
+arc_by P s n part p (Binary o a b) within is (inr (inr h)) = absurd h
+arc_by P s n part p (Split t) within is (inl h) = moved s _ part 0 p Zero h (to_test (of_arms is))
+arc_by P s n part p (Split t) within is (inr (inl h)) = moved s _ part 0 p One h (to_trigger (of_arms is))
+arc_by P s n part p (Split t) within is (inr (inr h)) = as_arc (of_arms is) (import_fed P (origin P t) (region P n) 1 (imports_of P n) s part p h)
+arc_by P s n part p (If t x y) within is (inl h) = moved s _ part 0 p Zero h (to_then is)
+arc_by P s n part p (If t x y) within is (inr (inl h)) = moved s _ part 0 p Zero h (to_else is)
+arc_by P s n part p (If t x y) within is (inr (inr h)) = absurd h
+arc_by P s n part p (Enter x) within is (inl h) = moved s _ part 0 p Zero h (to_enter (of_call is))
+arc_by P s n part p (Enter x) within is (inr h) = absurd h
+arc_by P s n part p (Arg e k v) within is (inl h) = moved s _ part 0 p Zero h (to_context is)
+arc_by P s n part p (Arg e k v) within is (inr (inl h)) = moved s _ part 0 p One h (to_argument is)
+arc_by P s n part p (Arg e k v) within is (inr (inr h)) = absurd h
+arc_by P s n part p (Call e c) within is h = absurd h
+arc_by P s n part p (Block b) within is h = absurd h
+arc_by P s n part p (Binding x a) within is (inl h) = moved s _ part 0 p Zero h (to_label is)
+arc_by P s n part p (Binding x a) within is (inr h) = absurd h
+arc_by P s n part p (Def x g k b) within is h = absurd h
+arc_by P s n part p Start within is (inl h) = moved s _ part 0 p Zero h (to_enter (of_loop is))
+arc_by P s n part p Start within is (inr h) =
+    elim (Among-either (feed s part p) (bounds_feeds P n (node P (n - 1)))
+    (import_feeds P (output n) (region P n) (1 + carries_on P (n + 1)) (entering P (n + 1))) h) [
+      | inl k ↦ bounds_arc P s n part p (node P (n - 1)) within is refl k
+      | inr k ↦ as_send is (import_fed P (output n) (region P n) (1 + carries_on P (n + 1)) (entering P (n + 1)) s part p k)
+    ]
+arc_by P s n part p (LoopHead t) within is (inl h) = moved s _ part 0 p Zero h (to_head is)
+arc_by P s n part p (LoopHead t) within is (inr (inl h)) = moved s _ part 1 p One h (to_loop_back is)
+arc_by P s n part p (LoopHead t) within is (inr (inr h)) = absurd h
+arc_by P s n part p Variable within is (inl h) = moved s _ part 0 p Zero h (to_variable is)
+arc_by P s n part p Variable within is (inr h) = absurd h
+arc_by P s n part p Entries within is h = as_entry is (entry_fed (turn_row P (block P n)) (1 + carries_on P (block P n)) 0 (imports_of P (block P n)) s part p h)
+arc_by P s n part p (Switches t) within is (inl h) = moved s _ part 0 p Zero h (to_test (of_turns is))
+arc_by P s n part p (Switches t) within is (inr (inl h)) = moved s _ part 0 p One h (to_trigger (of_turns is))
+arc_by P s n part p (Switches t) within is (inr (inr h)) = as_arc (of_turns is) (import_fed P (origin P t) (region P n) 1 (imports_of P n) s part p h)
+arc_by P s n part p Turn within is (inl h) = moved s _ part 0 p Zero h (to_turn is)
+arc_by P s n part p Turn within is (inr h) =
+    let c = block P n in
+    elim (Among-either (feed s part p) (carried_feeds P n (region P n) c) (turn_feeds P (region P n) (1 + carries_on P c) (imports_of P c)) h) [
+      | inl k ↦ carried_arc P s n part p is k
+      | inr k ↦ as_turn is (turn_fed P (region P n) (1 + carries_on P c) (imports_of P c) s part p k)
+    ]
+arc_by P s n part p (NextUse x) within is h = absurd h
+arc_by P s n part p (Next x k o v) within is (inl h) = moved s _ part 0 p Zero h (to_next is)
+arc_by P s n part p (Next x k o v) within is (inr h) = absurd h
+arc_by P s n part p Body within is h = absurd h
+arc_by P s n part p (Reset v) within is (inl h) = moved s _ part 0 p Zero h (to_reset is)
+arc_by P s n part p (Reset v) within is (inr h) = absurd h
+arc_by P s n part p (Loop g w l) within is h = absurd h
+arc_by P s n part p (Array a b) within is (inl h) = moved s _ part 0 p Zero h (to_low is)
+arc_by P s n part p (Array a b) within is (inr (inl h)) = moved s _ part 0 p One h (to_high is)
+arc_by P s n part p (Array a b) within is (inr (inr h)) = absurd h
+arc_by P s n part p (Fetch t i) within is (inl h) = moved s _ part 0 p Zero h (to_target (of_fetch is))
+arc_by P s n part p (Fetch t i) within is (inr (inl h)) = moved s _ part 0 p One h (to_index (of_fetch is))
+arc_by P s n part p (Fetch t i) within is (inr (inr (inl h))) = moved s _ part 1 p Zero h (to_fetch is)
+arc_by P s n part p (Fetch t i) within is (inr (inr (inr h))) = absurd h
+arc_by P s n part p (Address t i) within is (inl h) = moved s _ part 0 p Zero h (to_target (of_store is))
+arc_by P s n part p (Address t i) within is (inr (inl h)) = moved s _ part 0 p One h (to_index (of_store is))
+arc_by P s n part p (Address t i) within is (inr (inr h)) = absurd h
+arc_by P s n part p (Store a v) within is (inl h) = moved s _ part 0 p Zero h (to_store is)
+arc_by P s n part p (Store a v) within is (inr (inl h)) = moved s _ part 0 p One h (to_stored is)
+arc_by P s n part p (Store a v) within is (inr (inr h)) = absurd h
+arc_by P s n part p (Bounds a b) within is (inl h) = moved s _ part 0 p Zero h (to_lower is)
+arc_by P s n part p (Bounds a b) within is (inr (inl h)) = moved s _ part 0 p One h (to_upper is)
+arc_by P s n part p (Bounds a b) within is (inr (inr (inl h))) = moved s _ part 1 p Zero h (to_first_test is)
+arc_by P s n part p (Bounds a b) within is (inr (inr (inr (inl h)))) = moved s _ part 1 p One h (to_first is)
+arc_by P s n part p (Bounds a b) within is (inr (inr (inr (inr h)))) = absurd h
+arc_by P s n part p (Carried k) within is (inl h) = moved s _ part 0 p Zero h (to_carried is)
+arc_by P s n part p (Carried k) within is (inr h) = absurd h
+arc_by P s n part p (Within f) within is h = absurd h
+arc_by P s n part p Count within is (inl h) = moved s _ part 0 p Zero h (to_index_now is)
+arc_by P s n part p Count within is (inr (inl h)) = moved s _ part 0 p One h (to_bound is)
+arc_by P s n part p Count within is (inr (inr (inl h))) = moved s _ part 1 p Zero h (to_further_test is)
+arc_by P s n part p Count within is (inr (inr (inr (inl h)))) = moved s _ part 1 p One h (to_further is)
+arc_by P s n part p Count within is (inr (inr (inr (inr (inl h))))) = moved s _ part 2 p Zero h (to_last_test is)
+arc_by P s n part p Count within is (inr (inr (inr (inr (inr (inl h)))))) = moved s _ part 2 p One h (to_last is)
+arc_by P s n part p Count within is (inr (inr (inr (inr (inr (inr (inl h))))))) = moved s _ part 3 p Zero h (to_one is)
+arc_by P s n part p Count within is (inr (inr (inr (inr (inr (inr (inr (inl h)))))))) = moved s _ part 4 p Zero h (to_add is)
+arc_by P s n part p Count within is (inr (inr (inr (inr (inr (inr (inr (inr (inl h))))))))) = moved s _ part 4 p One h (to_add_one is)
+arc_by P s n part p Count within is (inr (inr (inr (inr (inr (inr (inr (inr (inr h))))))))) = absurd h
+arc_by P s n part p (Index x) within is h = absurd h
+arc_by P s n part p Span within is h = absurd h
+arc_by P s n part p Program within is h = absurd h
 
 -- each arc is one that its row's node says
 pub fed : {P : Checked} {s : Origin} {n part : ℕ} {p : Port} → Feeds P s n part p → Arc P n part p s
-fed {P} {s} {n} {part} {p} h = arc_by P s n part p (node P n) refl h.among
+fed {P} {s} {n} {part} {p} h = arc_by P s n part p (node P n) h.within refl h.among
 
 -- each binder whose value goes into a loop has its entry there
 import_entry : (e j : ℕ) (bs : List ℕ) (k : ℕ) → k < length bs → (q : Entry) × (slice_get (import_entries e j bs) k ≡ Some q)
@@ -530,8 +688,41 @@ entries_at P v e [] bs k less = import_entry e 0 bs k less
 entries_at P v e (m ∷ ms) bs zero less = (_, refl)
 entries_at P v e (m ∷ ms) bs (suc k) less = entries_at P (v + 1) e ms bs k (omega (arith, less))
 
-pub entered_at : (P : Checked) (h k : ℕ) → k < length (entering P h) → (q : Entry) × (slice_get (loop_entries P h) k ≡ Some q)
-entered_at P h k less = entries_at P (h + 1) (entries_row P h) (nexts_of P h) (imports_of P h) k less
+behind_carried : (cs : List ℕ) (qs : List Entry) (k : ℕ) → slice_get (map param_entry cs ++ qs) (length cs + k) ≡ slice_get qs k
+behind_carried [] qs k = let at : 0 + k ≡ k = omega arith in ap (slice_get qs) at
+behind_carried (c ∷ cs) qs k =
+    let at : length (c ∷ cs) + k ≡ suc (length cs + k) = omega arith in
+    ap (slice_get (map param_entry (c ∷ cs) ++ qs)) at ∙ behind_carried cs qs k
+
+pub entered_at : (P : Checked) (h k : ℕ) → k < length (entering P h) → (q : Entry) × (slice_get (loop_entries P h) (carries_on P h + k) ≡ Some q)
+entered_at P h k less =
+    let z = entries_at P (first_variable P h) (entries_row P h) (nexts_of P h) (imports_of P h) k less in
+    (z.0, behind_carried (carried P h) _ k ∙ z.1)
+
+-- and so has each of what is carried on
+carried_entry : (cs : List ℕ) (qs : List Entry) (k : ℕ) → k < length cs → slice_get (map param_entry cs ++ qs) k ≡ Some (param_entry (get_or cs k 0))
+carried_entry [] qs k less = absurd (omega (arith, less))
+carried_entry (c ∷ cs) qs zero less = refl
+carried_entry (c ∷ cs) qs (suc k) less = carried_entry cs qs k (omega (arith, less))
+
+pub three_carried : (P : Checked) (h : ℕ) → has_index P h ≡ true → carried P h ≡ ((h + 1) ∷ (h + 2) ∷ (h + 3) ∷ [])
+three_carried P h has = ap (λ t. cond t ((h + 1) ∷ (h + 2) ∷ (h + 3) ∷ []) []) has
+
+pub none_carried : (P : Checked) (h : ℕ) → has_index P h ≡ false → carried P h ≡ []
+none_carried P h none = ap (λ t. cond t ((h + 1) ∷ (h + 2) ∷ (h + 3) ∷ []) []) none
+
+pub carried_at : (P : Checked) (h k : ℕ) → has_index P h ≡ true → k < 3 → slice_get (loop_entries P h) k ≡ Some (param_entry (get_or (carried P h) k 0))
+carried_at P h k has less =
+    carried_entry (carried P h) _ k (subst (λ cs. k < length cs) (sym (three_carried P h has)) less)
+
+-- what a loop hands on: what it carries on comes before its imports
+pub behind_turned : (P : Checked) (h k : ℕ) → k < length (imports_of P h) → carries_on P h + k < length (turned P h)
+behind_turned P h k less = omega (arith, less, append_length (carried P h) (imports_of P h))
+
+pub three_turned : (P : Checked) (h : ℕ) → has_index P h ≡ true → (k : ℕ) → k < 3 → k < length (turned P h)
+three_turned P h has k less =
+    let three : length (carried P h) ≡ 3 = ap length (three_carried P h has) in
+    omega (arith, less, three, append_length (carried P h) (imports_of P h))
 
 -- what is fed is a part
 fed_part : {P : Checked} {n part : ℕ} {p : Port} {s : Origin} → n < length (rows P) → Arc P n part p s → IsPart P n part
@@ -550,14 +741,16 @@ fed_part within (to_enter is) = part_of within (opens is)
 fed_part within (to_context is) = part_of within (passes is)
 fed_part within (to_argument is) = part_of within (passes is)
 fed_part within (to_label is) = part_of within (names is)
-fed_part {P} {n} within (to_loop_context k is less) = let z = entered_at P (n + 1) k less in part_of within (sends_in k z.0 is z.1)
-fed_part {P} {n} within (to_entering k is less) = let z = entered_at P (n + 1) k less in part_of within (sends_in k z.0 is z.1)
+fed_part {P} {n} within (to_loop_context k is less) =
+    let z = entered_at P (n + 1) k less in part_of within (sends_in (carries_on P (n + 1) + k) z.0 is z.1)
+fed_part {P} {n} within (to_entering k is less) =
+    let z = entered_at P (n + 1) k less in part_of within (sends_in (carries_on P (n + 1) + k) z.0 is z.1)
 fed_part within (to_head is) = part_of within (starts (ap begins_block is))
 fed_part within (to_loop_back is) = part_of within (gives_back is)
 fed_part within (to_variable is) = part_of within (varies is)
 fed_part within (to_entry k is less) = part_of within (takes_in k is less)
 fed_part within (to_turn is) = part_of within (moves_on is)
-fed_part within (to_turn_name k is less) = part_of within (moves_name k is less)
+fed_part {P} {n} within (to_turn_name k is less) = part_of within (moves_name (carries_on P (block P n) + k) is (behind_turned P (block P n) k less))
 fed_part within (to_next is) = part_of within (advances is)
 fed_part within (to_reset is) = part_of within (resets is)
 fed_part within (to_low is) = part_of within (allocates is)
@@ -567,11 +760,52 @@ fed_part within (to_index is) = part_of within (addresses is)
 fed_part within (to_fetch is) = part_of within (fetches is)
 fed_part within (to_store is) = part_of within (stores is)
 fed_part within (to_stored is) = part_of within (stores is)
+fed_part {P} {n} within (to_carried_context k is at has less) = part_of within (sends_in k _ is (carried_at P (n + 1) k has less))
+fed_part {P} {n} within (to_first_index is at has) = part_of within (sends_in 0 _ is (carried_at P (n + 1) 0 has (omega arith)))
+fed_part {P} {n} within (to_first_bound is at has) = part_of within (sends_in 1 _ is (carried_at P (n + 1) 1 has (omega arith)))
+fed_part {P} {n} within (to_first_flag is at has) = part_of within (sends_in 2 _ is (carried_at P (n + 1) 2 has (omega arith)))
+fed_part {P} {n} within (to_next_index is has) = part_of within (moves_name 0 is (three_turned P (block P n) has 0 (omega arith)))
+fed_part {P} {n} within (to_next_bound is has) = part_of within (moves_name 1 is (three_turned P (block P n) has 1 (omega arith)))
+fed_part {P} {n} within (to_next_flag is has) = part_of within (moves_name 2 is (three_turned P (block P n) has 2 (omega arith)))
+fed_part within (to_lower is) = part_of within (bounds_meet is)
+fed_part within (to_upper is) = part_of within (bounds_meet is)
+fed_part within (to_first_test is) = part_of within (begins_index is)
+fed_part within (to_first is) = part_of within (begins_index is)
+fed_part within (to_carried is) = part_of within (carries is)
+fed_part within (to_index_now is) = part_of within (meets_bound is)
+fed_part within (to_bound is) = part_of within (meets_bound is)
+fed_part within (to_further_test is) = part_of within (goes_further is)
+fed_part within (to_further is) = part_of within (goes_further is)
+fed_part within (to_last_test is) = part_of within (hands_index is)
+fed_part within (to_last is) = part_of within (hands_index is)
+fed_part within (to_one is) = part_of within (has_one is)
+fed_part within (to_add is) = part_of within (adds_one is)
+fed_part within (to_add_one is) = part_of within (adds_one is)
 
 pub target_part : {P : Checked} {s : Origin} {n part : ℕ} {p : Port} → Feeds P s n part p → IsPart P n part
 target_part h = fed_part h.within (fed h)
 
 -- ---- what feeds a port
+
+-- what feeds the second port of a `send` of the loop that begins at the row n
+abbrev bounded_feeder : Checked → ℕ → Region → ℕ → Option Origin
+bounded_feeder P n r zero = Some (pieces.part_of (n - 1) 1)
+bounded_feeder P n r (suc zero) = Some (origin P (unwrap_or (upper_of (node P (n - 1))) 0))
+bounded_feeder P n r (suc (suc zero)) = Some (output (n - 1))
+bounded_feeder P n r (suc (suc (suc k))) = Some (name_in P r (get_or (entering P (n + 1)) k 0))
+
+abbrev start_feeder : Checked → ℕ → Region → ℕ → Option Origin
+start_feeder P n r k = cond (has_index P (n + 1)) (bounded_feeder P n r k) (Some (name_in P r (get_or (entering P (n + 1)) k 0)))
+
+-- and what a part that hands on to the next iteration of the loop with the head h
+abbrev further_feeder : Checked → ℕ → Region → ℕ → ℕ → Option Origin
+further_feeder P n r h zero = Some (pieces.part_of (n - 1) 4)
+further_feeder P n r h (suc zero) = Some (name_in P r (h + 2))
+further_feeder P n r h (suc (suc zero)) = Some (output (n - 1))
+further_feeder P n r h (suc (suc (suc k))) = Some (name_in P r (get_or (imports_of P h) k 0))
+
+abbrev turn_feeder : Checked → ℕ → Region → ℕ → ℕ → Option Origin
+turn_feeder P n r h k = cond (has_index P h) (further_feeder P n r h k) (Some (name_in P r (get_or (imports_of P h) k 0)))
 
 -- what feeds this port of the part of the row n, in this region with this node, which is no conditional
 abbrev feeder : Checked → ℕ → Region → Node → ℕ → Port → Option Origin
@@ -589,16 +823,16 @@ feeder P n r (Arg e k v) zero One = Some (origin P v)
 feeder P n r (Binding x a) zero Zero = Some (origin P a)
 feeder P n r Start zero Zero = Some (trigger_of r)
 feeder P n r Start (suc k) Zero = Some (output n)
-feeder P n r Start (suc k) One = Some (name_in P r (get_or (entering P (n + 1)) k 0))
+feeder P n r Start (suc k) One = start_feeder P n r k
 feeder P n r (LoopHead s) zero Zero = Some (output (turn_row P n))
-feeder P n r (LoopHead s) (suc zero) One = Some (output (end_of P n - 1))
+feeder P n r (LoopHead s) (suc zero) One = Some (output (end_of P n - 2))
 feeder P n r Variable zero Zero = Some (output (next_of P n))
-feeder P n r Entries k Zero = Some (record { row = turn_row P (block P n); part = suc k; side = true })
+feeder P n r Entries k Zero = Some (pieces.part_of (turn_row P (block P n)) (suc (carries_on P (block P n) + k)))
 feeder P n r (Switches t) part Zero = Some (origin P t)
 feeder P n r (Switches t) zero One = Some (trigger_of r)
 feeder P n r (Switches t) (suc k) One = Some (name_in P r (get_or (imports_of P n) k 0))
 feeder P n r Turn zero Zero = Some (trigger_of r)
-feeder P n r Turn (suc k) Zero = Some (name_in P r (get_or (imports_of P (block P n)) k 0))
+feeder P n r Turn (suc k) Zero = turn_feeder P n r (block P n) k
 feeder P n r (Next x k o v) zero Zero = Some (origin P v)
 feeder P n r (Reset v) zero Zero = Some (origin P v)
 feeder P n r (Array a b) zero Zero = Some (origin P a)
@@ -610,6 +844,20 @@ feeder P n r (Address t i) zero Zero = Some (origin P t)
 feeder P n r (Address t i) zero One = Some (origin P i)
 feeder P n r (Store a v) zero Zero = Some (output a)
 feeder P n r (Store a v) zero One = Some (origin P v)
+feeder P n r (Bounds a b) zero Zero = Some (origin P a)
+feeder P n r (Bounds a b) zero One = Some (origin P b)
+feeder P n r (Bounds a b) (suc zero) Zero = Some (output n)
+feeder P n r (Bounds a b) (suc zero) One = Some (origin P a)
+feeder P n r (Carried k) zero Zero = Some (pieces.part_of (turn_row P (block P n)) (n - block P n))
+feeder P n r Count zero Zero = Some (output (block P n + 1))
+feeder P n r Count zero One = Some (name_in P r (block P n + 2))
+feeder P n r Count (suc zero) Zero = Some (output n)
+feeder P n r Count (suc zero) One = Some (trigger_of r)
+feeder P n r Count (suc (suc zero)) Zero = Some (output n)
+feeder P n r Count (suc (suc zero)) One = Some (output (block P n + 1))
+feeder P n r Count (suc (suc (suc zero))) Zero = Some (pieces.part_of n 1)
+feeder P n r Count (suc (suc (suc (suc zero)))) Zero = Some (pieces.part_of n 2)
+feeder P n r Count (suc (suc (suc (suc zero)))) One = Some (pieces.part_of n 3)
 feeder P n r _ part p = None
 
 -- an arc from an arm goes to a conditional
@@ -619,6 +867,30 @@ pub record FromArm (P : Checked) (n : ℕ) (s : Origin) : Type 0 where
   pub otherwise : ℕ
   pub node : node P n ≡ If split then otherwise
   pub from : (s ≡ origin P then) ⊎ (s ≡ origin P otherwise)
+
+-- behind those of what is carried on come the names
+entering_feeder : (P : Checked) (n : ℕ) (r : Region) (k : ℕ)
+    → start_feeder P n r (carries_on P (n + 1) + k) ≡ Some (name_in P r (get_or (entering P (n + 1)) k 0))
+entering_feeder P n r k = go (has_index P (n + 1)) refl
+  where
+    go : (t : Truth) → has_index P (n + 1) ≡ t → start_feeder P n r (carries_on P (n + 1) + k) ≡ Some (name_in P r (get_or (entering P (n + 1)) k 0))
+    go true has =
+        let at : carries_on P (n + 1) + k ≡ suc (suc (suc k)) = omega (arith, ap length (three_carried P (n + 1) has)) in
+        ap (start_feeder P n r) at ∙ ap (λ t. cond t (bounded_feeder P n r (suc (suc (suc k)))) (Some (name_in P r (get_or (entering P (n + 1)) (suc (suc (suc k))) 0)))) has
+    go false none =
+        let at : carries_on P (n + 1) + k ≡ k = omega (arith, ap length (none_carried P (n + 1) none)) in
+        ap (start_feeder P n r) at ∙ ap (λ t. cond t (bounded_feeder P n r k) (Some (name_in P r (get_or (entering P (n + 1)) k 0)))) none
+
+turned_feeder : (P : Checked) (n : ℕ) (r : Region) (h k : ℕ) → turn_feeder P n r h (carries_on P h + k) ≡ Some (name_in P r (get_or (imports_of P h) k 0))
+turned_feeder P n r h k = go (has_index P h) refl
+  where
+    go : (t : Truth) → has_index P h ≡ t → turn_feeder P n r h (carries_on P h + k) ≡ Some (name_in P r (get_or (imports_of P h) k 0))
+    go true has =
+        let at : carries_on P h + k ≡ suc (suc (suc k)) = omega (arith, ap length (three_carried P h has)) in
+        ap (turn_feeder P n r h) at ∙ ap (λ t. cond t (further_feeder P n r h (suc (suc (suc k)))) (Some (name_in P r (get_or (imports_of P h) (suc (suc (suc k))) 0)))) has
+    go false none =
+        let at : carries_on P h + k ≡ k = omega (arith, ap length (none_carried P h none)) in
+        ap (turn_feeder P n r h) at ∙ ap (λ t. cond t (further_feeder P n r h k) (Some (name_in P r (get_or (imports_of P h) k 0)))) none
 
 feeder_is : {P : Checked} {n part : ℕ} {p : Port} {s : Origin} → Arc P n part p s → (feeder P n (region P n) (node P n) part p ≡ Some s) ⊎ FromArm P n s
 feeder_is {P} {n} (to_back is) = inl (ap (λ m. feeder P n (region P n) m 1 One) is)
@@ -641,14 +913,30 @@ feeder_is {P} {n} (to_enter (of_loop is)) = inl (ap (λ m. feeder P n (region P 
 feeder_is {P} {n} (to_context is) = inl (ap (λ m. feeder P n (region P n) m 0 Zero) is)
 feeder_is {P} {n} (to_argument is) = inl (ap (λ m. feeder P n (region P n) m 0 One) is)
 feeder_is {P} {n} (to_label is) = inl (ap (λ m. feeder P n (region P n) m 0 Zero) is)
-feeder_is {P} {n} (to_loop_context k is less) = inl (ap (λ m. feeder P n (region P n) m (suc k) Zero) is)
-feeder_is {P} {n} (to_entering k is less) = inl (ap (λ m. feeder P n (region P n) m (suc k) One) is)
+feeder_is {P} {n} (to_loop_context k is less) = inl (ap (λ m. feeder P n (region P n) m (suc (carries_on P (n + 1) + k)) Zero) is)
+feeder_is {P} {n} (to_entering k is less) =
+    inl (ap (λ m. feeder P n (region P n) m (suc (carries_on P (n + 1) + k)) One) is ∙ entering_feeder P n (region P n) k)
+feeder_is {P} {n} (to_carried_context k is at has less) = inl (ap (λ m. feeder P n (region P n) m (suc k) Zero) is)
+feeder_is {P} {n} (to_first_index is at has) =
+    inl (ap (λ m. feeder P n (region P n) m 1 One) is ∙ ap (λ t. cond t (bounded_feeder P n (region P n) 0) (Some (name_in P (region P n) (get_or (entering P (n + 1)) 0 0)))) has)
+feeder_is {P} {n} (to_first_bound is at has) =
+    inl (ap (λ m. feeder P n (region P n) m 2 One) is ∙ ap (λ t. cond t (bounded_feeder P n (region P n) 1) (Some (name_in P (region P n) (get_or (entering P (n + 1)) 1 0)))) has
+    ∙ ap (λ m. Some (origin P (unwrap_or (upper_of m) 0))) at)
+feeder_is {P} {n} (to_first_flag is at has) =
+    inl (ap (λ m. feeder P n (region P n) m 3 One) is ∙ ap (λ t. cond t (bounded_feeder P n (region P n) 2) (Some (name_in P (region P n) (get_or (entering P (n + 1)) 2 0)))) has)
 feeder_is {P} {n} (to_head is) = inl (ap (λ m. feeder P n (region P n) m 0 Zero) is)
 feeder_is {P} {n} (to_loop_back is) = inl (ap (λ m. feeder P n (region P n) m 1 One) is)
 feeder_is {P} {n} (to_variable is) = inl (ap (λ m. feeder P n (region P n) m 0 Zero) is)
 feeder_is {P} {n} (to_entry k is less) = inl (ap (λ m. feeder P n (region P n) m k Zero) is)
 feeder_is {P} {n} (to_turn is) = inl (ap (λ m. feeder P n (region P n) m 0 Zero) is)
-feeder_is {P} {n} (to_turn_name k is less) = inl (ap (λ m. feeder P n (region P n) m (suc k) Zero) is)
+feeder_is {P} {n} (to_turn_name k is less) =
+    inl (ap (λ m. feeder P n (region P n) m (suc (carries_on P (block P n) + k)) Zero) is ∙ turned_feeder P n (region P n) (block P n) k)
+feeder_is {P} {n} (to_next_index is has) =
+    inl (ap (λ m. feeder P n (region P n) m 1 Zero) is ∙ ap (λ t. cond t (further_feeder P n (region P n) (block P n) 0) (Some (name_in P (region P n) (get_or (imports_of P (block P n)) 0 0)))) has)
+feeder_is {P} {n} (to_next_bound is has) =
+    inl (ap (λ m. feeder P n (region P n) m 2 Zero) is ∙ ap (λ t. cond t (further_feeder P n (region P n) (block P n) 1) (Some (name_in P (region P n) (get_or (imports_of P (block P n)) 1 0)))) has)
+feeder_is {P} {n} (to_next_flag is has) =
+    inl (ap (λ m. feeder P n (region P n) m 3 Zero) is ∙ ap (λ t. cond t (further_feeder P n (region P n) (block P n) 2) (Some (name_in P (region P n) (get_or (imports_of P (block P n)) 2 0)))) has)
 feeder_is {P} {n} (to_next is) = inl (ap (λ m. feeder P n (region P n) m 0 Zero) is)
 feeder_is {P} {n} (to_reset is) = inl (ap (λ m. feeder P n (region P n) m 0 Zero) is)
 feeder_is {P} {n} (to_low is) = inl (ap (λ m. feeder P n (region P n) m 0 Zero) is)
@@ -660,6 +948,20 @@ feeder_is {P} {n} (to_index (of_store is)) = inl (ap (λ m. feeder P n (region P
 feeder_is {P} {n} (to_fetch is) = inl (ap (λ m. feeder P n (region P n) m 1 Zero) is)
 feeder_is {P} {n} (to_store is) = inl (ap (λ m. feeder P n (region P n) m 0 Zero) is)
 feeder_is {P} {n} (to_stored is) = inl (ap (λ m. feeder P n (region P n) m 0 One) is)
+feeder_is {P} {n} (to_lower is) = inl (ap (λ m. feeder P n (region P n) m 0 Zero) is)
+feeder_is {P} {n} (to_upper is) = inl (ap (λ m. feeder P n (region P n) m 0 One) is)
+feeder_is {P} {n} (to_first_test is) = inl (ap (λ m. feeder P n (region P n) m 1 Zero) is)
+feeder_is {P} {n} (to_first is) = inl (ap (λ m. feeder P n (region P n) m 1 One) is)
+feeder_is {P} {n} (to_carried is) = inl (ap (λ m. feeder P n (region P n) m 0 Zero) is)
+feeder_is {P} {n} (to_index_now is) = inl (ap (λ m. feeder P n (region P n) m 0 Zero) is)
+feeder_is {P} {n} (to_bound is) = inl (ap (λ m. feeder P n (region P n) m 0 One) is)
+feeder_is {P} {n} (to_further_test is) = inl (ap (λ m. feeder P n (region P n) m 1 Zero) is)
+feeder_is {P} {n} (to_further is) = inl (ap (λ m. feeder P n (region P n) m 1 One) is)
+feeder_is {P} {n} (to_last_test is) = inl (ap (λ m. feeder P n (region P n) m 2 Zero) is)
+feeder_is {P} {n} (to_last is) = inl (ap (λ m. feeder P n (region P n) m 2 One) is)
+feeder_is {P} {n} (to_one is) = inl (ap (λ m. feeder P n (region P n) m 3 Zero) is)
+feeder_is {P} {n} (to_add is) = inl (ap (λ m. feeder P n (region P n) m 4 Zero) is)
+feeder_is {P} {n} (to_add_one is) = inl (ap (λ m. feeder P n (region P n) m 4 One) is)
 
 none_some : {A : Type 0} {x : A} → None ≡ Some x → ⊥
 none_some h = cc

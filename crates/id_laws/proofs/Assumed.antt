@@ -1,27 +1,42 @@
 -- What is known of the rows of a checked program.
-use Rattle.std.proofs.Common.{◌≡◌, ℕ, suc, ◌+◌, ◌<◌, true, length, slice_get, Some}
+use Rattle.std.proofs.Common.{◌≡◌, ℕ, suc, ◌+◌, ◌<◌, Bool, true, List, ◌++◌, length, slice_get, Some}
+use Rattle.std.specs.Prelude.{◌||◌}
 use Rattle.id_list.specs.List.{Among}
 use Rattle.id_value.specs.declared.Kind.{Kind}
 use Rattle.id_value.specs.declared.Kind.TheVariants as kinds
 use Rattle.id_value.specs.declared.Constant.{Constant}
 use Rattle.id_value.specs.declared.UnaryOp.{UnaryOp}
 use Rattle.id_value.specs.declared.BinaryOp.{BinaryOp}
+use Rattle.id_table.specs.declared.row.Node.{Node}
 use Rattle.id_table.specs.declared.row.Node.TheVariants.{Param, Literal, Name, Unary, Binary, If, Enter, Arg, Call, Start, LoopHead, Turn, Next}
+use Rattle.id_table.specs.declared.row.Node.TheVariants.{Switches, Bounds, Carried, Index}
 use Rattle.id_table.specs.declared.row.Node.TheVariants.{Block, Binding, Array, Fetch, Store}
 use Rattle.id_table.specs.Rows.{at, top}
-use Rattle.id_table.specs.Tables.{AreApart, HasOperand, is_binder, is_expression}
+use Rattle.id_table.specs.Tables.{AreApart, HasOperand, is_binder, is_carried, is_expression}
 use Rattle.id_table.specs.Calls.{IsCallOf}
 use Rattle.id_table.specs.Turns.{IsTable, IsDefOf, params_at}
 use Rattle.id_check.specs.declared.checked.Checked.{Checked}
 use Rattle.id_scope.specs.Kinds.{constant_kind, unary_kind, binary_kind}
 use Rattle.id_check.specs.Programs.{binder, kind, place, region, rows}
 use Rattle.id_desugar.specs.Ends.{end_of}
-use Rattle.id_desugar.specs.Regions.{imports_of}
+use Rattle.id_desugar.specs.Regions.{handed, imports_of, nexts_of, taken}
 use Rattle.id_table.specs.Loops.{depth}
 use Rattle.id_pieces.specs.Rows.{block, called, entering, first_binder, node, param_of}
 use Rattle.id_laws.specs.Activations.{main_head, Tests}
 use Rattle.id_laws.specs.Topics.{Addresses}
 use Rattle.id_arcs.proofs.NamesSeen.{Sees}
+
+-- what is handed into a region has its value from a label: a binder, or what a loop carries on for its index
+abbrev pub is_handed : Node → Bool
+is_handed m = is_binder m || is_carried m
+
+-- the binders of the names that a row of this node hands on: a loop's switches hand the upper bound of its index on too
+abbrev pub names_by : Checked → ℕ → Node → List ℕ
+names_by P n (Switches t) = nexts_of P (block P n) ++ taken P (block P n)
+names_by P n m = handed P n m
+
+abbrev pub names_of : Checked → ℕ → List ℕ
+names_of P n = names_by P n (node P n)
 
 -- the rows are those of a checked program
 pub record IsKnown (P : Checked) : Type 0 where
@@ -33,11 +48,13 @@ pub record IsKnown (P : Checked) : Type 0 where
   pub main : IsDefOf (rows P) P.main (main_head P)
   -- a parameter stands right in its procedure's region
   pub params : (b x : ℕ) (k : Kind) → b < length (rows P) → node P b ≡ Param x k → region P b ≡ top (at (rows P) b).block
-  -- each name has a binder, which its region sees, and so do those that a conditional imports
+  -- each name has a binder, which its region sees; what switches hand on is seen where they stand, and the names of it
+  -- have binders
   pub bound : (n x : ℕ) → n < length (rows P) → node P n ≡ Name x
       → (b : ℕ) × (binder P n ≡ Some b) × (b < length (rows P)) × (is_binder (node P b) ≡ true) × Sees P b (region P n)
   pub imported : (n t b : ℕ) → n < length (rows P) → Tests P n t → Among b (imports_of P n)
-      → (b < length (rows P)) × (is_binder (node P b) ≡ true) × Sees P b (region P n)
+      → (b < length (rows P)) × (is_handed (node P b) ≡ true) × Sees P b (region P n)
+  pub names : (n t b : ℕ) → n < length (rows P) → Tests P n t → Among b (names_of P n) → is_binder (node P b) ≡ true
   -- and so do those whose values go into a loop, and those that its switches hand on
   pub loop_names : (s : ℕ) → s < length (rows P) → node P s ≡ Start → (b : ℕ) → Among b (entering P (s + 1))
       → (b < length (rows P)) × (is_binder (node P b) ≡ true) × Sees P b (region P s)
@@ -60,9 +77,12 @@ pub record IsKnown (P : Checked) : Type 0 where
   pub binary_kinds : (n a b : ℕ) (o : BinaryOp) → n < length (rows P) → node P n ≡ Binary o a b → kind P n ≡ Some (binary_kind o)
   pub test_kind : (n t : ℕ) → n < length (rows P) → Tests P n t → kind P t ≡ Some kinds.Bool
   pub arm_kinds : (n s x y : ℕ) → n < length (rows P) → node P n ≡ If s x y → (kind P n ≡ kind P x) × (kind P n ≡ kind P y)
+  pub index_kind : (n x : ℕ) → n < length (rows P) → node P n ≡ Index x → kind P n ≡ Some kinds.Int
+  pub carried_kind : (n : ℕ) (k : Kind) → n < length (rows P) → node P n ≡ Carried k → kind P n ≡ Some k
   pub array_kind : (n a b : ℕ) → n < length (rows P) → node P n ≡ Array a b → kind P n ≡ Some kinds.Array
   pub fetch_kind : (n t i : ℕ) → n < length (rows P) → node P n ≡ Fetch t i → kind P n ≡ Some kinds.Int
   -- what names a cell is a structure with a number, and so are bounds and what is stored
+  pub range_kinds : (n a b : ℕ) → n < length (rows P) → node P n ≡ Bounds a b → (kind P a ≡ Some kinds.Int) × (kind P b ≡ Some kinds.Int)
   pub bound_kinds : (n a b : ℕ) → n < length (rows P) → node P n ≡ Array a b → (kind P a ≡ Some kinds.Int) × (kind P b ≡ Some kinds.Int)
   pub cell_kinds : (n t i : ℕ) → n < length (rows P) → Addresses P n t i → (kind P t ≡ Some kinds.Array) × (kind P i ≡ Some kinds.Int)
   pub stored_kind : (n a v : ℕ) → n < length (rows P) → node P n ≡ Store a v → kind P v ≡ Some kinds.Int

@@ -15,9 +15,10 @@ use Rattle.id_table.specs.Tables.{begins_block, is_head, is_param}
 use Rattle.id_table.specs.Turns.{heads_below, heads_of, params_below}
 use Rattle.id_check.specs.declared.checked.Checked.{Checked}
 use Rattle.id_check.specs.Programs.{rows}
-use Rattle.id_desugar.specs.Regions.{is_loop_head, those}
+use Rattle.id_desugar.specs.Regions.{is_loop_head, loop_heads}
+use Rattle.id_desugar.proofs.HeadsLemmas.{loop_heads-is, loop_heads-has, loop_heads-differ}
 use Rattle.id_pieces.specs.Rows.{node}
-use Rattle.id_pieces.specs.Schemas.{all_heads, loop_heads_below}
+use Rattle.id_pieces.specs.Schemas.{all_heads}
 
 true_false : true ≡ false → ⊥
 true_false h = cc
@@ -137,26 +138,16 @@ param_listed R h n b x k less is block =
 
 -- ---- the heads of all blocks
 
-those_pass : (f : ℕ → Bool) (n : ℕ) → those f n ≡ passing f n
-those_pass f zero = refl
-those_pass f (suc i) = ap (λ xs. cond (f i) (xs ++ i ∷ []) xs) (those_pass f i)
-
 loop_begins : (m : Node) → is_loop_head m ≡ true → begins_block m ≡ true
 loop_begins (LoopHead s) h = refl
 loop_begins _ h = absurd (true_false (sym h))
 
-pub a_loop_head : (P : Checked) (n h : ℕ) → Among h (loop_heads_below P n) → (h < n) × (is_loop_head (node P h) ≡ true)
-a_loop_head P n h among = in_passing (λ i. is_loop_head (node P i)) n h (subst (Among h) (those_pass (λ i. is_loop_head (node P i)) n) among)
-
-pub loop_heads_differ : (P : Checked) (n : ℕ) → AllDiffer (loop_heads_below P n)
-loop_heads_differ P n = subst AllDiffer (sym (those_pass (λ i. is_loop_head (node P i)) n)) (passing_differ (λ i. is_loop_head (node P i)) n)
-
 -- a head of a block begins one
 pub any_head : (P : Checked) (h : ℕ) → Among h (all_heads P) → (h < length (rows P)) × (begins_block (node P h) ≡ true)
 any_head P h among =
-    elim (Among-either h (heads_of (rows P)) (loop_heads_below P (length (rows P))) among) [
+    elim (Among-either h (heads_of (rows P)) (loop_heads P) among) [
       | inl k ↦ let z = a_head (rows P) (length (rows P)) h k in (z.0, ap begins_block z.1)
-      | inr k ↦ let z = a_loop_head P (length (rows P)) h k in (z.0, loop_begins (node P h) z.1)
+      | inr k ↦ let z = loop_heads-is P h k in (z.0, loop_begins (node P h) z.1)
     ]
 
 -- and each row that begins a block is among them
@@ -164,21 +155,18 @@ pub all_listed : (P : Checked) (h : ℕ) → h < length (rows P) → begins_bloc
 all_listed P h within begins = go (node P h) refl begins
   where
     go : (m : Node) → node P h ≡ m → begins_block m ≡ true → Among h (all_heads P)
-    go Head is b = Among-left h (heads_of (rows P)) (loop_heads_below P (length (rows P))) (head_listed (rows P) (length (rows P)) h within is)
-    go (LoopHead s) is b =
-        Among-right h (heads_of (rows P)) (loop_heads_below P (length (rows P)))
-        (subst (Among h) (sym (those_pass (λ i. is_loop_head (node P i)) (length (rows P))))
-        (to_passing (λ i. is_loop_head (node P i)) (length (rows P)) h within (ap is_loop_head is)))
+    go Head is b = Among-left h (heads_of (rows P)) (loop_heads P) (head_listed (rows P) (length (rows P)) h within is)
+    go (LoopHead s) is b = Among-right h (heads_of (rows P)) (loop_heads P) (loop_heads-has P h within (ap is_loop_head is))
     go _ is b = absurd (true_false (sym b))
 
 -- no two are one
 pub all_differ : (P : Checked) → AllDiffer (all_heads P)
 all_differ P =
-    AllDiffer-append (heads_of (rows P)) (loop_heads_below P (length (rows P))) (heads_differ (rows P) (length (rows P)))
-    (loop_heads_differ P (length (rows P)))
+    AllDiffer-append (heads_of (rows P)) (loop_heads P) (heads_differ (rows P) (length (rows P)))
+    (loop_heads-differ P)
     (λ h a b.
     let z = a_head (rows P) (length (rows P)) h a in
-    let l = a_loop_head P (length (rows P)) h b in
+    let l = loop_heads-is P h b in
     true_false (sym l.1 ∙ ap is_loop_head z.1))
 
 -- ---- where one alone passes

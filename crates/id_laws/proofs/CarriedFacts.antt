@@ -34,12 +34,15 @@ use Rattle.id_source.specs.Sources.{Source, AreInputs, IsInput, body_of, main_bo
 use Rattle.id_source.specs.Facts.{outermost, Rule, main_on, param_has, literal_has, operand_on, left_on, right_on, unary_has}
 use Rattle.id_source.specs.Facts.{binary_has, name_has, test_on, arm_on, conditional_has, statement_on, body_on, block_has, binding_has, argument_on}
 use Rattle.id_source.specs.Facts.{callee_on, argument_has, call_has, without}
+use Rattle.id_source.specs.Facts as facts
+use Rattle.id_source.specs.Facts.{by_predicate, by_bounds, lower_on, upper_on, index_begins, index_counts}
+use Rattle.id_laws.specs.Activations.{by_index}
 use Rattle.id_source.specs.Facts.{loop_test_on, first_has, turn_on, loop_statement_on, next_on, next_has, last_on, loop_has}
 use Rattle.id_source.specs.Facts.{StoreStands, site, shape, store_on, loop_store_on, bounds_low_on, bounds_high_on, shape_made, array_has}
 use Rattle.id_source.specs.Facts.{fetch_target_on, fetch_index_on, asks, fetch_has, store_target_on, store_index_on, store_value_on, puts}
 use Rattle.id_source.specs.Rounds.{Every, Rounds, Holds}
 use Rattle.id_pieces.specs.declared.arc.Origin.{Origin}
-use Rattle.id_pieces.specs.Rows.{label, node, origin, output, trigger_of, binary_op, port_at, port_of}
+use Rattle.id_pieces.specs.Rows.{home as home_of, label, node, origin, output, trigger_of, binary_op, port_at, port_of}
 use Rattle.id_pieces.specs.Schemas.{Feeds, Numbered}
 use Rattle.id_runs.specs.Activations.{Activation, main_activation, tag_in, at_iteration}
 use Rattle.id_runs.specs.Events.{Event, FiresAs}
@@ -56,14 +59,14 @@ use Rattle.id_laws.proofs.Regions.{region_of, same_depth}
 use Rattle.id_laws.proofs.Blocks.{a_param}
 use Rattle.id_pieces.proofs.EndsLemmas as ends
 use Rattle.id_laws.proofs.HasKinds.{port_taking, binder_thing, operand_of, Has_kind}
-use Rattle.id_laws.proofs.Firings.{alone_fired, both_fired, came, spoken, start_handled, alone_formed, sent_handled}
+use Rattle.id_laws.proofs.Firings.{IsSettled, alone_fired, both_fired, came, spoken, start_handled, alone_formed, sent_handled}
 use Rattle.id_arcs.proofs.NamesSeen.{Sees}
 use Rattle.id_laws.proofs.Triggers.{Home, home, live_turned, one_activation}
 use Rattle.id_laws.proofs.Speakers.{own_origin, name_origin, block_origin, expression_speaks, binder_speaks, fed_as, fetch_origin}
 use Rattle.id_laws.proofs.Seats.{main_path}
 use Rattle.id_laws.proofs.TurnedOn.{holds_by}
 use Rattle.id_pieces.specs.declared.arc.Form.TheVariants.{FetchAt}
-use Rattle.id_laws.proofs.CarriedValues.{gives_out, expression_plain, label_plain, merged, stands_constant, value_fits}
+use Rattle.id_laws.proofs.CarriedValues.{gives_out, expression_plain, home_plain, merged, stands_constant, value_fits}
 use Rattle.id_laws.proofs.FiringMeans.{constant_stands}
 use Rattle.id_laws.specs.Topics.{Addresses, of_fetch, of_store, Named, StandsFor, number_stands, truth_stands, name_stands}
 use Rattle.id_laws.proofs.Stores.{address_at}
@@ -78,14 +81,14 @@ use Rattle.id_value.specs.declared.Kind.TheVariants as sort
 use Rattle.id_laws.proofs.CarriedThings.{thing_here, here_is, live_at, same_here, operand_here, said_at, operand_spoken, constant_spoken, has_spoken, own_has}
 use Rattle.id_laws.proofs.CarriedRegions.{arm_rows, test_here, arm_here, merge_has, calling, callee_at, argument_carried, call_carried, starting}
 use Rattle.id_laws.proofs.CarriedRegions.{loop_test_here, first_carried, tested, side_live, side_here, next_value, next_operand, next_carried, last_at}
-use Rattle.id_laws.proofs.CarriedRegions.{last_operand, loop_carried}
+use Rattle.id_laws.proofs.CarriedRegions.{last_operand, loop_carried, bounds_here, index_begins_carried, index_counts_carried}
 
 some_is : {A : Type 0} {x y : A} → Some x ≡ Some y → x ≡ y
 some_is h = cc
 
 module _ (S : Source) (g : Parts) (number : ℕ → ℕ → ℕ) (numbered : Numbered S.checked g number) (known : IsKnown S.checked)
     (inputs : AreInputs S.checked S.inputs) (count : ℕ) (only : Exclusive g S.inputs count) (s : World) (run : List Event)
-    (r : Reach g S.inputs count s run) (quiet : s.flight ≡ [])
+    (r : Reach g S.inputs count s run) (quiet : IsSettled S s)
     (first : (c : Cell) (v : Value) (w x : Tag) → WrittenBy run c v w (Second x) → ⊥) where
   abbrev P : Checked
   P = S.checked
@@ -114,7 +117,7 @@ module _ (S : Source) (g : Parts) (number : ℕ → ℕ → ℕ) (numbered : Num
       let live = subst (Live S number run main_activation) (sym (known.params b param.name param.kind z.within param.is ∙ ap top z.block)) at_start in
       let stands : Stands P b (Param param.name param.kind) = record { within = z.within; node = param.is } in
       own_has S g number numbered known inputs count only s run r quiet b (Param param.name param.kind)
-      (constant_stands S number run c) main_activation main_path stands refl refl live (enters param.is)
+      (constant_stands S number run c) main_activation main_path stands refl refl refl live (enters param.is)
       (port_taking S known inputs b outermost (value_of c) z.within (ap is_thing param.is) (holds_by S [] _ (param_has x) tt))
       (start_handled S g number numbered known count only s run r quiet (input b c x))
 
@@ -131,7 +134,7 @@ module _ (S : Source) (g : Parts) (number : ℕ → ℕ → ℕ) (numbered : Num
     within = within;
     thing = ap is_thing is;
     place = refl;
-    live = subst (λ k. Live S number run b (region P k)) (sym (label_plain P m (Store d v) is refl)) live;
+    live = subst (λ k. Live S number run b (region P k)) (sym (home_plain P m (Store d v) is refl)) live;
   }
 
   -- what a store's parts, which stand where its `Address` does, are carried at
@@ -336,7 +339,7 @@ module _ (S : Source) (g : Parts) (number : ℕ → ℕ → ℕ) (numbered : Num
       let written = subst (λ c. WrittenBy run (record { structure = c; index = j }) put.value
       (tag_in (put.here).activation (number (put.here).row 0)) put.answer) same put.written in
       let reply = tag_in a (number n 2) in
-      let came_in = answer_handled g S.inputs count s run r quiet cell reply _ put.value ask.answer put.answer ask.read written
+      let came_in = answer_handled g S.inputs count s run r quiet.empty cell reply _ put.value ask.answer put.answer ask.read written
       (λ q e. first cell put.value _ q (subst (WrittenBy run cell put.value _) e written)) in
       let of_kind = port_taking S known inputs n f.path v h.within h.thing (subst (λ z. Holds S (Has f.path z v)) h.place holds) in
       let int_is : port_at P n ≡ ports.Int = ap (λ o. port_of (unwrap_or o sort.Int)) (known.fetch_kind n ask.target ask.index h.within ask.node) in
@@ -368,7 +371,7 @@ module _ (S : Source) (g : Parts) (number : ℕ → ℕ → ℕ) (numbered : Num
       let out = spoken S g number numbered known count only s run r quiet a n 0 (op.Const k) (Alone value.Signal) (constant_value k) fired_so (λ f. refl) in
       has_spoken S g number numbered known inputs count only s run r quiet h x refl refl (constant_stands S number run k)
       (subst (λ z. Speaks S number run a z (constant_value k))
-      (sym (own_origin P known n (Literal k) x.within x.node refl (λ q. refl))) out)
+      (sym (own_origin P known n (Literal k) x.within x.node refl refl (λ q. refl))) out)
   carried_by (operand_on {a = a} x) holds c = operand_here S g number numbered known inputs count only s run r quiet c.0 a x refl refl refl refl
   carried_by (left_on {a = a} x) holds c = operand_here S g number numbered known inputs count only s run r quiet c.0 a x refl refl (inl refl) (inl refl)
   carried_by (right_on {b = b} x) holds c = operand_here S g number numbered known inputs count only s run r quiet c.0 b x refl refl (inr refl) (inr refl)
@@ -384,7 +387,7 @@ module _ (S : Source) (g : Parts) (number : ℕ → ℕ → ℕ) (numbered : Num
       (λ f. agree_unary o k (tag_in a (number n 0)) f ∙ gives_out result) in
       has_spoken S g number numbered known inputs count only s run r quiet h x refl refl (constant_stands S number run y)
       (subst (λ z. Speaks S number run a z (constant_value y))
-      (sym (own_origin P known n (Unary o m) x.within x.node refl (λ q. refl))) out)
+      (sym (own_origin P known n (Unary o m) x.within x.node refl refl (λ q. refl))) out)
   carried_by (binary_has {n = n} {a = m} {b = l} {o = o} {p = p} {x = y} k d x result) holds c =
       let h = c.0 in
       let a = h.activation in
@@ -403,7 +406,7 @@ module _ (S : Source) (g : Parts) (number : ℕ → ℕ → ℕ) (numbered : Num
       ∙ gives_out result) in
       has_spoken S g number numbered known inputs count only s run r quiet h x refl refl (constant_stands S number run y)
       (subst (λ z. Speaks S number run a z (constant_value y))
-      (sym (own_origin P known n (Binary o m l) x.within x.node refl (λ q. refl))) out)
+      (sym (own_origin P known n (Binary o m l) x.within x.node refl refl (λ q. refl))) out)
   carried_by (name_has {n = n} {x = y} {b = b} {p = p} {v = v} x binds) holds c =
       let h = c.0 in
       let a = h.activation in
@@ -466,8 +469,8 @@ module _ (S : Source) (g : Parts) (number : ℕ → ℕ → ℕ) (numbered : Num
       let to_store = (known.table).statement_stands n m x.within statement in
       store_here h.activation h.path_of m d v y.within y.node
       (subst (Live S number run h.activation) (sym to_store.1) (live_at S g number numbered known inputs count only s run r quiet h x refl refl))
-  carried_by (loop_store_on {m = m} q k x y) holds c =
-      let z = tested S g number numbered known inputs count only s run r quiet q k true x c.0 holds.0 in
+  carried_by (loop_store_on {m = m} q k x goes y) holds c =
+      let z = tested S g number numbered known inputs count only s run r quiet q k true x goes c holds in
       let to_body = (known.table).statement_stands y.body m (y.ends).within y.statement in
       store_here (at_iteration z.context k) (z.path_of k) m y.address y.value (y.store).within (y.store).node
       (subst (Live S number run (at_iteration z.context k)) (sym (to_body.1 ∙ y.side))
@@ -482,7 +485,7 @@ module _ (S : Source) (g : Parts) (number : ℕ → ℕ → ℕ) (numbered : Num
       let z = allocated h x good c.1.0 c.1.1.0 (holds_by S _ _ (shape_made x good) holds) in
       has_spoken S g number numbered known inputs count only s run r quiet h x refl refl (name_stands z.structure _ z.named)
       (subst (λ q. Speaks S number run h.activation q (value.Structure z.structure))
-      (sym (own_origin P known n (Array e f) x.within x.node refl (λ q. refl))) z.says)
+      (sym (own_origin P known n (Array e f) x.within x.node refl refl (λ q. refl))) z.says)
   carried_by (fetch_target_on {t = t} x) holds c =
       operand_here S g number numbered known inputs count only s run r quiet c.0 t x refl refl (inl refl) (inl refl)
   carried_by (fetch_index_on {i = i} x) holds c = operand_here S g number numbered known inputs count only s run r quiet c.0 i x refl refl (inr refl) (inr refl)
@@ -501,37 +504,45 @@ module _ (S : Source) (g : Parts) (number : ℕ → ℕ → ℕ) (numbered : Num
       (subst (λ z. Speaks S number run (c.0).activation z (c.1.0).value)
       (sym (block_origin P known n b x.within x.node)) (operand_spoken S g number numbered known inputs count only s run r quiet c.0 b x refl refl c.1.0))
   carried_by (loop_test_on x) holds c =
-      let z = starting S g number numbered known inputs count only s run r quiet c.0 x in
-      loop_test_here S g number numbered known inputs count only s run r quiet x (at_iteration z.context 0) z.path_of
-      (subst (Live S number run (at_iteration z.context 0)) (sym (loop_is known x).right) z.live)
+      let z = starting S g number numbered known inputs count only s run r quiet c.0 x.loop in
+      loop_test_here S g number numbered known inputs count only s run r quiet x (at_iteration z.context 0) (z.path_of 0)
+      (subst (Live S number run (at_iteration z.context 0)) (sym (loop_is known x.loop).right) z.live)
   carried_by (first_has x y bound) holds c =
       first_carried S g number numbered known inputs count only s run r quiet c.0 x y bound c.1.0 holds.1.0 (holds_by S _ _ (first_has x y bound) holds)
+  carried_by (lower_on {a = a} x) holds c = bounds_here S g number numbered known inputs count only s run r quiet x a (inl refl) c.0
+  carried_by (upper_on {b = b} x) holds c = bounds_here S g number numbered known inputs count only s run r quiet x b (inr refl) c.0
+  carried_by (index_begins x below) holds c =
+      index_begins_carried S g number numbered known inputs count only s run r quiet x below c.0 c.1.0 c.1.1.0 (by_index (by_bounds x below) holds)
+  carried_by (index_counts q k x below) holds c =
+      index_counts_carried S g number numbered known inputs count only s run r quiet q k x below
+      (quiet.wholes (holds_by S _ _ (index_counts q k x below) holds)) c.0 c.1.0 (by_index (facts.by_index k x below) holds)
   carried_by (turn_on q k x) holds c =
-      let z = tested S g number numbered known inputs count only s run r quiet q k true x c.0 holds.0 in
-      let l = loop_is known x in
+      let z = tested S g number numbered known inputs count only s run r quiet q k true x.loop (by_predicate k x) c holds in
+      let l = loop_is known x.loop in
       loop_test_here S g number numbered known inputs count only s run r quiet x (at_iteration z.context (suc k)) (z.path_of (suc k))
-      (again l.within l.is z.live z.says z.goes)
-  carried_by (loop_statement_on {m = m} {a = a} q k x y) holds c =
+      (again l.within l.is z.live z.chosen z.goes)
+  carried_by (loop_statement_on {m = m} {a = a} q k x goes y) holds c =
       let operand = subst (λ z. HasOperand z a) (sym (y.binding).node) refl in
       let inner = operand_of S known inputs m a (y.binding).within operand in
       let to_body = (known.table).statement_stands y.body m (y.ends).within y.statement in
       let to_part = (known.table).part_stands m a (y.binding).within (subst (λ z. HasNear z a) (sym (y.binding).node) refl) in
       side_here S g number numbered known inputs count only s run r quiet a x
-      (tested S g number numbered known inputs count only s run r quiet q k true x c.0 holds.0) inner.0 (known.operands m a (y.binding).within operand)
+      (tested S g number numbered known inputs count only s run r quiet q k true x goes c holds) inner.0
+      (known.operands m a (y.binding).within operand)
       (to_part.1 ∙ to_body.1 ∙ y.side)
-  carried_by (next_on {m = m} {v = v} q k x y) holds c =
+  carried_by (next_on {m = m} {v = v} q k x goes y) holds c =
       let inner = operand_of S known inputs m v (y.next).within (next_operand S g number numbered known inputs count only s run r quiet y) in
       side_here S g number numbered known inputs count only s run r quiet v x
-      (tested S g number numbered known inputs count only s run r quiet q k true x c.0 holds.0) inner.0
+      (tested S g number numbered known inputs count only s run r quiet q k true x goes c holds) inner.0
       (known.operands m v (y.next).within (next_operand S g number numbered known inputs count only s run r quiet y))
       (next_value S g number numbered known inputs count only s run r quiet x y)
   carried_by (next_has q k x y) holds c =
       next_carried S g number numbered known inputs count only s run r quiet q k x y c.0 (holds_by S _ _ (next_has q k x y) holds)
-  carried_by (last_on {n = n} {l = l} q k x) holds c =
-      let inner = operand_of S known inputs n l (x.loop).within (last_operand S g number numbered known inputs count only s run r quiet x) in
+  carried_by (last_on {n = n} {l = l} q k x goes) holds c =
+      let inner = operand_of S known inputs n l x.within (last_operand S g number numbered known inputs count only s run r quiet x) in
       side_here S g number numbered known inputs count only s run r quiet l x
-      (tested S g number numbered known inputs count only s run r quiet q k false x c.0 holds.0) inner.0
-      (known.operands n l (x.loop).within (last_operand S g number numbered known inputs count only s run r quiet x))
+      (tested S g number numbered known inputs count only s run r quiet q k false x goes c holds) inner.0
+      (known.operands n l x.within (last_operand S g number numbered known inputs count only s run r quiet x))
       (last_at S g number numbered known inputs count only s run r quiet x)
   carried_by (loop_has q k x) holds c =
       loop_carried S g number numbered known inputs count only s run r quiet q k x c.0 holds.0 (holds_by S _ _ (loop_has q k x) holds)
@@ -542,15 +553,15 @@ module _ (S : Source) (g : Parts) (number : ℕ → ℕ → ℕ) (numbered : Num
       let inner = operand_of S known inputs n m x.within operand in
       let row_is = here_is S g number numbered known inputs count only s run r quiet has.here (record { within = inner.0; node = refl }) inner.1 in
       let a = (has.here).activation in
-      let own = label_plain P m (node P m) refl (expression_plain (node P m) expression) in
+      let own = home_plain P m (node P m) refl (expression_plain (node P m) expression) in
       let live = subst (Live S number run a)
-      (ap (λ k. region P (label P k)) row_is ∙ ap (region P) own ∙ ((known.table).part_stands n m x.within (subst (λ z. HasNear z m) (sym x.node) refl)).1)
+      (ap (λ k. region P (home_of P k)) row_is ∙ ap (region P) own ∙ ((known.table).part_stands n m x.within (subst (λ z. HasNear z m) (sym x.node) refl)).1)
       (has.here).live in
       let said : Speaks S number run a (origin P m) has.value =
       subst (λ z. Speaks S number run a z has.value) (ap (speaker P) row_is ∙ expression_speaks P known m (node P m) refl expression) has.spoken in
       let to = came S g number numbered known count only s run r quiet a (origin P m) n 0 Zero has.value said
       (fed_as P known (origin P m) n 0 Zero (Binding y m) x.within x.node (inl refl)) in
-      own_has S g number numbered known inputs count only s run r quiet n (Binding y m) has.stands a (has.here).path_of x refl refl live (names x.node)
+      own_has S g number numbered known inputs count only s run r quiet n (Binding y m) has.stands a (has.here).path_of x refl refl refl live (names x.node)
       (port_taking S known inputs n p v x.within (ap is_thing x.node) (holds_by S _ _ (binding_has x) holds)) to
 
   every_carried : (n : ℕ) → ((f : Fact) → Rounds S n f → C f) → (fs : List Fact) → Every (Rounds S n) fs → Every C fs

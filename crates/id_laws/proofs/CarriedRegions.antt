@@ -4,17 +4,30 @@ use Rattle.std.proofs.Common.{◌∙◌, ap, subst, unwrap_or, slice_get}
 use Rattle.id_list.specs.List.{Among}
 use Rattle.id_list.proofs.AmongLemmas.{Among-from_at}
 use Rattle.id_table.specs.declared.row.Node.TheVariants.{Param, Split, If, Head, Enter, Arg, Call, Def, Start, LoopHead, Variable, Next, Reset, Loop, Program}
+use Rattle.id_table.specs.declared.row.Node.TheVariants.{Bounds, Count, Index}
+use Rattle.id_table.specs.Loops.{bounds_row, index_row}
+use Rattle.std.proofs.Common.{ℤ}
+use Rattle.std.specs.Prelude.{int_le, int_lt, ◌+ℤ◌, pos}
+use Rattle.id_value.specs.Results.{is_whole}
+use Rattle.id_value.specs.declared.Outcome.TheVariants.{Gives, Fails}
+use Rattle.id_value.specs.declared.FaultKind.TheVariants.{Overflow}
+use Rattle.id_value.specs.declared.Comparison.TheVariants.{Le, Lt}
+use Rattle.id_value.specs.declared.Arithmetic.TheVariants.{Add}
+use Rattle.id_instr.specs.declared.instr.Dyadic.TheVariants as dyadic
+use Rattle.id_instr.specs.declared.instr.PortKind.TheVariants as ports
+use Rattle.id_ops.specs.Operators.{fired_by}
 use Rattle.id_table.specs.declared.row.Region.{Region}
 use Rattle.id_table.specs.Rows.{arm_at, top}
 use Rattle.id_table.specs.Tables.{HasNear, HasOperand, begins_block, is_binder, is_expression, is_thing}
 use Rattle.id_check.specs.declared.checked.Checked.{Checked}
 use Rattle.id_check.specs.Programs.{Stands, place, region, rows, binder}
+use Rattle.id_instr.specs.declared.dests.Port.{Port}
 use Rattle.id_instr.specs.declared.dests.Port.TheVariants.{Zero, One}
 use Rattle.id_instr.specs.declared.instr.Op.TheVariants as op
 use Rattle.id_instr.specs.Graph.{Parts}
 use Rattle.id_tag.specs.declared.Value.TheVariants as value
 use Rattle.id_tag.specs.declared.Payload.TheVariants.{Token}
-use Rattle.id_ops.specs.declared.Operands.TheVariants.{One as Alone}
+use Rattle.id_ops.specs.declared.Operands.TheVariants.{One as Alone, Two as Both}
 use Rattle.id_ops.specs.declared.Fired.TheVariants.{Entered}
 use Rattle.id_value.specs.declared.Constant.TheVariants as constants
 use Rattle.id_core.specs.Machines.{World}
@@ -23,35 +36,44 @@ use Rattle.id_source.specs.declared.SourceValue.{SourceValue}
 use Rattle.id_source.specs.declared.SourceValue.TheVariants as source
 use Rattle.id_source.specs.declared.Fact.TheVariants.{Has}
 use Rattle.id_source.specs.Sources.{Source, AreInputs, value_kind}
-use Rattle.id_source.specs.Facts.{Chooses, then_arm, else_arm, below, without, LoopStands, NextStands, between}
-use Rattle.id_source.specs.Rounds.{Holds}
+use Rattle.id_source.specs.Facts.{Chooses, then_arm, else_arm, below, without, LoopStands, ForStands, GoesOn, by_predicate, by_bounds, NextStands, between}
+use Rattle.id_source.specs.Facts as facts
+use Rattle.id_source.specs.Rounds.{Every, Holds}
+use Rattle.id_source.specs.declared.Fact.{Fact}
 use Rattle.id_pieces.specs.declared.arc.Origin.{Origin}
 use Rattle.id_pieces.specs.Rows as built
-use Rattle.id_pieces.specs.Rows.{block, entering, first_binder, loop_entries, name_in, next_of, label, node, feed, origin, output, trigger_of, port_at, port_of}
-use Rattle.id_pieces.specs.Rows.{called, param_of}
-use Rattle.id_desugar.specs.Regions.{nexts_of}
+use Rattle.id_pieces.specs.Rows.{block, entering, first_binder, loop_entries, name_in, next_of, label, node, feed, feeds_of, origin, output, trigger_of, port_at, port_of}
+use Rattle.id_pieces.specs.Rows.{called, home as home_of, home_by, label_by, param_of, part_of}
+use Rattle.id_desugar.specs.Regions.{first_variable, nexts_of}
 use Rattle.id_pieces.specs.Schemas.{Feeds, Numbered}
 use Rattle.id_runs.specs.Activations.{Activation, tag_in, at_iteration}
 use Rattle.id_runs.specs.Events.{Event, FiresAs}
 use Rattle.id_runs.specs.Runs.{Reach, handled}
 use Rattle.id_runs.specs.OneMessage.{Exclusive}
-use Rattle.id_laws.specs.Activations.{Seat, Outermost, Below, path_at, SeatOf, GoesAt, of_call, of_loop, Live, on_side, by_test, of_arms, of_turns}
-use Rattle.id_laws.specs.Activations.{PathOf, Speaks, Opens, entered}
-use Rattle.id_laws.specs.Carried.{Here, CarriedHas, speaker}
+use Rattle.id_laws.specs.Activations.{Seat, Outermost, Below, path_at, SeatOf, GoesAt, of_call, of_loop, Live, on_side, by_test, by_index, of_arms, of_turns}
+use Rattle.id_laws.specs.Activations.{Chosen, has_said}
+use Rattle.id_laws.specs.Activations.{Goes, PathOf, Speaks, Opens, entered}
+use Rattle.id_laws.specs.Topics.{number_stands}
+use Rattle.id_laws.specs.Carried.{Here, Carried, CarriedHas, speaker}
+use Rattle.id_laws.proofs.Arcs.{carries_on, bounds_meet, begins_index, meets_bound, goes_further, hands_index, has_one, adds_one}
 use Rattle.id_laws.proofs.Arcs.{Does, enters, joins, opens, passes, gets, returns, varies, advances, resets, gives_back, gets_last}
 use Rattle.id_laws.proofs.Assumed.{IsKnown}
 use Rattle.id_laws.proofs.Iterations.{turned_again as live_again}
 use Rattle.id_laws.proofs.Loops.{LoopOf, last_region, next_at, reset_node, reset_within, start_region}
+use Rattle.id_laws.proofs.Loops.{IsCounted, bounds_mean, bounds_node, bounds_region, counted_of, counts_stands, counts_within}
+use Rattle.id_laws.proofs.Counted.{flag_origin, index_block}
+use Rattle.id_arcs.proofs.RegionsLemmas.{index_loop, index_region}
+use Rattle.id_laws.proofs.Counting.{bound_home, bound_inside, flag_first, flag_next, index_first, index_next}
 use Rattle.id_laws.proofs.LoopFacts.{entering_long, entry_of, first_entering, first_entry, loop_is, next_numbered, variable_of}
 use Rattle.id_laws.proofs.LoopFirings.{entered_in, moved_came, next_moves, reset_moves}
 use Rattle.id_laws.proofs.Opened.{InLoop, live_loop, loop_path, one_seats}
 use Rattle.id_runs.proofs.Serials.{contexts_apart}
 use Rattle.id_laws.proofs.Regions.{region_of, same_depth}
 use Rattle.id_laws.proofs.Blocks.{a_param}
-use Rattle.id_laws.proofs.Conditionals.{arm_live, arm_of, Conditional, conditional, test_at}
+use Rattle.id_laws.proofs.Conditionals.{arm_live, arm_of, arms_test, Conditional, conditional, no_within, test_at}
 use Rattle.id_pieces.proofs.EndsLemmas as ends
 use Rattle.id_laws.proofs.HasKinds.{port_taking, binder_thing, expression_thing, operand_of}
-use Rattle.id_laws.proofs.Firings.{alone_fired, both_fired, came, spoken, alone_formed, both_formed, sent_handled}
+use Rattle.id_laws.proofs.Firings.{IsSettled, alone_fired, both_fired, came, spoken, spoken_on, alone_formed, both_formed, sent_handled}
 use Rattle.id_arcs.proofs.NamesSeen.{Sees, listed}
 use Rattle.id_laws.proofs.Triggers.{Home, home, live_turned, one_activation, second_came}
 use Rattle.id_laws.proofs.Speakers.{own_origin, binder_speaks, fed_as}
@@ -71,7 +93,7 @@ some_is h = cc
 
 module _ (S : Source) (g : Parts) (number : ℕ → ℕ → ℕ) (numbered : Numbered S.checked g number) (known : IsKnown S.checked)
     (inputs : AreInputs S.checked S.inputs) (count : ℕ) (only : Exclusive g S.inputs count) (s : World) (run : List Event)
-    (r : Reach g S.inputs count s run) (quiet : s.flight ≡ []) where
+    (r : Reach g S.inputs count s run) (quiet : IsSettled S s) where
   abbrev P : Checked
   P = S.checked
 
@@ -104,7 +126,7 @@ module _ (S : Source) (g : Parts) (number : ℕ → ℕ → ℕ) (numbered : Num
       let c = x.rows_of in
       let z = c.test_at in
       subst (λ e. H p (place P e)) (sym x.test)
-      (same_here S g number numbered known inputs count only s run r quiet h c.test z.within z.expression
+      (same_here S g number numbered known inputs count only s run r quiet h c.test z.within (arms_test known c.within c.node)
       (subst (Live S number run h.activation) (sym (z.region ∙ c.region))
       (live_at S g number numbered known inputs count only s run r quiet h x.stands refl refl)))
 
@@ -117,12 +139,12 @@ module _ (S : Source) (g : Parts) (number : ℕ → ℕ → ℕ) (numbered : Num
       let e = arm_of b x.then x.otherwise in
       let tested = subst (λ k. CarriedHas S number run p (place P k) (source.Bool b)) x.test has in
       let said = subst (Speaks S number run h.activation (origin P c.test)) (stands_constant (constants.Bool b) tested.stands)
-      (said_at S g number numbered known inputs count only s run r quiet h c.test z.within z.expression tested) in
+      (said_at S g number numbered known inputs count only s run r quiet h c.test z.within (arms_test known c.within c.node) tested) in
       let tests = of_arms c.node in
       let live = subst (Live S number run h.activation) (sym c.region)
       (live_at S g number numbered known inputs count only s run r quiet h x.stands refl refl) in
-      let goes = by_test tests (subst (λ k. Holds S (Has p (place P k) (source.Bool b))) x.test holds) in
-      let arm = on_side c.within tests live said (record { path = p; path_of = h.path_of; goes = goes }) in
+      let goes = by_test tests (no_within (node P c.test) (arms_test known c.within c.node)) (subst (λ k. Holds S (Has p (place P k) (source.Bool b))) x.test holds) in
+      let arm = on_side c.within tests live (has_said tests said) (record { path = p; path_of = h.path_of; goes = goes }) in
       subst (λ k. H p (place P k)) (sym x.arm)
       (same_here S g number numbered known inputs count only s run r quiet h e (c.arm_within b) (c.arm_expression b)
       (subst (Live S number run h.activation) (sym (c.arm_region b)) arm))
@@ -146,7 +168,7 @@ module _ (S : Source) (g : Parts) (number : ℕ → ℕ → ℕ) (numbered : Num
       (λ f. merged has.stands (port_at P n) kind_is) in
       has_spoken S g number numbered known inputs count only s run r quiet h stands refl refl has.stands
       (subst (λ z. Speaks S number run h.activation z has.value)
-      (sym (own_origin P known n m stands.within stands.node refl (λ q. refl))) out)
+      (sym (own_origin P known n m stands.within stands.node refl refl (λ q. refl))) out)
     where
       by_side : (c : Truth) → origin P (arm_of c x.then x.otherwise) ≡ cond c (origin P x.then) (origin P x.otherwise)
       by_side true = refl
@@ -231,7 +253,7 @@ module _ (S : Source) (g : Parts) (number : ℕ → ℕ → ℕ) (numbered : Num
       let stands : Stands P t (Param (row.param).name (row.param).kind) = record { within = row.within; node = (row.param).is } in
       subst (λ k. CarriedHas S number run (below p (place P n) 0) (place P k) u) to
       (own_has S g number numbered known inputs count only s run r quiet t (Param (row.param).name (row.param).kind) has.stands
-      (at_iteration w.context 0) w.path_of stands refl refl live
+      (at_iteration w.context 0) w.path_of stands refl refl refl live
       (enters (row.param).is) kind_is out)
 
   -- what the body has spoken came back to the call's merge
@@ -274,9 +296,13 @@ module _ (S : Source) (g : Parts) (number : ℕ → ℕ → ℕ) (numbered : Num
       let spoken_so = spoken S g number numbered known count only s run r quiet a n 0 (op.Merge (port_at P n)) (Alone has.value) has.value merge_so
       (λ q. merged has.stands (port_at P n) kind_is) in
       has_spoken S g number numbered known inputs count only s run r quiet h x refl refl has.stands (subst (λ q. Speaks S number run a q has.value)
-      (sym (own_origin P known n (Call e c) x.within x.node refl (λ q. refl))) spoken_so)
+      (sym (own_origin P known n (Call e c) x.within x.node refl refl (λ q. refl))) spoken_so)
 
   -- ---- loops
+
+  -- a variable is at home where its label stands
+  next_home : (m : ℕ) {y k o v : ℕ} → node P m ≡ Next y k o v → home_of P m ≡ label P m
+  next_home m is = ap (home_by (block P m) m) is ∙ sym (ap (label_by (block P m) m) is)
 
   -- the context in which an On loop runs, which its `Start` has made
   pub record Starting (p : Path) (n h : ℕ) (a : Activation) : Type 0 where
@@ -288,19 +314,20 @@ module _ (S : Source) (g : Parts) (number : ℕ → ℕ → ℕ) (numbered : Num
     pub outside : Live S number run a (region P start)
     pub context : Context
     pub opens : Opens S number run a start context
-    pub path_of : PathOf S number run (at_iteration context 0) (below p (place P n) 0)
+    pub path_of : (j : ℕ) → PathOf S number run (at_iteration context j) (below p (place P n) j)
     pub live : Live S number run (at_iteration context 0) (top h)
 
-  pub starting : {p : Path} {n h w t l : ℕ} (u : H p (place P n)) → LoopStands P n h w t l → Starting p n h u.activation
-  starting {p} {n} {h} {w} {t} {l} u x =
+  pub starting : {p : Path} {n h w l : ℕ} (u : H p (place P n)) → Stands P n (Loop h w l) → Starting p n h u.activation
+  starting {p} {n} {h} {w} {l} u x =
       let z = (loop_is known x).loop in
-      let all = (known.table).loop_is n h (record { switches = w; last = l; within = (x.loop).within; node = (x.loop).node }) in
+      let all = (known.table).loop_is n h (record { switches = w; last = l; within = x.within; node = x.node }) in
       let a = u.activation in
       let i = all.start in
+      let beside = (all.start_of).beside in
       let begins = (all.start_of).node in
       let less : i < length (rows P) = omega (arith, all.begins, z.within) in
-      let live = subst (Live S number run a) (sym (all.start_of).region)
-      (live_at S g number numbered known inputs count only s run r quiet u x.loop refl refl) in
+      let live = subst (Live S number run a) (sym beside.region)
+      (live_at S g number numbered known inputs count only s run r quiet u x refl refl) in
       let signal = came S g number numbered known count only s run r quiet a (trigger_of (region P i)) i 0 Zero value.Signal
       (live_turned S g number numbered known count only s run r quiet live) (fed_as P known (trigger_of (region P i)) i 0 Zero Start less begins (inl refl)) in
       let fired_so = alone_formed S g number numbered known count only s run r quiet a i 0 (EnterAt (i + 1) (end_of P (i + 1))) Zero value.Signal less
@@ -311,12 +338,12 @@ module _ (S : Source) (g : Parts) (number : ℕ → ℕ → ℕ) (numbered : Num
         head = all.begins;
         within = less;
         begins = begins;
-        of_block = (all.start_of).block;
+        of_block = beside.block;
         outside = live;
         context = c;
         opens = fired_so.fires;
-        path_of = subst (λ q. PathOf S number run (at_iteration c 0) (below p q 0)) (all.start_of).place
-            (entered_path 0 less (of_loop begins) fired_so.fires u.path_of);
+        path_of = λ j. subst (λ q. PathOf S number run (at_iteration c j) (below p q j)) beside.place
+            (entered_path j less (of_loop begins) fired_so.fires u.path_of);
         live = subst (λ g. Live S number run (at_iteration c 0) (top g)) all.begins (entered less (of_loop begins) live fired_so.fires);
       }
 
@@ -324,9 +351,9 @@ module _ (S : Source) (g : Parts) (number : ℕ → ℕ → ℕ) (numbered : Num
   pub loop_test_here : {n h w t l : ℕ} {q : Path} (x : LoopStands P n h w t l) (a : Activation) → PathOf S number run a q → Live S number run a (region P w)
       → H q (place P t)
   loop_test_here {w = w} {t = t} x a path live =
-      let z = loop_is known x in
-      let k = test_at known z.within (of_turns z.is) in
-      thing_here S g number numbered known inputs count only s run r quiet a path t k.within k.expression (subst (Live S number run a) (sym k.region) live)
+      let k = test_at known (x.switches).within (of_turns (x.switches).node) in
+      thing_here S g number numbered known inputs count only s run r quiet a path t k.within (k.expression x.predicate)
+      (subst (Live S number run a) (sym k.region) live)
 
   -- the variable's row takes in what comes to it
   variable_does : {m x k o v : ℕ} (within : m < length (rows P)) (is : node P m ≡ Next x k o v) → Does P (label P m) 0 (Plain (op.Merge (port_at P m)))
@@ -335,10 +362,10 @@ module _ (S : Source) (g : Parts) (number : ℕ → ℕ → ℕ) (numbered : Num
       subst (λ i. Does P (label P m) 0 (Plain (op.Merge (port_at P i)))) z.next (varies z.is)
 
   -- what the binder of a first value has spoken came to the variable
-  pub first_carried : {n h w t l m o v c : ℕ} {p : Path} {u : SourceValue} (d : H p (place P n)) → (x : LoopStands P n h w t l) → (y : NextStands P m h o v)
+  pub first_carried : {n h w l m o v c : ℕ} {p : Path} {u : SourceValue} (d : H p (place P n)) → (x : Stands P n (Loop h w l)) → (y : NextStands P m h o v)
       → binder P o ≡ Some c → CarriedHas S number run (without (between S n c) p) (place P c) u → Holds S (Has (without (between S n c) p) (place P c) u)
       → Holds S (Has (below p (place P n) 0) (place P m) u) → CarriedHas S number run (below p (place P n) 0) (place P m) u
-  first_carried {n} {h} {w} {t} {l} {m} {o} {v} {c} {p} {u} d x y bound has has_holds holds =
+  first_carried {n} {h} {w} {l} {m} {o} {v} {c} {p} {u} d x y bound has has_holds holds =
       let z = starting d x in
       let a = d.activation in
       let i = z.start in
@@ -348,13 +375,14 @@ module _ (S : Source) (g : Parts) (number : ℕ → ℕ → ℕ) (numbered : Num
       let var = variable_of known less is in
       let number_of = next_numbered known less is in
       let head : block P m ≡ i + 1 = y.block ∙ sym z.head in
-      let few : k < length (nexts_of P (i + 1)) = subst (λ g. k < length (nexts_of P g)) head number_of.less in
-      let there : get_or (nexts_of P (i + 1)) k 0 ≡ m = ap (λ g. get_or (nexts_of P g) k 0) (sym head) ∙ number_of.there in
+      let slot = number_of.slot in
+      let few : slot < length (nexts_of P (i + 1)) = subst (λ g. slot < length (nexts_of P g)) head number_of.less in
+      let there : get_or (nexts_of P (i + 1)) slot 0 ≡ m = ap (λ g. get_or (nexts_of P g) slot 0) (sym head) ∙ number_of.there in
       let long = entering_long P (i + 1) in
-      let inside : k < length (entering P (i + 1)) = omega (arith, few, long) in
+      let inside : slot < length (entering P (i + 1)) = omega (arith, few, long) in
       let same : first_binder P m ≡ c = some_is (sym (known.first_bound m y.name k o v less is) ∙ bound) in
-      let name : get_or (entering P (i + 1)) k 0 ≡ c = first_entering P (i + 1) k few ∙ ap (first_binder P) there ∙ same in
-      let seen = known.loop_names i z.within z.begins (get_or (entering P (i + 1)) k 0) (listed (entering P (i + 1)) k inside) in
+      let name : get_or (entering P (i + 1)) slot 0 ≡ c = first_entering P (i + 1) slot few ∙ ap (first_binder P) there ∙ same in
+      let seen = known.loop_names i z.within z.begins (get_or (entering P (i + 1)) slot 0) (listed (entering P (i + 1)) slot inside) in
       let c_within = subst (λ b. b < length (rows P)) name seen.0 in
       let c_binds = subst (λ b. is_binder (node P b) ≡ true) name seen.1 in
       let c_sees = subst (λ b. Sees P b (region P i)) name seen.2 in
@@ -374,15 +402,16 @@ module _ (S : Source) (g : Parts) (number : ℕ → ℕ → ℕ) (numbered : Num
       let fits = value_fits has.stands (port_at P c) (port_taking S known inputs c _ u c_within (binder_thing (node P c) c_binds) has_holds) in
       let comes = subst (λ b. Speaks S number run a (name_in P (region P i) b) has.value) (sym name) (q.comes has.value fits said) in
       let kind_is = port_taking S known inputs m _ u less (ap is_thing is) holds in
-      let row : i + 1 + 1 + k ≡ label P m = sym (var.row ∙ ap (λ g. g + 1 + k) head) in
-      let entry : slice_get (loop_entries P (i + 1)) k ≡ Some (entry_of m (label P m) 0) =
-      first_entry P (i + 1) k few ∙ (λ j. Some (entry_of (there j) (row j) 0)) in
-      let came_in = entered_in S g number numbered known count only s run r quiet a i k z.context (entry_of m (label P m) 0)
+      let index : k ≡ carries_on P (i + 1) + slot = number_of.is ∙ ap (λ g. carries_on P g + slot) head in
+      let row : first_variable P (i + 1) + slot ≡ label P m = omega (arith, var.row, head, index) in
+      let entry : slice_get (loop_entries P (i + 1)) (carries_on P (i + 1) + slot) ≡ Some (entry_of m (label P m) 0) =
+      first_entry P (i + 1) slot few ∙ (λ j. Some (entry_of (there j) (row j) 0)) in
+      let came_in = entered_in S g number numbered known count only s run r quiet a i slot z.context (entry_of m (label P m) 0)
       has.value z.within z.begins z.opens inside entry
       (value_fits has.stands (port_at P m) kind_is) comes in
-      let live = subst (Live S number run (at_iteration z.context 0)) (sym (var.right ∙ ap top y.block)) z.live in
+      let live = subst (Live S number run (at_iteration z.context 0)) (sym (ap (region P) (next_home m is) ∙ var.right ∙ ap top y.block)) z.live in
       label_has S g number numbered known inputs count only s run r quiet m (Next y.name k o v) has.stands
-      (at_iteration z.context 0) z.path_of y.next refl live (variable_does less is) kind_is came_in
+      (at_iteration z.context 0) (z.path_of 0) y.next refl live (variable_does less is) kind_is came_in
 
   -- an iteration of the loop at the row n, with a live region of it
   record Iteration (p : Path) (n k : ℕ) (a : Activation) (q : Region) : Type 0 where
@@ -408,56 +437,405 @@ module _ (S : Source) (g : Parts) (number : ℕ → ℕ → ℕ) (numbered : Num
             path_of = λ j. record { seat = Below p' e; of_context = seat; is = λ i. below (parts.0 i) (parts.1 i) j };
           }
 
-  -- the predicate of a loop has spoken in an iteration
-  pub record Tested (p : Path) (n k w t : ℕ) (b : Truth) : Type 0 where
+  -- the loop was found to go on in an iteration, or not
+  pub record Tested (p : Path) (n k w : ℕ) (b : Truth) : Type 0 where
     pub context : Context
     pub live : Live S number run (at_iteration context k) (region P w)
-    pub says : Speaks S number run (at_iteration context k) (origin P t) (value.Bool b)
+    pub chosen : Chosen S number run (at_iteration context k) w b
     pub goes : GoesAt S number run (at_iteration context k) w b
     pub path_of : (j : ℕ) → PathOf S number run (at_iteration context j) (below p (place P n) j)
 
-  pub tested : {n h w t l : ℕ} (p : Path) (k : ℕ) (b : Truth) → LoopStands P n h w t l
+  -- by its predicate
+  by_test_tested : {n h w t l : ℕ} (p : Path) (k : ℕ) (b : Truth) → LoopStands P n h w t l
       → CarriedHas S number run (below p (place P n) k) (place P t) (source.Bool b)
-      → Holds S (Has (below p (place P n) k) (place P t) (source.Bool b)) → Tested p n k w t b
-  tested {n} {h} {w} {t} p k b x has holds =
-      let z = loop_is known x in
-      let e = test_at known z.within (of_turns z.is) in
+      → Holds S (Has (below p (place P n) k) (place P t) (source.Bool b)) → Tested p n k w b
+  by_test_tested {n} {h} {w} {t} p k b x has holds =
+      let tests = of_turns (x.switches).node in
+      let e = test_at known (x.switches).within tests in
+      let expression = e.expression x.predicate in
       let live = subst (Live S number run (has.here).activation) e.region
       (live_at S g number numbered known inputs count only s run r quiet has.here (record { within = e.within; node = refl })
-      (expression_thing (node P t) e.expression) (expression_plain (node P t) e.expression)) in
+      (expression_thing (node P t) expression) (expression_plain (node P t) expression)) in
       let it = iteration (has.here).path_of live in
       let said = subst (Speaks S number run (has.here).activation (origin P t)) (stands_constant (constants.Bool b) has.stands)
-      (said_at S g number numbered known inputs count only s run r quiet has.here t e.within e.expression has) in
+      (said_at S g number numbered known inputs count only s run r quiet has.here t e.within expression has) in
       record {
         context = it.context;
         live = it.live;
-        says = subst (λ a. Speaks S number run a (origin P t) (value.Bool b)) it.is said;
-        goes = record { path = below p (place P n) k; path_of = it.path_of k; goes = by_test (of_turns z.is) holds };
+        chosen = has_said tests (subst (λ a. Speaks S number run a (origin P t) (value.Bool b)) it.is said);
+        goes = record { path = below p (place P n) k; path_of = it.path_of k; goes = by_test tests x.predicate holds };
         path_of = it.path_of;
       }
 
-  -- a side of the loop's switches is live where the predicate has chosen it
-  pub side_live : {n h w t l : ℕ} {p : Path} {k : ℕ} {b : Truth} → LoopStands P n h w t l → (z : Tested p n k w t b)
+  -- ---- of a loop with an index
+
+  -- the loop of its rule
+  record ForLoop (n w x a b l : ℕ) (y : ForStands P n w x a b l) : Type 0 where
+    loop : LoopOf P y.head
+    counted : IsCounted P loop.all
+    switches : (loop.the).switches ≡ w
+    row : n ≡ end_of P y.head
+    lower : (counted.bounds).lower ≡ a
+    upper : (counted.bounds).upper ≡ b
+    index : x ≡ index_row w
+    within : w < length (rows P)
+    right : region P w ≡ top y.head
+    side : region P x ≡ arm_at w true
+
+  for_loop : {n w x a b l : ℕ} (y : ForStands P n w x a b l) → ForLoop n w x a b l y
+  for_loop {w = w} {x = x} {a = a} {b = b} y =
+      let z = loop_is known y.loop in
+      let c = counted_of P (z.loop).all (bounds_mean known z.loop (y.bounds).node) in
+      let both : Bounds (c.bounds).lower (c.bounds).upper ≡ Bounds a b = sym (bounds_node P known y.head z.loop c) ∙ (y.bounds).node in
+      record {
+        loop = z.loop;
+        counted = c;
+        switches = z.switches;
+        row = z.row;
+        lower = cc;
+        upper = cc;
+        index = y.behind;
+        within = z.within;
+        right = z.right;
+        side = index_region P x y.name (y.index).within (y.index).node ∙ ap (λ v. arm_at v true) switches;
+      }
+    where
+      switches : ((index_loop P x y.name (y.index).within (y.index).node).1).switches ≡ w
+      switches = let q = index_loop P x y.name (y.index).within (y.index).node in omega (arith, q.3, y.behind)
+
+  -- its bounds stand where it does
+  loop_beside : {n w x a b l : ℕ} (y : ForStands P n w x a b l) → ForLoop n w x a b l y → region P (bounds_row y.head) ≡ region P n
+  loop_beside y z = bounds_region P known y.head z.loop z.counted ∙ start_region P known y.head z.loop ∙ ap (region P) (sym z.row)
+
+  -- its flag has spoken what chooses a side
+  flag_chosen : {n w x a b l : ℕ} {y : ForStands P n w x a b l} (z : ForLoop n w x a b l y) {e : Activation} {d : Truth}
+      → Speaks S number run e (output (y.head + 3)) (value.Bool d)
+      → Chosen S number run e w d
+  flag_chosen {y = y} z {e} {d} says =
+      let c = z.counted in
+      let test = (((z.loop).all).test).test in
+      has_said (of_turns (ap (node P) (sym z.switches) ∙ (((z.loop).all).test).node))
+      (subst (λ o. Speaks S number run e o (value.Bool d)) (sym (flag_origin P known y.head z.loop c)) says)
+
+  -- what an expression where the loop stands has spoken
+  bound_spoken : {n w x a b l : ℕ} {p : Path} {i : ℤ} (y : ForStands P n w x a b l) (e : ℕ) → HasOperand (Bounds a b) e → (d : Activation)
+      → PathOf S number run d p
+      → Live S number run d (region P (bounds_row y.head)) → CarriedHas S number run p (place P e) (source.Int i)
+      → Speaks S number run d (origin P e) (value.Int i)
+  bound_spoken {p = p} {i = i} y e operand d path live has =
+      let within = (y.bounds).within in
+      let part = subst (λ m. HasOperand m e) (sym (y.bounds).node) operand in
+      let inner = operand_of S known inputs (bounds_row y.head) e within part in
+      let expression = known.operands (bounds_row y.head) e within part in
+      let stands = (known.table).part_stands (bounds_row y.head) e within (subst (λ m. HasNear m e) (sym (y.bounds).node) operand) in
+      let here = thing_here S g number numbered known inputs count only s run r quiet d path e inner.0 expression
+      (subst (Live S number run d) (sym stands.1) live) in
+      subst (Speaks S number run d (origin P e)) (stands_constant (constants.Int i) has.stands)
+      (said_at S g number numbered known inputs count only s run r quiet here e inner.0 expression has)
+
+  -- the bounds stand where the loop does
+  pub bounds_here : {n w x a b l : ℕ} {p : Path} (y : ForStands P n w x a b l) (e : ℕ) → HasOperand (Bounds a b) e → H p (place P n) → H p (place P e)
+  bounds_here {n} {a = a} {b = b} y e operand on =
+      let z = for_loop y in
+      let row = bounds_row y.head in
+      let within = (y.bounds).within in
+      let part = subst (λ m. HasOperand m e) (sym (y.bounds).node) operand in
+      let inner = operand_of S known inputs row e within part in
+      let stands = (known.table).part_stands row e within (subst (λ m. HasNear m e) (sym (y.bounds).node) operand) in
+      same_here S g number numbered known inputs count only s run r quiet on e inner.0 (known.operands row e within part)
+      (subst (Live S number run on.activation) (sym (stands.1 ∙ loop_beside y z))
+      (live_at S g number numbered known inputs count only s run r quiet on y.loop refl refl))
+
+  -- the bounds were compared where the loop is On
+  record Compared (p : Path) (n h : ℕ) (c : Truth) (i : ℤ) : Type 0 where
+    activation : Activation
+    starting : Starting p n h activation
+    said : Speaks S number run activation (output (bounds_row h)) (value.Bool c)
+    lower : ℕ
+    upper : ℕ
+    bounds : node P (bounds_row h) ≡ Bounds lower upper
+    low : Speaks S number run activation (origin P lower) (value.Int i)
+
+  compared : {n w x a b l : ℕ} {p : Path} {lo hi : ℤ} (y : ForStands P n w x a b l) → H p (place P n) → CarriedHas S number run p (place P a) (source.Int lo)
+      → CarriedHas S number run p (place P b) (source.Int hi) → Compared p n y.head (int_le lo hi) lo
+  compared {a = a} {b = b} {lo = lo} {hi = hi} y on low high =
+      let z = for_loop y in
+      let at = starting on y.loop in
+      let d = on.activation in
+      let h = y.head in
+      let row = bounds_row h in
+      let live = subst (Live S number run d) (sym (loop_beside y z))
+      (live_at S g number numbered known inputs count only s run r quiet on y.loop refl refl) in
+      let low_said = bound_spoken y a (inl refl) d on.path_of live low in
+      let high_said = bound_spoken y b (inr refl) d on.path_of live high in
+      let left = came S g number numbered known count only s run r quiet d (origin P a) row 0 Zero (value.Int lo) low_said
+      (fed_as P known (origin P a) row 0 Zero (Bounds a b) (y.bounds).within (y.bounds).node (inl refl)) in
+      let right = came S g number numbered known count only s run r quiet d (origin P b) row 0 One (value.Int hi) high_said
+      (fed_as P known (origin P b) row 0 One (Bounds a b) (y.bounds).within (y.bounds).node (inr (inl refl))) in
+      let fired_so = both_fired S g number numbered known count only s run r quiet d row 0 (op.Binary (dyadic.Comparison Le)) (value.Int lo) (value.Int hi)
+      (y.bounds).within (bounds_meet (y.bounds).node) refl left right in
+      record {
+        activation = d;
+        starting = at;
+        said = spoken S g number numbered known count only s run r quiet d row 0 (op.Binary (dyadic.Comparison Le)) (Both (value.Int lo) (value.Int hi))
+            (value.Bool (int_le lo hi)) fired_so (λ f. refl);
+        lower = a;
+        upper = b;
+        bounds = (y.bounds).node;
+        low = low_said;
+      }
+
+  starts_at : {p : Path} {n h : ℕ} {a : Activation} (z : Starting p n h a) → Opens S number run a (h - 1) z.context
+  starts_at {h = h} {a = a} z = let same : z.start ≡ h - 1 = omega (arith, z.head) in subst (λ i. Opens S number run a i z.context) same z.opens
+
+  -- in the first iteration the loop goes on by its bounds
+  by_bounds_tested : {n w x a b l : ℕ} {p : Path} {lo hi : ℤ} {c : Truth} (y : ForStands P n w x a b l) → int_le lo hi ≡ c → H p (place P n)
+      → CarriedHas S number run p (place P a) (source.Int lo) → CarriedHas S number run p (place P b) (source.Int hi)
+      → Goes S (below p (place P n) 0) w c → Tested p n 0 w c
+  by_bounds_tested {c = c} y is on low high side =
+      let z = for_loop y in
+      let k = compared y on low high in
+      let at = k.starting in
+      let said = subst (λ b. Speaks S number run k.activation (output (bounds_row y.head)) (value.Bool b)) is k.said in
+      record {
+        context = at.context;
+        live = subst (Live S number run (at_iteration at.context 0)) (sym z.right) at.live;
+        chosen = flag_chosen z (flag_first S g number numbered known count only s run r quiet z.loop z.counted k.activation at.context c (starts_at at) said);
+        goes = record { path = _; path_of = at.path_of 0; goes = side };
+        path_of = at.path_of;
+      }
+
+  -- what counts in an iteration with an index
+  record Counted (p : Path) (n k h w : ℕ) (i hi : ℤ) : Type 0 where
+    context : Context
+    body : Live S number run (at_iteration context k) (arm_at w true)
+    index : Speaks S number run (at_iteration context k) (output (h + 1)) (value.Int i)
+    compare : Speaks S number run (at_iteration context k) (output (w + 1)) (value.Bool (int_lt i hi))
+    path_of : (j : ℕ) → PathOf S number run (at_iteration context j) (below p (place P n) j)
+
+  counted_at : {n w x a b l : ℕ} {i hi : ℤ} (p : Path) (k : ℕ) (y : ForStands P n w x a b l)
+      → CarriedHas S number run (below p (place P n) k) (place P x) (source.Int i) → CarriedHas S number run p (place P b) (source.Int hi)
+      → Counted p n k y.head w i hi
+  counted_at {n} {w} {x} {a} {b} {i = i} {hi = hi} p k y has high =
+      let z = for_loop y in
+      let h = y.head in
+      let cn = w + 1 in
+      let row_is = here_is S g number numbered known inputs count only s run r quiet has.here y.index refl in
+      let own : home_of P x ≡ x = ap (home_by (block P x) x) (y.index).node in
+      let in_h : block P x ≡ h = ap (block P) (z.index ∙ ap index_row (sym z.switches)) ∙ index_block P known h z.loop z.counted in
+      let body = subst (Live S number run (has.here).activation) (ap (λ j. region P (home_of P j)) row_is ∙ ap (region P) own ∙ z.side) (has.here).live in
+      let it = iteration (has.here).path_of body in
+      let e = at_iteration it.context k in
+      let label_is : label P x ≡ h + 1 = ap (label_by (block P x) x) (y.index).node ∙ ap (λ j. j + 1) in_h in
+      let index_said : Speaks S number run e (output (h + 1)) (value.Int i) =
+      subst (λ (q : Activation × Origin). Speaks S number run q.0 q.1 (value.Int i)) {x = ((has.here).activation, speaker P (has.here).row)} {y = (e, output (h + 1))}
+      (λ j. (it.is j, (ap (speaker P) row_is ∙ binder_speaks P known x (Index y.name) (y.index).node refl ∙ ap output label_is) j))
+      (subst (Speaks S number run (has.here).activation (speaker P (has.here).row)) (stands_constant (constants.Int i) has.stands) has.spoken) in
+      let arm = arm_live known it.live refl (of_turns (ap (node P) (sym z.switches) ∙ (((z.loop).all).test).node)) in
+      let bound = bound_home S g number numbered known count only s run r quiet z.loop z.counted arm.live z.right in
+      let outer = bound.outer in
+      let up = loop_path S known number run (one_seats S known number run g numbered (contexts_apart g S.inputs count s run r)) z.loop outer (it.path_of k) in
+      let parts = below_is p up.path (place P n) (place P (end_of P h)) k k up.is in
+      let path : PathOf S number run outer.outer p = subst (PathOf S number run outer.outer) (sym parts.0) up.path_of in
+      let start : outer.start ≡ h - 1 = omega (arith, outer.head) in
+      let live = subst (Live S number run outer.outer) (ap (region P) start ∙ sym (bounds_region P known h z.loop z.counted)) outer.live in
+      let high_said = bound_spoken y b (inr refl) outer.outer path live high in
+      let came_up = bound.comes hi (subst (λ j. Speaks S number run outer.outer (origin P j) (value.Int hi)) (sym z.upper) high_said) in
+      let chosen = subst (λ j. Chosen S number run e j true) (sym z.switches) arm.chosen in
+      let inside = bound_inside S g number numbered known count only s run r quiet z.loop z.counted hi chosen came_up in
+      let less : cn < length (rows P) = subst (λ j. j + 1 < length (rows P)) z.switches (counts_within P known h z.loop z.counted _ (omega arith)) in
+      let at : node P cn ≡ Count = ap (λ j. node P (j + 1)) (sym z.switches) ∙ (z.counted).count in
+      let stand = counts_stands P known h z.loop z.counted (((z.loop).the).switches + 1) (omega arith) (omega arith) in
+      let of_h : block P cn ≡ h = ap (λ j. block P (j + 1)) (sym z.switches) ∙ stand.0 in
+      let of_arm : region P cn ≡ arm_at ((z.loop).the).switches true = ap (λ j. region P (j + 1)) (sym z.switches) ∙ stand.1 in
+      let left = came S g number numbered known count only s run r quiet e (output (h + 1)) cn 0 Zero (value.Int i) index_said
+      (subst (λ j. Feeds P (output (j + 1)) cn 0 Zero) of_h (fed_as P known (output (block P cn + 1)) cn 0 Zero Count less at (inl refl))) in
+      let from = name_in P (arm_at ((z.loop).the).switches true) (h + 2) in
+      let right_came = came S g number numbered known count only s run r quiet e from cn 0 One (value.Int hi) inside
+      (subst (λ (q : Region × ℕ). Feeds P (name_in P q.0 (q.1 + 2)) cn 0 One) {x = (region P cn, block P cn)} {y = (arm_at ((z.loop).the).switches true, h)}
+      (λ j. (of_arm j, of_h j)) (fed_as P known (name_in P (region P cn) (block P cn + 2)) cn 0 One Count less at (inr (inl refl)))) in
+      let fired_so = both_fired S g number numbered known count only s run r quiet e cn 0 (op.Binary (dyadic.Comparison Lt)) (value.Int i) (value.Int hi)
+      less (meets_bound at) refl left right_came in
+      record {
+        context = it.context;
+        body = it.live;
+        index = index_said;
+        compare = spoken S g number numbered known count only s run r quiet e cn 0 (op.Binary (dyadic.Comparison Lt)) (Both (value.Int i) (value.Int hi))
+            (value.Bool (int_lt i hi)) fired_so (λ f. refl);
+        path_of = it.path_of;
+      }
+
+  -- in each other one by what counts in the one before
+  by_index_tested : {n w x a b l : ℕ} {i hi : ℤ} {c : Truth} (p : Path) (k : ℕ) (y : ForStands P n w x a b l) → int_lt i hi ≡ c
+      → CarriedHas S number run (below p (place P n) k) (place P x) (source.Int i) → CarriedHas S number run p (place P b) (source.Int hi)
+      → Goes S (below p (place P n) (suc k)) w c → Tested p n (suc k) w c
+  by_index_tested {c = c} p k y is has high side =
+      let z = for_loop y in
+      let m = counted_at p k y has high in
+      let test = ap (node P) (sym z.switches) ∙ (((z.loop).all).test).node in
+      let said = subst (λ (q : ℕ × Truth). Speaks S number run (at_iteration m.context k) (output (q.0 + 1)) (value.Bool q.1)) {x = (_, _)}
+      {y = (((z.loop).the).switches, c)} (λ j. (sym z.switches j, is j)) m.compare in
+      record {
+        context = m.context;
+        live = live_again known z.within test m.body;
+        chosen = flag_chosen z (flag_next S g number numbered known count only s run r quiet z.loop z.counted m.context k c said);
+        goes = record { path = _; path_of = m.path_of (suc k); goes = side };
+        path_of = m.path_of;
+      }
+
+  -- by these facts it was found
+  pub tested : {n h w l : ℕ} {fs : List Fact} (p : Path) (k : ℕ) (b : Truth) → Stands P n (Loop h w l) → GoesOn S n w p k b fs
+      → Every (Carried S number run) fs → Every (Holds S) fs → Tested p n k w b
+  tested p k b x (by_predicate j y) c holds = by_test_tested p k b y c.0 holds.0
+  tested p k b x (by_bounds y is) c holds = by_bounds_tested y is c.0 c.1.0 c.1.1.0 (by_index (by_bounds y is) holds)
+  tested p k b x (facts.by_index j y is) c holds = by_index_tested p j y is c.0 c.1.0 (by_index (facts.by_index j y is) holds)
+
+  -- a side of the loop's switches is live where it was chosen
+  pub side_live : {n h w l : ℕ} {p : Path} {k : ℕ} {b : Truth} → Stands P n (Loop h w l) → (z : Tested p n k w b)
       → Live S number run (at_iteration z.context k) (arm_at w b)
-  side_live x z = let l = loop_is known x in on_side l.within (of_turns l.is) z.live z.says z.goes
+  side_live x z = let l = loop_is known x in on_side l.within (of_turns l.is) z.live z.chosen z.goes
 
   -- what stands in it is carried
-  pub side_here : {n h w t l : ℕ} {p : Path} {k : ℕ} {b : Truth} (e : ℕ) → LoopStands P n h w t l → Tested p n k w t b → e < length (rows P)
+  pub side_here : {n h w l : ℕ} {p : Path} {k : ℕ} {b : Truth} (e : ℕ) → Stands P n (Loop h w l) → Tested p n k w b → e < length (rows P)
       → is_expression (node P e) ≡ true
       → region P e ≡ arm_at w b → H (below p (place P n) k) (place P e)
   side_here {k = k} e x z within expression right =
       thing_here S g number numbered known inputs count only s run r quiet (at_iteration z.context k) (z.path_of k) e within expression
       (subst (Live S number run (at_iteration z.context k)) (sym right) (side_live x z))
 
+  -- what came to the entry of the index it Has, where the body is live
+  index_has : {n w x a b l : ℕ} {i : ℤ} (p : Path) (k : ℕ) (y : ForStands P n w x a b l) (z : ForLoop n w x a b l y) (t : Tested p n k w true)
+      → Speaks S number run (at_iteration t.context k) (output (y.head + 1)) (value.Int i)
+      → CarriedHas S number run (below p (place P n) k) (place P x) (source.Int i)
+  index_has {n} {w} {x} {i = i} p k y z t says =
+      let e = at_iteration t.context k in
+      let h = y.head in
+      let in_h : block P x ≡ h = ap (block P) (z.index ∙ ap index_row (sym z.switches)) ∙ index_block P known h z.loop z.counted in
+      let own : home_of P x ≡ x = ap (home_by (block P x) x) (y.index).node in
+      let label_is : label P x ≡ h + 1 = ap (label_by (block P x) x) (y.index).node ∙ ap (λ j. j + 1) in_h in
+      let live = side_live y.loop t in
+      record {
+        here = record {
+          activation = e;
+          path_of = t.path_of k;
+          row = x;
+          within = (y.index).within;
+          thing = ap is_thing (y.index).node;
+          place = refl;
+          live = subst (Live S number run e) (sym (ap (region P) own ∙ z.side)) live;
+        };
+        value = value.Int i;
+        stands = number_stands i;
+        spoken = subst (λ o. Speaks S number run e o (value.Int i))
+            (sym (binder_speaks P known x (Index y.name) (y.index).node refl ∙ ap output label_is)) says;
+      }
+
+  -- the first index is the lower bound
+  pub index_begins_carried : {n w x a b l : ℕ} {p : Path} {lo hi : ℤ} (y : ForStands P n w x a b l) → int_le lo hi ≡ true → H p (place P n)
+      → CarriedHas S number run p (place P a) (source.Int lo) → CarriedHas S number run p (place P b) (source.Int hi)
+      → Goes S (below p (place P n) 0) w true
+      → CarriedHas S number run (below p (place P n) 0) (place P x) (source.Int lo)
+  index_begins_carried {a = a} {b = b} {p = p} {lo = lo} {hi = hi} y is on low high side =
+      let z = for_loop y in
+      let k = compared y on low high in
+      let at = k.starting in
+      let d = k.activation in
+      let row = bounds_row y.head in
+      let said = subst (λ c. Speaks S number run d (output row) (value.Bool c)) is k.said in
+      let test = came S g number numbered known count only s run r quiet d (output row) row 1 Zero (value.Bool true) said
+      (fed_as P known (output row) row 1 Zero (Bounds a b) (y.bounds).within (y.bounds).node (inr (inr (inl refl)))) in
+      let both : Bounds k.lower k.upper ≡ Bounds a b = sym k.bounds ∙ (y.bounds).node in
+      let same : k.lower ≡ a = cc in
+      let low_said = subst (λ j. Speaks S number run d (origin P j) (value.Int lo)) same k.low in
+      let first = came S g number numbered known count only s run r quiet d (origin P a) row 1 One (value.Int lo) low_said
+      (fed_as P known (origin P a) row 1 One (Bounds a b) (y.bounds).within (y.bounds).node (inr (inr (inr (inl refl))))) in
+      let fired_so = both_fired S g number numbered known count only s run r quiet d row 1 (op.Switch ports.Int) (value.Bool true) (value.Int lo)
+      (y.bounds).within (begins_index (y.bounds).node) refl test first in
+      let goes_in = spoken_on S g number numbered known count only s run r quiet d row 1 (op.Switch ports.Int) (Both (value.Bool true) (value.Int lo)) true
+      (value.Int lo) fired_so (λ f. refl) in
+      let t : Tested p _ 0 _ true = record {
+        context = at.context;
+        live = subst (Live S number run (at_iteration at.context 0)) (sym z.right) at.live;
+        chosen = flag_chosen z (flag_first S g number numbered known count only s run r quiet z.loop z.counted d at.context true (starts_at at) said);
+        goes = record { path = _; path_of = at.path_of 0; goes = side };
+        path_of = at.path_of;
+      } in
+      index_has p 0 y z t (index_first S g number numbered known count only s run r quiet z.loop z.counted d at.context lo (starts_at at) goes_in)
+
+  -- and each other one is one more than the one before
+  pub index_counts_carried : {n w x a b l : ℕ} {i hi : ℤ} (p : Path) (k : ℕ) (y : ForStands P n w x a b l) → int_lt i hi ≡ true
+      → is_whole (i +ℤ pos 1) ≡ true
+      → CarriedHas S number run (below p (place P n) k) (place P x) (source.Int i) → CarriedHas S number run p (place P b) (source.Int hi)
+      → Goes S (below p (place P n) (suc k)) w true
+      → CarriedHas S number run (below p (place P n) (suc k)) (place P x) (source.Int (i +ℤ pos 1))
+  index_counts_carried {n} {w} {x} {a} {b} {l} {i} {hi} p k y is fits has high side =
+      let z = for_loop y in
+      let m = counted_at p k y has high in
+      let e = at_iteration m.context k in
+      let h = y.head in
+      let cn = w + 1 in
+      let less : cn < length (rows P) = subst (λ j. j + 1 < length (rows P)) z.switches (counts_within P known h z.loop z.counted _ (omega arith)) in
+      let at : node P cn ≡ Count = ap (λ j. node P (j + 1)) (sym z.switches) ∙ (z.counted).count in
+      let stand = counts_stands P known h z.loop z.counted (((z.loop).the).switches + 1) (omega arith) (omega arith) in
+      let of_h : block P cn ≡ h = ap (λ j. block P (j + 1)) (sym z.switches) ∙ stand.0 in
+      let of_arm : region P cn ≡ arm_at w true = ap (λ j. region P (j + 1)) (sym z.switches) ∙ stand.1 ∙ ap (λ j. arm_at j true) z.switches in
+      let said = subst (λ c. Speaks S number run e (output cn) (value.Bool c)) is m.compare in
+      let on = live_turned S g number numbered known count only s run r quiet m.body in
+      let fed : (t : Origin) (part : ℕ) (q : Port) → Among (feed t part q) (feeds_of P cn (region P cn) Count) → Feeds P t cn part q =
+      λ t part q among. fed_as P known t cn part q Count less at among in
+      let go_on = both_fired S g number numbered known count only s run r quiet e cn 1 (op.Switch ports.Signal) (value.Bool true) value.Signal less
+      (goes_further at) refl
+      (came S g number numbered known count only s run r quiet e (output cn) cn 1 Zero (value.Bool true) said (fed (output cn) 1 Zero (inr (inr (inl refl)))))
+      (came S g number numbered known count only s run r quiet e (trigger_of (arm_at w true)) cn 1 One value.Signal on
+      (subst (λ q. Feeds P (trigger_of q) cn 1 One) of_arm (fed (trigger_of (region P cn)) 1 One (inr (inr (inr (inl refl))))))) in
+      let further = spoken_on S g number numbered known count only s run r quiet e cn 1 (op.Switch ports.Signal) (Both (value.Bool true) value.Signal) true
+      value.Signal go_on (λ f. refl) in
+      let hand_on = both_fired S g number numbered known count only s run r quiet e cn 2 (op.Switch ports.Int) (value.Bool true) (value.Int i) less
+      (hands_index at) refl
+      (came S g number numbered known count only s run r quiet e (output cn) cn 2 Zero (value.Bool true) said
+      (fed (output cn) 2 Zero (inr (inr (inr (inr (inl refl)))))))
+      (came S g number numbered known count only s run r quiet e (output (h + 1)) cn 2 One (value.Int i) m.index
+      (subst (λ j. Feeds P (output (j + 1)) cn 2 One) of_h (fed (output (block P cn + 1)) 2 One (inr (inr (inr (inr (inr (inl refl))))))))) in
+      let last = spoken_on S g number numbered known count only s run r quiet e cn 2 (op.Switch ports.Int) (Both (value.Bool true) (value.Int i)) true
+      (value.Int i) hand_on (λ f. refl) in
+      let one_fired = alone_fired S g number numbered known count only s run r quiet e cn 3 (op.Const (constants.Int (pos 1))) Zero value.Signal less
+      (has_one at) refl
+      (came S g number numbered known count only s run r quiet e (part_of cn 1) cn 3 Zero value.Signal further
+      (fed (part_of cn 1) 3 Zero (inr (inr (inr (inr (inr (inr (inl refl))))))))) in
+      let one_more = spoken S g number numbered known count only s run r quiet e cn 3 (op.Const (constants.Int (pos 1))) (Alone value.Signal)
+      (value.Int (pos 1)) one_fired (λ f. refl) in
+      let add_fired = both_fired S g number numbered known count only s run r quiet e cn 4 (op.Binary (dyadic.Arithmetic Add)) (value.Int i) (value.Int (pos 1)) less
+      (adds_one at) refl
+      (came S g number numbered known count only s run r quiet e (part_of cn 2) cn 4 Zero (value.Int i) last
+      (fed (part_of cn 2) 4 Zero (inr (inr (inr (inr (inr (inr (inr (inl refl))))))))))
+      (came S g number numbered known count only s run r quiet e (part_of cn 3) cn 4 One (value.Int (pos 1)) one_more
+      (fed (part_of cn 3) 4 One (inr (inr (inr (inr (inr (inr (inr (inr (inl refl))))))))))) in
+      let sum = spoken S g number numbered known count only s run r quiet e cn 4 (op.Binary (dyadic.Arithmetic Add)) (Both (value.Int i) (value.Int (pos 1)))
+      (value.Int (i +ℤ pos 1)) add_fired (λ f. ap (λ c. fired_by (cond c (Gives (constants.Int (i +ℤ pos 1))) (Fails Overflow))) fits) in
+      let v = ((z.loop).the).switches in
+      let next = index_next S g number numbered known count only s run r quiet z.loop z.counted m.context k (i +ℤ pos 1)
+      (subst (λ j. Speaks S number run e (part_of (j + 1) 4) (value.Int (i +ℤ pos 1))) (sym z.switches) sum) in
+      let test = ap (node P) (sym z.switches) ∙ (((z.loop).all).test).node in
+      let flag = flag_next S g number numbered known count only s run r quiet z.loop z.counted m.context k true
+      (subst (λ j. Speaks S number run e (output (j + 1)) (value.Bool true)) (sym z.switches) said) in
+      let t : Tested p n (suc k) w true = record {
+        context = m.context;
+        live = live_again known z.within test m.body;
+        chosen = flag_chosen z flag;
+        goes = record { path = _; path_of = m.path_of (suc k); goes = side };
+        path_of = m.path_of;
+      } in
+      index_has p (suc k) y z t next
+
   -- a `next` statement stands in the body of its loop, and so does its expression
-  next_region : {n h w t l m o v : ℕ} → LoopStands P n h w t l → (y : NextStands P m h o v) → region P m ≡ arm_at w true
+  next_region : {n h w l m o v : ℕ} → Stands P n (Loop h w l) → (y : NextStands P m h o v) → region P m ≡ arm_at w true
   next_region {n} {h} {w} {m = m} x y =
       let l = loop_is known x in
       let right : (z : LoopOf P h) → region P m ≡ arm_at (z.the).switches true =
       subst (λ j. (z : LoopOf P j) → region P m ≡ arm_at (z.the).switches true) y.block (λ z. (next_at known (y.next).within (y.next).node z).region) in
       right l.loop ∙ ap (λ j. arm_at j true) l.switches
 
-  pub next_value : {n h w t l m o v : ℕ} → LoopStands P n h w t l → (y : NextStands P m h o v) → region P v ≡ arm_at w true
+  pub next_value : {n h w l m o v : ℕ} → Stands P n (Loop h w l) → (y : NextStands P m h o v) → region P v ≡ arm_at w true
   next_value {m = m} {v = v} x y =
       ((known.table).part_stands m v (y.next).within (subst (λ z. HasNear z v) (sym (y.next).node) (inr refl))).1 ∙ next_region x y
 
@@ -465,10 +843,10 @@ module _ (S : Source) (g : Parts) (number : ℕ → ℕ → ℕ) (numbered : Num
   next_operand {v = v} y = subst (λ z. HasOperand z v) (sym (y.next).node) refl
 
   -- what a `next` expression has spoken came to the variable in the next iteration
-  pub next_carried : {n h w t l m o v : ℕ} {u : SourceValue} (p : Path) (k : ℕ) (x : LoopStands P n h w t l) (y : NextStands P m h o v)
+  pub next_carried : {n h w l m o v : ℕ} {u : SourceValue} (p : Path) (k : ℕ) (x : Stands P n (Loop h w l)) (y : NextStands P m h o v)
       → CarriedHas S number run (below p (place P n) k) (place P v) u → Holds S (Has (below p (place P n) (suc k)) (place P m) u)
       → CarriedHas S number run (below p (place P n) (suc k)) (place P m) u
-  next_carried {n} {h} {w} {t} {l} {m} {o} {v} {u} p k x y has holds =
+  next_carried {n} {h} {w} {l} {m} {o} {v} {u} p k x y has holds =
       let z = loop_is known x in
       let less = (y.next).within in
       let is = (y.next).node in
@@ -492,27 +870,27 @@ module _ (S : Source) (g : Parts) (number : ℕ → ℕ → ℕ) (numbered : Num
       subst (λ j. Feeds P (output j) (label P m) 0 Zero) var.next
       (fed_as P known (output (next_of P (label P m))) (label P m) 0 Zero Variable var.within var.is (inl refl)) in
       let came_in = moved_came S g number numbered known count only s run r quiet a (output m) (suc k) (label P m) 0 Zero has.value moves fed in
-      let live = subst (Live S number run (at_iteration it.context (suc k))) (z.right ∙ sym (var.right ∙ ap top y.block))
+      let live = subst (Live S number run (at_iteration it.context (suc k))) (z.right ∙ sym (ap (region P) (next_home m is) ∙ var.right ∙ ap top y.block))
       (live_again known z.within z.is it.live) in
       label_has S g number numbered known inputs count only s run r quiet m (Next y.name y.index o v) has.stands (at_iteration it.context (suc k))
       (it.path_of (suc k)) y.next refl live
       (variable_does less is) kind_is came_in
 
   -- the last expression of a loop stands on the other side
-  pub last_at : {n h w t l : ℕ} → LoopStands P n h w t l → region P l ≡ arm_at w false
+  pub last_at : {n h w l : ℕ} → Stands P n (Loop h w l) → region P l ≡ arm_at w false
   last_at {h = h} x = let z = loop_is known x in ap (region P) (sym z.last) ∙ last_region P known h z.loop ∙ ap (λ j. arm_at j false) z.switches
 
-  pub last_operand : {n h w t l : ℕ} (x : LoopStands P n h w t l) → HasOperand (node P n) l
-  last_operand {l = l} x = subst (λ z. HasOperand z l) (sym (x.loop).node) refl
+  pub last_operand : {n h w l : ℕ} (x : Stands P n (Loop h w l)) → HasOperand (node P n) l
+  last_operand {l = l} x = subst (λ z. HasOperand z l) (sym x.node) refl
 
   -- what the last expression has spoken came back to the loop's merge
-  pub loop_carried : {n h w t l : ℕ} {u : SourceValue} (p : Path) (k : ℕ) (x : LoopStands P n h w t l)
+  pub loop_carried : {n h w l : ℕ} {u : SourceValue} (p : Path) (k : ℕ) (x : Stands P n (Loop h w l))
       → CarriedHas S number run (below p (place P n) k) (place P l) u
       → Holds S (Has (below p (place P n) k) (place P l) u) → Holds S (Has p (place P n) u) → CarriedHas S number run p (place P n) u
-  loop_carried {n} {h} {w} {t} {l} {u} p k x has has_holds holds =
+  loop_carried {n} {h} {w} {l} {u} p k x has has_holds holds =
       let z = loop_is known x in
-      let inner = operand_of S known inputs n l (x.loop).within (last_operand x) in
-      let expression = known.operands n l (x.loop).within (last_operand x) in
+      let inner = operand_of S known inputs n l x.within (last_operand x) in
+      let expression = known.operands n l x.within (last_operand x) in
       let at_l = live_at S g number numbered known inputs count only s run r quiet has.here (record { within = inner.0; node = refl }) inner.1
       (expression_plain (node P l) expression) in
       let it = iteration (has.here).path_of (subst (Live S number run (has.here).activation) (last_at x) at_l) in
@@ -522,7 +900,7 @@ module _ (S : Source) (g : Parts) (number : ℕ → ℕ → ℕ) (numbered : Num
       let said = subst (λ b. Speaks S number run b (origin P l) has.value) it.is
       (said_at S g number numbered known inputs count only s run r quiet has.here l inner.0 expression has) in
       let of_last = port_taking S known inputs l _ u inner.0 inner.1 has_holds in
-      let e = end_of P h - 1 in
+      let e = end_of P h - 2 in
       let e_within = reset_within P known h z.loop in
       let e_node : node P e ≡ Reset l = reset_node P known h z.loop ∙ ap (λ j. Reset j) z.last in
       let to = came S g number numbered known count only s run r quiet a (origin P l) e 0 Zero has.value said
@@ -547,15 +925,15 @@ module _ (S : Source) (g : Parts) (number : ℕ → ℕ → ℕ) (numbered : Num
       subst (λ (j : ℕ × ℕ). Among (Token (tag_in first (number j.0 1)) Zero (value.Continuation (tag_in b (number j.1 0)))) (handled run))
       {x = (outer.start + 1, end_of P (outer.start + 1))} {y = (h, n)}
       (λ i. (outer.head i, (ap (end_of P) outer.head ∙ sym z.row) i)) back in
-      let kind_is = port_taking S known inputs n p u (x.loop).within (ap is_thing (x.loop).node) holds in
+      let kind_is = port_taking S known inputs n p u x.within (ap is_thing x.node) holds in
       let port : port_at P (end_of P h) ≡ port_of (value_kind u) = ap (port_at P) (sym z.row) ∙ kind_is in
       let back_so = both_fired S g number numbered known count only s run r quiet first h 1 (op.Back (port_at P (end_of P h))) (value.Continuation reply)
       has.value h_within (gives_back head) refl way_back result in
       let out = sent_handled S g number numbered known count only s run r quiet
       (subst (λ f. FiresAs run (tag_in first (number h 1)) f) (sent_in has.stands (port_at P (end_of P h)) reply port) back_so.fires)
       (Token reply Zero has.value) (inl refl) in
-      let merge_so = alone_fired S g number numbered known count only s run r quiet b n 0 (op.Merge (port_at P n)) Zero has.value (x.loop).within
-      (gets_last (x.loop).node) refl out in
+      let merge_so = alone_fired S g number numbered known count only s run r quiet b n 0 (op.Merge (port_at P n)) Zero has.value x.within
+      (gets_last x.node) refl out in
       let spoken_so = spoken S g number numbered known count only s run r quiet b n 0 (op.Merge (port_at P n)) (Alone has.value)
       has.value merge_so (λ f. merged has.stands (port_at P n) kind_is) in
       let up = loop_path S known number run (one_seats S known number run g numbered (contexts_apart g S.inputs count s run r)) z.loop outer (it.path_of k) in
@@ -563,7 +941,7 @@ module _ (S : Source) (g : Parts) (number : ℕ → ℕ → ℕ) (numbered : Num
       let out_path : PathOf S number run b p = subst (PathOf S number run b) (sym parts.0) up.path_of in
       let at_start : outer.start ≡ h - 1 = omega (arith, outer.head) in
       let right : region P outer.start ≡ region P n = ap (region P) at_start ∙ start_region P known h z.loop ∙ ap (region P) (sym z.row) in
-      let on = thing_here S g number numbered known inputs count only s run r quiet b out_path n (x.loop).within (ap is_expression (x.loop).node)
+      let on = thing_here S g number numbered known inputs count only s run r quiet b out_path n x.within (ap is_expression x.node)
       (subst (Live S number run b) right outer.live) in
-      has_spoken S g number numbered known inputs count only s run r quiet on x.loop refl refl has.stands (subst (λ j. Speaks S number run b j has.value)
-      (sym (own_origin P known n (Loop h w l) (x.loop).within (x.loop).node refl (λ j. refl))) spoken_so)
+      has_spoken S g number numbered known inputs count only s run r quiet on x refl refl has.stands (subst (λ j. Speaks S number run b j has.value)
+      (sym (own_origin P known n (Loop h w l) x.within x.node refl refl (λ j. refl))) spoken_so)

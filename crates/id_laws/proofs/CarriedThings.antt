@@ -2,7 +2,7 @@
 use Rattle.std.proofs.Common.{◌≡◌, ℕ, ◌<◌, true, false, List, [], length, refl, sym, ◌∙◌, ap, subst}
 use Rattle.id_list.specs.List.{Among}
 use Rattle.id_table.specs.declared.row.Node.{Node}
-use Rattle.id_table.specs.Tables.{HasNear, HasOperand, is_binder, is_expression, is_next, is_thing}
+use Rattle.id_table.specs.Tables.{HasNear, HasOperand, is_binder, is_expression, is_index, is_next, is_thing}
 use Rattle.id_check.specs.declared.checked.Checked.{Checked}
 use Rattle.id_check.specs.Programs.{Stands, place, region, rows, binder}
 use Rattle.id_instr.specs.declared.dests.Port.TheVariants.{Zero}
@@ -18,7 +18,7 @@ use Rattle.id_source.specs.declared.Path.{Path}
 use Rattle.id_source.specs.declared.SourceValue.{SourceValue}
 use Rattle.id_source.specs.Sources.{Source, AreInputs, value_kind, value_of}
 use Rattle.id_pieces.specs.declared.arc.Origin.{Origin}
-use Rattle.id_pieces.specs.Rows.{label, node, origin, port_at, port_of}
+use Rattle.id_pieces.specs.Rows.{home, label, node, origin, port_at, port_of}
 use Rattle.id_pieces.specs.Schemas.{Numbered}
 use Rattle.id_runs.specs.Activations.{Activation, tag_in}
 use Rattle.id_runs.specs.Events.{Event}
@@ -30,16 +30,16 @@ use Rattle.id_laws.proofs.Arcs.{Does}
 use Rattle.id_laws.proofs.Assumed.{IsKnown}
 use Rattle.id_laws.proofs.Regions.{label_row}
 use Rattle.id_laws.proofs.HasKinds.{binder_thing, expression_thing, operand_of}
-use Rattle.id_laws.proofs.Firings.{alone_fired, spoken}
+use Rattle.id_laws.proofs.Firings.{IsSettled, alone_fired, spoken}
 use Rattle.id_laws.proofs.Triggers.{one_activation}
 use Rattle.id_laws.proofs.Speakers.{expression_speaks, binder_speaks}
 use Rattle.id_pieces.specs.declared.arc.Form.TheVariants.{Plain}
-use Rattle.id_laws.proofs.CarriedValues.{expression_plain, label_plain, merged, stands_constant}
+use Rattle.id_laws.proofs.CarriedValues.{expression_plain, home_plain, label_plain, merged, stands_constant}
 use Rattle.id_laws.specs.Topics.{StandsFor}
 
 module _ (S : Source) (g : Parts) (number : ℕ → ℕ → ℕ) (numbered : Numbered S.checked g number) (known : IsKnown S.checked)
     (inputs : AreInputs S.checked S.inputs) (count : ℕ) (only : Exclusive g S.inputs count) (s : World) (run : List Event)
-    (r : Reach g S.inputs count s run) (quiet : s.flight ≡ []) where
+    (r : Reach g S.inputs count s run) (quiet : IsSettled S s) where
   abbrev P : Checked
   P = S.checked
 
@@ -56,7 +56,7 @@ module _ (S : Source) (g : Parts) (number : ℕ → ℕ → ℕ) (numbered : Num
     within = within;
     thing = expression_thing (node P a) expression;
     place = refl;
-    live = subst (λ k. Live S number run b (region P k)) (sym (label_plain P a (node P a) refl (expression_plain (node P a) expression))) live;
+    live = subst (λ k. Live S number run b (region P k)) (sym (home_plain P a (node P a) refl (expression_plain (node P a) expression))) live;
   }
 
   -- the thing that is carried at a thing's place is that thing
@@ -67,7 +67,7 @@ module _ (S : Source) (g : Parts) (number : ℕ → ℕ → ℕ) (numbered : Num
   pub live_at : {p : Path} {n : ℕ} {m : Node} (h : H p (place P n)) → Stands P n m → is_thing m ≡ true → is_next m ≡ false
       → Live S number run h.activation (region P n)
   live_at {n = n} {m = m} h x thing plain =
-      subst (λ k. Live S number run h.activation (region P k)) (ap (label P) (here_is h x thing) ∙ label_plain P n m x.node plain) h.live
+      subst (λ k. Live S number run h.activation (region P k)) (ap (home P) (here_is h x thing) ∙ home_plain P n m x.node plain) h.live
 
   -- what stands in the same region is carried too
   pub same_here : {p : Path} {e : ℕ} (h : H p e) (a : ℕ) → a < length (rows P) → is_expression (node P a) ≡ true → Live S number run h.activation (region P a)
@@ -125,7 +125,7 @@ module _ (S : Source) (g : Parts) (number : ℕ → ℕ → ℕ) (numbered : Num
   -- a value of its kind that came to the label of a binder
   pub label_has : {p : Path} (b : ℕ) (m : Node) {w : Value} {v : SourceValue} → StandsFor S number run w v → (a : Activation) → PathOf S number run a p
       → Stands P b m → is_binder m ≡ true
-      → Live S number run a (region P (label P b)) → Does P (label P b) 0 (Plain (op.Merge (port_at P b)))
+      → Live S number run a (region P (home P b)) → Does P (label P b) 0 (Plain (op.Merge (port_at P b)))
       → port_at P b ≡ port_of (value_kind v) → Among (Token (tag_in a (number (label P b) 0)) Zero w) (handled run)
       → CarriedHas S number run p (place P b) v
   label_has b m {w} stands a path_of x binder live does kind_is h =
@@ -151,12 +151,12 @@ module _ (S : Source) (g : Parts) (number : ℕ → ℕ → ℕ) (numbered : Num
 
   -- the same where the binder is its own label's row
   pub own_has : {p : Path} (b : ℕ) (m : Node) {w : Value} {v : SourceValue} → StandsFor S number run w v → (a : Activation) → PathOf S number run a p
-      → Stands P b m → is_binder m ≡ true → is_next m ≡ false
+      → Stands P b m → is_binder m ≡ true → is_next m ≡ false → is_index m ≡ false
       → Live S number run a (region P b) → Does P b 0 (Plain (op.Merge (port_at P b)))
       → port_at P b ≡ port_of (value_kind v) → Among (Token (tag_in a (number b 0)) Zero w) (handled run)
       → CarriedHas S number run p (place P b) v
-  own_has b m {w} stands a path_of x binder plain live does kind_is h =
-      let own = sym (label_plain P b m x.node plain) in
-      label_has b m stands a path_of x binder (subst (λ z. Live S number run a (region P z)) own live)
+  own_has b m {w} stands a path_of x binder plain named live does kind_is h =
+      let own = sym (label_plain P b m x.node plain named) in
+      label_has b m stands a path_of x binder (subst (λ z. Live S number run a (region P z)) (sym (home_plain P b m x.node plain)) live)
       (subst (λ z. Does P z 0 (Plain (op.Merge (port_at P b)))) own does) kind_is
       (subst (λ z. Among (Token (tag_in a (number z 0)) Zero w) (handled run)) own h)

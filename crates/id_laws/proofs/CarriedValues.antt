@@ -4,8 +4,8 @@ use Rattle.id_value.specs.declared.Constant.{Constant}
 use Rattle.id_value.specs.declared.Outcome.{Outcome}
 use Rattle.id_value.specs.declared.Outcome.TheVariants.{Gives}
 use Rattle.id_table.specs.declared.row.Node.{Node}
-use Rattle.id_table.specs.declared.row.Node.TheVariants.{Next}
-use Rattle.id_table.specs.Tables.{is_expression, is_next}
+use Rattle.id_table.specs.declared.row.Node.TheVariants.{Next, Index}
+use Rattle.id_table.specs.Tables.{is_expression, is_index, is_next}
 use Rattle.id_check.specs.declared.checked.Checked.{Checked}
 use Rattle.id_instr.specs.declared.instr.PortKind.{PortKind}
 use Rattle.id_instr.specs.declared.instr.PortKind.TheVariants as kinds
@@ -18,7 +18,7 @@ use Rattle.id_ops.specs.Operators.{constant_value, fired_by}
 use Rattle.id_value.specs.declared.Constant.TheVariants as constants
 use Rattle.id_source.specs.declared.SourceValue.{SourceValue}
 use Rattle.id_source.specs.Sources.{Source, value_kind, value_of}
-use Rattle.id_pieces.specs.Rows.{block, label, label_by, node, port_of}
+use Rattle.id_pieces.specs.Rows.{block, home, home_by, label, label_by, node, port_of}
 use Rattle.id_runs.specs.Events.{Event}
 use Rattle.id_laws.specs.Topics.{StandsFor, number_stands, truth_stands, name_stands}
 
@@ -52,10 +52,16 @@ merged {w = w} h k e = ap (λ z. cond z (Out w) Nothing) (value_fits h k e)
 no_truth : true ≡ false → ⊥
 no_truth h = cc
 
--- a row that is no `next` is its own label's
-pub label_plain : (P : Checked) (n : ℕ) (m : Node) → node P n ≡ m → is_next m ≡ false → label P n ≡ n
-label_plain P n (Next x k o v) is h = absurd (no_truth h)
-label_plain P n _ is h = ap (label_by (block P n) n) is
+-- a row that is no `next` and no index is its own label's
+pub label_plain : (P : Checked) (n : ℕ) (m : Node) → node P n ≡ m → is_next m ≡ false → is_index m ≡ false → label P n ≡ n
+label_plain P n (Next x k o v) is h i = absurd (no_truth h)
+label_plain P n (Index x) is h i = absurd (no_truth i)
+label_plain P n _ is h i = ap (label_by (block P n) n) is
+
+-- and one that is no `next` is at home where it stands
+pub home_plain : (P : Checked) (n : ℕ) (m : Node) → node P n ≡ m → is_next m ≡ false → home P n ≡ n
+home_plain P n (Next x k o v) is h = absurd (no_truth h)
+home_plain P n _ is h = ap (home_by (block P n) n) is
 
 pub expression_plain : (m : Node) → is_expression m ≡ true → is_next m ≡ false
 expression_plain (Next x k o v) h = absurd (no_truth (sym h))

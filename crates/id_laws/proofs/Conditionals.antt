@@ -1,9 +1,10 @@
 -- What stands where in a conditional, and what a live arm says: that the predicate has spoken its truth value.
 use Rattle.std.proofs.Common.{◌≡◌, inl, inr, ℕ, ◌<◌, Bool as Truth, true, false, List, length, refl, sym, ◌∙◌, ap, subst, arith}
 use Rattle.id_table.specs.declared.row.Region.{Region}
-use Rattle.id_table.specs.declared.row.Node.TheVariants.{Head, Split, If, Switches}
+use Rattle.id_table.specs.declared.row.Node.{Node}
+use Rattle.id_table.specs.declared.row.Node.TheVariants.{Head, Split, If, Switches, Within}
 use Rattle.id_table.specs.Rows.{arm_at}
-use Rattle.id_table.specs.Tables.{HasPart, HasNear, HasOperand, begins_block, is_expression, is_top}
+use Rattle.id_table.specs.Tables.{HasPart, HasNear, HasOperand, begins_block, is_expression, is_top, is_within}
 use Rattle.id_table.specs.Regions.{IsIfOf}
 use Rattle.id_check.specs.declared.checked.Checked.{Checked}
 use Rattle.id_check.specs.Programs.{Stands, place, region, rows}
@@ -14,7 +15,7 @@ use Rattle.id_pieces.specs.Rows.{node, origin}
 use Rattle.id_runs.specs.Activations.{Activation}
 use Rattle.id_runs.specs.Events.{Event, FiresOnce}
 use Rattle.id_runs.proofs.Givings.{gives_once}
-use Rattle.id_laws.specs.Activations.{main_head, Tests, of_arms, of_turns, GoesAt, Speaks, Live, at_start, on_side, entered, again}
+use Rattle.id_laws.specs.Activations.{main_head, Tests, of_arms, of_turns, Chosen, has_said, has_counted, GoesAt, Speaks, Live, at_start, on_side, entered, again}
 use Rattle.id_laws.proofs.Assumed.{IsKnown}
 use Rattle.id_laws.proofs.Begun.{begun_at}
 use Rattle.id_laws.proofs.Loops.{loop_of_row}
@@ -22,10 +23,10 @@ use Rattle.id_laws.proofs.Loops.{loop_of_row}
 true_false : true ≡ false → ⊥
 true_false h = cc
 
--- the predicate of the switches at the row n
+-- the predicate of the switches at the row n, or what a loop with an index has in its place
 pub record TestAt (P : Checked) (n t : ℕ) : Type 0 where
   pub within : t < length (rows P)
-  pub expression : is_expression (node P t) ≡ true
+  pub expression : is_within (node P t) ≡ false → is_expression (node P t) ≡ true
   pub region : region P t ≡ region P n
 
 pub test_at : {P : Checked} (known : IsKnown P) {n t : ℕ} → n < length (rows P) → Tests P n t → TestAt P n t
@@ -34,7 +35,7 @@ test_at {P} known {n} {t} within (of_arms is) =
     let less = (((known.table).formed).each n within).parts t part in
     record {
       within = omega (arith, within, less.1);
-      expression = known.operands n t within (subst (λ m. HasOperand m t) (sym is) refl);
+      expression = λ no. known.operands n t within (subst (λ m. HasOperand m t) (sym is) refl);
       region = ((known.table).part_stands n t within (subst (λ m. HasNear m t) (sym is) refl)).1;
     }
 test_at {P} known {n} {t} within (of_turns is) =
@@ -42,9 +43,17 @@ test_at {P} known {n} {t} within (of_turns is) =
     let less = (((known.table).formed).each n within).parts t part in
     record {
       within = omega (arith, within, less.1);
-      expression = known.operands n t within (subst (λ m. HasOperand m t) (sym is) refl);
+      expression = (known.table).test_is n t within is;
       region = ((known.table).part_stands n t within (subst (λ m. HasNear m t) (sym is) refl)).1;
     }
+
+-- the predicate of a conditional is one
+pub arms_test : {P : Checked} (known : IsKnown P) {n t : ℕ} → n < length (rows P) → node P n ≡ Split t → is_expression (node P t) ≡ true
+arms_test {P} known {n} {t} within is = known.operands n t within (subst (λ m. HasOperand m t) (sym is) refl)
+
+pub no_within : (m : Node) → is_expression m ≡ true → is_within m ≡ false
+no_within (Within f) e = let bad : true ≡ false = sym e in cc
+no_within _ e = refl
 
 -- the switches at a row go by one predicate
 pub one_test : {P : Checked} {n e e' : ℕ} → Tests P n e → Tests P n e' → e ≡ e'
@@ -115,7 +124,7 @@ pub record ArmLive (S : Source) (number : ℕ → ℕ → ℕ) (run : List Event
   pub test : ℕ
   pub tests : Tests S.checked n test
   pub live : Live S number run a (region S.checked n)
-  pub spoken : Speaks S number run a (origin S.checked test) (value.Bool b)
+  pub chosen : Chosen S number run a n b
   pub goes : GoesAt S number run a n b
 
 pub main_head_is : {P : Checked} (known : IsKnown P) → node P (main_head P) ≡ Head
@@ -127,7 +136,7 @@ pub arm_live : {S : Source} (known : IsKnown S.checked) {number : ℕ → ℕ �
 arm_live {S} known at_start is at =
     absurd (tests_no_block at (ap (λ (z : Region). begins_block (node S.checked z.head)) (sym is) ∙ ap begins_block (main_head_is known)))
 arm_live {S} known {number} {run} {a} {n = n} {b = b} (on_side {n = m} {e = e} {b = c} within tests live says goes) is at =
-    subst (λ (z : Region). ArmLive S number run a z.head z.side) is (record { test = e; tests = tests; live = live; spoken = says; goes = goes })
+    subst (λ (z : Region). ArmLive S number run a z.head z.side) is (record { test = e; tests = tests; live = live; chosen = says; goes = goes })
 arm_live {S} known (entered {n = m} within begins live opened) is at =
     absurd (tests_no_block at (ap (λ (z : Region). begins_block (node S.checked z.head)) (sym is) ∙ (begun_at known within begins).head))
 arm_live {S} known (again {n = m} {e = e} within is' live says goes) is at =
@@ -135,16 +144,21 @@ arm_live {S} known (again {n = m} {e = e} within is' live says goes) is at =
     absurd (tests_no_block at (ap (λ (z : Region). begins_block (node S.checked z.head)) (sym is ∙ (known.table).at_top m within (ap is_top is')) ∙
     ap begins_block l.head))
 
--- two sides of one row's switches are not both live: the predicate has spoken once
+-- the side of a conditional was chosen by its predicate
+pub arm_spoken : {S : Source} {number : ℕ → ℕ → ℕ} {run : List Event} {a : Activation} {n t : ℕ} {b : Truth} → node S.checked n ≡ Split t
+    → Chosen S number run a n b
+    → Speaks S number run a (origin S.checked t) (value.Bool b)
+arm_spoken {S} {number} {run} {a} {n} {t} {b} is (has_said {e = e} tests says) =
+    subst (λ k. Speaks S number run a (origin S.checked k) (value.Bool b)) (one_test tests (of_arms is)) says
+arm_spoken {S} {t = t} is (has_counted {e = e} at has decided) = let bad : Split t ≡ Switches e = sym is ∙ at in cc
+
+-- two sides of one conditional's switches are not both live: the predicate has spoken once
 pub sides_apart : {S : Source} (known : IsKnown S.checked) {number : ℕ → ℕ → ℕ} {run : List Event} {a : Activation} {n t : ℕ} → FiresOnce run
-    → Tests S.checked n t
+    → node S.checked n ≡ Split t
     → Live S number run a (arm_at n true) → Live S number run a (arm_at n false) → ⊥
 sides_apart {S} known {number} {run} {a} {n} {t} once is x y =
-    let l = arm_live known x refl is in
-    let r = arm_live known y refl is in
-    let test = one_test l.tests r.tests in
-    let say = subst (λ e. Speaks S number run a (origin S.checked e) (value.Bool true)) test l.spoken in
-    let other = r.spoken in
+    let say = arm_spoken is (arm_live known x refl (of_arms is)).chosen in
+    let other = arm_spoken is (arm_live known y refl (of_arms is)).chosen in
     bools (gives_once once say.fires other.fires _ _ (value.Bool true) (value.Bool false) say.gives other.gives).1
   where
     bools : value.Bool true ≡ value.Bool false → ⊥

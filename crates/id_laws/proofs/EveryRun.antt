@@ -2,16 +2,18 @@
 use Rattle.id_runs.proofs.Runs.{reached}
 use Rattle.id_laws.specs.Laws.{QuietIsComplete, Soundness}
 use Rattle.id_laws.proofs.Known.{known}
+use Rattle.id_laws.proofs.Wholes.{are_whole}
 use Rattle.id_laws.proofs.SoundRuns.{alone, sound_at}
 use Rattle.id_laws.proofs.QuietRuns.{complete_at}
 
 pub soundness : Soundness
 soundness = λ S g count ks inputs schemas.
     let r = reached g S.inputs count ks in
-    sound_at S (known S.checked) g schemas.number schemas.numbered count _ r.events r.reach
+    sound_at S (known S.checked) (are_whole S inputs) g schemas.number schemas.numbered count _ r.events r.reach
 
 pub completeness : QuietIsComplete
 completeness = λ S g count ks inputs schemas quiet.
     let r = reached g S.inputs count ks in
-    complete_at S g schemas.number schemas.numbered (known S.checked) inputs count (alone S (known S.checked) g schemas.number schemas.numbered count) _
-    r.events r.reach quiet
+    let are = are_whole S inputs in
+    complete_at S g schemas.number schemas.numbered (known S.checked) inputs are count
+    (alone S (known S.checked) are g schemas.number schemas.numbered count) _ r.events r.reach quiet

@@ -1,5 +1,5 @@
 -- What a firing means for the source, what its operands tell, and which constants their values stand for.
-use Rattle.std.proofs.Common.{◌≡◌, ◌⊎◌, inl, inr, ℕ, ◌+◌, Bool as Truth, true, List, Some, slice_get, get_or, refl, ap}
+use Rattle.std.proofs.Common.{◌≡◌, ◌⊎◌, inl, inr, ℕ, ℤ, ◌+◌, Bool as Truth, true, List, Some, slice_get, get_or, refl, ap}
 use Rattle.id_value.specs.declared.Constant.{Constant}
 use Rattle.id_value.specs.declared.Constant.TheVariants as constants
 use Rattle.id_value.specs.declared.FaultKind.{FaultKind}
@@ -23,11 +23,14 @@ use Rattle.id_source.specs.declared.SourceValue.{SourceValue}
 use Rattle.id_source.specs.declared.SourceValue.TheVariants as source
 use Rattle.id_source.specs.Sources.{Source, value_of}
 use Rattle.id_source.specs.Facts.{site}
-use Rattle.id_source.specs.Rounds.{Faulty}
+use Rattle.id_source.specs.declared.Fact.TheVariants.{Has}
+use Rattle.id_source.specs.Rounds.{Faulty, Holds}
+use Rattle.id_value.specs.Results.{is_whole}
 use Rattle.id_pieces.specs.Rows.{Entry, entering, loop_entries, node, param_of}
 use Rattle.id_runs.specs.Activations.{Activation, at_iteration, tag_in}
-use Rattle.id_runs.specs.Events.{Event, FiresAs}
+use Rattle.id_runs.specs.Events.{Event, FiresAs, FiresOnce}
 use Rattle.id_laws.specs.Activations.{Begins, Opens, PathOf, Live, ReturnsTo}
+use Rattle.id_laws.specs.Topics.{sent_to}
 use Rattle.id_laws.specs.Topics.{ValueOf, NameIn, StandsFor, number_stands, truth_stands, ShownResult, Tells, name_stands, ToldRead, ToldWrite}
 use Rattle.id_laws.specs.Topics.{topic_of, topic_at}
 use Rattle.id_laws.proofs.Arcs.{place_shown}
@@ -56,6 +59,12 @@ pub stands_truth : {S : Source} {number : ℕ → ℕ → ℕ} {run : List Event
 stands_truth {b = b} (number_stands n) e = cc
 stands_truth {b = b} (name_stands s x named) e = cc
 stands_truth {b = b} (truth_stands c) e = let same : c ≡ b = cc in ap (λ z. source.Bool z) same
+
+-- no instruction of the run fires twice under one tag, and each number that a place of the source Has is one of the
+-- language
+pub record IsBacked (S : Source) (run : List Event) : Type 0 where
+  pub once : FiresOnce run
+  pub wholes : (p : Path) (e : ℕ) (i : ℤ) → Holds S (Has p e (source.Int i)) → is_whole i ≡ true
 
 module _ (S : Source) (number : ℕ → ℕ → ℕ) (run : List Event) where
   -- the value of the block with this head goes to where it returns
@@ -88,7 +97,7 @@ module _ (S : Source) (number : ℕ → ℕ → ℕ) (run : List Event) where
     pub goes : u ≡ tag_in (at_iteration context 0) (number entry.row entry.part)
     pub live : Live S number run a (region S.checked n)
     pub opens : Opens S number run a n context
-    pub value : Tells S number run a (NameIn (region S.checked n) (get_or (entering S.checked (n + 1)) slot 0)) v
+    pub value : Tells S number run a (sent_to S.checked n (region S.checked n) slot) v
 
   -- the row begins a context in a live region
   pub record Entering (a : Activation) (n part : ℕ) : Type 0 where

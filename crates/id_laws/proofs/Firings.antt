@@ -21,6 +21,12 @@ use Rattle.id_ops.specs.declared.Fired.TheVariants.{Out, Side, Moved}
 use Rattle.id_ops.specs.Operators.{fired}
 use Rattle.id_record.specs.Records.{dests_at, sent_by}
 use Rattle.id_core.specs.Machines.{World}
+use Rattle.std.proofs.Common.{ℤ}
+use Rattle.id_value.specs.Results.{is_whole}
+use Rattle.id_source.specs.declared.Path.{Path}
+use Rattle.id_source.specs.declared.SourceValue.TheVariants as source
+use Rattle.id_source.specs.declared.Fact.TheVariants.{Has}
+use Rattle.id_source.specs.Rounds.{Holds}
 use Rattle.id_source.specs.Sources.{Source}
 use Rattle.id_pieces.specs.declared.arc.Origin.{Origin}
 use Rattle.id_pieces.specs.declared.arc.Form.TheVariants.{Plain}
@@ -42,12 +48,17 @@ use Rattle.id_laws.proofs.Start.{is_there}
 use Rattle.id_pieces.specs.declared.arc.Form.{Form}
 use Rattle.id_pieces.specs.Rows.{op_by}
 
+-- nothing is in flight, and each number that a place of the source Has is one of the language
+pub record IsSettled (S : Source) (s : World) : Type 0 where
+  pub empty : s.flight ≡ []
+  pub wholes : {p : Path} {e : ℕ} {i : ℤ} → Holds S (Has p e (source.Int i)) → is_whole i ≡ true
+
 module _ (S : Source) (g : Parts) (number : ℕ → ℕ → ℕ) (numbered : Numbered S.checked g number) (known : IsKnown S.checked) (count : ℕ)
     (only : Exclusive g S.inputs count)
-    (s : World) (run : List Event) (r : Reach g S.inputs count s run) (quiet : s.flight ≡ []) where
+    (s : World) (run : List Event) (r : Reach g S.inputs count s run) (quiet : IsSettled S s) where
   -- what was sent, or was there at the start, was handled
   pub was_handled : (x : Payload) → ComesFrom g S.inputs run x → Among x (handled run)
-  was_handled x from = arrived g S.inputs count s run r quiet x from
+  was_handled x from = arrived g S.inputs count s run r quiet.empty x from
 
   -- what a firing sends was handled
   pub sent_handled : {t : Tag} {f : Fired} (y : FiresAs run t f) (x : Payload) → Among x (sent_by g t f) → Among x (handled run)

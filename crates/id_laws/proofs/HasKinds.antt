@@ -1,7 +1,7 @@
 -- What a thing Has is of its kind.
 use Rattle.std.proofs.Common.{◌≡◌, inl, inr, ℕ, zero, suc, ◌<◌, Bool as Truth, true, false, Some, None, List, [], ◌∷◌, length, slice_get}
 use Rattle.std.proofs.Common.{unwrap_or, arith, refl, sym, ◌∙◌, ap, subst}
-use Rattle.std.specs.Prelude.{neg_ℤ}
+use Rattle.std.specs.Prelude.{neg_ℤ, ◌+ℤ◌, pos}
 use Rattle.id_value.specs.declared.Kind.{Kind}
 use Rattle.id_value.specs.declared.Kind.TheVariants as kinds
 use Rattle.id_value.specs.declared.Constant.{Constant}
@@ -20,6 +20,7 @@ use Rattle.id_list.proofs.AmongLemmas.{Among-from_at}
 use Rattle.id_table.specs.declared.row.Node.{Node}
 use Rattle.id_table.specs.declared.row.Node.TheVariants.{Head, Param, Split, If, Binding, Program, Enter, Arg, Def, Fetch, Address}
 use Rattle.id_table.specs.declared.row.Node.TheVariants.{Start, LoopHead, Variable, Entries, Switches, Turn, NextUse, Next, Body, Reset}
+use Rattle.id_table.specs.declared.row.Node.TheVariants.{Bounds, Carried, Within, Count, Index, Span}
 use Rattle.id_table.specs.Rows.{at}
 use Rattle.id_table.specs.Tables.{HasOperand, is_thing, is_binder, is_expression}
 use Rattle.id_table.proofs.RegionLemmas.{HasPart-operand}
@@ -36,12 +37,12 @@ use Rattle.id_source.specs.declared.Put.{Put}
 use Rattle.id_source.specs.declared.SourceValue.TheVariants as source
 use Rattle.id_source.specs.Sources.{Source, AreFor, AreInputs, IsInput, SuitsParam, main_params, value_kind, value_of, constant_kind as input_kind_of}
 use Rattle.id_source.specs.Facts.{Rule, Chooses, then_arm, else_arm, param_has, literal_has, unary_has, binary_has, name_has, conditional_has, block_has}
-use Rattle.id_source.specs.Facts.{binding_has, argument_has, call_has, first_has, next_has, loop_has, array_has, fetch_has, asks, puts, site}
+use Rattle.id_source.specs.Facts.{binding_has, argument_has, call_has, first_has, next_has, loop_has, index_begins, index_counts, array_has, fetch_has, asks, puts, site}
 use Rattle.id_source.specs.Rounds.{Every, Rounds, Holds}
 use Rattle.id_pieces.specs.Rows.{node, port_at, port_of, param_of}
 use Rattle.id_laws.specs.Activations.{main_head}
 use Rattle.id_laws.proofs.Assumed.{IsKnown}
-use Rattle.id_check.proofs.ProgramsLemmas.{loop_row, next_row}
+use Rattle.id_check.proofs.ProgramsLemmas.{kind_fixed, loop_row, next_row}
 use Rattle.id_laws.proofs.Blocks.{IsParam, a_param}
 use Rattle.id_table.specs.Turns.{IsDefOf, params_at}
 use Rattle.id_laws.proofs.Calls.{enter_at, called_is}
@@ -111,7 +112,7 @@ input_kind_is (Bool b) = refl
 -- a parameter that suits the value has its kind
 param_suits : (P : Checked) → IsKnown P → (b : ℕ) (v : Constant) → b < length (rows P) → (m : Node) → node P b ≡ m → SuitsParam m v
     → kind P b ≡ Some (value_kind (value_of v))
-param_suits P known b v within (Param x k) is h = known.param_kind b x k within is ∙ ap (λ z. Some z) (sym h ∙ input_kind_is v)
+param_suits P known b v within (Param x k) is h = known.param_kind b x k within is ∙ ap (λ z. Some z) (sym h.0 ∙ input_kind_is v)
 param_suits P known b v within _ is h = absurd h
 
 some_is : {A : Type 0} {x y : A} → Some x ≡ Some y → x ≡ y
@@ -158,6 +159,7 @@ pub binder_thing : (m : Node) → is_binder m ≡ true → is_thing m ≡ true
 binder_thing (Param x k) h = refl
 binder_thing (Binding x a) h = refl
 binder_thing (Next x k o v) h = refl
+binder_thing (Index x) h = refl
 binder_thing _ h = absurd (no h)
   where
     no : false ≡ true → ⊥
@@ -179,6 +181,12 @@ expression_thing (NextUse x) h = h
 expression_thing Body h = h
 expression_thing (Address t i) h = h
 expression_thing (Reset v) h = h
+expression_thing (Bounds a b) h = h
+expression_thing (Carried k) h = h
+expression_thing (Within f) h = h
+expression_thing Count h = h
+expression_thing (Index x) h = refl
+expression_thing Span h = h
 expression_thing _ h = refl
 
 param_thing : {m : Node} → IsParam m → is_thing m ≡ true
@@ -315,8 +323,14 @@ module _ (S : Source) (known : IsKnown S.checked) (inputs : AreInputs S.checked 
       subst (OfKind n) parts.1 (one_row n i _ w y.next refl within thing parts.0 (sym z.5 ∙ all.kinds_of a _ w inner.0 inner.1 h.0))
   kind_by m all (loop_has {n = r} {h = g} {w = u} {l = a} {u = w} q k x) h n p v within thing is =
       let parts = same_fact is in
-      let inner = operand_of r a (x.loop).within (subst (λ z. HasOperand z a) (sym (x.loop).node) refl) in
-      subst (OfKind n) parts.1 (one_row n r _ w x.loop refl within thing parts.0 (loop_row P r g u a x.loop ∙ all.kinds_of a _ w inner.0 inner.1 h.0))
+      let inner = operand_of r a x.within (subst (λ z. HasOperand z a) (sym x.node) refl) in
+      subst (OfKind n) parts.1 (one_row n r _ w x refl within thing parts.0 (loop_row P r g u a x ∙ all.kinds_of a _ w inner.0 inner.1 h.0))
+  kind_by m all (index_begins {x = i} {lo = lo} x below) h n p v within thing is =
+      let parts = same_fact is in
+      subst (OfKind n) parts.1 (one_row n i _ (source.Int lo) x.index refl within thing parts.0 (kind_fixed P i (Index x.name) kinds.Int x.index refl))
+  kind_by m all (index_counts {x = i} {i = number} q k x below) h n p v within thing is =
+      let parts = same_fact is in
+      subst (OfKind n) parts.1 (one_row n i _ (source.Int (number +ℤ pos 1)) x.index refl within thing parts.0 (kind_fixed P i (Index x.name) kinds.Int x.index refl))
   kind_by m all (block_has {n = r} {b = b} {v = w} x) h n p v within thing is =
       let parts = same_fact is in
       let inner = operand_of r b x.within (subst (λ z. HasOperand z b) (sym x.node) refl) in

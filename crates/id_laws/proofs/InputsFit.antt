@@ -32,7 +32,7 @@ token_port (value.Bool b) = refl
 -- a parameter that suits the value has its kind
 suits_kind : (P : Checked) (known : IsKnown P) (b : ℕ) (v : Constant) → b < length (rows P) → (m : Node) → node P b ≡ m → SuitsParam m v
     → kind P b ≡ Some (constant_kind v)
-suits_kind P known b v within (Param x k) is h = known.param_kind b x k within is ∙ ap (λ z. Some z) (sym h)
+suits_kind P known b v within (Param x k) is h = known.param_kind b x k within is ∙ ap (λ z. Some z) (sym h.0)
 suits_kind P known b v within _ is h = absurd h
 
 module _ (P : Checked) (known : IsKnown P) (g : Parts) (number : ℕ → ℕ → ℕ) (numbered : Numbered P g number) where

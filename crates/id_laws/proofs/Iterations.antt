@@ -11,30 +11,28 @@ use Rattle.id_table.specs.Tables.{is_binder}
 use Rattle.id_check.specs.declared.checked.Checked.{Checked}
 use Rattle.id_scope.specs.Scopes.{loops_between}
 use Rattle.id_check.specs.Programs.{region, rows}
-use Rattle.id_tag.specs.declared.Value.TheVariants as value
 use Rattle.id_source.specs.declared.Path.{Path}
 use Rattle.id_source.specs.declared.PathStep.{PathStep}
 use Rattle.id_source.specs.Sources.{Source}
 use Rattle.id_source.specs.Facts.{below, without}
-use Rattle.id_pieces.specs.Rows.{block, node, origin}
+use Rattle.id_pieces.specs.Rows.{block, node}
 use Rattle.id_arcs.proofs.NamesSeen.{Sees, own, handed, entered as entered_in}
 use Rattle.id_runs.specs.Activations.{Activation, at_iteration}
 use Rattle.id_runs.specs.Events.{Event}
-use Rattle.id_laws.specs.Activations.{of_turns, Seat, Outermost, Below, path_at, Speaks, Live, again}
+use Rattle.id_laws.specs.Activations.{of_turns, Seat, Outermost, Below, path_at, Live, again}
 use Rattle.id_laws.proofs.Assumed.{IsKnown}
-use Rattle.id_laws.proofs.Conditionals.{arm_live, one_test}
+use Rattle.id_laws.proofs.Conditionals.{arm_live}
 use Rattle.id_laws.proofs.Loops.{loop_of_head, loop_of_start, start_node, start_within}
-use Rattle.id_laws.proofs.Regions.{as_tests, label_row, region_of}
+use Rattle.id_laws.proofs.Regions.{as_tests, home_row, region_of}
 use Rattle.id_laws.proofs.Seats.{length_snoc}
 use Rattle.id_laws.proofs.Sources.{tests_other}
 
--- where the predicate is true, the loop's head is live again
+-- where a loop goes on, its head is live again
 pub turned_again : {S : Source} (known : IsKnown S.checked) {number : ℕ → ℕ → ℕ} {run : List Event} {a : Activation} {w t : ℕ} → w < length (rows S.checked)
     → node S.checked w ≡ Switches t → Live S number run a (arm_at w true) → Live S number run (at_iteration a.context (suc a.iteration)) (region S.checked w)
 turned_again {S} known {number} {run} {a} {w} {t} within is live =
     let l = arm_live known live refl (of_turns is) in
-    let says = subst (λ e. Speaks S number run a (origin S.checked e) (value.Bool true)) (one_test l.tests (of_turns is)) l.spoken in
-    again within is l.live says l.goes
+    again within is l.live l.chosen l.goes
 
 -- ---- paths
 
@@ -66,7 +64,7 @@ at_row P h = at (rows P) h
 pub seen_depth : {P : Checked} (known : IsKnown P) {b : ℕ} {r : Region} → b < length (rows P) → is_binder (node P b) ≡ true → Sees P b r →
     depth (rows P) b ≤ depth (rows P) r.head
 seen_depth {P} known {b} {r} within binds (own is) =
-    let l = label_row known within binds in
+    let l = home_row known within binds in
     let same = ap (λ (z : Region). block P z.head) (sym is) ∙ (region_of known l.within l.other).block ∙ l.block in
     omega (arith, depth_at r.head b same)
   where

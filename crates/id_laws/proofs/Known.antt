@@ -1,8 +1,8 @@
 -- The rows of a checked program are known: the table, the binders and the kinds that the check has found.
-use Rattle.std.proofs.Common.{◌≡◌, inl, inr, ℕ, ◌<◌, ◌+◌, true, Some, map, length, refl, sym, ◌∙◌, ap, subst, if◌then◌else◌}
+use Rattle.std.proofs.Common.{◌≡◌, inl, inr, ℕ, ◌<◌, ◌+◌, ◌-◌, true, Some, map, length, refl, sym, ◌∙◌, ap, subst, if◌then◌else◌}
 use Rattle.std.specs.Prelude.{slice_get, unwrap_or}
 use Rattle.id_table.specs.declared.row.Node.{Node}
-use Rattle.id_table.specs.declared.row.Node.TheVariants.{Param, Literal, Name, Unary, Binary, Arg, Call, Def, Block, Binding, Start, Next, Array, Fetch}
+use Rattle.id_table.specs.declared.row.Node.TheVariants.{Param, Literal, Name, Unary, Binary, Arg, Call, Def, Block, Binding, Start, LoopHead, Turn, Next, Array, Fetch, Carried, Index}
 use Rattle.id_table.specs.Tables.{AreApart, is_binder, is_top}
 use Rattle.id_table.specs.Turns.{IsDefOf, params_at}
 use Rattle.id_table.proofs.BlocksLemmas.{Among-from_params_at}
@@ -14,7 +14,7 @@ use Rattle.id_check.specs.Programs.{Calls, Stands, binder, kind, region, rows, t
 use Rattle.id_check.proofs.ProgramsLemmas.{table_of, bound_name_row, kind_along, kind_fixed, split_row, if_row}
 use Rattle.id_check.proofs.ProgramsLemmas.{def_row, enter_row, callee_row, call_row, next_row, argument_row}
 use Rattle.id_check.proofs.ProgramsLemmas.{argument_call, switches_row}
-use Rattle.id_check.proofs.ProgramsLemmas.{array_row, fetch_row, address_row, store_row}
+use Rattle.id_check.proofs.ProgramsLemmas.{array_row, bounds_row, fetch_row, address_row, store_row}
 use Rattle.id_source.specs.Sources.{head_of}
 use Rattle.id_meaning.proofs.ArgumentsLemmas.{argument-get}
 use Rattle.id_pieces.specs.Rows.{block, called, entering, first_binder, node, outer_at, param_at, param_of}
@@ -24,11 +24,11 @@ use Rattle.id_list.specs.List.{Among}
 use Rattle.id_desugar.specs.Regions.{imports_of, nexts_of}
 use Rattle.id_laws.specs.Activations.{main_head, Tests, of_arms, of_turns}
 use Rattle.id_laws.specs.Topics.{Addresses, of_fetch, of_store}
-use Rattle.id_laws.proofs.Assumed.{IsKnown}
+use Rattle.id_laws.proofs.Assumed.{IsKnown, is_handed}
 use Rattle.id_pieces.proofs.EndsLemmas.{call_is}
 use Rattle.id_arcs.proofs.ImportsLemmas.{name_seen, split_seen, switches_seen, first_seen, loop_seen, turn_seen}
 use Rattle.id_pieces.proofs.LoopsLemmas.{start_head}
-use Rattle.id_laws.proofs.LoopRows.{entering_binds, import_binds}
+use Rattle.id_laws.proofs.LoopRows.{entering_binds, handed_at, import_binds, name_binds}
 use Rattle.id_list.proofs.AmongLemmas.{Among-either, Among-from_map}
 use Rattle.id_table.proofs.DepthLemmas.{depth-head}
 use Rattle.id_arcs.proofs.NamesSeen.{Sees}
@@ -103,11 +103,19 @@ call_is_kind P n e c d h within is = go w.0 w.1 w.2
         let result : h.result ≡ w.result = cc in
         (call_row P n e c b g s w).1 ∙ ap (λ z. Some z) (sym result)
 
--- what switches import has a binder, which their region sees
+-- what switches hand on is seen where they stand
 imported_by : (P : Checked) (n t b : ℕ) → n < length (rows P) → Tests P n t → Among b (imports_of P n)
-    → (b < length (rows P)) × (is_binder (node P b) ≡ true) × Sees P b (region P n)
-imported_by P n t b within (of_arms is) among = let z = import_binds P n b among in (z.within, z.binds, (split_seen P n t b within is among).sees)
-imported_by P n t b within (of_turns is) among = let z = import_binds P n b among in (z.within, z.binds, (switches_seen P n t b within is among).sees)
+    → (b < length (rows P)) × (is_handed (node P b) ≡ true) × Sees P b (region P n)
+imported_by P n t b within (of_arms is) among =
+    let z = handed_at P n t b within (of_arms is) among in (z.within, z.handed, (split_seen P n t b within is among).sees)
+imported_by P n t b within (of_turns is) among =
+    let z = handed_at P n t b within (of_turns is) among in (z.within, z.handed, (switches_seen P n t b within is among).sees)
+
+-- what hands on imports hands on those of a loop
+turn_head : (P : Checked) (i : ℕ) → i < length (rows P) → node P i ≡ Turn → node P (block P i) ≡ LoopHead (block P i - 1)
+turn_head P i within is =
+    let z = (table_of P).turn_of i within is in
+    (((table_of P).loop_is z.0 (block P i) z.1).before_test).head
 
 -- what goes into a loop is seen where its `Start` stands
 entering_sees : (P : Checked) (s b : ℕ) → s < length (rows P) → node P s ≡ Start → Among b (entering P (s + 1)) → Sees P b (region P s)
@@ -146,9 +154,17 @@ known P = record {
   params = λ b x k within is. (table_of P).at_top b within (ap is_top is);
   bound = bound_is P;
   imported = imported_by P;
-  loop_names = λ s within is b among. (let z = entering_binds P (s + 1) b among in (z.within, z.binds, entering_sees P s b within is among));
-  loop_imports = λ h s within is b among. (let z = import_binds P h b among in (z.within, z.binds, (loop_seen P h s b within is among).sees));
-  turn_names = λ i within is b among. (let z = import_binds P (block P i) b among in (z.within, z.binds, (turn_seen P i b within is among).sees));
+  names = λ n t b within is among. (name_binds P n b among).binds;
+  loop_names = λ s within is b among. (
+      let h = start_head P s within is in
+      let z = entering_binds P (s + 1) s b h.1 among in
+      (z.within, z.binds, entering_sees P s b within is among)
+      );
+  loop_imports = λ h s within is b among. (let z = import_binds P h s b is among in (z.within, z.binds, (loop_seen P h s b within is among).sees));
+  turn_names = λ i within is b among. (
+      let z = import_binds P (block P i) (block P i - 1) b (turn_head P i within is) among in
+      (z.within, z.binds, (turn_seen P i b within is among).sees)
+      );
   loop_depth = λ h s within is. depth-head (rows P) (table_of P) h s within is;
   first_bound = first_bound_is P;
   operands = λ n a within operand. (table_of P).operand_is n a within operand;
@@ -159,8 +175,11 @@ known P = record {
   binary_kinds = λ n a b o within is. kind_fixed P n (Binary o a b) _ (record { within = within; node = is }) refl;
   test_kind = test_by P;
   arm_kinds = λ n s x y within is. (let z = if_row P n s x y (record { within = within; node = is }) in (sym z.0, sym z.1));
+  index_kind = λ n x within is. kind_fixed P n (Index x) kinds.Int (record { within = within; node = is }) refl;
+  carried_kind = λ n k within is. kind_fixed P n (Carried k) k (record { within = within; node = is }) refl;
   array_kind = λ n a b within is. kind_fixed P n (Array a b) _ (record { within = within; node = is }) refl;
   fetch_kind = λ n t i within is. kind_fixed P n (Fetch t i) _ (record { within = within; node = is }) refl;
+  range_kinds = λ n a b within is. bounds_row P n a b (record { within = within; node = is });
   bound_kinds = λ n a b within is. array_row P n a b (record { within = within; node = is });
   cell_kinds = cell_by P;
   stored_kind = λ n a v within is. store_row P n a v (record { within = within; node = is });

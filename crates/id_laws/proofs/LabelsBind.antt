@@ -1,14 +1,16 @@
 -- The labels of a schemas' graph are the instructions of binders.
-use Rattle.std.proofs.Common.{◌≡◌, ℕ, zero, suc, ◌-◌, ◌≤◌, ◌<◌, length, ◌==◌, ◌&&◌, not, Bool as Truth, true, false}
+use Rattle.std.proofs.Common.{◌≡◌, ℕ, zero, suc, ◌+◌, ◌-◌, ◌≤◌, ◌<◌, length, ◌==◌, ◌&&◌, not, Bool as Truth, true, false}
 use Rattle.std.proofs.Common.{cond, Some, List, [], ◌∷◌, slice_get, refl, sym}
 use Rattle.std.proofs.Common.{◌∙◌, ap, arith}
+use Rattle.id_value.specs.declared.Kind.{Kind}
 use Rattle.std.specs.List.{count_by}
 use Rattle.std.proofs.lemmas.Bool.Decides.{nat_tests}
 use Rattle.std.proofs.lemmas.List.Sums.{sum_by-cons}
 use Rattle.id_table.specs.declared.row.Node.{Node}
 use Rattle.id_table.specs.declared.row.Node.TheVariants.{Head, Param, Split, If, Program, Enter, Call, Binding, Start, LoopHead, Entries, Loop, Fetch}
+use Rattle.id_table.specs.declared.row.Node.TheVariants.{Bounds, Carried, Count, Index}
 use Rattle.id_table.specs.Tables.{begins_block, is_binder}
-use Rattle.id_table.specs.Loops.{IsLoopOf}
+use Rattle.id_table.specs.Loops.{IsLoopOf, index_row}
 use Rattle.id_check.specs.declared.checked.Checked.{Checked}
 use Rattle.id_check.specs.Programs.{place, rows}
 use Rattle.id_instr.specs.declared.instr.Instr.{Instr}
@@ -18,7 +20,7 @@ use Rattle.id_instr.specs.Graph.{Parts}
 use Rattle.id_core.specs.Observed as shown
 use Rattle.id_pieces.specs.Rows.{block, label, label_by, node, op_by}
 use Rattle.id_pieces.specs.Schemas.{Numbered, Made}
-use Rattle.id_desugar.specs.Ends.{next_of}
+use Rattle.id_desugar.specs.Ends.{end_of, next_of}
 use Rattle.id_laws.specs.Activations.{main_head, of_arms, of_call, of_loop}
 use Rattle.id_laws.specs.Topics.{of_fetch, IsPart}
 use Rattle.id_laws.proofs.Assumed.{IsKnown}
@@ -26,7 +28,9 @@ use Rattle.id_laws.proofs.Arcs.{Does, starts, returns, enters, constant, unary, 
 use Rattle.id_laws.proofs.Arcs.{place_shown, opens, passes, gets}
 use Rattle.id_laws.proofs.Arcs.{sends_in, gives_back, varies, takes_in, moves_on, moves_name, advances, resets}
 use Rattle.id_laws.proofs.Arcs.{gets_last, allocates, addresses, fetches, gets_reply, stores}
-use Rattle.id_laws.proofs.LoopRows.{entries_place, loop_marks, variable_at}
+use Rattle.id_laws.proofs.Arcs.{bounds_meet, begins_index, carries, meets_bound, goes_further, hands_index, has_one, adds_one}
+use Rattle.id_laws.proofs.LoopRows.{LoopPlace, entries_place, loop_marks, variable_at}
+use Rattle.id_laws.proofs.Loops.{LoopOf, bounds_place, carried_loop, count_at, count_loop, counted_of, has_three, index_at, index_within, loop_by, loop_of_row}
 use Rattle.id_laws.proofs.Conditionals.{conditional}
 use Rattle.id_laws.proofs.Tokens.{one_part}
 use Rattle.id_pieces.specs.declared.arc.Form.{Form}
@@ -70,6 +74,82 @@ same_number m n e = grind (arith, nat_tests)
 both_true : (a b : Truth) → (a && b) ≡ true → (a ≡ true) × (b ≡ true)
 both_true true b e = (refl, e)
 both_true false b e = cc
+
+-- ---- markers of loops with an index
+
+-- the entry of an index is its label, and has its place; what else the loop carries on has that of the loop
+pub data CarriedAs (P : Checked) (n : ℕ) : Type 0 where
+  of_index : (i x : ℕ) → i < length (rows P) → node P i ≡ Index x → label P i ≡ n → CarriedAs P n
+  of_loop_itself : LoopPlace P n → CarriedAs P n
+
+pub carried_as : {P : Checked} (known : IsKnown P) {n : ℕ} {k : Kind} → n < length (rows P) → node P n ≡ Carried k → CarriedAs P n
+carried_as {P} known {n} within is = go (n - (h + 1)) (omega (arith, x.low)) (omega (arith, x.low, x.high))
+  where
+    h : ℕ
+    h = block P n
+
+    x : Rattle.id_laws.proofs.Loops.CarriedIn P n
+    x = carried_loop known within is
+
+    l : LoopOf P (block P n)
+    l = x.loop
+
+    i : ℕ
+    i = index_row (l.the).switches
+
+    inside : i < length (rows P)
+    inside = index_within P known (block P n) l x.counted
+
+    -- the index stands in the block
+    index_block : block P i ≡ block P n
+    index_block =
+        let m = loop_of_row known (Index (x.counted).name) inside (x.counted).index refl in
+        let same : (m.the).switches ≡ (l.the).switches = omega (arith, index_at known inside (x.counted).index m) in
+        sym ((m.all).test).block ∙ ap (block P) same ∙ ((l.all).test).block
+
+    go : (j : ℕ) → n ≡ block P n + 1 + j → j < 3 → CarriedAs P n
+    go zero at less =
+        let first : block P n + 1 ≡ n = omega (arith, at) in
+        of_index i (x.counted).name inside (x.counted).index (ap (label_by (block P i) i) (x.counted).index ∙ ap (λ g. g + 1) index_block ∙ first)
+    go (suc zero) at less =
+        let here : n ≡ block P n + 2 = omega (arith, at) in
+        of_loop_itself (record {
+          row = end_of P (block P n);
+          head = block P n;
+          loop = l.the;
+          place = ap (place P) here ∙ ((l.all).place_carried).bound (x.counted).three;
+        })
+    go (suc (suc zero)) at less =
+        let here : n ≡ block P n + 3 = omega (arith, at) in
+        of_loop_itself (record {
+          row = end_of P (block P n);
+          head = block P n;
+          loop = l.the;
+          place = ap (place P) here ∙ ((l.all).place_carried).flag (x.counted).three;
+        })
+    go (suc (suc (suc j))) at less = absurd (omega (arith, less))
+
+-- what counts has its place, and so have the bounds of an index
+pub count_place : {P : Checked} (known : IsKnown P) {n : ℕ} → n < length (rows P) → node P n ≡ Count → LoopPlace P n
+count_place {P} known {n} within is =
+    let z = count_loop known within is in
+    let l = z.0 in
+    let at = count_at known within is l in
+    record {
+      row = end_of P (block P n);
+      head = block P n;
+      loop = l.the;
+      place = ((l.all).place).begins n (omega (arith, at)) (omega (arith, at, z.1.turn));
+    }
+
+pub bounds_at_loop : {P : Checked} (known : IsKnown P) {n a b : ℕ} → n < length (rows P) → node P n ≡ Bounds a b → LoopPlace P n
+bounds_at_loop {P} known {n} {a} {b} within is =
+    let z = (known.table).bounds_of n a b within is in
+    let h = n + 2 in
+    let l = loop_by known z.1 in
+    let c = counted_of P l.all (has_three P ((known.table).loop_is z.0 h z.1) z.2) in
+    let back : n ≡ h - 2 = omega arith in
+    record { row = end_of P h; head = h; loop = l.the; place = ap (place P) back ∙ bounds_place P known h l c }
 
 -- ---- labels
 
@@ -160,6 +240,15 @@ module _ (P : Checked) (known : IsKnown P) (g : Parts) (number : ℕ → ℕ →
       (ap (place_shown P (place P h)) z.head_node ∙ z.head_place ∙ sym x.place ∙ sym (ap (place_shown P (place P n)) is))
       (λ y. let bad : Entries ≡ LoopHead (h - 1) = sym is ∙ y ∙ z.head_node in cc)
 
+  -- so does what a loop carries on beside its index
+  carried_no_label : (n : ℕ) {k : Kind} → node P n ≡ Carried k → LoopPlace P n → (part : IsPart P n 0) → shown.is_label g (number n 0) ≡ true → ⊥
+  carried_no_label n {k} is x part e =
+      let h = x.head in
+      let z = loop_marks P x.row h x.loop in
+      clash part e z.head_within (starts (ap begins_block z.head_node)) refl
+      (ap (place_shown P (place P h)) z.head_node ∙ z.head_place ∙ sym x.place ∙ sym (ap (place_shown P (place P n)) is))
+      (λ y. let bad : Carried k ≡ LoopHead (h - 1) = sym is ∙ y ∙ z.head_node in cc)
+
   -- a label is the first instruction of the row that labels a binder
   pub record LabelOf (n part : ℕ) : Type 0 where
     pub binder : ℕ
@@ -180,6 +269,10 @@ module _ (P : Checked) (known : IsKnown P) (g : Parts) (number : ℕ → ℕ →
       own : (j : ℕ) (b : Node) → node P n ≡ b → is_binder b ≡ true → label_by (block P n) n b ≡ n → j ≡ 0 → LabelOf n j
       own j b is binds same first =
           record { binder = n; within = (x.makes).within; binds = ap is_binder is ∙ binds; is = ap (label_by (block P n) n) is ∙ same; first = first }
+
+      at_carried : {k : Kind} → node P n ≡ Carried k → CarriedAs P n → shown.is_label g (number n 0) ≡ true → IsPart P n 0 → LabelOf n 0
+      at_carried is (of_index i z inside index same) l y = record { binder = i; within = inside; binds = ap is_binder index; is = same; first = refl }
+      at_carried is (of_loop_itself z) l y = absurd (carried_no_label n is z y l)
 
       go : {j : ℕ} {o : Form} → Does P n j o → shown.is_value_merge (op_by number o) ≡ true → shown.is_label g (number n j) ≡ true → IsPart P n j → LabelOf n j
       go (starts is) k l y = cc
@@ -211,4 +304,12 @@ module _ (P : Checked) (known : IsKnown P) (g : Parts) (number : ℕ → ℕ →
       go (fetches is) k l y = cc
       go (gets_reply is) k l y = absurd (reply_no_label n is y l)
       go (stores is) k l y = cc
+      go (bounds_meet is) k l y = cc
+      go (begins_index is) k l y = cc
+      go (carries is) k l y = at_carried is (carried_as known (x.makes).within is) l y
+      go (meets_bound is) k l y = cc
+      go (goes_further is) k l y = cc
+      go (hands_index is) k l y = cc
+      go (has_one is) k l y = cc
+      go (adds_one is) k l y = cc
       go (answers is) k l y = absurd (answer_no_label n is y l)

@@ -7,6 +7,7 @@ use Rattle.std.proofs.lemmas.Bool.{eqb-true}
 use Rattle.std.proofs.lemmas.List.Sums.{sum_by-cons}
 use Rattle.id_table.specs.declared.row.Node.{Node}
 use Rattle.id_table.specs.declared.row.Node.TheVariants.{Head, Param, Binding, LoopHead, Entries, Switches, Start, Reset, Next, Variable}
+use Rattle.id_table.specs.declared.row.Node.TheVariants.{Bounds, Carried, Count, Index}
 use Rattle.id_table.specs.Tables.{begins_block, is_binder, is_thing}
 use Rattle.id_table.specs.Turns.{IsDefOf}
 use Rattle.id_check.specs.declared.checked.Checked.{Checked}
@@ -27,7 +28,8 @@ use Rattle.id_laws.proofs.Arcs.{Does, starts, returns, enters, constant, unary, 
 use Rattle.id_laws.proofs.Arcs.{place_shown, opens, passes, gets}
 use Rattle.id_laws.proofs.Arcs.{sends_in, gives_back, varies, takes_in, moves_on, moves_name, advances, resets}
 use Rattle.id_laws.proofs.Arcs.{gets_last, allocates, addresses, fetches, gets_reply, stores}
-use Rattle.id_laws.proofs.LabelsBind.{claims_place}
+use Rattle.id_laws.proofs.Arcs.{bounds_meet, begins_index, carries, meets_bound, goes_further, hands_index, has_one, adds_one}
+use Rattle.id_laws.proofs.LabelsBind.{CarriedAs, of_index, of_loop_itself, bounds_at_loop, carried_as, claims_place, count_place}
 use Rattle.id_laws.proofs.LoopRows.{LoopPlace, LabelAt, label_at, variable_at, head_place, start_place, entries_place, switches_place, reset_place}
 use Rattle.id_pieces.specs.declared.arc.Form.{Form}
 use Rattle.id_laws.proofs.Calls.{CallAt, ArgAt, call_at, arg_at, arg_place}
@@ -72,6 +74,7 @@ pub binds_thing : (m : Node) → is_binder m ≡ true → is_thing m ≡ true
 binds_thing (Param x k) h = refl
 binds_thing (Binding x a) h = refl
 binds_thing (Next x k o v) h = refl
+binds_thing (Index x) h = refl
 binds_thing _ h = absurd (true_false (sym h))
 
 -- what claims a place has it, and is no `next`
@@ -109,6 +112,15 @@ module _ (P : Checked) (known : IsKnown P) (g : Parts) (number : ℕ → ℕ →
           let one = (known.apart).apart (next_of P n) b z.within inside (binds_thing (node P (next_of P n)) z.binds) (binds_thing (node P b) binds)
           (sym there ∙ ap (place P) z.is ∙ ap (place_shown P (place P n)) (sym is) ∙ same) in
           sym z.is ∙ ap (label P) one
+
+      -- so has the entry of an index
+      at_index : place P n ≡ place P b → CarriedAs P n → (LoopPlace P n → ⊥) → n ≡ label P b
+      at_index here_is (of_index i x low is own) other =
+          let there = (label_at P i low (ap is_binder is)).place in
+          let one = (known.apart).apart i b low inside (binds_thing (node P i) (ap is_binder is)) (binds_thing (node P b) binds)
+          (sym there ∙ ap (place P) own ∙ here_is) in
+          sym own ∙ ap (label P) one
+      at_index here_is (of_loop_itself x) other = absurd (other x)
 
       at_head : node P n ≡ Head → ⊥
       at_head is =
@@ -190,6 +202,15 @@ module _ (P : Checked) (known : IsKnown P) (g : Parts) (number : ℕ → ℕ →
       by (fetches is) other = absurd (at_thing n _ within is refl refl (ap (place_shown P (place P n)) (sym is) ∙ same))
       by (gets_reply is) other = absurd (at_thing n _ within is refl refl (ap (place_shown P (place P n)) (sym is) ∙ same))
       by (stores is) other = absurd (at_thing n _ within is refl refl (ap (place_shown P (place P n)) (sym is) ∙ same))
+      by (bounds_meet {a = e} {b = f} is) other = absurd (at_loop (Bounds e f) is refl (bounds_at_loop known within is))
+      by (begins_index {a = e} {b = f} is) other = absurd (at_loop (Bounds e f) is refl (bounds_at_loop known within is))
+      by (carries {k = k} is) other =
+          (at_index (ap (place_shown P (place P n)) (sym is) ∙ same) (carried_as known within is) (at_loop (Carried k) is refl), refl)
+      by (meets_bound is) other = absurd (at_loop Count is refl (count_place known within is))
+      by (goes_further is) other = absurd (at_loop Count is refl (count_place known within is))
+      by (hands_index is) other = absurd (at_loop Count is refl (count_place known within is))
+      by (has_one is) other = absurd (at_loop Count is refl (count_place known within is))
+      by (adds_one is) other = absurd (at_loop Count is refl (count_place known within is))
       by (answers is) other = absurd (def_elsewhere P.main (main_head P) b known.main inside binds (ap (place_shown P (place P n)) (sym is) ∙ same))
 
   module _ (b : ℕ) (within : b < length (rows P)) (binds : is_binder (node P b) ≡ true) where

@@ -5,6 +5,8 @@ pub mod Stores
 pub mod Names
 pub mod OnCells
 pub mod Conditionals
+pub mod CountTells
+pub mod Counted
 pub mod Regions
 pub mod Loops
 pub mod Seats
@@ -23,7 +25,6 @@ pub mod Origins
 pub mod Blocks
 pub mod LoopRows
 pub mod LoopEntries
-pub mod LoopFeeds
 pub mod LoopTells
 pub mod Feeding
 pub mod OneEnd
@@ -39,8 +40,10 @@ pub mod AllTell
 pub mod Steps
 pub mod WantedKinds
 pub mod HasKinds
+pub mod Wholes
 pub mod Firings
 pub mod Triggers
+pub mod Counting
 pub mod Speakers
 pub mod CarriedValues
 pub mod CarriedThings

@@ -1,5 +1,5 @@
 -- In a quiet run what a loop hands on comes to its next iteration, and what its `Start` takes in to its first.
-use Rattle.std.proofs.Common.{◌≡◌, inl, ℕ, suc, ◌+◌, ◌<◌, true, cond, Some, List, [], length, get_or, slice_get, refl, sym, ◌∙◌, ap, subst, arith}
+use Rattle.std.proofs.Common.{◌≡◌, inl, ℕ, suc, ◌+◌, ◌<◌, true, cond, Some, List, length, get_or, slice_get, refl, sym, ◌∙◌, ap, subst, arith}
 use Rattle.id_list.specs.List.{Among}
 use Rattle.id_table.specs.declared.row.Node.TheVariants.{Start}
 use Rattle.id_table.specs.Rows.{arm_at, top}
@@ -34,16 +34,16 @@ use Rattle.id_runs.specs.Runs.{Reach, handled}
 use Rattle.id_runs.specs.OneMessage.{Exclusive}
 use Rattle.id_runs.proofs.Givings.{moved_sent}
 use Rattle.id_laws.specs.Activations.{Opens, Speaks, Moves}
-use Rattle.id_laws.proofs.Arcs.{sends_in, starts}
+use Rattle.id_laws.proofs.Arcs.{carries_on, sends_in, starts}
 use Rattle.id_laws.proofs.Assumed.{IsKnown}
-use Rattle.id_laws.proofs.Firings.{PartFired, alone_fired, both_formed, came, sent_handled, spoken}
+use Rattle.id_laws.proofs.Firings.{IsSettled, PartFired, alone_fired, both_formed, came, sent_handled, spoken}
 use Rattle.id_laws.proofs.Loops.{LoopOf, turn_within}
 use Rattle.id_laws.proofs.LoopFacts.{entering_fed, entry_does, entry_fed, entry_within, head_fed, turn_does, turn_fed, turn_name_does, turn_name_fed}
 use Rattle.id_laws.proofs.Sent.{dests_are}
 
 module _ (S : Source) (g : Parts) (number : ℕ → ℕ → ℕ) (numbered : Numbered S.checked g number) (known : IsKnown S.checked) (count : ℕ)
     (only : Exclusive g S.inputs count)
-    (s : World) (run : List Event) (r : Reach g S.inputs count s run) (quiet : s.flight ≡ []) where
+    (s : World) (run : List Event) (r : Reach g S.inputs count s run) (quiet : IsSettled S s) where
   abbrev P : Checked
   P = S.checked
 
@@ -113,30 +113,39 @@ module _ (S : Source) (g : Parts) (number : ℕ → ℕ → ℕ) (numbered : Num
         let b = get_or (imports_of P h) j 0 in
         let n = turn_row P h in
         let e = entries_row P h in
-        let name = came S g number numbered known count only s run r quiet this (name_in P (arm_at w true) b) n (suc j) Zero v says
+        let part = suc (carries_on P h + j) in
+        let name = came S g number numbered known count only s run r quiet this (name_in P (arm_at w true) b) n part Zero v says
         (turn_name_fed known x j less) in
-        let turns = alone_fired S g number numbered known count only s run r quiet this n (suc j) (op.Next (port_at P b)) Zero v (turn_within P known h x)
+        let turns = alone_fired S g number numbered known count only s run r quiet this n part (op.Next (port_at P b)) Zero v (turn_within P known h x)
         (turn_name_does known x j less) refl name in
-        let moves = next_moves this n (suc j) (port_at P b) v turns fits in
-        let again = moved_came this (record { row = n; part = suc j; side = true }) (suc k) e j Zero v moves (entry_fed known x j less) in
+        let moves = next_moves this n part (port_at P b) v turns fits in
+        let again = moved_came this (record { row = n; part = part; side = true }) (suc k) e j Zero v moves (entry_fed known x j less) in
         let entry = alone_fired S g number numbered known count only s run r quiet next e j (op.Merge (port_at P b)) Zero v (entry_within known x)
         (entry_does known x j less) refl again in
         spoken S g number numbered known count only s run r quiet next e j (op.Merge (port_at P b)) (Alone v) v entry (λ f. merge_out (port_at P b) v fits)
 
-  -- what a `Start` takes in came to the entry of that number, where it is of its kind
-  pub entered_in : (a : Activation) (n k : ℕ) (c : Context) (q : Entry) (v : Value) → n < length (rows P) → node P n ≡ Start → Opens S number run a n c
-      → k < length (entering P (n + 1)) → slice_get (loop_entries P (n + 1)) k ≡ Some q → same_kind (kind_of v) (port_at P q.binder) ≡ true
-      → Speaks S number run a (name_in P (region P n) (get_or (entering P (n + 1)) k 0)) v
+  -- what a `Start` sends came to its entry, where it is of its kind
+  pub sent_in : (a : Activation) (n k : ℕ) (c : Context) (q : Entry) (t : Origin) (v : Value) → n < length (rows P) → node P n ≡ Start
+      → Opens S number run a n c → slice_get (loop_entries P (n + 1)) k ≡ Some q → same_kind (kind_of v) (port_at P q.binder) ≡ true
+      → Feeds P (output n) n (suc k) Zero → Feeds P t n (suc k) One → Speaks S number run a t v
       → Among (Token (tag_in (at_iteration c 0) (number q.row q.part)) Zero v) (handled run)
-  entered_in a n k c q v within is opened less at fits says =
-      let b = get_or (entering P (n + 1)) k 0 in
-      let feeds = entering_fed known within is less in
+  sent_in a n k c q t v within is opened at fits to_context to_value says =
       let speaks : Speaks S number run a (output n) (value.Context c) = record { fired = Entered c; fires = opened; gives = (refl, refl) } in
-      let context_in = came S g number numbered known count only s run r quiet a (output n) n (suc k) Zero (value.Context c) speaks feeds.0 in
-      let value_in = came S g number numbered known count only s run r quiet a (name_in P (region P n) b) n (suc k) One v says feeds.1 in
+      let context_in = came S g number numbered known count only s run r quiet a (output n) n (suc k) Zero (value.Context c) speaks to_context in
+      let value_in = came S g number numbered known count only s run r quiet a t n (suc k) One v says to_value in
       let fired_so = both_formed S g number numbered known count only s run r quiet a n (suc k) (SendTo (port_at P q.binder) q.row q.part)
       (value.Context c) v within (sends_in k q is at) refl context_in value_in in
       let into = tag_in (at_iteration c 0) (number q.row q.part) in
       let sent : cond (same_kind (kind_of v) (port_at P q.binder)) (Sent into v) Nothing ≡ Sent into v = ap (λ z. cond z (Sent into v) Nothing) fits in
       sent_handled S g number numbered known count only s run r quiet (subst (λ z. FiresAs run (tag_in a (number n (suc k))) z) sent fired_so.fires)
       (Token into Zero v) (inl refl)
+
+  -- so did the names that it takes in
+  pub entered_in : (a : Activation) (n k : ℕ) (c : Context) (q : Entry) (v : Value) → n < length (rows P) → node P n ≡ Start → Opens S number run a n c
+      → k < length (entering P (n + 1)) → slice_get (loop_entries P (n + 1)) (carries_on P (n + 1) + k) ≡ Some q
+      → same_kind (kind_of v) (port_at P q.binder) ≡ true
+      → Speaks S number run a (name_in P (region P n) (get_or (entering P (n + 1)) k 0)) v
+      → Among (Token (tag_in (at_iteration c 0) (number q.row q.part)) Zero v) (handled run)
+  entered_in a n k c q v within is opened less at fits says =
+      let feeds = entering_fed known within is less in
+      sent_in a n (carries_on P (n + 1) + k) c q (name_in P (region P n) (get_or (entering P (n + 1)) k 0)) v within is opened at fits feeds.0 feeds.1 says

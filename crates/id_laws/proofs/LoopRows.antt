@@ -1,27 +1,35 @@
 -- What the rows of a loop make, and what they import.
 use Rattle.std.proofs.Common.{◌≡◌, inl, inr, ℕ, zero, suc, ◌+◌, ◌-◌, ◌<◌, Bool as Truth, true, false, cond, Option}
 use Rattle.std.proofs.Common.{Some, None, List, [], ◌∷◌, ◌++◌, map, length}
+use Rattle.std.specs.Prelude.{◌||◌}
 use Rattle.std.proofs.Common.{slice_get, get_or, unwrap_or, refl, sym, ◌∙◌, ap, subst, arith}
 use Rattle.id_list.specs.List.{Among}
 use Rattle.id_list.proofs.AmongLemmas.{Among-either, Among-from_map}
+use Rattle.id_value.specs.declared.Kind.{Kind}
+use Rattle.id_value.specs.declared.Kind.TheVariants as kinds
 use Rattle.id_table.specs.declared.row.Node.{Node}
 use Rattle.id_table.specs.declared.row.Node.TheVariants.{Head, Param, Name, NextUse, Split, Binding, LoopHead, Variable, Entries, Switches, Next, Start, Reset}
+use Rattle.id_table.specs.declared.row.Node.TheVariants.{Carried, Index}
 use Rattle.id_table.specs.Rows.{at}
-use Rattle.id_table.specs.Tables.{begins_block, is_binder, is_variable}
-use Rattle.id_table.specs.Loops.{IsLoopOf, IsNextOf}
+use Rattle.id_table.specs.Tables.{begins_block, is_binder, is_carried, is_variable}
+use Rattle.id_table.specs.Loops.{IsLoop, IsLoopOf, IsNextOf, index_row}
 use Rattle.id_table.specs.Turns.{params_at}
 use Rattle.id_check.specs.declared.checked.Checked.{Checked}
 use Rattle.id_check.specs.Programs.{binder, kind, place, rows}
-use Rattle.id_check.proofs.ProgramsLemmas.{bound_name_row, bound_use_row, next_row, table_of}
+use Rattle.id_check.specs.Programs.{Stands}
+use Rattle.id_check.proofs.ProgramsLemmas.{bound_name_row, bound_use_row, kind_fixed, next_row, table_of}
 use Rattle.id_instr.specs.declared.instr.Op.TheVariants as op
 use Rattle.id_desugar.specs.Ends.{next_of, end_of}
-use Rattle.id_desugar.specs.Regions.{imports_of, nexts_of, nexts_from, taken, handed, used, used_by, with_use, is_outside, has, imports_by, is_right_in}
+use Rattle.id_desugar.specs.Regions.{bound_of, carried, first_variable, handed, has, has_index, imports_by, imports_of, is_outside, is_right_in}
+use Rattle.id_desugar.specs.Regions.{nexts_from, nexts_of, taken, used, used_by, with_use}
 use Rattle.id_pieces.specs.declared.arc.Form.TheVariants.{Plain}
 use Rattle.id_pieces.specs.Rows.{Entry, block, entering, entries, entries_by, entries_row, first_binder}
 use Rattle.id_pieces.specs.Rows.{import_entries, label, label_by, loop_entries, node, outer_at, param_entry, port_at}
-use Rattle.id_pieces.specs.Rows.{variable_entries}
-use Rattle.id_pieces.proofs.LoopsLemmas.{entries_node, entries_stand, entries_within, next_is}
-use Rattle.id_laws.proofs.Arcs.{Does, enters, names, place_shown, varies, takes_in}
+use Rattle.id_pieces.specs.Rows.{made_of, port_of, variable_entries}
+use Rattle.id_pieces.proofs.LoopsLemmas.{carried_nodes, entries_node, entries_stand, entries_within, index_carried, loop_rows, next_is, switches_high, switches_low}
+use Rattle.id_laws.specs.Activations.{Tests, of_arms, of_turns}
+use Rattle.id_laws.proofs.Arcs.{Does, doing, enters, names, place_shown, varies, takes_in}
+use Rattle.id_laws.proofs.Assumed.{is_handed, names_by, names_of}
 use Rattle.id_laws.proofs.Blocks.{a_param}
 
 true_false : true ≡ false → ⊥
@@ -53,6 +61,45 @@ pub record EntryMerge (P : Checked) (q : Entry) : Type 0 where
   pub within : q.row < length (rows P)
   pub does : Does P q.row q.part (Plain (op.Merge (port_at P q.binder)))
 
+-- what a loop carries on for its index is a merge of its kind
+pub record CarriedRow (P : Checked) (i : ℕ) (k : Kind) : Type 0 where
+  pub within : i < length (rows P)
+  pub does : Does P i 0 (Plain (op.Merge (port_at P i)))
+  pub kind : kind P i ≡ Some k
+
+pub carried_row : (P : Checked) (i : ℕ) (k : Kind) → node P i ≡ Carried k → CarriedRow P i k
+carried_row P i k is =
+    let within = past P i is_carried refl (ap is_carried is) in
+    let kind_is = kind_fixed P i (Carried k) k (record { within = within; node = is }) refl in
+    let port : port_of k ≡ port_at P i = ap (λ o. port_of (unwrap_or o kinds.Int)) (sym kind_is) in
+    let d = doing {P = P} {n = i} {part = 0} (record { within = within; at = ap (λ m. slice_get (made_of P i (place P i) m) 0) is }) in
+    record { within = within; does = subst (λ p. Does P i 0 (Plain (op.Merge p))) port d.does; kind = kind_is }
+
+-- the rows that a loop carries on for its index
+pub carried_rows : (P : Checked) (h s : ℕ) → h < length (rows P) → node P h ≡ LoopHead s → has_index P h ≡ true
+    → (node P (h + 1) ≡ Carried kinds.Int) × (node P (h + 2) ≡ Carried kinds.Int) × (node P (h + 3) ≡ Carried kinds.Bool)
+carried_rows P h s within is has =
+    let r = loop_rows P h s within is in
+    carried_nodes (r.before_test).carried (index_carried P h r.entries r.carried r.before_test has)
+
+carried_entries : (P : Checked) (h : ℕ) (q : Entry) (t : Truth) → (t ≡ true → EntryMerge P (param_entry (h + 1))
+    × EntryMerge P (param_entry (h + 2)) × EntryMerge P (param_entry (h + 3)))
+    → Among q (map param_entry (cond t ((h + 1) ∷ (h + 2) ∷ (h + 3) ∷ []) [])) → EntryMerge P q
+carried_entries P h q true all (inl is) = subst (EntryMerge P) (sym is) (all refl).0
+carried_entries P h q true all (inr (inl is)) = subst (EntryMerge P) (sym is) (all refl).1
+carried_entries P h q true all (inr (inr (inl is))) = subst (EntryMerge P) (sym is) (all refl).2
+carried_entries P h q true all (inr (inr (inr none))) = absurd none
+carried_entries P h q false all none = absurd none
+
+carried_merge : (P : Checked) (h s : ℕ) (q : Entry) → h < length (rows P) → node P h ≡ LoopHead s → Among q (map param_entry (carried P h)) → EntryMerge P q
+carried_merge P h s q within is =
+    carried_entries P h q (has_index P h) (λ has.
+    let z = carried_rows P h s within is has in
+    (one (h + 1) kinds.Int z.0, one (h + 2) kinds.Int z.1, one (h + 3) kinds.Bool z.2))
+  where
+    one : (i : ℕ) (k : Kind) → node P i ≡ Carried k → EntryMerge P (param_entry i)
+    one i k e = let c = carried_row P i k e in record { within = c.within; does = c.does }
+
 variable_merge : (P : Checked) (v n : ℕ) (q : Entry) → Among q (variable_entries v (nexts_from P v n)) → EntryMerge P q
 variable_merge P v zero q h = absurd h
 variable_merge P v (suc n) q h = go (is_variable (node P v)) refl h (variable_merge P (suc v) n q)
@@ -81,19 +128,30 @@ import_at e j (b ∷ bs) q (inr h) =
 
 pub loop_merge : (P : Checked) (h s : ℕ) (q : Entry) → h < length (rows P) → node P h ≡ LoopHead s → Among q (loop_entries P h) → EntryMerge P q
 loop_merge P h s q within is among =
-    elim (Among-either q (variable_entries (h + 1) (nexts_of P h)) (import_entries (entries_row P h) 0 (imports_of P h)) among) [
-      | inl k ↦ variable_merge P (h + 1) (length (rows P)) q k
-      | inr k ↦
-          let e = entries_row P h in
-          let z = import_at e 0 (imports_of P h) q k in
-          let first : 0 + z.slot ≡ z.slot = omega arith in
-          let of_block : block P e ≡ h = (entries_stand P h s within is e (omega arith) (omega arith)).0 in
-          let does : Does P e z.slot (Plain (op.Merge (port_at P (get_or (imports_of P h) z.slot 0)))) =
-          subst (λ g. z.slot < length (imports_of P g) → Does P e z.slot (Plain (op.Merge (port_at P (get_or (imports_of P g) z.slot 0))))) of_block
-          (λ less. takes_in z.slot (entries_node P h s within is) less) z.less in
-          subst (EntryMerge P) (ap (λ y. record { binder = get_or (imports_of P h) z.slot 0; row = e; part = y }) (sym first) ∙ sym z.is)
-          (record { within = entries_within P h s within is; does = does })
+    elim (Among-either q (map param_entry (carried P h)) (variable_entries v (nexts_of P h) ++ import_entries e 0 (imports_of P h)) among) [
+      | inl k ↦ carried_merge P h s q within is k
+      | inr k ↦ elim (Among-either q (variable_entries v (nexts_of P h)) (import_entries e 0 (imports_of P h)) k) [
+        | inl j ↦ variable_merge P v (length (rows P)) q j
+        | inr j ↦ taken j
+      ]
     ]
+  where
+    v : ℕ
+    v = first_variable P h
+
+    e : ℕ
+    e = entries_row P h
+
+    taken : Among q (import_entries e 0 (imports_of P h)) → EntryMerge P q
+    taken k =
+        let z = import_at e 0 (imports_of P h) q k in
+        let first : 0 + z.slot ≡ z.slot = omega arith in
+        let of_block : block P e ≡ h = (entries_stand P h s within is e (omega arith) (omega arith)).0 in
+        let does : Does P e z.slot (Plain (op.Merge (port_at P (get_or (imports_of P h) z.slot 0)))) =
+        subst (λ g. z.slot < length (imports_of P g) → Does P e z.slot (Plain (op.Merge (port_at P (get_or (imports_of P g) z.slot 0))))) of_block
+        (λ less. takes_in z.slot (entries_node P h s within is) less) z.less in
+        subst (EntryMerge P) (ap (λ y. record { binder = get_or (imports_of P h) z.slot 0; row = e; part = y }) (sym first) ∙ sym z.is)
+        (record { within = entries_within P h s within is; does = does })
 
 param_merge : (P : Checked) (h : ℕ) (q : Entry) → Among q (map param_entry (params_at (rows P) h)) → EntryMerge P q
 param_merge P h q among =
@@ -161,9 +219,20 @@ either_as P v e (m ∷ ms) bs (suc k) q all h =
     let z = either_as P (v + 1) e ms bs k q (λ i a. all i (inr a)) h in
     record { less = omega (arith, z.less); kind = z.kind }
 
-pub entered_as : (P : Checked) (h k : ℕ) (q : Entry) → slice_get (loop_entries P h) k ≡ Some q → EnteredAs P (entering P h) k q
+-- what is carried on has its own kind
+before_as : (P : Checked) (is bs : List ℕ) (qs : List Entry) (k : ℕ) (q : Entry)
+    → ((j : ℕ) → slice_get qs j ≡ Some q → EnteredAs P bs j q) → slice_get (map param_entry is ++ qs) k ≡ Some q → EnteredAs P (is ++ bs) k q
+before_as P [] bs qs k q rest h = rest k h
+before_as P (i ∷ is) bs qs zero q rest h = let one = some_is h in record { less = omega arith; kind = ap (λ (z : Entry). kind P z.binder) one }
+before_as P (i ∷ is) bs qs (suc k) q rest h =
+    let z = before_as P is bs qs k q rest h in
+    record { less = omega (arith, z.less); kind = z.kind }
+
+pub entered_as : (P : Checked) (h k : ℕ) (q : Entry) → slice_get (loop_entries P h) k ≡ Some q → EnteredAs P (carried P h ++ entering P h) k q
 entered_as P h k q at =
-    either_as P (h + 1) (entries_row P h) (nexts_of P h) (imports_of P h) k q (a_next P (h + 1) (length (rows P))) at
+    let v = first_variable P h in
+    before_as P (carried P h) (entering P h) (variable_entries v (nexts_of P h) ++ import_entries (entries_row P h) 0 (imports_of P h)) k q
+    (λ j e. either_as P v (entries_row P h) (nexts_of P h) (imports_of P h) j q (a_next P v (length (rows P))) e) at
 
 -- ---- imports are binders
 
@@ -213,34 +282,73 @@ taken_binds P g lo hi (suc n) b h =
 next_binds : (P : Checked) (m : ℕ) → NextAt P m → BinderAt P m
 next_binds P m x = record { within = x.within; binds = ap is_binder x.node }
 
-pub import_binds : (P : Checked) (n b : ℕ) → Among b (imports_of P n) → BinderAt P b
-import_binds P n b h = go (node P n) h
-  where
-    outside : (g : ℕ) → Among b (taken P g) → BinderAt P b
-    outside g k = taken_binds P g (g + 1) (end_of P g) _ b k
+outside_binds : (P : Checked) (g b : ℕ) → Among b (taken P g) → BinderAt P b
+outside_binds P g b k = taken_binds P g (g + 1) (end_of P g) _ b k
 
-    go : (m : Node) → Among b (handed P n m) → BinderAt P b
-    go (Split t) k = outside n k
-    go (LoopHead s) k = outside n k
+-- those that a row hands on
+pub name_binds : (P : Checked) (n b : ℕ) → Among b (names_of P n) → BinderAt P b
+name_binds P n b h = go (node P n) h
+  where
+    go : (m : Node) → Among b (names_by P n m) → BinderAt P b
+    go (Split t) k = outside_binds P n b k
+    go (LoopHead s) k = outside_binds P n b k
     go (Switches t) k =
         elim (Among-either b (nexts_of P (block P n)) (taken P (block P n)) k) [
-          | inl l ↦ next_binds P b (a_next P (block P n + 1) (length (rows P)) b l)
-          | inr l ↦ outside (block P n) l
+          | inl l ↦ next_binds P b (a_next P (first_variable P (block P n)) (length (rows P)) b l)
+          | inr l ↦ outside_binds P (block P n) b l
         ]
     go _ k = absurd k
 
--- and so are the first values of a loop's variables
-pub entering_binds : (P : Checked) (h b : ℕ) → Among b (entering P h) → BinderAt P b
-entering_binds P h b among =
+-- and those of a loop
+pub import_binds : (P : Checked) (h s b : ℕ) → node P h ≡ LoopHead s → Among b (imports_of P h) → BinderAt P b
+import_binds P h s b is among = outside_binds P h b (subst (λ m. Among b (handed P h m)) is among)
+
+-- so are the first values of a loop's variables
+pub entering_binds : (P : Checked) (h s b : ℕ) → node P h ≡ LoopHead s → Among b (entering P h) → BinderAt P b
+entering_binds P h s b is among =
     elim (Among-either b (map (first_binder P) (nexts_of P h)) (imports_of P h) among) [
       | inl k ↦
           let t = Among-from_map (first_binder P) b (nexts_of P h) k in
-          let x = a_next P (h + 1) (length (rows P)) t.0 t.1 in
+          let x = a_next P (first_variable P h) (length (rows P)) t.0 t.1 in
           let z = next_row P t.0 x.name x.index x.outer x.value (record { within = x.within; node = x.node }) in
           let is : b ≡ z.0 = t.2 ∙ ap (λ n. unwrap_or (binder P (outer_at n)) 0) x.node ∙ ap (λ o. unwrap_or o 0) (z.3).binder in
           subst (BinderAt P) (sym is) (record { within = (z.3).within; binds = (z.3).is_binder })
-      | inr k ↦ import_binds P h b k
+      | inr k ↦ import_binds P h s b is k
     ]
+
+-- a row that has its value from a label stands at the row
+pub record HandedAt (P : Checked) (b : ℕ) : Type 0 where
+  pub within : b < length (rows P)
+  pub handed : is_handed (node P b) ≡ true
+
+pub handed_binder : (P : Checked) (b : ℕ) → BinderAt P b → HandedAt P b
+handed_binder P b x = record { within = x.within; handed = ap (λ t. t || is_carried (node P b)) x.binds }
+
+pub handed_carried : (P : Checked) (b : ℕ) (k : Kind) → node P b ≡ Carried k → HandedAt P b
+handed_carried P b k is = record { within = past P b is_carried refl (ap is_carried is); handed = ap is_handed is }
+
+-- what switches hand on is so: the names, and the upper bound of an index
+pub handed_at : (P : Checked) (n t b : ℕ) → n < length (rows P) → Tests P n t → Among b (imports_of P n) → HandedAt P b
+handed_at P n t b within (of_arms is) among = handed_binder P b (outside_binds P n b (subst (λ m. Among b (handed P n m)) is among))
+handed_at P n t b within (of_turns is) among =
+    elim (Among-either b (bound_of P g) (nexts_of P g ++ taken P g) (subst (λ m. Among b (handed P n m)) is among)) [
+      | inl k ↦ bound (has_index P g) refl k
+      | inr k ↦ handed_binder P b (name_binds P n b (subst (λ m. Among b (names_by P n m)) (sym is) k))
+    ]
+  where
+    g : ℕ
+    g = block P n
+
+    bound : (c : Truth) → has_index P g ≡ c → Among b (cond c ((g + 2) ∷ []) []) → HandedAt P b
+    bound true has (inl e) =
+        let z = (table_of P).switches_of n t within is in
+        let x = (table_of P).loop_is z.0 g z.1 in
+        let low = switches_low x in
+        let high = switches_high x in
+        let less : g < length (rows P) = omega (arith, low, high, (z.1).within) in
+        subst (HandedAt P) (sym e) (handed_carried P (g + 2) kinds.Int (carried_rows P g (g - 1) less (x.before_test).head has).1)
+    bound true has (inr none) = absurd none
+    bound false has none = absurd none
 
 -- ---- labels
 
@@ -296,6 +404,20 @@ label_at P b within e = go (node P b) refl e
           z.place,
           ap (place_shown P (place P (block P b + 1 + k))) z.node,
         )
+    go (Index x) is h =
+        let c = (table_of P).index_of b x within is in
+        let g = block P b in
+        let rows_are = (table_of P).loop_is c.0 g c.1 in
+        let entry = (carried_nodes (rows_are.before_test).carried c.2).0 in
+        let z = carried_row P (g + 1) kinds.Int entry in
+        let mine = kind_fixed P b (Index x) kinds.Int (record { within = within; node = is }) refl in
+        let same : port_at P (g + 1) ≡ port_at P b = ap (λ o. port_of (unwrap_or o kinds.Int)) (z.kind ∙ sym mine) in
+        by (g + 1) (ap (label_by g b) is) (
+          z.within,
+          subst (λ p. Does P (g + 1) 0 (Plain (op.Merge p))) same z.does,
+          (rows_are.place_carried).index c.2 ∙ ap (place P) c.3,
+          ap (place_shown P (place P (g + 1))) entry,
+        )
     go _ is h = absurd (true_false (sym h))
 
 -- a variable is the label of its `next` statement
@@ -329,7 +451,7 @@ start_place P s within is =
     let z = (table_of P).start_of_loop s within is in
     let x = (table_of P).loop_is z.0 (s + 1) z.1 in
     let same : x.start ≡ s = omega (arith, x.begins) in
-    record { row = z.0; head = s + 1; loop = z.1; place = ap (place P) (sym same) ∙ (x.start_of).place }
+    record { row = z.0; head = s + 1; loop = z.1; place = ap (place P) (sym same) ∙ ((x.start_of).beside).place }
 
 pub entries_place : (P : Checked) (e : ℕ) → e < length (rows P) → node P e ≡ Entries → LoopPlace P e
 entries_place P e within is =
@@ -362,12 +484,14 @@ pub record LoopMarks (P : Checked) (n h : ℕ) : Type 0 where
 pub loop_marks : (P : Checked) (n h : ℕ) → IsLoopOf (rows P) n h → LoopMarks P n h
 loop_marks P n h c =
     let x = (table_of P).loop_is n h c in
-    let low : h < length (rows P) = omega (arith, x.before_test.low, x.test.low, x.test.behind, x.body_is.low, x.last_is.low, x.last_is.ends, c.within) in
+    let behind = switches_low x in
+    let before = switches_high x in
+    let low : h < length (rows P) = omega (arith, behind, before, c.within) in
     record {
       start = x.start;
       start_within = omega (arith, x.begins, low);
       start_node = (x.start_of).node;
-      start_place = (x.start_of).place;
+      start_place = ((x.start_of).beside).place;
       head_within = low;
       head_node = (x.before_test).head;
       head_place = (x.place).head;

@@ -28,6 +28,7 @@ use Rattle.id_pieces.specs.Rows.{node, op_by}
 use Rattle.id_laws.proofs.Arcs.{Does, starts, returns, enters, constant, unary, binary, turns_on, hands, joins, opens, passes, gets, names, answers}
 use Rattle.id_laws.proofs.Arcs.{sends_in, gives_back, varies, takes_in, moves_on, moves_name, advances, resets, gets_last}
 use Rattle.id_laws.proofs.Arcs.{allocates, addresses, fetches, gets_reply, stores}
+use Rattle.id_laws.proofs.Arcs.{bounds_meet, begins_index, carries, meets_bound, goes_further, hands_index, has_one, adds_one}
 use Rattle.id_laws.specs.Topics.{of_fetch, of_store}
 use Rattle.id_laws.specs.Activations.{of_arms, of_turns, of_call, of_loop}
 use Rattle.id_runs.specs.Events.{GivesOn}
@@ -131,6 +132,14 @@ mover_is P number d = sym (by d)
     by (fetches is) = ap is_mover is
     by (gets_reply is) = ap is_mover is
     by (stores is) = ap is_mover is
+    by (bounds_meet is) = ap is_mover is
+    by (begins_index is) = ap is_mover is
+    by (carries is) = ap is_mover is
+    by (meets_bound is) = ap is_mover is
+    by (goes_further is) = ap is_mover is
+    by (hands_index is) = ap is_mover is
+    by (has_one is) = ap is_mover is
+    by (adds_one is) = ap is_mover is
     by (answers is) = ap is_mover is
 
 pub moved_by : (P : Checked) (number : ℕ → ℕ → ℕ) {n part : ℕ} {o : Form} → Does P n part o → (t : Tag) (ops : Operands) (f : Fresh) {k : ℕ} {v : Value}
@@ -194,6 +203,14 @@ steps_by P number {o = o} (addresses is) t ops f k v e = absurd (false_true (mov
 steps_by P number {o = o} (fetches is) t ops f k v e = absurd (false_true (moving (op_by number o) t ops f k v e))
 steps_by P number {o = o} (gets_reply is) t ops f k v e = absurd (false_true (moving (op_by number o) t ops f k v e))
 steps_by P number {o = o} (stores is) t ops f k v e = absurd (false_true (moving (op_by number o) t ops f k v e))
+steps_by P number {o = o} (bounds_meet is) t ops f k v e = absurd (false_true (moving (op_by number o) t ops f k v e))
+steps_by P number {o = o} (begins_index is) t ops f k v e = absurd (false_true (moving (op_by number o) t ops f k v e))
+steps_by P number {o = o} (carries is) t ops f k v e = absurd (false_true (moving (op_by number o) t ops f k v e))
+steps_by P number {o = o} (meets_bound is) t ops f k v e = absurd (false_true (moving (op_by number o) t ops f k v e))
+steps_by P number {o = o} (goes_further is) t ops f k v e = absurd (false_true (moving (op_by number o) t ops f k v e))
+steps_by P number {o = o} (hands_index is) t ops f k v e = absurd (false_true (moving (op_by number o) t ops f k v e))
+steps_by P number {o = o} (has_one is) t ops f k v e = absurd (false_true (moving (op_by number o) t ops f k v e))
+steps_by P number {o = o} (adds_one is) t ops f k v e = absurd (false_true (moving (op_by number o) t ops f k v e))
 steps_by P number {o = o} (answers is) t ops f k v e = absurd (false_true (moving (op_by number o) t ops f k v e))
 
 -- what goes to another iteration gives nothing under its own tag

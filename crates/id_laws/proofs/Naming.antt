@@ -30,6 +30,7 @@ use Rattle.id_laws.specs.Activations.{Live, PathOf}
 use Rattle.id_laws.specs.Topics.{IsPart, Named, StandsFor, number_stands, truth_stands, name_stands, Shown}
 use Rattle.id_laws.proofs.Arcs.{allocates, makes, part_of, place_shown}
 use Rattle.id_laws.proofs.Assumed.{IsKnown}
+use Rattle.id_laws.proofs.FiringMeans.{IsBacked}
 use Rattle.id_laws.proofs.Observing.{part_place}
 use Rattle.id_laws.proofs.TagPaths.{path_shown}
 use Rattle.id_laws.proofs.TurnedOn.{without_none}
@@ -38,7 +39,7 @@ some_value : {v w : SourceValue} → Some v ≡ Some w → v ≡ w
 some_value e = cc
 
 module _ (S : Source) (known : IsKnown S.checked) (g : Parts) (number : ℕ → ℕ → ℕ) (numbered : Numbered S.checked g number) (count : ℕ)
-    (s : World) (run : List Event) (r : Reach g S.inputs count s run) where
+    (s : World) (run : List Event) (r : Reach g S.inputs count s run) (backed : IsBacked S run) where
   abbrev P : Checked
   P = S.checked
 
@@ -47,7 +48,7 @@ module _ (S : Source) (known : IsKnown S.checked) (g : Parts) (number : ℕ → 
       → site_at g (shown.path_in g s.elements) (tag_in a (number n part)) ≡ record { path = p; place = place_shown P (place P n) (node P n) }
   site_shown a n part p is_part live at =
       (λ i. record {
-        path = path_shown S known g number numbered count s run r (tag_in a (number n part)) p live at i;
+        path = path_shown S known g number numbered count s run r backed (tag_in a (number n part)) p live at i;
         place = part_place numbered is_part i;
       })
 

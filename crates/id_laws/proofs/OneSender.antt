@@ -1,5 +1,5 @@
 -- No two events of a run send to one port under one tag, ask for one fetch or store for one store, and none sends to what the start sends to.
-use Rattle.std.proofs.Common.{◌≡◌, ◌⊎◌, inl, inr, ℕ, Bool as Truth, true, false, Option, Some, None, List, [], length, slice_get, refl, sym}
+use Rattle.std.proofs.Common.{◌≡◌, ◌⊎◌, inl, inr, ℕ, ℤ, Bool as Truth, true, false, Option, Some, None, List, [], length, slice_get, refl, sym}
 use Rattle.std.proofs.Common.{◌∙◌, ap, subst, zero, suc, ◌+◌, ◌-◌, ◌<◌, arith}
 use Rattle.std.specs.Option.{option_map_or}
 use Rattle.id_value.specs.declared.Kind.{Kind}
@@ -7,6 +7,7 @@ use Rattle.id_list.specs.List.{Among, AllDiffer}
 use Rattle.id_list.proofs.AmongLemmas.{Among-from_at}
 use Rattle.id_table.specs.declared.row.Region.{Region}
 use Rattle.id_table.specs.declared.row.Node.{Node}
+use Rattle.id_table.specs.declared.row.Node.TheVariants.{Carried}
 use Rattle.id_table.specs.declared.row.Node.TheVariants.{Head, Param, If, Program, Enter, Arg, Call, Start, LoopHead}
 use Rattle.id_table.specs.declared.row.Node.TheVariants.{Variable, Entries, Turn, Next, Reset, Loop, Fetch}
 use Rattle.id_table.specs.Tables.{begins_block}
@@ -29,6 +30,11 @@ use Rattle.id_record.specs.Records.{dests_at}
 use Rattle.id_core.specs.Events.{tag_of}
 use Rattle.id_core.specs.Machines.{World}
 use Rattle.id_value.specs.declared.Constant.{Constant}
+use Rattle.id_value.specs.Results.{is_whole}
+use Rattle.id_source.specs.declared.Path.{Path}
+use Rattle.id_source.specs.declared.SourceValue.TheVariants as source
+use Rattle.id_source.specs.declared.Fact.TheVariants.{Has}
+use Rattle.id_source.specs.Rounds.{Holds}
 use Rattle.id_source.specs.Sources.{Source, IsInput}
 use Rattle.id_pieces.specs.declared.arc.Origin.{Origin}
 use Rattle.id_pieces.specs.Rows.{Entry, answer_row, block, node, origin, op_by, called, param_of}
@@ -39,7 +45,7 @@ use Rattle.id_runs.specs.Keys.{Key, AtPort, ByFetch, ByStore, key_of}
 use Rattle.id_runs.specs.Cells.{Replies, cell_at}
 use Rattle.id_runs.proofs.Cells.{cells_exact}
 use Rattle.id_runs.proofs.CellLaws.{one_reply}
-use Rattle.id_runs.specs.Runs.{Reach, handled, starting}
+use Rattle.id_runs.specs.Runs.{Reach, Moving, starting}
 use Rattle.id_runs.specs.OneMessage.{Exclusive, Few}
 use Rattle.id_runs.proofs.Messages.{one_firing}
 use Rattle.id_laws.specs.Activations.{Begins, of_call, of_loop, of_arms, main_head, Speaks, Moves, Live, ReturnsTo}
@@ -47,6 +53,7 @@ use Rattle.id_laws.specs.Activations.{to_answer, to_row, SeatOf, made_seat, Belo
 use Rattle.id_laws.specs.Topics.{AllTell, AllSpeak, Tells, topic_at, wants}
 use Rattle.id_laws.specs.Ways.{Way, by_arc, by_move, by_back, StartsAt, signal, way_back, input, by_send, by_enter}
 use Rattle.id_laws.specs.Ways.{by_continuation, by_reply, of_argument, of_entry, SendsTo}
+use Rattle.id_laws.proofs.Arcs.{bounds_meet, begins_index, carries, meets_bound, goes_further, hands_index, has_one, adds_one}
 use Rattle.id_laws.proofs.Arcs.{Does, starts, returns, enters, constant, unary, binary, turns_on, hands, joins, names, answers, doing, FromArm, one_feed}
 use Rattle.id_laws.proofs.Arcs.{answer_unfed, head_unfed, loop_head_unfed, loop_unfed, opens, passes, gets, call_unfed}
 use Rattle.id_laws.proofs.Arcs.{sends_in, gives_back, varies, takes_in, moves_on, moves_name, advances, resets}
@@ -55,10 +62,13 @@ use Rattle.id_laws.proofs.Begun.{EndsAs, as_call, as_loop, begun_at, one_begun, 
 use Rattle.id_laws.proofs.Movers.{Steps}
 use Rattle.id_laws.proofs.Sendings.{is_enter}
 use Rattle.id_laws.proofs.Steps.{Stepping, stepping}
+use Rattle.id_laws.proofs.Sources.{to_carried_again}
 use Rattle.id_laws.proofs.Sources.{is_entry, is_mover, Stays, Returns, to_trigger_again, to_result, to_variable_again}
 use Rattle.id_laws.proofs.Sources.{to_entry_again, feeds_source, fed_from, mover_returns, returned_mover}
 use Rattle.id_laws.proofs.Assumed.{IsKnown}
-use Rattle.id_laws.proofs.LoopEntries.{GivenAs, as_first, as_import, given_as, one_entry}
+use Rattle.id_laws.proofs.FiringMeans.{IsBacked}
+use Rattle.id_laws.proofs.LoopEntries.{GivenAs, as_carried, as_first, as_import, given_as, one_entry}
+use Rattle.id_laws.proofs.Loops.{carried_loop, carried_node, counted_of}
 use Rattle.id_laws.proofs.Loops.{last_region, loop_of_head, loop_of_row, loop_of_start, reset_last, switches_node, switches_row, switches_within, turn_node}
 use Rattle.id_laws.proofs.OneEnd.{one_end}
 use Rattle.id_pieces.proofs.LoopsLemmas.{entries_node, next_is}
@@ -184,8 +194,12 @@ module _ (S : Source) (number : ℕ → ℕ → ℕ) (run : List Event) (known :
   sent_entry {m = m} (of_entry k q within is at) = by (given_as S.checked (m + 1) k q at)
     where
       by : GivenAs S.checked (m + 1) k q → is_entry (node S.checked q.row) ≡ true
-      by (as_first w less at_w low high here entry first) = ap (λ (z : Entry). is_entry (node S.checked z.row)) entry ∙ ap is_entry at_w
-      by (as_import j less here entry there) =
+      by (as_carried has less entry) =
+          let l = loop_of_start known within is in
+          let row = carried_node S.checked known (m + 1) l (counted_of S.checked l.all has) k less in
+          ap (λ (z : Entry). is_entry (node S.checked z.row)) entry ∙ ap is_entry row.1
+      by (as_first w i less at_w low high here slot entry first) = ap (λ (z : Entry). is_entry (node S.checked z.row)) entry ∙ ap is_entry at_w
+      by (as_import j less slot entry there) =
           let l = loop_of_start known within is in
           ap (λ (z : Entry). is_entry (node S.checked z.row)) entry ∙ ap is_entry (entries_node S.checked (m + 1) ((m + 1) - 1) l.within l.head)
 
@@ -235,7 +249,7 @@ module _ (S : Source) (number : ℕ → ℕ → ℕ) (run : List Event) (known :
       → Speaks S number run a (origin S.checked x) v → Speaks S number run a (origin S.checked y) v' → ⊥
   arms_apart a n part p s x y v v' is feeds feeds' says says' =
       let c = conditional known feeds.within is in
-      sides_apart known once (of_arms c.node) (spoken_live a n part p s x y s true v is feeds says refl)
+      sides_apart known once c.node (spoken_live a n part p s x y s true v is feeds says refl)
       (spoken_live a n part p s x y s false v' is feeds' says' refl)
 
   -- what has spoken to a port is one origin
@@ -285,6 +299,7 @@ module _ (S : Source) (number : ℕ → ℕ → ℕ) (run : List Event) (known :
   no_arm (to_trigger_again {t = t} is) x = let bad : LoopHead t ≡ If x.split x.then x.otherwise = sym is ∙ x.node in cc
   no_arm (to_result {t = t} is) x = let bad : LoopHead t ≡ If x.split x.then x.otherwise = sym is ∙ x.node in cc
   no_arm (to_variable_again is) x = let bad : Variable ≡ If x.split x.then x.otherwise = sym is ∙ x.node in cc
+  no_arm (to_carried_again {k = k} is) x = let bad : Carried k ≡ If x.split x.then x.otherwise = sym is ∙ x.node in cc
   no_arm (to_entry_again k is less) x = let bad : Entries ≡ If x.split x.then x.otherwise = sym is ∙ x.node in cc
 
   mover_is : {a : Activation} {s : Origin} {k : ℕ} {v : Value} {n part : ℕ} {p : Port} → Feeds S.checked s n part p → Moves S number run a s k v
@@ -339,6 +354,8 @@ module _ (S : Source) (number : ℕ → ℕ → ℕ) (run : List Event) (known :
       by_returns {n} (to_trigger_again {t = t} is) within h = behind
           (subst (λ m. Steps m a.iteration k) (turn_node S.checked known n (loop_of_head known within is)) h)
       by_returns {n} (to_variable_again is) within h = behind (subst (λ m. Steps m a.iteration k) (next_is S.checked n within is).node h)
+      by_returns {n} (to_carried_again is) within h =
+          behind (subst (λ m. Steps m a.iteration k) (turn_node S.checked known (block S.checked n) (carried_loop known within is).loop) h)
       by_returns {n} (to_entry_again j is less) within h =
           behind (subst (λ m. Steps m a.iteration k) (turn_node S.checked known (block S.checked n) (loop_of_row known Entries within is refl)) h)
 
@@ -402,7 +419,7 @@ module _ (S : Source) (number : ℕ → ℕ → ℕ) (run : List Event) (known :
           let h = block S.checked s.row in
           let stands : region S.checked e ≡ arm_at (switches_row S.checked known h loop) false = ap (region S.checked) last ∙
           last_region S.checked known h loop in
-          one_end S known g number numbered run apart once (switches_within S.checked known h loop) (switches_node S.checked known h loop)
+          one_end S known g number numbered run apart once seats speak (switches_within S.checked known h loop) (switches_node S.checked known h loop)
           (subst (Live S number run a) stands here)
           (subst (λ c. Live S number run (at_iteration c b.iteration) (arm_at (switches_row S.checked known h loop) false)) (sym contexts)
           (subst (Live S number run b) stands there))
@@ -615,17 +632,29 @@ second_port S number run a v n part r o (addresses is) one h = true_false one
 second_port S number run a v n part r o (fetches is) one h = subst (λ z. Tells S number run a (wants S.checked n r z 1 One) v) is h
 second_port S number run a v n part r o (gets_reply is) one h = subst (λ z. Tells S number run a (wants S.checked n r z 2 One) v) is h
 second_port S number run a v n part r o (stores is) one h = true_false one
+second_port S number run a v n part r o (bounds_meet is) one h = true_false one
+second_port S number run a v n part r o (begins_index is) one h = true_false one
+second_port S number run a v n part r o (carries is) one h = subst (λ z. Tells S number run a (wants S.checked n r z 0 One) v) is h
+second_port S number run a v n part r o (meets_bound is) one h = true_false one
+second_port S number run a v n part r o (goes_further is) one h = true_false one
+second_port S number run a v n part r o (hands_index is) one h = true_false one
+second_port S number run a v n part r o (has_one is) one h = subst (λ z. Tells S number run a (wants S.checked n r z 3 One) v) is h
+second_port S number run a v n part r o (adds_one is) one h = true_false one
 second_port S number run a v n part r o (answers is) one h = subst (λ z. Tells S number run a (wants S.checked n r z 0 One) v) is h
 
 module _ (S : Source) (g : Parts) (number : ℕ → ℕ → ℕ) (numbered : Numbered S.checked g number) (known : IsKnown S.checked) (count : ℕ)
-    (tell : (s : World) (run : List Event) → Reach g S.inputs count s run → AllTell S number run s)
-    (speak : (s : World) (run : List Event) → Reach g S.inputs count s run → AllSpeak S number run) where
+    (tell : (s : World) (run : List Event) → Reach g S.inputs count s run → IsBacked S run → AllTell S number run s)
+    (speak : (s : World) (run : List Event) → Reach g S.inputs count s run → IsBacked S run → AllSpeak S number run)
+    (wholes : (p : Path) (e : ℕ) (i : ℤ) → Holds S (Has p e (source.Int i)) → is_whole i ≡ true) where
+  backed : {run : List Event} → FiresOnce run → IsBacked S run
+  backed once = record { once = once; wholes = wholes }
+
   -- a token for an operator of one port is for port 0
-  first_port : (s : World) (run : List Event) → Reach g S.inputs count s run → (t : Tag) (p : Port) (v : Value) (i : Instr)
-      → Among (Token t p v) (handled run) → slice_get g.instrs t.instr ≡ Some i → two_ports i.op ≡ false → p ≡ Zero
-  first_port s run r t Zero v i among at one = refl
-  first_port s run r t One v i among at one =
-      let x = tell s run r (Token t One v) (inr among) in
+  first_port : (s : World) (run : List Event) → Reach g S.inputs count s run → FiresOnce run → (t : Tag) (p : Port) (v : Value) (i : Instr)
+      → Moving s run (Token t p v) → slice_get g.instrs t.instr ≡ Some i → two_ports i.op ≡ false → p ≡ Zero
+  first_port s run r once t Zero v i moves at one = refl
+  first_port s run r once t One v i moves at one =
+      let x = tell s run r (backed once) (Token t One v) moves in
       let part = x.is_part in
       let d = doing part.makes in
       let m = numbered.made x.row x.part part.form part.place part.makes in
@@ -651,8 +680,8 @@ module _ (S : Source) (g : Parts) (number : ℕ → ℕ → ℕ) (numbered : Num
       let parts = one_part numbered a.is_part b.is_part (ap (λ (t : Tag). t.instr) tags) in
       let acts : a.activation ≡ b.activation = ap activation_of tags in
       let ports : a.port ≡ b.port = ap port_of_key keys in
-      one_way S number run known (seats S known g number numbered run count s r) once (speak s run r)
-      (stepping S g number numbered count s run r (tell s run r)) g numbered (contexts_apart g S.inputs count s run r)
+      one_way S number run known (seats S known g number numbered run count s r) once (speak s run r (backed once))
+      (stepping S g number numbered count s run r (tell s run r (backed once))) g numbered (contexts_apart g S.inputs count s run r)
       (replies_once s run r few) e e' a.activation a.row a.part a.port a.value b.value a.way
       (subst (λ (z : Activation × (ℕ × (ℕ × Port))). Way S number run e' z.0 z.1.0 z.1.1.0 z.1.1.1 b.value) {x = (b.activation, (b.row, (b.part, b.port)))}
       {y = (a.activation, (a.row, (a.part, a.port)))}
@@ -690,8 +719,8 @@ module _ (S : Source) (g : Parts) (number : ℕ → ℕ → ℕ) (numbered : Num
       → (x y : Payload)
       → Among x (sends_of g e) → Among y (sends_of g e') → key_of x ≡ key_of y → e ≡ e'
   one_sender s run r few once e e' among among' x y h k same =
-      by (sent_so S g number numbered count s run r known (tell s run r) e among x h)
-      (sent_so S g number numbered count s run r known (tell s run r) e' among' y k)
+      by (sent_so S g number numbered count s run r known (tell s run r (backed once)) e among x h)
+      (sent_so S g number numbered count s run r known (tell s run r (backed once)) e' among' y k)
     where
       by : SentSo S number run e x → SentSo S number run e' y → e ≡ e'
       by (as_token a) (as_token b) = one_token s run r few once e e' x y a b same
@@ -708,7 +737,7 @@ module _ (S : Source) (g : Parts) (number : ℕ → ℕ → ℕ) (numbered : Num
   not_at_start : (s : World) (run : List Event) → Reach g S.inputs count s run → Few run → FiresOnce run → (e : Event) → Among e run → (x y : Payload)
       → Among x (sends_of g e) → Among y (starting g S.inputs) → key_of x ≡ key_of y → ⊥
   not_at_start s run r few once e among x y h start same =
-      by (sent_so S g number numbered count s run r known (tell s run r) e among x h)
+      by (sent_so S g number numbered count s run r known (tell s run r (backed once)) e among x h)
     where
       b : Started S g number numbered known y
       b = started S g number numbered known y start
@@ -719,8 +748,8 @@ module _ (S : Source) (g : Parts) (number : ℕ → ℕ → ℕ) (numbered : Num
           (ap key_of a.is) ∙ same ∙ ap key_of b.is in
           let parts = one_part numbered a.is_part b.is_part (ap (λ (j : Key). (tag_of_key j).instr) keys) in
           let ports : a.port ≡ b.port = ap port_of_key keys in
-          not_started S number run known (seats S known g number numbered run count s r) once (speak s run r)
-          (stepping S g number numbered count s run r (tell s run r)) g numbered (contexts_apart g S.inputs count s run r)
+          not_started S number run known (seats S known g number numbered run count s r) once (speak s run r (backed once))
+          (stepping S g number numbered count s run r (tell s run r (backed once))) g numbered (contexts_apart g S.inputs count s run r)
           (replies_once s run r few) e a.activation a.row a.part a.port a.value b.value a.way
           (subst (λ (z : ℕ × (ℕ × Port)). StartsAt S number z.0 z.1.0 z.1.1 b.value) {x = (b.row, (b.part, b.port))} {y = (a.row, (a.part, a.port))}
           (λ i. (sym parts.0 i, (sym parts.1 i, sym ports i))) b.starts_at)
@@ -732,8 +761,8 @@ module _ (S : Source) (g : Parts) (number : ℕ → ℕ → ℕ) (numbered : Num
       by (as_write a) = port_no_store (sym (ap key_of b.is) ∙ sym same ∙ ap key_of a.is)
 
   -- an `Enter` makes another context than its own
-  elsewhere_by : (s : World) (run : List Event) → Reach g S.inputs count s run → (t : Tag) (c : Context) → FiresAs run t (Entered c) → c ≡ t.context → ⊥
-  elsewhere_by s run r t c o e =
+  elsewhere_by : (s : World) (run : List Event) → Reach g S.inputs count s run → FiresOnce run → (t : Tag) (c : Context) → FiresAs run t (Entered c) → c ≡ t.context → ⊥
+  elsewhere_by s run r once t c o e =
       let h = has_fired g S.inputs count s run r o in
       let y = fired_part numbered h in
       let made = entered_by (op_by number y.form) t o.operands y.fresh c (sym y.is) in
@@ -742,28 +771,28 @@ module _ (S : Source) (g : Parts) (number : ℕ → ℕ → ℕ) (numbered : Num
       let first : number y.row y.part ≡ number y.row 0 = ap (number y.row) row.first_part in
       let at : t ≡ tag_in (activation_of t) (number y.row 0) = sym y.at ∙ ap (tag_in (activation_of t)) first in
       let opened = subst (λ u. FiresAs run u (Entered c)) at o in
-      let live = opening_live S known g number numbered run count s r (activation_of t) y.row row.head row.end c within row.begins opened in
+      let live = opening_live S known g number numbered run count s r (backed once) (activation_of t) y.row row.head row.end c within row.begins opened in
       let path = (live_path live).1 in
       let one = seats S known g number numbered run count s r in
       let lower = Below (path_at path.seat t.iteration) (place S.checked y.row) in
       seat_other path.seat t.iteration (place S.checked y.row)
       (one.one t.context path.seat lower path.of_context (subst (λ d. SeatOf S number run d lower) e (made_seat within row.begins opened path.of_context)))
 
-  elsewhere : (s : World) (run : List Event) → Reach g S.inputs count s run → (e : Event) → Among e run → (c : Context) → Enters e c
+  elsewhere : (s : World) (run : List Event) → Reach g S.inputs count s run → FiresOnce run → (e : Event) → Among e run → (c : Context) → Enters e c
       → c ≡ (tag_of (payload_of e)).context → ⊥
-  elsewhere s run r (Took n t p v Waits) among c entering same = absurd entering
-  elsewhere s run r (Took n t p v Blocked) among c entering same = absurd entering
-  elsewhere s run r (Looked n d t a) among c entering same = absurd entering
-  elsewhere s run r (Wrote n d v w a) among c entering same = absurd entering
-  elsewhere s run r (Took n t p v (Fires ops f)) among c entering same =
-      elsewhere_by s run r t c (subst (FiresAs run t) entering (record { element = n; port = p; value = v; operands = ops; among = among })) same
+  elsewhere s run r once (Took n t p v Waits) among c entering same = absurd entering
+  elsewhere s run r once (Took n t p v Blocked) among c entering same = absurd entering
+  elsewhere s run r once (Looked n d t a) among c entering same = absurd entering
+  elsewhere s run r once (Wrote n d v w a) among c entering same = absurd entering
+  elsewhere s run r once (Took n t p v (Fires ops f)) among c entering same =
+      elsewhere_by s run r once t c (subst (FiresAs run t) entering (record { element = n; port = p; value = v; operands = ops; among = among })) same
 
   -- so in any run one event alone, or the start alone, sends for each key
   pub exclusive : Exclusive g S.inputs count
   exclusive = record {
     first_port = first_port;
     sends_once = λ s run r few once e among k. sent_once g S.inputs count (differ_each S.checked g number numbered) s run r few e among k
-        (elsewhere s run r e among);
+        (elsewhere s run r once e among);
     starts_once = starts_once S g number numbered known;
     not_at_start = λ s run r few once e among x y h k. not_at_start s run r few once e among x y h k;
     one_sender = λ s run r few once e e' among among' x y h k. one_sender s run r few once e e' among among' x y h k;

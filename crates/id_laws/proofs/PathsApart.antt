@@ -22,7 +22,9 @@ use Rattle.id_runs.proofs.Serials.{contexts_apart}
 use Rattle.id_laws.specs.Activations.{Live, PathOf, ReturnsTo, at_start, entered, to_answer, to_row}
 use Rattle.id_laws.specs.Laws.{ArePathsApart, events, messages}
 use Rattle.id_laws.specs.Topics.{Told, Topic, Turned, ValueOf, NameIn, TestOf, ResultOf, WayBack, ContextOf, CellOf, Nothing, Tells, topic_at}
+use Rattle.id_laws.specs.Topics.{SaidOf, BoundIn, IndexOf, FlagOf, SaidIndex, FirstIndex, FirstFlag, SaidFirst, NextIndex, NextFlag, SaidNext, LastIndex, AndOne, GoesFurther}
 use Rattle.id_laws.proofs.Assumed.{IsKnown}
+use Rattle.id_laws.proofs.FiringMeans.{IsBacked}
 use Rattle.id_laws.proofs.Opened.{main_first}
 use Rattle.id_laws.proofs.Seats.{live_path, moved_path, paths_apart}
 use Rattle.id_laws.proofs.Sites.{once}
@@ -30,7 +32,7 @@ use Rattle.id_laws.proofs.StartTells.{all_tell, opening_live}
 use Rattle.id_laws.proofs.TagPaths.{CallFirst, first_of, path_seated}
 
 module _ (S : Source) (known : IsKnown S.checked) (g : Parts) (number : ℕ → ℕ → ℕ) (numbered : Numbered S.checked g number) (count : ℕ)
-    (s : World) (run : List Event) (r : Reach g S.inputs count s run) where
+    (s : World) (run : List Event) (r : Reach g S.inputs count s run) (backed : IsBacked S run) where
   -- a region is live in some iteration of the activation's context, in its own where that is not the first
   record LiveIn (a : Activation) : Type 0 where
     iteration : ℕ
@@ -56,6 +58,20 @@ module _ (S : Source) (known : IsKnown S.checked) (g : Parts) (number : ℕ → 
   told_live a (WayBack h) v x = record { iteration = 0; region = top h; live = returning x.returns; own = inl x.at_first }
   told_live a (ContextOf n) v x = own_live x.live
   told_live a (CellOf n) v x = own_live x.live
+  told_live a (SaidOf e) v x = own_live x.0
+  told_live a (BoundIn q h) v x = own_live x.0
+  told_live a (IndexOf h) v x = own_live x.live
+  told_live a (FlagOf h) v x = own_live x.live
+  told_live a (SaidIndex h) v x = own_live x.0
+  told_live a (FirstIndex h) v x = own_live x.0
+  told_live a (FirstFlag h) v x = own_live x.0
+  told_live a (SaidFirst h) v x = own_live x.0
+  told_live a (NextIndex h) v x = own_live (x.0).live
+  told_live a (NextFlag h) v x = own_live x.live
+  told_live a (SaidNext h) v x = own_live (x.0).live
+  told_live a (LastIndex h) v x = own_live (x.counts).live
+  told_live a (AndOne h) v x = own_live (x.1).live
+  told_live a (GoesFurther h) v x = own_live (x.1).live
   told_live a Nothing v x = absurd x
 
   -- and with that of the tag of any message that tells something
@@ -73,9 +89,9 @@ module _ (S : Source) (known : IsKnown S.checked) (g : Parts) (number : ℕ → 
     | inr e ↦ e
   ]
 
-  call_zero : {a : Activation} → LiveIn a → CallFirst S known g number numbered count s run r a.context a.iteration
+  call_zero : {a : Activation} → LiveIn a → CallFirst S known g number numbered count s run r backed a.context a.iteration
   call_zero {a} l b n x within is o = elim l.own [
-    | inl e ↦ e ∙ first_of S known g number numbered count s run r l.live b n x within is o
+    | inl e ↦ e ∙ first_of S known g number numbered count s run r backed l.live b n x within is o
     | inr e ↦ e
   ]
 
@@ -94,7 +110,7 @@ module _ (S : Source) (known : IsKnown S.checked) (g : Parts) (number : ℕ → 
   ]
 
   live_moving : (x : Payload) → Among x (messages s) → LiveIn (activation_of (tag_of x))
-  live_moving x among = live_of x (all_tell S known g number numbered run count s r x (moving x among))
+  live_moving x among = live_of x (all_tell S known g number numbered run count s r backed x (moving x among))
 
   -- two of one path are under one context at one iteration
   pub messages_apart : ArePathsApart g s
@@ -105,8 +121,8 @@ module _ (S : Source) (known : IsKnown S.checked) (g : Parts) (number : ℕ → 
       let q = path_there m in
       let apart = contexts_apart g S.inputs count s run r in
       let one : q.0 ≡ p.0 =
-      sym (path_seated S known g number numbered count s run r (tag_of y) q.0 (call_zero m) q.1) ∙ sym same
-      ∙ path_seated S known g number numbered count s run r (tag_of x) p.0 (call_zero l) p.1 in
-      paths_apart S known g number numbered run apart (once S known g number numbered count s run r)
-      (λ a n h c d within is o. main_first S known number run g numbered apart (opening_live S known g number numbered run count s r a n h c d within is o))
+      sym (path_seated S known g number numbered count s run r backed (tag_of y) q.0 (call_zero m) q.1) ∙ sym same
+      ∙ path_seated S known g number numbered count s run r backed (tag_of x) p.0 (call_zero l) p.1 in
+      paths_apart S known g number numbered run apart (once S known g number numbered count s run r backed)
+      (λ a n h c d within is o. main_first S known number run g numbered apart (opening_live S known g number numbered run count s r backed a n h c d within is o))
       p.1 (subst (PathOf S number run (activation_of (tag_of y))) one q.1) (main_zero l) (main_zero m)

@@ -29,7 +29,9 @@ use Rattle.id_source.specs.declared.Site.{Site}
 use Rattle.id_source.specs.declared.Shape.{Shape}
 use Rattle.id_source.specs.declared.Put.{Put}
 use Rattle.id_source.specs.declared.Ask.{Ask}
+use Rattle.id_laws.proofs.Wholes.{AreWhole, wholes}
 use Rattle.id_source.specs.declared.SourceValue.{SourceValue}
+use Rattle.id_source.specs.declared.SourceValue.TheVariants as source
 use Rattle.id_source.specs.declared.Fact.{Fact}
 use Rattle.id_source.specs.declared.Fact.TheVariants as fact
 use Rattle.id_source.specs.Facts.{put}
@@ -55,8 +57,11 @@ use Rattle.id_laws.specs.Carried.{Carried, CarriedAsk, CarriedPut, CarriedShape,
 use Rattle.id_laws.specs.Topics.{IsPart, Named}
 use Rattle.id_laws.proofs.Arcs.{gets_reply, part_of, place_shown, stores}
 use Rattle.id_laws.proofs.Assumed.{IsKnown}
+use Rattle.id_laws.proofs.FiringMeans.{IsBacked}
+use Rattle.id_runs.proofs.OneMessage.{fired_once}
 use Rattle.id_laws.proofs.CarriedFacts.{carried}
-use Rattle.id_laws.proofs.CarriedValues.{label_plain}
+use Rattle.id_laws.proofs.CarriedValues.{home_plain}
+use Rattle.id_laws.proofs.Firings.{IsSettled}
 use Rattle.id_laws.proofs.Naming.{array_op, name_shown, site_shown, stands_shown}
 use Rattle.id_laws.proofs.Sites.{one_name, put_shown, read_told, written_told}
 use Rattle.id_laws.proofs.SoundCells.{sound_waiting}
@@ -81,8 +86,9 @@ before_itself a (inl h) = steps_itself a.path.steps h
 before_itself a (inr h) = omega (arith, h.1)
 
 module _ (S : Source) (g : Parts) (number : ℕ → ℕ → ℕ) (numbered : Numbered S.checked g number) (known : IsKnown S.checked)
-    (inputs : AreInputs S.checked S.inputs) (count : ℕ)
-    (only : Exclusive g S.inputs count) (s : World) (run : List Event) (r : Reach g S.inputs count s run) (quiet : IsQuiet s) where
+    (inputs : AreInputs S.checked S.inputs)
+    (are : AreWhole S)
+    (count : ℕ) (only : Exclusive g S.inputs count) (s : World) (run : List Event) (r : Reach g S.inputs count s run) (quiet : IsQuiet s) where
   abbrev P : Checked
   P = S.checked
 
@@ -98,22 +104,29 @@ module _ (S : Source) (g : Parts) (number : ℕ → ℕ → ℕ) (numbered : Num
   abbrev cell : Cell → Option CellState
   cell = cell_at count s
 
+  -- so its facts are carried
+  settled : IsSettled S s
+  settled = record { empty = quiet.empty; wholes = wholes S are }
+
+  backed : IsBacked S run
+  backed = record { once = fired_once g S.inputs count only s run r; wholes = λ p e i. wholes S are }
+
   -- no write has found another
   pub none_found : (c : Cell) (v : Value) (w x : Tag) → WrittenBy run c v w (Second x) → ⊥
   none_found c v w x y = found_bad c v w x (same_tag x w) (quiet_went g S.inputs count s run r quiet (Wrote y.element c v w (Second x)) y.among)
 
   carries : (f : Fact) → Holds S f → Carried S number run f
-  carries f h = carried S g number numbered known inputs count only s run r quiet.empty none_found f h
+  carries f h = carried S g number numbered known inputs count only s run r settled none_found f h
 
   named_as : (z : Structure) (x : Site) → Named S number run z x → name_of z ≡ x
-  named_as = name_shown S known g number numbered count s run r
+  named_as = name_shown S known g number numbered count s run r backed
 
   -- where a part of what is here stands
   site_here : {x : Site} (h : Here S number run x.path x.place) (part : ℕ) → IsPart P h.row part → is_next (node P h.row) ≡ false
       → place_shown P (place P h.row) (node P h.row) ≡ place P h.row → site_of (tag_in h.activation (number h.row part)) ≡ x
   site_here {x} h part is_part plain shows =
-      let live = subst (λ n. Live S number run h.activation (region P n)) (label_plain P h.row (node P h.row) refl plain) h.live in
-      site_shown S known g number numbered count s run r h.activation h.row part x.path is_part live h.path_of
+      let live = subst (λ n. Live S number run h.activation (region P n)) (home_plain P h.row (node P h.row) refl plain) h.live in
+      site_shown S known g number numbered count s run r backed h.activation h.row part x.path is_part live h.path_of
       ∙ (λ i. record { path = x.path; place = (shows ∙ sym h.place) i })
 
   -- ---- structures
@@ -122,7 +135,7 @@ module _ (S : Source) (g : Parts) (number : ℕ → ℕ → ℕ) (numbered : Num
   structures_shown x holds =
       let c : CarriedShape S number run x.name x.low x.high = carries (fact.Shape x) holds in
       let n = c.named in
-      let alloc = array_op S known g number numbered count s run r n.within n.node in
+      let alloc = array_op S known g number numbered count s run r backed n.within n.node in
       let m = shown_made g S.inputs count s run r n.made alloc in
       let at : site_of (tag_of (m.0).message.payload) ≡ x.name =
       ap site_of m.3 ∙ sym (ap (name_by g tag_path) (made_under g S.inputs count s run r n.made alloc)) ∙ named_as c.structure x.name n in
@@ -158,7 +171,7 @@ module _ (S : Source) (g : Parts) (number : ℕ → ℕ → ℕ) (numbered : Num
       let named = named_as c.structure x.name c.named in
       filter_map_has (shown.put_of g tag_path name_of) (filled_in s) _ x (held_filled g S.inputs count s run r k c.value w held)
       (ap (option_map (λ (u : SourceValue). record { name = name_of c.structure; index = x.index; value = u; store = site_of w }))
-      (stands_shown S known g number numbered count s run r c.stands)
+      (stands_shown S known g number numbered count s run r backed c.stands)
       ∙ (λ i. Some (record { name = named i; index = x.index; value = x.value; store = store_here c i })))
 
   -- two stores do not put into one cell
@@ -166,7 +179,7 @@ module _ (S : Source) (g : Parts) (number : ℕ → ℕ → ℕ) (numbered : Num
   no_second {x} {a} {b} {j} {v} {w} before first second =
       let c : CarriedPut S number run x j v a = carries (put x j v a) first in
       let d : CarriedPut S number run x j w b = carries (put x j w b) second in
-      let same = one_name S known g number numbered count s run r d.named c.named refl in
+      let same = one_name S known g number numbered count s run r backed d.named c.named refl in
       let y = put_written c in
       let z = put_written d in
       let z' = subst (λ (q : Structure). WrittenBy run (record { structure = q; index = j }) d.value (tag_in (d.here).activation (number (d.here).row 0))
@@ -209,17 +222,17 @@ module _ (S : Source) (g : Parts) (number : ℕ → ℕ → ℕ) (numbered : Num
       let y : Reader = record { cell = k; reply = t } in
       elim (reads run cell (cells_exact g S.inputs count s run r) k t c.answer c.read) [
         | inl z ↦
-            let told = written_told S known g number numbered count s run r z.3 in
+            let told = written_told S known g number numbered count s run r backed z.3 in
             let named = named_as c.structure x.name c.named in
             absurd (waits.unfilled told.value (site_of z.1) (subst (λ q. Holds S (put q x.index told.value (site_of z.1))) named
-            (put_shown S known g number numbered count s run r told)))
+            (put_shown S known g number numbered count s run r backed told)))
         | inr z ↦
             subst (λ q. Among q (shown.waiting g s)) (asks_as x c) (Among-map as_ask y (readers_in s) (held_reader g S.inputs count s run r k z.0 t z.1 z.2))
       ]
 
   -- and only such a one
   pub waiting_only : (x : Ask) → Among x (shown.waiting g s) → IsWaiting S x
-  waiting_only x among = record { asks = sound_waiting S known g number numbered count s run r x among; unfilled = unfilled }
+  waiting_only x among = record { asks = sound_waiting S known g number numbered count s run r backed x among; unfilled = unfilled }
     where
       unfilled : (v : SourceValue) (b : Site) → Holds S (put x.name x.index v b) → ⊥
       unfilled v b holds =
@@ -227,9 +240,9 @@ module _ (S : Source) (g : Parts) (number : ℕ → ℕ → ℕ) (numbered : Num
           let y = Among-from_map as_ask x (readers_in s) among in
           let held = reader_held g S.inputs count s run r y.0 y.1 in
           let waits = waits_unfilled run cell (cells_exact g S.inputs count s run r) (y.0).cell (y.0).reply held.0 held.1 held.2 in
-          let told = read_told S known g number numbered count s run r waits.0 in
+          let told = read_told S known g number numbered count s run r backed waits.0 in
           let names : x.name ≡ told.name = ap (λ (z : Ask). z.name) y.2 ∙ named_as ((y.0).cell).structure told.name told.named in
-          let same = one_name S known g number numbered count s run r c.named told.named names in
+          let same = one_name S known g number numbered count s run r backed c.named told.named names in
           let index = ap (λ (z : Ask). z.index) y.2 in
           waits.1 c.value _ c.answer
           (subst (λ (z : Cell). WrittenBy run z c.value (tag_in (c.here).activation (number (c.here).row 0)) c.answer)

@@ -45,6 +45,7 @@ use Rattle.id_core.specs.Events.{EventView}
 use Rattle.id_core.specs.Machines.{World, IsQuiet, main_tag}
 use Rattle.id_core.specs.Observed as shown
 use Rattle.id_source.specs.declared.Site.{Site}
+use Rattle.id_laws.proofs.Wholes.{AreWhole, wholes}
 use Rattle.id_source.specs.declared.SourceValue.{SourceValue}
 use Rattle.id_source.specs.declared.SourceValue.TheVariants as source
 use Rattle.id_source.specs.declared.SourceFault.{SourceFault}
@@ -77,11 +78,13 @@ use Rattle.id_laws.specs.Ways.{way_back}
 use Rattle.id_laws.proofs.Agreement.{agree_unary, agree_at}
 use Rattle.id_laws.proofs.Arcs.{returns, unary, binary, allocates, addresses}
 use Rattle.id_laws.proofs.Assumed.{IsKnown}
+use Rattle.id_laws.proofs.FiringMeans.{IsBacked}
+use Rattle.id_runs.proofs.OneMessage.{fired_once}
 use Rattle.id_laws.proofs.CarriedFacts.{address_part, carried, one_structure, body_region, structure_of}
 use Rattle.id_laws.proofs.CarriedThings.{constant_spoken, here_is, operand_spoken, said_at}
 use Rattle.id_laws.proofs.CarriedValues.{sent_in, stands_constant}
 use Rattle.id_pieces.proofs.EndsLemmas.{end_is}
-use Rattle.id_laws.proofs.Firings.{PartFired, alone_fired, both_fired, came, sent_handled, start_handled}
+use Rattle.id_laws.proofs.Firings.{IsSettled, PartFired, alone_fired, both_fired, came, sent_handled, start_handled}
 use Rattle.id_laws.proofs.HasKinds.{Has_kind, port_taking, operand_of, binder_thing, expression_thing}
 use Rattle.id_laws.proofs.Speakers.{expression_speaks, binder_speaks, fed_as}
 use Rattle.id_laws.proofs.Observing.{message_handled}
@@ -148,8 +151,9 @@ merged_is true v u e = out_is e
 merged_is false v u e = absurd (nothing_out e)
 
 module _ (S : Source) (g : Parts) (number : ℕ → ℕ → ℕ) (numbered : Numbered S.checked g number) (known : IsKnown S.checked)
-    (inputs : AreInputs S.checked S.inputs) (count : ℕ)
-    (only : Exclusive g S.inputs count) (s : World) (run : List Event) (r : Reach g S.inputs count s run) (quiet : IsQuiet s) where
+    (inputs : AreInputs S.checked S.inputs)
+    (are : AreWhole S)
+    (count : ℕ) (only : Exclusive g S.inputs count) (s : World) (run : List Event) (r : Reach g S.inputs count s run) (quiet : IsQuiet s) where
   abbrev P : Checked
   P = S.checked
 
@@ -159,16 +163,23 @@ module _ (S : Source) (g : Parts) (number : ℕ → ℕ → ℕ) (numbered : Num
   abbrev back_tag : Tag
   back_tag = tag_in main_activation (number (answer_row P) 0)
 
+  -- so its facts are carried
+  settled : IsSettled S s
+  settled = record { empty = quiet.empty; wholes = wholes S are }
+
+  backed : IsBacked S run
+  backed = record { once = fired_once g S.inputs count only s run r; wholes = λ p e i. wholes S are }
+
   -- no write found another
   no_second : (c : Cell) (v : Value) (w x : Tag) → WrittenBy run c v w (Second x) → ⊥
-  no_second = none_found S g number numbered known inputs count only s run r quiet
+  no_second = none_found S g number numbered known inputs are count only s run r quiet
 
   abbrev name_of : Structure → Site
   name_of = shown.structure_in g s.elements
 
   -- a value that stands for one is shown as that one
   value_shown : {w : Value} {v : SourceValue} → StandsFor S number run w v → shown.source_value name_of w ≡ Some v
-  value_shown h = stands_shown S known g number numbered count s run r h
+  value_shown h = stands_shown S known g number numbered count s run r backed h
 
   answer_tag : back_tag ≡ main_tag 0
   answer_tag = ap main_tag numbered.answer_first
@@ -178,8 +189,8 @@ module _ (S : Source) (g : Parts) (number : ℕ → ℕ → ℕ) (numbered : Num
   main_end : end_of P main ≡ P.main
   main_end =
       (known.table).one_def (end_of P main) P.main main
-      (end_is P (known.table) main (main_within S g number numbered known count only s run r quiet.empty)
-      (main_is S g number numbered known count only s run r quiet.empty)) known.main
+      (end_is P (known.table) main (main_within S g number numbered known count only s run r settled)
+      (main_is S g number numbered known count only s run r settled)) known.main
 
   main_kind : result_of (node P (end_of P main)) ≡ (known.main).result
   main_kind = ap (λ n. result_of (node P n)) main_end ∙ ap result_of (known.main).node
@@ -190,34 +201,34 @@ module _ (S : Source) (g : Parts) (number : ℕ → ℕ → ℕ) (numbered : Num
   -- the value that main's body Has came to the answer
   answer_sent : (v : SourceValue) → Answers S v → (w : Value) × StandsFor S number run w v × Among (Token (main_tag 0) Zero w) (handled run)
   answer_sent v has =
-      let b = body_region S g number numbered known inputs count only s run r quiet.empty no_second in
+      let b = body_region S g number numbered known inputs count only s run r settled no_second in
       let thing = expression_thing (node P (main_body P)) b.1 in
       let d = known.main in
       let body_is : main_body P ≡ d.body = ap body_of d.node in
       let kind_is : value_kind v ≡ d.result = some_is (sym (Has_kind S known inputs (main_body P) outermost v b.0 thing has) ∙ ap (kind_at P) body_is ∙
       known.result_kind P.main main d) in
-      let c : CarriedHas S number run outermost (place P (main_body P)) v = carried S g number numbered known inputs count only s run r quiet.empty no_second _
+      let c : CarriedHas S number run outermost (place P (main_body P)) v = carried S g number numbered known inputs count only s run r settled no_second _
       has in
-      let row_is = here_is S g number numbered known inputs count only s run r quiet.empty (c.here) (record { within = b.0; node = refl }) thing in
+      let row_is = here_is S g number numbered known inputs count only s run r settled (c.here) (record { within = b.0; node = refl }) thing in
       let start : Live S number run main_activation (top main) = at_start in
-      let one = one_activation S g number numbered known count only s run r quiet.empty (c.here).live start (c.here).path_of main_path in
+      let one = one_activation S g number numbered known count only s run r settled (c.here).live start (c.here).path_of main_path in
       let from : speaker P (c.here).row ≡ origin P (main_body P) = ap (speaker P) row_is ∙
       expression_speaks P known (main_body P) (node P (main_body P)) refl b.1 in
       let said : Speaks S number run main_activation (origin P (built.body_of (node P (end_of P main)))) c.value =
       subst (λ (z : Activation × Origin). Speaks S number run z.0 z.1 c.value) {x = ((c.here).activation, speaker P (c.here).row)}
       {y = (main_activation, origin P (built.body_of (node P (end_of P main))))}
       (λ i. (one i, (from ∙ ap (origin P) (sym main_body_is)) i)) c.spoken in
-      let is = main_is S g number numbered known count only s run r quiet.empty in
-      let within = main_within S g number numbered known count only s run r quiet.empty in
-      let result = came S g number numbered known count only s run r quiet.empty main_activation
+      let is = main_is S g number numbered known count only s run r settled in
+      let within = main_within S g number numbered known count only s run r settled in
+      let result = came S g number numbered known count only s run r settled main_activation
       (origin P (built.body_of (node P (end_of P main)))) main 1 One c.value said
       (fed_as P known (origin P (built.body_of (node P (end_of P main)))) main 1 One Head within is (inl refl)) in
-      let continuation = start_handled S g number numbered known count only s run r quiet.empty way_back in
+      let continuation = start_handled S g number numbered known count only s run r settled way_back in
       let k = result_of (node P (end_of P main)) in
-      let fired_so = both_fired S g number numbered known count only s run r quiet.empty main_activation main 1 (op.Back (port_of k))
+      let fired_so = both_fired S g number numbered known count only s run r settled main_activation main 1 (op.Back (port_of k))
       (value.Continuation back_tag) c.value within (returns is) refl continuation result in
       let gone = returned c.stands k back_tag (kind_is ∙ sym main_kind) in
-      let out = sent_handled S g number numbered known count only s run r quiet.empty
+      let out = sent_handled S g number numbered known count only s run r settled
       (subst (λ f. FiresAs run (tag_in main_activation (number main 1)) f) gone fired_so.fires) (Token back_tag Zero c.value) (inl refl) in
       (c.value, c.stands, subst (λ t. Among (Token t Zero c.value) (handled run)) answer_tag out)
 
@@ -238,20 +249,20 @@ module _ (S : Source) (g : Parts) (number : ℕ → ℕ → ℕ) (numbered : Num
       let brought = brought_is (event.0).message.payload first.0 event.2 in
       let also : Among (Token (main_tag 0) brought.0 first.0) (handled run) = subst (λ x. Among x (handled run)) brought.1
       (message_handled g S.inputs count s run r event.0 event.1) in
-      let port_is = (answer_tells S known g number numbered count s run r brought.0 first.0 also).0 in
+      let port_is = (answer_tells S known g number numbered count s run r backed brought.0 first.0 also).0 in
       let same : first.0 ≡ w = one_value g S.inputs count only s run r (main_tag 0) Zero first.0 w
       (subst (λ p. Among (Token (main_tag 0) p first.0) (handled run)) port_is also) came_in in
       ap (option_and_then (shown.source_value name_of)) first.1 ∙ ap (shown.source_value name_of) same ∙ value_shown sent.1
 
   answer_exact : (o : Option SourceValue) → shown.answer g s ≡ o → IsAnswer S o
-  answer_exact (Some v) e = sound_answer S known g number numbered count s run r v e
+  answer_exact (Some v) e = sound_answer S known g number numbered count s run r backed v e
   answer_exact None e = λ v has. none_some (sym e ∙ answer_shown v has)
 
   -- ---- faults
 
   -- no event has failed
   no_failure : (a : Activation) (n part : ℕ) (o : Op) (ops : Operands) (k : FaultKind)
-      → PartFired S g number numbered known count only s run r quiet.empty a n part o ops
+      → PartFired S g number numbered known count only s run r settled a n part o ops
       → ((f : Fresh) → fired o (tag_in a (number n part)) ops f ≡ Failed k) → ⊥
   no_failure a n part o ops k x fails =
       let t = tag_in a (number n part) in
@@ -260,55 +271,55 @@ module _ (S : Source) (g : Parts) (number : ℕ → ℕ → ℕ) (numbered : Num
 
   -- each fact of the source is carried
   carry : (f : Fact) → Holds S f → Carried S number run f
-  carry f h = carried S g number numbered known inputs count only s run r quiet.empty no_second f h
+  carry f h = carried S g number numbered known inputs count only s run r settled no_second f h
 
   -- no index is outside
   never_outside : {w : Value} {y : Site} {j lo hi : ℤ} (a : Activation) (n t i : ℕ) → n < length (rows P) → Addresses P n t i → is_inside lo hi j ≡ false
       → CarriedShape S number run y lo hi → Feeds P (origin P t) n 0 Zero → Feeds P (origin P i) n 0 One
       → StandsFor S number run w (source.Name y) → Speaks S number run a (origin P t) w → Speaks S number run a (origin P i) (value.Int j) → ⊥
   never_outside {w} {y} {j} {lo} {hi} a n t i within parts out shaped to_target to_index stands target index =
-      let c = structure_of S g number numbered known inputs count only s run r quiet.empty no_second stands refl in
-      let same : shaped.structure ≡ c.0 = one_structure S g number numbered known inputs count only s run r quiet.empty no_second shaped.named c.2 in
+      let c = structure_of S g number numbered known inputs count only s run r settled no_second stands refl in
+      let same : shaped.structure ≡ c.0 = one_structure S g number numbered known inputs count only s run r settled no_second shaped.named c.2 in
       let low : lo ≡ (c.0).low = shaped.low ∙ ap (λ (y : Structure). y.low) same in
       let high : hi ≡ (c.0).high = shaped.high ∙ ap (λ (y : Structure). y.high) same in
       let bad : is_inside (c.0).low (c.0).high j ≡ false = (λ k. is_inside (sym low k) (sym high k) j) ∙ out in
-      let left = came S g number numbered known count only s run r quiet.empty a (origin P t) n 0 Zero (value.Structure c.0)
+      let left = came S g number numbered known count only s run r settled a (origin P t) n 0 Zero (value.Structure c.0)
       (subst (Speaks S number run a (origin P t)) c.1 target) to_target in
-      let right = came S g number numbered known count only s run r quiet.empty a (origin P i) n 0 One (value.Int j) index to_index in
+      let right = came S g number numbered known count only s run r settled a (origin P i) n 0 One (value.Int j) index to_index in
       no_failure a n 0 op.Address (Two (value.Structure c.0) (value.Int j)) OutOfBounds
-      (both_fired S g number numbered known count only s run r quiet.empty a n 0 op.Address (value.Structure c.0) (value.Int j) within
+      (both_fired S g number numbered known count only s run r settled a n 0 op.Address (value.Structure c.0) (value.Int j) within
       (addresses parts) refl left right)
       (λ q. ap (λ b. cond b (Out (value.Address (record { structure = c.0; index = j }))) (Failed OutOfBounds)) bad)
 
   no_fault_by : {fs : List Fact} {f : SourceFault} → FaultRule S fs f → Every (Holds S) fs → ⊥
   no_fault_by (unary_fails {n = n} {a = m} {o = o} {p = p} {k = k} c x is) h =
-      let on : Here S number run p (place P n) = carried S g number numbered known inputs count only s run r quiet.empty no_second _ h.0 in
-      let has : CarriedHas S number run p (place P m) (value_of c) = carried S g number numbered known inputs count only s run r quiet.empty no_second _
+      let on : Here S number run p (place P n) = carried S g number numbered known inputs count only s run r settled no_second _ h.0 in
+      let has : CarriedHas S number run p (place P m) (value_of c) = carried S g number numbered known inputs count only s run r settled no_second _
       h.1.0 in
       let a = on.activation in
-      let operand = came S g number numbered known count only s run r quiet.empty a (origin P m) n 0 Zero (constant_value c)
-      (constant_spoken S g number numbered known inputs count only s run r quiet.empty c on m x refl refl has)
+      let operand = came S g number numbered known count only s run r settled a (origin P m) n 0 Zero (constant_value c)
+      (constant_spoken S g number numbered known inputs count only s run r settled c on m x refl refl has)
       (fed_as P known (origin P m) n 0 Zero (Unary o m) x.within x.node (inl refl)) in
-      no_failure a n 0 (op.Unary o) (Alone (constant_value c)) k (alone_fired S g number numbered known count only s run r quiet.empty a n 0 (op.Unary o) Zero
+      no_failure a n 0 (op.Unary o) (Alone (constant_value c)) k (alone_fired S g number numbered known count only s run r settled a n 0 (op.Unary o) Zero
       (constant_value c) x.within (unary x.node) refl operand)
       (λ f. agree_unary o c (tag_in a (number n 0)) f ∙ ap fired_by is)
   no_fault_by (binary_fails {n = n} {a = m} {b = l} {o = o} {p = p} {k = k} c d x is) h =
-      let on : Here S number run p (place P n) = carried S g number numbered known inputs count only s run r quiet.empty no_second _ h.0 in
-      let has : CarriedHas S number run p (place P m) (value_of c) = carried S g number numbered known inputs count only s run r quiet.empty no_second _
+      let on : Here S number run p (place P n) = carried S g number numbered known inputs count only s run r settled no_second _ h.0 in
+      let has : CarriedHas S number run p (place P m) (value_of c) = carried S g number numbered known inputs count only s run r settled no_second _
       h.1.0 in
-      let has' : CarriedHas S number run p (place P l) (value_of d) = carried S g number numbered known inputs count only s run r quiet.empty no_second _
+      let has' : CarriedHas S number run p (place P l) (value_of d) = carried S g number numbered known inputs count only s run r settled no_second _
       h.1.1.0 in
       let a = on.activation in
-      let left = came S g number numbered known count only s run r quiet.empty a (origin P m) n 0 Zero (constant_value c)
-      (constant_spoken S g number numbered known inputs count only s run r quiet.empty c on m x refl (inl refl) has)
+      let left = came S g number numbered known count only s run r settled a (origin P m) n 0 Zero (constant_value c)
+      (constant_spoken S g number numbered known inputs count only s run r settled c on m x refl (inl refl) has)
       (fed_as P known (origin P m) n 0 Zero (Binary o m l) x.within x.node (inl refl)) in
-      let right = came S g number numbered known count only s run r quiet.empty a (origin P l) n 0 One (constant_value d)
-      (constant_spoken S g number numbered known inputs count only s run r quiet.empty d on l x refl (inr refl) has')
+      let right = came S g number numbered known count only s run r settled a (origin P l) n 0 One (constant_value d)
+      (constant_spoken S g number numbered known inputs count only s run r settled d on l x refl (inr refl) has')
       (fed_as P known (origin P l) n 0 One (Binary o m l) x.within x.node (inr (inl refl))) in
       let made = op.Binary (binary_op o (port_at P m)) in
       let inner = operand_of S known inputs n m x.within (subst (λ z. HasOperand z m) (sym x.node) (inl refl)) in
       no_failure a n 0 made (Two (constant_value c) (constant_value d)) k
-      (both_fired S g number numbered known count only s run r quiet.empty a n 0 made (constant_value c) (constant_value d) x.within
+      (both_fired S g number numbered known count only s run r settled a n 0 made (constant_value c) (constant_value d) x.within
       (binary x.node) refl left right)
       (λ f. agree_at o c d (tag_in a (number n 0)) f (port_at P m) (port_taking S known inputs m p (value_of c) inner.0 inner.1 h.1.0) ∙ ap fired_by is)
   no_fault_by (bad_bounds {n = n} {a = e} {b = f} {p = p} {lo = lo} {hi = hi} x bad) h =
@@ -316,14 +327,14 @@ module _ (S : Source) (g : Parts) (number : ℕ → ℕ → ℕ) (numbered : Num
       let low : CarriedHas S number run p (place P e) (source.Int lo) = carry _ h.1.0 in
       let high : CarriedHas S number run p (place P f) (source.Int hi) = carry _ h.1.1.0 in
       let a = on.activation in
-      let left = came S g number numbered known count only s run r quiet.empty a (origin P e) n 0 Zero (value.Int lo)
-      (constant_spoken S g number numbered known inputs count only s run r quiet.empty (constants.Int lo) on e x refl (inl refl) low)
+      let left = came S g number numbered known count only s run r settled a (origin P e) n 0 Zero (value.Int lo)
+      (constant_spoken S g number numbered known inputs count only s run r settled (constants.Int lo) on e x refl (inl refl) low)
       (fed_as P known (origin P e) n 0 Zero (Array e f) x.within x.node (inl refl)) in
-      let right = came S g number numbered known count only s run r quiet.empty a (origin P f) n 0 One (value.Int hi)
-      (constant_spoken S g number numbered known inputs count only s run r quiet.empty (constants.Int hi) on f x refl (inr refl) high)
+      let right = came S g number numbered known count only s run r settled a (origin P f) n 0 One (value.Int hi)
+      (constant_spoken S g number numbered known inputs count only s run r settled (constants.Int hi) on f x refl (inr refl) high)
       (fed_as P known (origin P f) n 0 One (Array e f) x.within x.node (inr (inl refl))) in
       no_failure a n 0 op.Alloc (Two (value.Int lo) (value.Int hi)) BadBounds
-      (both_fired S g number numbered known count only s run r quiet.empty a n 0 op.Alloc (value.Int lo) (value.Int hi) x.within
+      (both_fired S g number numbered known count only s run r settled a n 0 op.Alloc (value.Int lo) (value.Int hi) x.within
       (allocates x.node) refl left right)
       (λ q. ap (λ b. cond b (Out (value.Structure (record { element = q.element; serial = q.structure; low = lo; high = hi }))) (Failed BadBounds)) bad)
   no_fault_by (out_of_fetch {n = n} {t = t} {i = i} {p = p} {s = y} {j = j} {lo = lo} {hi = hi} x out) h =
@@ -333,21 +344,21 @@ module _ (S : Source) (g : Parts) (number : ℕ → ℕ → ℕ) (numbered : Num
       never_outside on.activation n t i x.within (of_fetch x.node) out (carry _ h.1.1.1.0)
       (fed_as P known (origin P t) n 0 Zero (Fetch t i) x.within x.node (inl refl))
       (fed_as P known (origin P i) n 0 One (Fetch t i) x.within x.node (inr (inl refl)))
-      target.stands (operand_spoken S g number numbered known inputs count only s run r quiet.empty on t x refl (inl refl) target)
-      (constant_spoken S g number numbered known inputs count only s run r quiet.empty (constants.Int j) on i x refl (inr refl) index)
+      target.stands (operand_spoken S g number numbered known inputs count only s run r settled on t x refl (inl refl) target)
+      (constant_spoken S g number numbered known inputs count only s run r settled (constants.Int j) on i x refl (inr refl) index)
   no_fault_by (out_of_store {m = m} {t = t} {i = i} {x = e} {p = p} {s = y} {j = j} {lo = lo} {hi = hi} x out) h =
       let on : Here S number run p (place P m) = carry _ h.0 in
       let target : CarriedHas S number run p (place P t) (source.Name y) = carry _ h.1.0 in
       let index : CarriedHas S number run p (place P i) (source.Int j) = carry _ h.1.1.0 in
-      let in_target = address_part S g number numbered known inputs count only s run r quiet.empty no_second on x t (inl refl) (inl refl) in
-      let in_index = address_part S g number numbered known inputs count only s run r quiet.empty no_second on x i (inr refl) (inr refl) in
+      let in_target = address_part S g number numbered known inputs count only s run r settled no_second on x t (inl refl) (inl refl) in
+      let in_index = address_part S g number numbered known inputs count only s run r settled no_second on x i (inr refl) (inr refl) in
       never_outside on.activation x.address t i (x.parts).within (of_store (x.parts).node) out (carry _ h.1.1.1.0)
       (fed_as P known (origin P t) x.address 0 Zero (Address t i) (x.parts).within (x.parts).node (inl refl))
       (fed_as P known (origin P i) x.address 0 One (Address t i) (x.parts).within (x.parts).node (inr (inl refl)))
-      target.stands (said_at S g number numbered known inputs count only s run r quiet.empty on t in_target.0 in_target.1 target)
+      target.stands (said_at S g number numbered known inputs count only s run r settled on t in_target.0 in_target.1 target)
       (subst (Speaks S number run on.activation (origin P i)) (stands_constant (constants.Int j) index.stands)
-      (said_at S g number numbered known inputs count only s run r quiet.empty on i in_index.0 in_index.1 index))
-  no_fault_by (second_store before) h = two_stores S g number numbered known inputs count only s run r quiet before h.0 h.1.0
+      (said_at S g number numbered known inputs count only s run r settled on i in_index.0 in_index.1 index))
+  no_fault_by (second_store before) h = two_stores S g number numbered known inputs are count only s run r quiet before h.0 h.1.0
 
   no_source_fault : FaultFree S
   no_source_fault f fault = no_fault_by fault.rule fault.hold
@@ -421,8 +432,8 @@ module _ (S : Source) (g : Parts) (number : ℕ → ℕ → ℕ) (numbered : Num
       let b = x.row in
       let thing = binder_thing (node P b) x.binds in
       let holds = subst (λ e. Holds S (Has n.path e n.value)) (sym x.here) name.holds in
-      let c : CarriedHas S number run n.path (place P b) n.value = carried S g number numbered known inputs count only s run r quiet.empty no_second _ holds in
-      let row_is = here_is S g number numbered known inputs count only s run r quiet.empty c.here (record { within = x.within; node = refl }) thing in
+      let c : CarriedHas S number run n.path (place P b) n.value = carried S g number numbered known inputs count only s run r settled no_second _ holds in
+      let row_is = here_is S g number numbered known inputs count only s run r settled c.here (record { within = x.within; node = refl }) thing in
       let a = (c.here).activation in
       let said : Speaks S number run a (output (label P b)) c.value =
       subst (λ z. Speaks S number run a z c.value) (ap (speaker P) row_is ∙ binder_speaks P known b (node P b) refl x.binds) c.spoken in
@@ -431,7 +442,7 @@ module _ (S : Source) (g : Parts) (number : ℕ → ℕ → ℕ) (numbered : Num
       let record_it = to_record g S.inputs count s run r h.0 h.1 in
       let payload_is : (record_it.0).message.payload ≡ Token (tag_in a (number (label P b) 0)) brought.0 c.value = (record_it.2).payload ∙ sym h.2 in
       let merges = ap is_value (port_taking S known inputs b n.path n.value x.within thing holds) ∙ value_passes n.value in
-      let path_is = path_shown S known g number numbered count s run r (tag_in a (number (label P b) 0)) n.path (c.here).live (c.here).path_of in
+      let path_is = path_shown S known g number numbered count s run r backed (tag_in a (number (label P b) 0)) n.path (c.here).live (c.here).path_of in
       filter_map_has (λ (u : EventView). shown.name_in g tag_path name_of u.message.payload) (events s) record_it.0 n (among_events s record_it.0 record_it.1)
       (ap (shown.name_in g tag_path name_of) payload_is ∙ label_shows n b a brought.0 c.value c.stands x.within x.binds x.here path_is merges)
 
@@ -440,10 +451,10 @@ module _ (S : Source) (g : Parts) (number : ℕ → ℕ → ℕ) (numbered : Num
   complete_at = record {
     answer = answer_exact (shown.answer g s) refl;
     names = names_shown;
-    structures = structures_shown S g number numbered known inputs count only s run r quiet;
-    cells = cells_shown S g number numbered known inputs count only s run r quiet;
-    asks = asks_shown S g number numbered known inputs count only s run r quiet;
-    waiting = waiting_shown S g number numbered known inputs count only s run r quiet;
-    only_waiting = waiting_only S g number numbered known inputs count only s run r quiet;
+    structures = structures_shown S g number numbered known inputs are count only s run r quiet;
+    cells = cells_shown S g number numbered known inputs are count only s run r quiet;
+    asks = asks_shown S g number numbered known inputs are count only s run r quiet;
+    waiting = waiting_shown S g number numbered known inputs are count only s run r quiet;
+    only_waiting = waiting_only S g number numbered known inputs are count only s run r quiet;
     no_fault = no_source_fault;
   }

@@ -1,11 +1,12 @@
 -- The heads of regions, and how many loops are round what stands in them.
 use Rattle.std.proofs.Common.{◌≡◌, inl, inr, ℕ, ◌+◌, ◌-◌, ◌<◌, true, false, length, refl, sym, ◌∙◌, ap, subst, arith}
 use Rattle.id_table.specs.declared.row.Region.{Region}
+use Rattle.id_value.specs.declared.Kind.TheVariants as kinds
 use Rattle.std.proofs.lemmas.Bool.{cases_lt}
 use Rattle.std.proofs.lemmas.List.{get_or_past}
 use Rattle.id_table.specs.declared.row.Row.{Row}
 use Rattle.id_table.specs.declared.row.Node.{Node}
-use Rattle.id_table.specs.declared.row.Node.TheVariants.{Head, Param, Binding, Program, Variable, Next}
+use Rattle.id_table.specs.declared.row.Node.TheVariants.{Carried, Head, Index, Param, Binding, Program, Variable, Next}
 use Rattle.id_table.specs.Rows.{at, no_row, top}
 use Rattle.id_table.specs.Loops.{StandsInSide, loops_from}
 use Rattle.id_table.specs.Regions.{StandsInArm}
@@ -13,12 +14,13 @@ use Rattle.id_table.specs.Tables.{HasPart, begins_block, is_binder}
 use Rattle.id_check.specs.declared.checked.Checked.{Checked}
 use Rattle.id_scope.specs.Scopes.{loops_between}
 use Rattle.id_check.specs.Programs.{region, rows}
-use Rattle.id_pieces.specs.Rows.{block, label, label_by, node}
+use Rattle.id_pieces.specs.Rows.{block, home, home_by, label, label_by, node}
 use Rattle.id_pieces.proofs.EndsLemmas.{not_last}
 use Rattle.id_arcs.proofs.NamesSeen.{HasSwitches}
 use Rattle.id_arcs.proofs.NamesSeen as seen
 use Rattle.id_laws.specs.Activations.{Tests, of_arms, of_turns}
 use Rattle.id_laws.proofs.Assumed.{IsKnown}
+use Rattle.id_laws.proofs.Loops.{IsCounted, LoopOf, carried_stands, carried_within, counted_of, has_three, loop_of_row, same_loop}
 
 -- as the builder's lemmas say it
 pub as_tests : {P : Checked} {n t : ℕ} → HasSwitches P n t → Tests P n t
@@ -105,6 +107,13 @@ row_within P i is other = elim (cases_lt i (length (rows P))) [
 true_false : true ≡ false → ⊥
 true_false h = cc
 
+-- an index is that of a loop with one
+pub index_loop : {P : Checked} (known : IsKnown P) {b x : ℕ} → b < length (rows P) → node P b ≡ Index x → (l : LoopOf P (block P b)) × IsCounted P l.all
+index_loop {P} known {b} {x} within is =
+    let l = loop_of_row known (Index x) within is refl in
+    let z = (known.table).index_of b x within is in
+    (l, counted_of P l.all (has_three P ((known.table).loop_is z.0 (block P b) z.1) z.2))
+
 -- the row of a binder's label: it is of the binder's block
 pub record LabelRow (P : Checked) (b : ℕ) : Type 0 where
   pub within : label P b < length (rows P)
@@ -133,11 +142,51 @@ label_row {P} known {b} within binds = by (node P b) refl binds
           block = ap (block P) same ∙ z.2.variable_block;
           other = λ e. let bad : Variable ≡ Program = sym there ∙ e in cc;
         }
+    by (Index x) is h =
+        let z = index_loop known within is in
+        let l = z.0 in
+        let same : label P b ≡ block P b + 1 = ap (label_by (block P b) b) is in
+        let there : node P (label P b) ≡ Carried kinds.Int = ap (node P) same ∙ z.1.entry in
+        record {
+          within = row_within P (label P b) there (λ e. cc);
+          block = ap (block P) same ∙ (carried_stands P known (block P b) l z.1 (block P b + 1) (omega arith) (omega arith)).0;
+          other = λ e. let bad : Carried kinds.Int ≡ Program = sym there ∙ e in cc;
+        }
     by _ is h = absurd (true_false (sym h))
 
--- no loop stands between a binder and its label's region
-pub label_depth : {P : Checked} (known : IsKnown P) {b : ℕ} → b < length (rows P) → is_binder (node P b) ≡ true
-    → loops_between (rows P) (region P (label P b)).head b ≡ 0
-label_depth {P} known {b} within binds =
-    let r = label_row known within binds in
-    no_depth P (region P (label P b)).head b ((region_of known r.within r.other).block ∙ r.block)
+-- the row of its home: that of the label, but of an index its own
+pub record HomeRow (P : Checked) (b : ℕ) : Type 0 where
+  pub within : home P b < length (rows P)
+  pub block : block P (home P b) ≡ block P b
+  pub other : node P (home P b) ≡ Program → ⊥
+
+pub home_row : {P : Checked} (known : IsKnown P) {b : ℕ} → b < length (rows P) → is_binder (node P b) ≡ true → HomeRow P b
+home_row {P} known {b} within binds = by (node P b) refl binds
+  where
+    own : home P b ≡ b → (node P b ≡ Program → ⊥) → HomeRow P b
+    own same other = record {
+      within = subst (λ z. z < length (rows P)) (sym same) within;
+      block = ap (block P) same;
+      other = λ e. other (sym (ap (node P) same) ∙ e);
+    }
+
+    by : (m : Node) → node P b ≡ m → is_binder m ≡ true → HomeRow P b
+    by (Param x k) is h = own (ap (home_by (block P b) b) is) (λ e. let bad : Param x k ≡ Program = sym is ∙ e in cc)
+    by (Binding x a) is h = own (ap (home_by (block P b) b) is) (λ e. let bad : Binding x a ≡ Program = sym is ∙ e in cc)
+    by (Index x) is h = own (ap (home_by (block P b) b) is) (λ e. let bad : Index x ≡ Program = sym is ∙ e in cc)
+    by (Next x k o v) is h =
+        let r = label_row known within binds in
+        let same : home P b ≡ label P b = ap (home_by (block P b) b) is ∙ sym (ap (label_by (block P b) b) is) in
+        record {
+          within = subst (λ z. z < length (rows P)) (sym same) r.within;
+          block = ap (block P) same ∙ r.block;
+          other = λ e. r.other (sym (ap (node P) same) ∙ e);
+        }
+    by _ is h = absurd (true_false (sym h))
+
+-- no loop stands between a binder and its home's region
+pub home_depth : {P : Checked} (known : IsKnown P) {b : ℕ} → b < length (rows P) → is_binder (node P b) ≡ true
+    → loops_between (rows P) (region P (home P b)).head b ≡ 0
+home_depth {P} known {b} within binds =
+    let r = home_row known within binds in
+    no_depth P (region P (home P b)).head b ((region_of known r.within r.other).block ∙ r.block)

@@ -20,6 +20,7 @@ use Rattle.id_laws.specs.Ways.{SendsTo, of_argument, of_entry}
 use Rattle.id_laws.proofs.Arcs.{Does, starts, returns, enters, constant, unary, binary, turns_on, hands, joins, opens, passes, gets, names, answers}
 use Rattle.id_laws.proofs.Arcs.{sends_in, gives_back, varies, takes_in, moves_on, moves_name, advances, resets, gets_last, part_of}
 use Rattle.id_laws.proofs.Arcs.{allocates, addresses, fetches, gets_reply, stores}
+use Rattle.id_laws.proofs.Arcs.{bounds_meet, begins_index, carries, meets_bound, goes_further, hands_index, has_one, adds_one}
 use Rattle.id_laws.proofs.Assumed.{IsKnown}
 use Rattle.id_laws.proofs.Loops.{loop_of_start}
 use Rattle.id_laws.proofs.LoopRows.{loop_merge}
@@ -59,6 +60,14 @@ is_back P number part n o (addresses is) e = cc
 is_back P number part n o (fetches is) e = cc
 is_back P number part n o (gets_reply is) e = cc
 is_back P number part n o (stores is) e = cc
+is_back P number part n o (bounds_meet is) e = cc
+is_back P number part n o (begins_index is) e = cc
+is_back P number part n o (carries is) e = cc
+is_back P number part n o (meets_bound is) e = cc
+is_back P number part n o (goes_further is) e = cc
+is_back P number part n o (hands_index is) e = cc
+is_back P number part n o (has_one is) e = cc
+is_back P number part n o (adds_one is) e = cc
 is_back P number part n o (answers is) e = cc
 
 -- it wants the way back of the block
@@ -114,6 +123,14 @@ is_send P number part n o k target within (addresses is) e = cc
 is_send P number part n o k target within (fetches is) e = cc
 is_send P number part n o k target within (gets_reply is) e = cc
 is_send P number part n o k target within (stores is) e = cc
+is_send P number part n o k target within (bounds_meet is) e = cc
+is_send P number part n o k target within (begins_index is) e = cc
+is_send P number part n o k target within (carries is) e = cc
+is_send P number part n o k target within (meets_bound is) e = cc
+is_send P number part n o k target within (goes_further is) e = cc
+is_send P number part n o k target within (hands_index is) e = cc
+is_send P number part n o k target within (has_one is) e = cc
+is_send P number part n o k target within (adds_one is) e = cc
 is_send P number part n o k target within (answers is) e = cc
 
 -- an `enter` is the first part of a row where a context begins
@@ -157,6 +174,14 @@ is_enter P number part n o b back (addresses is) e = cc
 is_enter P number part n o b back (fetches is) e = cc
 is_enter P number part n o b back (gets_reply is) e = cc
 is_enter P number part n o b back (stores is) e = cc
+is_enter P number part n o b back (bounds_meet is) e = cc
+is_enter P number part n o b back (begins_index is) e = cc
+is_enter P number part n o b back (carries is) e = cc
+is_enter P number part n o b back (meets_bound is) e = cc
+is_enter P number part n o b back (goes_further is) e = cc
+is_enter P number part n o b back (hands_index is) e = cc
+is_enter P number part n o b back (has_one is) e = cc
+is_enter P number part n o b back (adds_one is) e = cc
 is_enter P number part n o b back (answers is) e = cc
 
 -- a `fetch` is the second part of a fetch's row, and its reply goes to the third; a `store` is that of a store's
@@ -197,6 +222,14 @@ is_fetch P number part n o r (allocates is) e = cc
 is_fetch P number part n o r (addresses is) e = cc
 is_fetch P number part n o r (gets_reply is) e = cc
 is_fetch P number part n o r (stores is) e = cc
+is_fetch P number part n o r (bounds_meet is) e = cc
+is_fetch P number part n o r (begins_index is) e = cc
+is_fetch P number part n o r (carries is) e = cc
+is_fetch P number part n o r (meets_bound is) e = cc
+is_fetch P number part n o r (goes_further is) e = cc
+is_fetch P number part n o r (hands_index is) e = cc
+is_fetch P number part n o r (has_one is) e = cc
+is_fetch P number part n o r (adds_one is) e = cc
 is_fetch P number part n o r (answers is) e = cc
 
 pub record Stores (P : Checked) (n part : ℕ) : Type 0 where
@@ -233,6 +266,14 @@ is_store P number part n o (allocates is) e = cc
 is_store P number part n o (addresses is) e = cc
 is_store P number part n o (fetches is) e = cc
 is_store P number part n o (gets_reply is) e = cc
+is_store P number part n o (bounds_meet is) e = cc
+is_store P number part n o (begins_index is) e = cc
+is_store P number part n o (carries is) e = cc
+is_store P number part n o (meets_bound is) e = cc
+is_store P number part n o (goes_further is) e = cc
+is_store P number part n o (hands_index is) e = cc
+is_store P number part n o (has_one is) e = cc
+is_store P number part n o (adds_one is) e = cc
 is_store P number part n o (answers is) e = cc
 
 -- an `alloc` is that of an array's row
@@ -270,6 +311,14 @@ is_alloc P number part n o (addresses is) e = cc
 is_alloc P number part n o (fetches is) e = cc
 is_alloc P number part n o (gets_reply is) e = cc
 is_alloc P number part n o (stores is) e = cc
+is_alloc P number part n o (bounds_meet is) e = cc
+is_alloc P number part n o (begins_index is) e = cc
+is_alloc P number part n o (carries is) e = cc
+is_alloc P number part n o (meets_bound is) e = cc
+is_alloc P number part n o (goes_further is) e = cc
+is_alloc P number part n o (hands_index is) e = cc
+is_alloc P number part n o (has_one is) e = cc
+is_alloc P number part n o (adds_one is) e = cc
 is_alloc P number part n o (answers is) e = cc
 
 -- the row from which it is sent has the part

@@ -30,12 +30,13 @@ use Rattle.id_runs.specs.Events.{Event, Looked, Wrote, FiresAs, FiresOnce, fired
 use Rattle.id_runs.specs.Runs.{Reach}
 use Rattle.id_runs.specs.OneMessage.{Exclusive, Few}
 use Rattle.id_runs.proofs.Messages.{one_firing}
-use Rattle.id_runs.proofs.OneMessage.{few, fired_once}
+use Rattle.id_runs.proofs.OneMessage.{few}
 use Rattle.id_runs.proofs.Serials.{contexts_apart}
 use Rattle.id_laws.specs.Activations.{Live, PathOf}
 use Rattle.id_laws.specs.Topics.{Named, ToldRead, ToldWrite}
 use Rattle.id_laws.proofs.Arcs.{gets_reply, part_of, place_shown, stores}
 use Rattle.id_laws.proofs.Assumed.{IsKnown}
+use Rattle.id_laws.proofs.FiringMeans.{IsBacked}
 use Rattle.id_laws.proofs.Naming.{name_shown, site_shown}
 use Rattle.id_laws.proofs.OneSender.{exclusive}
 use Rattle.id_laws.proofs.Opened.{main_first}
@@ -48,7 +49,7 @@ same_structure_out : {run : List Event} {t u : Tag} {y z : Structure} (x : Fires
 same_structure_out x w e = cc
 
 module _ (S : Source) (known : IsKnown S.checked) (g : Parts) (number : ℕ → ℕ → ℕ) (numbered : Numbered S.checked g number) (count : ℕ)
-    (s : World) (run : List Event) (r : Reach g S.inputs count s run) where
+    (s : World) (run : List Event) (r : Reach g S.inputs count s run) (backed : IsBacked S run) where
   abbrev P : Checked
   P = S.checked
 
@@ -65,13 +66,13 @@ module _ (S : Source) (known : IsKnown S.checked) (g : Parts) (number : ℕ → 
   pub only : Exclusive g S.inputs count
   only =
       exclusive S g number numbered known count (λ t hs q. all_tell S known g number numbered hs count t q)
-      (λ t hs q. all_speak S known g number numbered hs count t q)
+      (λ t hs q. all_speak S known g number numbered hs count t q) backed.wholes
 
   pub few_handled : Few run
   few_handled = few g S.inputs count only s run r
 
   pub once : FiresOnce run
-  once = fired_once g S.inputs count only s run r
+  once = backed.once
 
   -- live activations with one path are one
   pub one_activation : {a b : Activation} {p : Path} {q q' : Region} → Live S number run a q → Live S number run b q' → PathOf S number run a p
@@ -79,7 +80,7 @@ module _ (S : Source) (known : IsKnown S.checked) (g : Parts) (number : ℕ → 
   one_activation live live' at at' =
       let apart = contexts_apart g S.inputs count s run r in
       paths_apart S known g number numbered run apart once
-      (λ a m i q c within is o. main_first S known number run g numbered apart (opening_live S known g number numbered run count s r a m i q c within is o))
+      (λ a m i q c within is o. main_first S known number run g numbered apart (opening_live S known g number numbered run count s r backed a m i q c within is o))
       at at' (main_first S known number run g numbered apart live) (main_first S known number run g numbered apart live')
 
   -- the thing at the row n, under the activation, stands at the site
@@ -110,16 +111,16 @@ module _ (S : Source) (known : IsKnown S.checked) (g : Parts) (number : ℕ → 
 
   -- what was asked for and what was written tell of their fetches and stores
   pub read_told : {c : Cell} {t : Tag} {a : ReadAnswer} → ReadBy run c t a → ToldRead S number run c t
-  read_told {c} {t} {a} x = all_tell S known g number numbered run count s r (Read c t) (inr (Among-map payload_of (Looked x.element c t a) run x.among))
+  read_told {c} {t} {a} x = all_tell S known g number numbered run count s r backed (Read c t) (inr (Among-map payload_of (Looked x.element c t a) run x.among))
 
   pub written_told : {c : Cell} {v : Value} {w : Tag} {a : WriteAnswer} → WrittenBy run c v w a → ToldWrite S number run c v w
   written_told {c} {v} {w} {a} x =
-      all_tell S known g number numbered run count s r (Write c v w) (inr (Among-map payload_of (Wrote x.element c v w a) run x.among))
+      all_tell S known g number numbered run count s r backed (Write c v w) (inr (Among-map payload_of (Wrote x.element c v w a) run x.among))
 
   -- where a fetch stands is the site of its reply
   pub fetch_site : {c : Cell} {t : Tag} (x : ToldRead S number run c t) → site_of t ≡ site x.path (place P x.row)
   fetch_site x =
-      ap site_of x.is ∙ site_shown S known g number numbered count s run r x.activation x.row 2 x.path (part_of x.within (gets_reply x.node)) x.live x.path_of
+      ap site_of x.is ∙ site_shown S known g number numbered count s run r backed x.activation x.row 2 x.path (part_of x.within (gets_reply x.node)) x.live x.path_of
       ∙ ap (λ m. site x.path (place_shown P (place P x.row) m)) x.node
 
   pub fetch_stands : {c : Cell} {t : Tag} (x : ToldRead S number run c t) → Stands x.activation x.row (site_of t)
@@ -130,7 +131,7 @@ module _ (S : Source) (known : IsKnown S.checked) (g : Parts) (number : ℕ → 
   -- it asks for what is shown that it asks for
   pub ask_shown : {c : Cell} {t : Tag} → ToldRead S number run c t → Holds S (ask (site_of t) (name_of c.structure) c.index)
   ask_shown {c} {t} x =
-      let named = name_shown S known g number numbered count s run r c.structure x.name x.named in
+      let named = name_shown S known g number numbered count s run r backed c.structure x.name x.named in
       subst (λ (z : Site × Site). Holds S (ask z.0 z.1 c.index)) {x = (site x.path (place P x.row), x.name)} {y = (site_of t, name_of c.structure)}
       (λ i. (sym (fetch_site x) i, sym named i)) x.holds
 
@@ -143,7 +144,7 @@ module _ (S : Source) (known : IsKnown S.checked) (g : Parts) (number : ℕ → 
   -- so it is with stores
   pub store_site : {c : Cell} {v : Value} {w : Tag} (x : ToldWrite S number run c v w) → site_of w ≡ site x.path (place P x.row)
   store_site x =
-      ap site_of x.is ∙ site_shown S known g number numbered count s run r x.activation x.row 0 x.path (part_of x.within (stores x.node)) x.live x.path_of
+      ap site_of x.is ∙ site_shown S known g number numbered count s run r backed x.activation x.row 0 x.path (part_of x.within (stores x.node)) x.live x.path_of
       ∙ ap (λ m. site x.path (place_shown P (place P x.row) m)) x.node
 
   pub store_stands : {c : Cell} {v : Value} {w : Tag} (x : ToldWrite S number run c v w) → Stands x.activation x.row (site_of w)
@@ -153,7 +154,7 @@ module _ (S : Source) (known : IsKnown S.checked) (g : Parts) (number : ℕ → 
 
   pub put_shown : {c : Cell} {v : Value} {w : Tag} (x : ToldWrite S number run c v w) → Holds S (put (name_of c.structure) c.index x.value (site_of w))
   put_shown {c} {v} {w} x =
-      let named = name_shown S known g number numbered count s run r c.structure x.name x.named in
+      let named = name_shown S known g number numbered count s run r backed c.structure x.name x.named in
       subst (λ (z : Site × Site). Holds S (put z.1 c.index x.value z.0)) {x = (site x.path (place P x.row), x.name)} {y = (site_of w, name_of c.structure)}
       (λ i. (sym (store_site x) i, sym named i)) x.holds
 

@@ -36,6 +36,7 @@ use Rattle.id_laws.specs.Laws.{events}
 use Rattle.id_laws.specs.Activations.{main_head, Live, PathOf}
 use Rattle.id_laws.specs.Topics.{ShownResult, Tells, Told, wants, result_at, result_of}
 use Rattle.id_laws.proofs.Assumed.{IsKnown}
+use Rattle.id_laws.proofs.FiringMeans.{IsBacked}
 use Rattle.id_laws.proofs.Arcs.{answers, part_of}
 use Rattle.id_laws.proofs.Tokens.{told_at}
 use Rattle.id_laws.proofs.Senders.{last_row}
@@ -62,7 +63,7 @@ first_is name None v e = cc
 first_is name (Some w) v e = (w, refl, e)
 
 module _ (S : Source) (known : IsKnown S.checked) (g : Parts) (number : ℕ → ℕ → ℕ) (numbered : Numbered S.checked g number) (count : ℕ) (s : World)
-    (run : List Event) (r : Reach g S.inputs count s run) where
+    (run : List Event) (r : Reach g S.inputs count s run) (backed : IsBacked S run) where
   abbrev P : Checked
   P = S.checked
 
@@ -80,7 +81,7 @@ module _ (S : Source) (known : IsKnown S.checked) (g : Parts) (number : ℕ → 
       let ends = (known.table).ends in
       let is_part = part_of (last_row (known.table).some) (answers ends) in
       let at : main_tag 0 ≡ tag_in main_activation (number (answer_row P) 0) = ap (tag_in main_activation) (sym numbered.answer_first) in
-      let told = subst (λ t. Told S number run (Token t p w)) at (all_tell S known g number numbered run count s r (Token (main_tag 0) p w) (inr h)) in
+      let told = subst (λ t. Told S number run (Token t p w)) at (all_tell S known g number numbered run count s r backed (Token (main_tag 0) p w) (inr h)) in
       let tells = told_at S g number run numbered main_activation (answer_row P) 0 p w is_part told in
       by_port p (subst (λ m. Tells S number run main_activation (wants P (answer_row P) (region P (answer_row P)) m 0 p) w) ends tells)
     where
@@ -103,4 +104,4 @@ module _ (S : Source) (known : IsKnown S.checked) (g : Parts) (number : ℕ → 
       let shown_path = subst (λ k. PathOf S number run (at_iteration main_context k) (shows.shown).path) first_iteration (shows.shown).path_of in
       let path_is = main_path_is (seats S known g number numbered run count s r) shown_path in
       subst (λ (z : Path × ℕ). Holds S (Has z.0 (place P z.1) v)) {x = ((shows.shown).path, result_of P (main_head P))} {y = (outermost, main_body P)}
-      (λ i. (path_is i, main_result i)) (shown_holds S known g number numbered count s run r shows.shown first.2)
+      (λ i. (path_is i, main_result i)) (shown_holds S known g number numbered count s run r backed shows.shown first.2)

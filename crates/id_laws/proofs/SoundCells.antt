@@ -52,6 +52,7 @@ use Rattle.id_laws.specs.Laws.{events}
 use Rattle.id_laws.specs.Topics.{Named, StandsFor, number_stands, truth_stands, name_stands, ToldRead, ToldWrite, Tells, ValueOf, speaks_of}
 use Rattle.id_laws.proofs.Arcs.{doing}
 use Rattle.id_laws.proofs.Assumed.{IsKnown}
+use Rattle.id_laws.proofs.FiringMeans.{IsBacked}
 use Rattle.id_laws.proofs.AllTell.{firing_tells}
 use Rattle.id_laws.proofs.Naming.{name_shown, stands_shown}
 use Rattle.id_laws.proofs.Observing.{message_handled}
@@ -106,7 +107,7 @@ structure_named {S} {number} {run} {z = z} (name_stands y x named) e =
     (x, subst (λ q. Named S number run q x) same named)
 
 module _ (S : Source) (known : IsKnown S.checked) (g : Parts) (number : ℕ → ℕ → ℕ) (numbered : Numbered S.checked g number) (count : ℕ) (s : World)
-    (run : List Event) (r : Reach g S.inputs count s run) where
+    (run : List Event) (r : Reach g S.inputs count s run) (backed : IsBacked S run) where
   abbrev P : Checked
   P = S.checked
 
@@ -129,8 +130,8 @@ module _ (S : Source) (known : IsKnown S.checked) (g : Parts) (number : ℕ → 
 
   making : {t : Tag} {z : Structure} → FiresAs run t (Out (value.Structure z)) → op_at g t.instr ≡ Some op.Alloc → Making t z
   making {t} {z} y at =
-      let m = firing_tells S known g number numbered run (seats S known g number numbered run count s r) (structures_apart g S.inputs count s run r) run r
-      (λ q h. all_tell S known g number numbered run count s r q (inr h)) y in
+      let m = firing_tells S known g number numbered run (seats S known g number numbered run count s r) (structures_apart g S.inputs count s run r) backed run r
+      (λ q h. all_tell S known g number numbered run count s r backed q (inr h)) y in
       let p = m.0 in
       let part = p.is_part in
       let k = numbered.made p.row p.part part.form part.place part.makes in
@@ -144,7 +145,7 @@ module _ (S : Source) (known : IsKnown S.checked) (g : Parts) (number : ℕ → 
       record {
         name = x.0;
         named = x.1;
-        site_is = sym (ap (name_by g tag_path) (made_under g S.inputs count s run r y at)) ∙ name_shown S known g number numbered count s run r z x.0 x.1;
+        site_is = sym (ap (name_by g tag_path) (made_under g S.inputs count s run r y at)) ∙ name_shown S known g number numbered count s run r backed z x.0 x.1;
       }
 
   -- what an event shows of a structure that it made
@@ -176,7 +177,7 @@ module _ (S : Source) (known : IsKnown S.checked) (g : Parts) (number : ℕ → 
   structures_differ =
       subst AllDiffer (sym (map_filter (λ (x : Shape). x.name) (shown.shape_of g tag_path) (events s)))
       (shown_differ (λ v. option_map (λ (x : Shape). x.name) (shown.shape_of g tag_path v)) (events s) one
-      (told_once g S.inputs count (only S known g number numbered count s run r) s run r))
+      (told_once g S.inputs count (only S known g number numbered count s run r backed) s run r))
     where
       one : (v w : EventView) (y : Site) → Among v (events s) → Among w (events s) → option_map (λ (x : Shape). x.name) (shown.shape_of g tag_path v) ≡ Some y
           → option_map (λ (x : Shape). x.name) (shown.shape_of g tag_path w) ≡ Some y → key_of v.message.payload ≡ key_of w.message.payload
@@ -185,7 +186,7 @@ module _ (S : Source) (known : IsKnown S.checked) (g : Parts) (number : ℕ → 
           let b = option_some (λ (x : Shape). x.name) (shown.shape_of g tag_path w) y f in
           let p = shaped v a.0 h a.1 in
           let q = shaped w b.0 k b.1 in
-          let same = one_name S known g number numbered count s run r (p.making_is).named (q.making_is).named (sym p.name_is ∙ sym a.2 ∙ b.2 ∙ q.name_is) in
+          let same = one_name S known g number numbered count s run r backed (p.making_is).named (q.making_is).named (sym p.name_is ∙ sym a.2 ∙ b.2 ∙ q.name_is) in
           let event : fired_event (p.by).fires ≡ fired_event (q.by).fires =
           structures_apart g S.inputs count s run r _ _ ((p.by).fires).among ((q.by).fires).among p.structure q.structure ((p.by).alloc, refl)
           ((q.by).alloc, refl)
@@ -198,7 +199,7 @@ module _ (S : Source) (known : IsKnown S.checked) (g : Parts) (number : ℕ → 
   written : (f : Filled) → Among f (filled_in s) → ToldWrite S number run f.cell f.value f.origin
   written f h =
       let z = filled run (cell_at count s) (cells_exact g S.inputs count s run r) f.cell f.value f.origin (filled_held g S.inputs count s run r f h) in
-      written_told S known g number numbered count s run r z.1
+      written_told S known g number numbered count s run r backed z.1
 
   abbrev as_put : Filled → SourceValue → Put
   as_put f v = record { name = name_of (f.cell).structure; index = (f.cell).index; value = v; store = site_of f.origin }
@@ -208,8 +209,8 @@ module _ (S : Source) (known : IsKnown S.checked) (g : Parts) (number : ℕ → 
       let f = among_filter_map (shown.put_of g tag_path name_of) (filled_in s) x among in
       let o = option_some (as_put f.0) (shown.source_value name_of (f.0).value) x f.2 in
       let told = written f.0 f.1 in
-      let value_is : told.value ≡ o.0 = some_is (sym (stands_shown S known g number numbered count s run r told.stands) ∙ o.1) in
-      subst (λ y. Holds S (fact.Put y)) (ap (as_put f.0) value_is ∙ sym o.2) (put_shown S known g number numbered count s run r told)
+      let value_is : told.value ≡ o.0 = some_is (sym (stands_shown S known g number numbered count s run r backed told.stands) ∙ o.1) in
+      subst (λ y. Holds S (fact.Put y)) (ap (as_put f.0) value_is ∙ sym o.2) (put_shown S known g number numbered count s run r backed told)
 
   abbrev place_of_cell : Filled → Site × ℤ
   place_of_cell f = (name_of (f.cell).structure, (f.cell).index)
@@ -224,8 +225,8 @@ module _ (S : Source) (known : IsKnown S.checked) (g : Parts) (number : ℕ → 
       one f h a b e =
           let x = written f a in
           let y = written h b in
-          let named = name_shown S known g number numbered count s run r in
-          let same = one_name S known g number numbered count s run r x.named y.named
+          let named = name_shown S known g number numbered count s run r backed in
+          let same = one_name S known g number numbered count s run r backed x.named y.named
           (sym (named _ x.name x.named) ∙ ap (λ (z : Site × ℤ). z.0) e ∙ named _ y.name y.named) in
           let index = ap (λ (z : Site × ℤ). z.1) e in
           (λ i. record { structure = same i; index = index i })
@@ -243,13 +244,13 @@ module _ (S : Source) (known : IsKnown S.checked) (g : Parts) (number : ℕ → 
   asked : (v : EventView) (y : Reader) → Among v (events s) → shown.reader_in v.message.payload ≡ Some y → ToldRead S number run y.cell y.reply
   asked v y among e =
       let h = subst (λ x. Among x (handled run)) (reader_is v.message.payload y e) (message_handled g S.inputs count s run r v among) in
-      all_tell S known g number numbered run count s r (Read y.cell y.reply) (inr h)
+      all_tell S known g number numbered run count s r backed (Read y.cell y.reply) (inr h)
 
   pub sound_asks : (x : Ask) → Among x (shown.asks g s) → Holds S (fact.Ask x)
   sound_asks x among =
       let y = Among-from_map as_ask x (filter_map (λ (u : EventView). shown.reader_in u.message.payload) (events s)) among in
       let event = among_filter_map (λ (u : EventView). shown.reader_in u.message.payload) (events s) y.0 y.1 in
-      subst (λ z. Holds S (fact.Ask z)) (sym y.2) (ask_shown S known g number numbered count s run r (asked event.0 y.0 event.1 event.2))
+      subst (λ z. Holds S (fact.Ask z)) (sym y.2) (ask_shown S known g number numbered count s run r backed (asked event.0 y.0 event.1 event.2))
 
   pub asks_differ : AllDiffer (map (λ (x : Ask). x.fetch) (shown.asks g s))
   asks_differ =
@@ -257,7 +258,7 @@ module _ (S : Source) (known : IsKnown S.checked) (g : Parts) (number : ℕ → 
       (sym (map_map (λ (x : Ask). x.fetch) as_ask (filter_map (λ (u : EventView). shown.reader_in u.message.payload) (events s))
       ∙ map_filter (λ (y : Reader). site_of y.reply) (λ (u : EventView). shown.reader_in u.message.payload) (events s)))
       (shown_differ (λ v. option_map (λ (y : Reader). site_of y.reply) (shown.reader_in v.message.payload)) (events s) one
-      (told_once g S.inputs count (only S known g number numbered count s run r) s run r))
+      (told_once g S.inputs count (only S known g number numbered count s run r backed) s run r))
     where
       one : (v w : EventView) (y : Site) → Among v (events s) → Among w (events s)
           → option_map (λ (z : Reader). site_of z.reply) (shown.reader_in v.message.payload) ≡ Some y
@@ -265,24 +266,24 @@ module _ (S : Source) (known : IsKnown S.checked) (g : Parts) (number : ℕ → 
       one v w y h k e f =
           let a = option_some (λ (z : Reader). site_of z.reply) (shown.reader_in v.message.payload) y e in
           let b = option_some (λ (z : Reader). site_of z.reply) (shown.reader_in w.message.payload) y f in
-          let same = one_fetch S known g number numbered count s run r (asked v a.0 h a.1) (asked w b.0 k b.1) (sym a.2 ∙ b.2) in
+          let same = one_fetch S known g number numbered count s run r backed (asked v a.0 h a.1) (asked w b.0 k b.1) (sym a.2 ∙ b.2) in
           ap key_of (reader_is v.message.payload a.0 a.1) ∙ ap ByFetch same ∙ sym (ap key_of (reader_is w.message.payload b.0 b.1))
 
   -- what waits was asked for
   waits : (y : Reader) → Among y (readers_in s) → ToldRead S number run y.cell y.reply
   waits y h =
       let z = reader_held g S.inputs count s run r y h in
-      read_told S known g number numbered count s run r (waits_unfilled run (cell_at count s)
+      read_told S known g number numbered count s run r backed (waits_unfilled run (cell_at count s)
       (cells_exact g S.inputs count s run r) y.cell y.reply z.0 z.1 z.2).0
 
   pub sound_waiting : (x : Ask) → Among x (shown.waiting g s) → Holds S (fact.Ask x)
   sound_waiting x among =
       let y = Among-from_map as_ask x (readers_in s) among in
-      subst (λ z. Holds S (fact.Ask z)) (sym y.2) (ask_shown S known g number numbered count s run r (waits y.0 y.1))
+      subst (λ z. Holds S (fact.Ask z)) (sym y.2) (ask_shown S known g number numbered count s run r backed (waits y.0 y.1))
 
   pub waiting_differ : AllDiffer (map (λ (x : Ask). x.fetch) (shown.waiting g s))
   waiting_differ =
       subst AllDiffer (sym (map_map (λ (x : Ask). x.fetch) as_ask (readers_in s)))
       (images_differ (λ (y : Reader). site_of y.reply) (λ (y : Reader). y.reply) (readers_in s)
-      (λ y z a b e. one_fetch S known g number numbered count s run r (waits y a) (waits z b) e)
-      (readers_differ g S.inputs count s run r (few_handled S known g number numbered count s run r)))
+      (λ y z a b e. one_fetch S known g number numbered count s run r backed (waits y a) (waits z b) e)
+      (readers_differ g S.inputs count s run r (few_handled S known g number numbered count s run r backed)))

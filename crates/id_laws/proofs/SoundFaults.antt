@@ -53,7 +53,7 @@ use Rattle.id_runs.proofs.RecordsOfRuns.{among_filter_map}
 use Rattle.id_runs.proofs.Serials.{structures_apart}
 use Rattle.id_laws.specs.Laws.{events}
 use Rattle.id_laws.proofs.Assumed.{IsKnown}
-use Rattle.id_laws.proofs.FiringMeans.{FaultAt}
+use Rattle.id_laws.proofs.FiringMeans.{IsBacked, FaultAt}
 use Rattle.id_laws.proofs.AllTell.{firing_tells}
 use Rattle.id_laws.proofs.StartTells.{all_tell, seats}
 use Rattle.id_laws.proofs.Observing.{handled_event, part_place}
@@ -132,7 +132,7 @@ stored_twice S x a b j v w h k differ = by (site_cmp_is a b)
         ap_fault Greater is more = subst (λ o. Faulty S (stores_as o x j a b)) (sym is) (record { premises = _; rule = second_store more; hold = (k, (h, tt)) })
 
 module _ (S : Source) (known : IsKnown S.checked) (g : Parts) (number : ℕ → ℕ → ℕ) (numbered : Numbered S.checked g number) (count : ℕ) (s : World)
-    (run : List Event) (r : Reach g S.inputs count s run) where
+    (run : List Event) (r : Reach g S.inputs count s run) (backed : IsBacked S run) where
   abbrev P : Checked
   P = S.checked
 
@@ -160,15 +160,15 @@ module _ (S : Source) (known : IsKnown S.checked) (g : Parts) (number : ℕ → 
   failed_as t Nothing x k u e = cc
   failed_as t (Failed j) x k u e =
       let same = same_fault e in
-      let m = firing_tells S known g number numbered run (seats S known g number numbered run count s r) (structures_apart g S.inputs count s run r) run r
-      (λ z h. all_tell S known g number numbered run count s r z (inr h)) x in
+      let m = firing_tells S known g number numbered run (seats S known g number numbered run count s r) (structures_apart g S.inputs count s run r) backed run r
+      (λ z h. all_tell S known g number numbered run count s r backed z (inr h)) x in
       let y = m.0 in
       let at : FaultAt S number run (activation_of t) y.row j = m.1 in
       let here : shown.place_of g u.instr ≡ place P y.row =
       ap (λ (w : Tag). shown.place_of g w.instr) (sym same.1) ∙ ap (λ (w : Tag). shown.place_of g w.instr) (sym y.at) ∙ part_place numbered y.is_part
       ∙ at.shows in
       let path_is : tag_path u ≡ at.path = ap tag_path (sym same.1)
-      ∙ path_shown S known g number numbered count s run r t at.path at.live at.path_of in
+      ∙ path_shown S known g number numbered count s run r backed t at.path at.live at.path_of in
       subst (λ (z : FaultKind × (Path × ℕ)). Faulty S (fault.Operator z.0 (site z.1.0 z.1.1))) {x = (j, (at.path, place P y.row))}
       {y = (k, (tag_path u, shown.place_of g u.instr))}
       (λ i. (same.0 i, (sym path_is i, sym here i))) at.faulty
@@ -201,11 +201,11 @@ module _ (S : Source) (known : IsKnown S.checked) (g : Parts) (number : ℕ → 
       → Faulty S (shown.second_store (name_of c.structure) c.index (site_of x) (site_of w))
   stored c v w x y differ =
       let first = finds_put run (cell_at count s) (cells_exact g S.inputs count s run r) c v w x y in
-      let told = written_told S known g number numbered count s run r y in
-      let before = written_told S known g number numbered count s run r first.2 in
+      let told = written_told S known g number numbered count s run r backed y in
+      let before = written_told S known g number numbered count s run r backed first.2 in
       stored_twice S (name_of c.structure) (site_of x) (site_of w) c.index before.value told.value
-      (put_shown S known g number numbered count s run r before) (put_shown S known g number numbered count s run r told)
-      (λ same. differ (one_store S known g number numbered count s run r before told same))
+      (put_shown S known g number numbered count s run r backed before) (put_shown S known g number numbered count s run r backed told)
+      (λ same. differ (one_store S known g number numbered count s run r backed before told same))
 
   -- an event that comes to a fault has failed
   failed : (e : Event) (k : FaultKind) (t : Tag) → Among e run → came_to e ≡ Fault (Operator k t) → FaultyAt k t

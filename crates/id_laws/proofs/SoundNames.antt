@@ -1,15 +1,18 @@
 -- What a run of a schemas' graph shows that binders Have, they Have, and it shows one value at most for each path and place.
 use Rattle.std.proofs.Common.{◌≡◌, inl, inr, ℕ, ◌≤◌, ◌<◌, Bool as Truth, true, false, cond, Option, Some, None, List}
 use Rattle.std.proofs.Common.{[], ◌∷◌, length, map, option_map, refl, sym, ◌∙◌, ap}
-use Rattle.std.proofs.Common.{◌+◌, subst, arith}
+use Rattle.std.proofs.Common.{◌+◌, ◌-◌, subst, arith}
 use Rattle.std.specs.List.{filter_map, cons_option}
 use Rattle.id_list.specs.List.{Among, AllDiffer}
 use Rattle.id_list.proofs.AmongLemmas.{Among-map}
 use Rattle.id_table.specs.declared.row.Node.{Node}
-use Rattle.id_table.specs.declared.row.Node.TheVariants.{Param, Binding, Next, Variable}
-use Rattle.id_table.specs.Tables.{HasNear, is_binder, is_next}
+use Rattle.id_table.specs.declared.row.Node.TheVariants.{Param, Binding, Next, Variable, Carried, Index}
+use Rattle.id_value.specs.declared.Kind.TheVariants as kinds
+use Rattle.id_table.specs.Loops.{index_row}
+use Rattle.id_table.specs.Tables.{HasNear, is_binder}
 use Rattle.id_check.specs.declared.checked.Checked.{Checked}
 use Rattle.id_check.specs.Programs.{place, region, rows}
+use Rattle.id_scope.specs.Scopes.{loops_between}
 use Rattle.id_instr.specs.declared.dests.Port.{Port}
 use Rattle.id_instr.specs.declared.dests.Port.TheVariants.{Zero, One}
 use Rattle.id_instr.specs.Graph.{Parts}
@@ -30,7 +33,7 @@ use Rattle.id_source.specs.Sources.{Source}
 use Rattle.id_source.specs.Facts.{binding_has, site}
 use Rattle.id_source.specs.Rounds.{Holds}
 use Rattle.id_source.specs.Names.{IsNameValue}
-use Rattle.id_pieces.specs.Rows.{block, label, label_by, node}
+use Rattle.id_pieces.specs.Rows.{block, home, home_by, label, label_by, node}
 use Rattle.id_pieces.specs.Schemas.{Numbered}
 use Rattle.id_runs.specs.Activations.{Activation, tag_in}
 use Rattle.id_runs.specs.Events.{Event}
@@ -38,20 +41,20 @@ use Rattle.id_runs.specs.Keys.{Key, AtPort, key_of}
 use Rattle.id_runs.specs.Runs.{Reach, handled}
 use Rattle.id_runs.specs.OneMessage.{count_for}
 use Rattle.id_runs.proofs.Keys.{hit, hit_itself, counts, count_cons}
-use Rattle.id_runs.proofs.OneMessage.{fired_once}
 use Rattle.id_runs.proofs.RecordsOfRuns.{among_filter_map, told, told_once}
 use Rattle.id_runs.proofs.Serials.{contexts_apart}
 use Rattle.id_runs.specs.OneMessage.{Exclusive}
 use Rattle.id_laws.specs.Laws.{events}
 use Rattle.id_laws.specs.Activations.{Live, PathOf}
-use Rattle.id_laws.specs.Topics.{NameIn, Shown, Tells, Told, ToldToken, topic_at, wants}
+use Rattle.id_laws.specs.Topics.{NameIn, Shown, ShownIndex, Tells, Told, ToldToken, entry_wants, topic_at, wants}
 use Rattle.id_laws.proofs.Assumed.{IsKnown}
+use Rattle.id_laws.proofs.FiringMeans.{IsBacked}
 use Rattle.id_laws.proofs.LoopRows.{variable_of_next}
 use Rattle.id_desugar.specs.Ends.{next_of}
-use Rattle.id_laws.proofs.CarriedValues.{label_plain}
 use Rattle.id_laws.proofs.HasKinds.{binder_thing}
 use Rattle.id_laws.proofs.LabelsShow.{label_place}
-use Rattle.id_laws.proofs.Regions.{label_depth}
+use Rattle.id_laws.proofs.Loops.{carried_stands, index_at, switches_same}
+use Rattle.id_laws.proofs.Regions.{home_depth, index_loop}
 use Rattle.id_laws.proofs.StartTells.{opening_live}
 use Rattle.id_laws.proofs.TurnedOn.{holds_by}
 use Rattle.id_laws.proofs.Start.{main_is_head, main_within}
@@ -132,7 +135,7 @@ true_false : true ≡ false → ⊥
 true_false h = cc
 
 module _ (S : Source) (known : IsKnown S.checked) (g : Parts) (number : ℕ → ℕ → ℕ) (numbered : Numbered S.checked g number) (count : ℕ) (s : World)
-    (run : List Event) (r : Reach g S.inputs count s run) where
+    (run : List Event) (r : Reach g S.inputs count s run) (backed : IsBacked S run) where
   abbrev P : Checked
   P = S.checked
 
@@ -153,18 +156,19 @@ module _ (S : Source) (known : IsKnown S.checked) (g : Parts) (number : ℕ → 
     path_of : PathOf S number run a path
     has : (w : SourceValue) → shown.source_value name_of v ≡ Some w → Holds S (Has path (place P b) w)
 
-  -- what is told of a name in the region of its label
-  named_label : (b : ℕ) (a : Activation) (v : Value) → b < length (rows P) → is_binder (node P b) ≡ true →
+  -- what is told of a name in the region of its label, where that is at home
+  named_label : (b : ℕ) (a : Activation) (v : Value) → b < length (rows P) → is_binder (node P b) ≡ true → home P b ≡ label P b →
       Tells S number run a (NameIn (region P (label P b)) b) v
       → Label b a Zero v
-  named_label b a v within binds w =
-      let shown_at = subst (λ d. Shown S number run a d (place P b) v) (label_depth known within binds) w.1 in
+  named_label b a v within binds same w =
+      let none = ap (λ i. loops_between (rows P) (region P i).head b) (sym same) ∙ home_depth known within binds in
+      let shown_at = subst (λ d. Shown S number run a d (place P b) v) none w.1 in
       record {
         port = refl;
         live = w.0;
         path = shown_at.path;
         path_of = shown_at.path_of;
-        has = λ u e. shown_holds S known g number numbered count s run r
+        has = λ u e. shown_holds S known g number numbered count s run r backed
             shown_at e;
       }
 
@@ -172,38 +176,67 @@ module _ (S : Source) (known : IsKnown S.checked) (g : Parts) (number : ℕ → 
       → T a (label P b) (node P (label P b)) p v → Label b a p v
   at_label b within binds a p v = by (node P b) refl p
     where
-      own : (m : Node) → node P b ≡ m → is_next m ≡ false → (q : Port) → T a (label P b) (node P (label P b)) q v → T a b m q v
-      own m is plain q w =
-          let same = label_plain P b m is plain in
+      own : (m : Node) → node P b ≡ m → label P b ≡ b → (q : Port) → T a (label P b) (node P (label P b)) q v → T a b m q v
+      own m is same q w =
           subst (λ z. Tells S number run a (wants P b (region P b) z 0 q) v) is (subst (λ z. T a z (node P z) q v) same w)
 
-      here : (m : Node) → node P b ≡ m → is_next m ≡ false → Live S number run a (region P b) → Live S number run a (region P (label P b))
-      here m is plain live = subst (λ z. Live S number run a (region P z)) (sym (label_plain P b m is plain)) live
+      at_variable : (q : Port) → home P b ≡ label P b → T a (label P b) Variable q v → next_of P (label P b) ≡ b → Label b a q v
+      at_variable Zero own_home w same =
+          named_label b a v within binds own_home (subst (λ j. Tells S number run a (NameIn (region P (label P b)) j) v) same w)
+      at_variable One own_home w same = absurd w
 
-      at_variable : (q : Port) → T a (label P b) Variable q v → next_of P (label P b) ≡ b → Label b a q v
-      at_variable Zero w same = named_label b a v within binds (subst (λ j. Tells S number run a (NameIn (region P (label P b)) j) v) same w)
-      at_variable One w same = absurd w
+      -- the entry of an index has what that Has, where the loop goes on
+      at_index : {x : ℕ} (q : Port) → node P b ≡ Index x → T a (block P b + 1) (Carried kinds.Int) q v → Label b a q v
+      at_index Zero is w =
+          let l = index_loop known within is in
+          let h = block P b in
+          let stand = carried_stands P known h l.0 l.1 (h + 1) (omega arith) (omega arith) in
+          let first : h + 1 - (h + 1) ≡ 0 = omega arith in
+          let shows : ShownIndex S number run a h v =
+          subst (λ t. Tells S number run a t v) ((λ i. entry_wants (stand.0 i) (h + 1 - (stand.0 i + 1))) ∙ ap (entry_wants h) first) w in
+          let same : label P b ≡ h + 1 = ap (label_by h b) is in
+          let here : b ≡ index_row (l.0.the).switches = index_at known within is l.0 in
+          let place_is = ap (place P) (ap index_row (switches_same P known h l.0) ∙ sym here) in
+          record {
+            port = refl;
+            live = subst (Live S number run a) (sym (ap (region P) same ∙ stand.1)) shows.live;
+            path = (shows.shown).path;
+            path_of = (shows.shown).path_of;
+            has = λ u e.
+                subst (λ z. Holds S (Has (shows.shown).path z u)) place_is
+                (shown_holds S known g number numbered count s run r backed shows.shown e);
+          }
+      at_index One is w = absurd w
 
       by : (m : Node) → node P b ≡ m → (q : Port) → T a (label P b) (node P (label P b)) q v → Label b a q v
       by (Param x k) is Zero w =
-          named_label b a v within binds (subst (λ z. Tells S number run a (NameIn (region P z) b) v) (sym (label_plain P b (Param x k) is refl))
-          (own (Param x k) is refl Zero w))
-      by (Param x k) is One w = absurd (own (Param x k) is refl One w)
+          let same = ap (label_by (block P b) b) is in
+          named_label b a v within binds (ap (home_by (block P b) b) is ∙ sym same)
+          (subst (λ z. Tells S number run a (NameIn (region P z) b) v) (sym same) (own (Param x k) is same Zero w))
+      by (Param x k) is One w = absurd (own (Param x k) is (ap (label_by (block P b) b) is) One w)
       by (Binding x e) is Zero w =
-          let u = own (Binding x e) is refl Zero w in
+          let same = ap (label_by (block P b) b) is in
+          let u = own (Binding x e) is same Zero w in
           let live = subst (Live S number run a) ((known.table).part_stands b e within (subst (λ z. HasNear z e) (sym is) refl)).1 u.0 in
           record {
             port = refl;
-            live = here (Binding x e) is refl live;
+            live = subst (λ z. Live S number run a (region P z)) (sym same) live;
             path = (u.1).path;
             path_of = (u.1).path_of;
-            has = λ z f. holds_by S _ _ (binding_has (record { within = within; node = is })) (shown_holds S known g number numbered count s run r u.1 f, tt);
+            has = λ z f. holds_by S _ _ (binding_has (record { within = within; node = is })) (shown_holds S known g number numbered count s run r backed u.1 f, tt);
           }
-      by (Binding x e) is One w = absurd (own (Binding x e) is refl One w)
+      by (Binding x e) is One w = absurd (own (Binding x e) is (ap (label_by (block P b) b) is) One w)
       by (Next x k o e) is q w =
           let z = variable_of_next P b x k o e within is in
           let here : label P b ≡ block P b + 1 + k = ap (label_by (block P b) b) is in
-          at_variable q (subst (λ y. T a (label P b) y q v) (ap (node P) here ∙ z.node) w) (ap (next_of P) here ∙ z.next)
+          at_variable q (ap (home_by (block P b) b) is ∙ sym here) (subst (λ y. T a (label P b) y q v) (ap (node P) here ∙ z.node) w)
+          (ap (next_of P) here ∙ z.next)
+      by (Index x) is q w =
+          let l = index_loop known within is in
+          let same : label P b ≡ block P b + 1 = ap (label_by (block P b) b) is in
+          at_index q is
+          (subst (λ (z : ℕ × Node). T a z.0 z.1 q v) {x = (label P b, node P (label P b))} {y = (block P b + 1, Carried kinds.Int)}
+          (λ i. (same i, (ap (node P) same ∙ l.1.entry) i)) w)
       by _ is q w = absurd (true_false (sym binds ∙ ap is_binder is))
 
   -- what shows a name came to its binder's label, under an activation of its path
@@ -222,7 +255,7 @@ module _ (S : Source) (known : IsKnown S.checked) (g : Parts) (number : ℕ → 
   came_to n x among e =
       let y = names_is g tag_path name_of x n e in
       let z : ToldToken S number run (Token y.tag y.port y.token) = subst (Told S number run) y.is
-      (all_tell S known g number numbered run count s r x (inr among)) in
+      (all_tell S known g number numbered run count s r backed x (inr among)) in
       let parts = token_parts (sym z.is) in
       let tag_is : tag_in z.activation (number z.row z.part) ≡ y.tag = parts.0 in
       let port_is : z.port ≡ y.port = parts.1.0 in
@@ -241,7 +274,7 @@ module _ (S : Source) (known : IsKnown S.checked) (g : Parts) (number : ℕ → 
       let path_is : n.path ≡ at.path =
       ap (λ (w : NameValue). w.path) y.shows
       ∙ ap tag_path (sym tag_is)
-      ∙ path_shown S known g number numbered count s run r (tag_in z.activation (number z.row z.part)) at.path at.live at.path_of in
+      ∙ path_shown S known g number numbered count s run r backed (tag_in z.activation (number z.row z.part)) at.path at.live at.path_of in
       record {
         row = b;
         within = found.within;
@@ -270,7 +303,7 @@ module _ (S : Source) (known : IsKnown S.checked) (g : Parts) (number : ℕ → 
   abbrev only : Exclusive g S.inputs count
   only =
       exclusive S g number numbered known count (λ t hs q. all_tell S known g number numbered hs count t q)
-      (λ t hs q. all_speak S known g number numbered hs count t q)
+      (λ t hs q. all_speak S known g number numbered hs count t q) backed.wholes
 
   -- where a name is shown
   abbrev site_of : NameValue → Site
@@ -297,8 +330,8 @@ module _ (S : Source) (known : IsKnown S.checked) (g : Parts) (number : ℕ → 
           (sym x.place_is ∙ places ∙ z.place_is) in
           let apart = contexts_apart g S.inputs count s run r in
           let under : x.activation ≡ z.activation =
-          paths_apart S known g number numbered run apart (fired_once g S.inputs count only s run r)
-          (λ a m i q c within is o. main_first S known number run g numbered apart (opening_live S known g number numbered run count s r a m i q c within is o))
+          paths_apart S known g number numbered run apart backed.once
+          (λ a m i q c within is o. main_first S known number run g numbered apart (opening_live S known g number numbered run count s r backed a m i q c within is o))
           x.path_of (subst (PathOf S number run z.activation) (sym paths) z.path_of)
           (main_first S known number run g numbered apart x.live) (main_first S known number run g numbered apart z.live) in
           x.key ∙ (λ i. AtPort (tag_in (under i) (number (label P (same i)) 0)) Zero) ∙ sym z.key

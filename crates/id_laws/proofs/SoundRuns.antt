@@ -9,6 +9,9 @@ use Rattle.id_runs.specs.Runs.{Reach}
 use Rattle.id_runs.specs.OneMessage.{Exclusive}
 use Rattle.id_laws.specs.Laws.{IsSound, IsNeverStuck}
 use Rattle.id_laws.proofs.Assumed.{IsKnown}
+use Rattle.id_laws.proofs.FiringMeans.{IsBacked}
+use Rattle.id_laws.proofs.Wholes.{AreWhole, wholes}
+use Rattle.id_runs.proofs.OneMessage.{fired_once}
 use Rattle.id_laws.proofs.OneSender.{exclusive}
 use Rattle.id_laws.proofs.NeverStuck.{never_stuck_at}
 use Rattle.id_laws.proofs.PathsApart.{messages_apart}
@@ -20,31 +23,37 @@ use Rattle.id_laws.proofs.SoundValues.{sound_values}
 use Rattle.id_laws.proofs.SoundCells.{sound_structures, structures_differ, sound_cells, cells_differ, sound_asks, asks_differ, sound_waiting, waiting_differ}
 
 -- in any run one event alone, or the start alone, sends for each key
-pub alone : (S : Source) → IsKnown S.checked → (g : Parts) (number : ℕ → ℕ → ℕ) → Numbered S.checked g number → (count : ℕ) → Exclusive g S.inputs count
-alone S known g number numbered count = exclusive S g number numbered known count (λ s run r. all_tell S known g number numbered run count s r)
-    (λ s run r. all_speak S known g number numbered run count s r)
+pub alone : (S : Source) → IsKnown S.checked → AreWhole S → (g : Parts) (number : ℕ → ℕ → ℕ) → Numbered S.checked g number → (count : ℕ)
+    → Exclusive g S.inputs count
+alone S known are g number numbered count =
+    exclusive S g number numbered known count (λ s run r. all_tell S known g number numbered run count s r)
+    (λ s run r. all_speak S known g number numbered run count s r) (λ p e i. wholes S are)
 
-module _ (S : Source) (known : IsKnown S.checked) (g : Parts) (number : ℕ → ℕ → ℕ) (numbered : Numbered S.checked g number) (count : ℕ) (s : World)
-    (run : List Event) (r : Reach g S.inputs count s run) where
+module _ (S : Source) (known : IsKnown S.checked) (are : AreWhole S) (g : Parts) (number : ℕ → ℕ → ℕ) (numbered : Numbered S.checked g number)
+    (count : ℕ) (s : World) (run : List Event) (r : Reach g S.inputs count s run) where
+  -- a tag fires once in the run, and each number that a place Has is one of the language
+  pub backed : IsBacked S run
+  backed = record { once = fired_once g S.inputs count (alone S known are g number numbered count) s run r; wholes = λ p e i. wholes S are }
+
   -- what is shown is sound
   pub sound_at : IsSound S g number s
   sound_at = record {
-    answer = sound_answer S known g number numbered count s run r;
-    names = sound_names S known g number numbered count s run r;
-    names_once = names_differ S known g number numbered count s run r;
-    structures = sound_structures S known g number numbered count s run r;
-    structures_once = structures_differ S known g number numbered count s run r;
-    cells = sound_cells S known g number numbered count s run r;
-    cells_once = cells_differ S known g number numbered count s run r;
-    asks = sound_asks S known g number numbered count s run r;
-    asks_once = asks_differ S known g number numbered count s run r;
-    waiting = sound_waiting S known g number numbered count s run r;
-    waiting_once = waiting_differ S known g number numbered count s run r;
-    faults = sound_faults S known g number numbered count s run r;
-    values = sound_values S known g number numbered count s run r;
+    answer = sound_answer S known g number numbered count s run r backed;
+    names = sound_names S known g number numbered count s run r backed;
+    names_once = names_differ S known g number numbered count s run r backed;
+    structures = sound_structures S known g number numbered count s run r backed;
+    structures_once = structures_differ S known g number numbered count s run r backed;
+    cells = sound_cells S known g number numbered count s run r backed;
+    cells_once = cells_differ S known g number numbered count s run r backed;
+    asks = sound_asks S known g number numbered count s run r backed;
+    asks_once = asks_differ S known g number numbered count s run r backed;
+    waiting = sound_waiting S known g number numbered count s run r backed;
+    waiting_once = waiting_differ S known g number numbered count s run r backed;
+    faults = sound_faults S known g number numbered count s run r backed;
+    values = sound_values S known g number numbered count s run r backed;
   }
 
   -- no event is `Stuck`, each key has at most one message, and each path one context and iteration
   pub free_at : IsNeverStuck g s
   free_at =
-      never_stuck_at S g count (alone S known g number numbered count) s run r (messages_apart S known g number numbered count s run r)
+      never_stuck_at S g count (alone S known are g number numbered count) s run r (messages_apart S known g number numbered count s run r backed)

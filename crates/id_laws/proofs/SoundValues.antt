@@ -48,13 +48,14 @@ use Rattle.id_laws.proofs.Sources.{is_mover}
 use Rattle.id_laws.proofs.Arcs.{sends_in, gives_back, varies, takes_in, moves_on, moves_name, advances, resets}
 use Rattle.id_laws.proofs.Arcs.{gets_last, allocates, addresses, fetches, gets_reply, stores, part_of}
 use Rattle.id_laws.proofs.Arcs.{Does, starts, returns, enters, constant, unary, binary, turns_on, hands, joins, names}
+use Rattle.id_laws.proofs.Arcs.{bounds_meet, begins_index, carries, meets_bound, goes_further, hands_index, has_one, adds_one}
 use Rattle.id_laws.proofs.Arcs.{answers, doing, place_shown, opens, passes, gets}
 use Rattle.id_laws.proofs.Tokens.{one_part, told_at}
 use Rattle.id_laws.proofs.Sendings.{is_fetch, is_store}
 use Rattle.id_laws.proofs.Sites.{read_told, written_told}
 use Rattle.id_laws.proofs.Naming.{shown_holds, stands_shown}
 use Rattle.id_laws.proofs.Senders.{sent_back}
-use Rattle.id_laws.proofs.FiringMeans.{Means}
+use Rattle.id_laws.proofs.FiringMeans.{IsBacked, Means}
 use Rattle.id_laws.proofs.AllTell.{FiredPart, firing_tells}
 use Rattle.id_laws.proofs.StartTells.{all_tell, seats}
 use Rattle.id_laws.proofs.Observing.{handled_event}
@@ -126,6 +127,14 @@ expresses P n part o d e gives = go d gives
     go (fetches is) h = other_part is h (λ z. cc)
     go (gets_reply {t = t} {i = i} is) h = by 2 (Fetch t i) is (λ b. refl) refl refl
     go (stores is) h = no is refl
+    go (bounds_meet is) h = no is refl
+    go (begins_index is) h = no is refl
+    go (carries is) h = no is refl
+    go (meets_bound is) h = no is refl
+    go (goes_further is) h = no is refl
+    go (hands_index is) h = no is refl
+    go (has_one is) h = no is refl
+    go (adds_one is) h = no is refl
     go (answers is) h = no is refl
 
 -- an expression is no `back`, no `send` and no `enter`
@@ -158,6 +167,14 @@ no_back P number (addresses is) e b = cc
 no_back P number (fetches is) e b = cc
 no_back P number (gets_reply is) e b = cc
 no_back P number (stores is) e b = cc
+no_back P number (bounds_meet is) e b = cc
+no_back P number (begins_index is) e b = cc
+no_back P number (carries is) e b = cc
+no_back P number (meets_bound is) e b = cc
+no_back P number (goes_further is) e b = cc
+no_back P number (hands_index is) e b = cc
+no_back P number (has_one is) e b = cc
+no_back P number (adds_one is) e b = cc
 no_back P number (answers is) e b = cc
 
 no_send : (P : Checked) (number : ℕ → ℕ → ℕ) {n part : ℕ} {o : Form} {k : _} {m : ℕ} → Does P n part o → is_expression (node P n) ≡ true →
@@ -189,6 +206,14 @@ no_send P number (addresses is) e b = cc
 no_send P number (fetches is) e b = cc
 no_send P number (gets_reply is) e b = cc
 no_send P number (stores is) e b = cc
+no_send P number (bounds_meet is) e b = cc
+no_send P number (begins_index is) e b = cc
+no_send P number (carries is) e b = cc
+no_send P number (meets_bound is) e b = cc
+no_send P number (goes_further is) e b = cc
+no_send P number (hands_index is) e b = cc
+no_send P number (has_one is) e b = cc
+no_send P number (adds_one is) e b = cc
 no_send P number (answers is) e b = cc
 
 one_two : suc zero ≡ suc (suc zero) → ⊥
@@ -206,7 +231,7 @@ mover_no_expression (Reset v) h = refl
 mover_no_expression _ h = absurd (true_false (sym h))
 
 module _ (S : Source) (known : IsKnown S.checked) (g : Parts) (number : ℕ → ℕ → ℕ) (numbered : Numbered S.checked g number) (count : ℕ) (s : World)
-    (run : List Event) (r : Reach g S.inputs count s run) where
+    (run : List Event) (r : Reach g S.inputs count s run) (backed : IsBacked S run) where
   abbrev P : Checked
   P = S.checked
 
@@ -221,13 +246,13 @@ module _ (S : Source) (known : IsKnown S.checked) (g : Parts) (number : ℕ → 
       → value_in name_of m.payload ≡ shown.source_value name_of v → Carries S name_of (tag_path t) e m
   brings n e t v here place_is m says =
       let w = here.1 in
-      let path_is = path_shown S known g number numbered count s run r t w.path here.0 w.path_of in
-      let stands = stands_shown S known g number numbered count s run r w.stands in
+      let path_is = path_shown S known g number numbered count s run r backed t w.path here.0 w.path_of in
+      let stands = stands_shown S known g number numbered count s run r backed w.stands in
       record {
         value = w.value;
         brings = says ∙ stands;
         holds = subst (λ (z : Path × ℕ). Holds S (Has z.0 z.1 w.value)) (λ i. (sym path_is i, sym place_is i))
-            (shown_holds S known g number numbered count s run r w stands);
+            (shown_holds S known g number numbered count s run r backed w stands);
       }
 
   -- a token that brings what an instruction of the expression has spoken
@@ -302,7 +327,7 @@ module _ (S : Source) (known : IsKnown S.checked) (g : Parts) (number : ℕ → 
           → Carries S name_of (tag_path (tag_of v.message.payload)) e m
       of_firing t h z tag_is goes =
           let told = firing_tells S known g number numbered run (seats S known g number numbered run count s r)
-          (structures_apart g S.inputs count s run r) run r (λ x h. all_tell S known g number numbered run count s r x (inr h)) z in
+          (structures_apart g S.inputs count s run r) backed run r (λ x h. all_tell S known g number numbered run count s r backed x (inr h)) z in
           let y = told.0 in
           let one = row_is y.is_part (sym y.at) tag_is in
           subst (λ (t : Tag). Carries S name_of (tag_path t) e m) tag_is (carried_by n e k t h z y one.0 x expression place_is told.1 one.1 m goes)
@@ -326,15 +351,15 @@ module _ (S : Source) (known : IsKnown S.checked) (g : Parts) (number : ℕ → 
       told_on : (h : Event) → Among h run → Among m.payload (sends_of g h) → (t : Tag) (w : Value) → m.payload ≡ Token t Zero w
           → Told S number run (Token t Zero w)
       told_on h a goes t w says =
-          subst (Told S number run) says (all_tell S known g number numbered run count s r m.payload
+          subst (Told S number run) says (all_tell S known g number numbered run count s r backed m.payload
           (moving g S.inputs count s run r m.payload (inr (record { event = h; among = a; sends = goes }))))
 
       by : (h : Event) → Among h run → tag_of (payload_of h) ≡ tag_of v.message.payload → Among m.payload (sends_of g h) → SentFrom g run h m.payload
           → Carries S name_of (tag_path (tag_of v.message.payload)) e m
       by h a tag_is goes (by_firing t f z is out) = of_firing t f z (ap (λ q. tag_of (payload_of q)) is ∙ tag_is) out
       by h a tag_is goes (by_answer t w says (at_once j c among)) =
-          of_read c t w (read_told S known g number numbered count s run r (record { element = j; among = among })) tag_is says (told_on h a goes t w says)
+          of_read c t w (read_told S known g number numbered count s run r backed (record { element = j; among = among })) tag_is says (told_on h a goes t w says)
       by h a tag_is goes (by_answer t w says (by_fill j c u ts among there)) =
-          let store = written_told S known g number numbered count s run r (record { element = j; among = among }) in
+          let store = written_told S known g number numbered count s run r backed (record { element = j; among = among }) in
           let one = row_is (part_of store.within (stores store.node)) store.is tag_is in
           absurd (true_false (sym expression ∙ ap (λ q. is_expression (node P q)) (sym one.0) ∙ ap is_expression store.node))

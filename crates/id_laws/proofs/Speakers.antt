@@ -1,10 +1,11 @@
 -- Where the values of things come from.
 use Rattle.std.proofs.Common.{◌≡◌, ℕ, ◌<◌, true, false, Some, length, sym, ◌∙◌, ap, subst}
 use Rattle.id_list.specs.List.{Among}
+use Rattle.id_value.specs.declared.Kind.{Kind}
 use Rattle.id_table.specs.declared.row.Region.{Region}
 use Rattle.id_table.specs.declared.row.Node.{Node}
-use Rattle.id_table.specs.declared.row.Node.TheVariants.{Param, Literal, Name, Unary, Binary, If, Block, Binding, Call, Next, Loop, Array, Fetch}
-use Rattle.id_table.specs.Tables.{is_binder, is_block, is_expression}
+use Rattle.id_table.specs.declared.row.Node.TheVariants.{Param, Literal, Name, Unary, Binary, If, Block, Binding, Call, Next, Index, Loop, Array, Fetch, Carried, Within}
+use Rattle.id_table.specs.Tables.{is_binder, is_block, is_expression, is_within}
 use Rattle.id_check.specs.declared.checked.Checked.{Checked}
 use Rattle.id_check.specs.Programs as checked
 use Rattle.id_check.specs.Programs.{region, rows}
@@ -22,25 +23,31 @@ true_false h = cc
 
 module _ (P : Checked) (known : IsKnown P) where
   -- an expression that is no name and no block gives its own value
-  pub own_origin : (n : ℕ) (m : Node) → n < length (rows P) → node P n ≡ m → is_block m ≡ false → ((r : Region) → origin_of P n r m ≡ output n)
+  pub own_origin : (n : ℕ) (m : Node) → n < length (rows P) → node P n ≡ m → is_block m ≡ false → is_within m ≡ false
+      → ((r : Region) → origin_of P n r m ≡ output n)
       → origin P n ≡ output n
-  own_origin n m within is plain own =
-      let itself = (known.table).value_self n within (ap is_block is ∙ plain) in
+  own_origin n m within is plain itself own =
+      let itself = (known.table).value_self n within (ap is_block is ∙ plain) (ap is_within is ∙ itself) in
       ap (λ v. origin_of P v (region P v) (node P v)) itself ∙ ap (origin_of P n (region P n)) is ∙ own (region P n)
 
   -- a fetch gives what came to it as a reply
   pub fetch_origin : (n t i : ℕ) → n < length (rows P) → node P n ≡ Fetch t i → origin P n ≡ reply n
   fetch_origin n t i within is =
-      let itself = (known.table).value_self n within (ap is_block is) in
+      let itself = (known.table).value_self n within (ap is_block is) (ap is_within is) in
       ap (λ v. origin_of P v (region P v) (node P v)) itself ∙ ap (origin_of P n (region P n)) is
 
   pub name_origin : (n x b : ℕ) → n < length (rows P) → node P n ≡ Name x → checked.binder P n ≡ Some b → origin P n ≡ name_in P (region P n) b
   name_origin n x b within is binds =
-      let itself = (known.table).value_self n within (ap is_block is) in
+      let itself = (known.table).value_self n within (ap is_block is) (ap is_within is) in
       ap (λ v. origin_of P v (region P v) (node P v)) itself ∙ ap (origin_of P n (region P n)) is ∙ ap (named_in P (region P n) n) binds
 
   pub block_origin : (n b : ℕ) → n < length (rows P) → node P n ≡ Block b → origin P n ≡ origin P b
   block_origin n b within is = ap (λ v. origin_of P v (region P v) (node P v)) ((known.table).value_block n b within is)
+
+  -- what a loop with an index has in the place of a predicate gives what its flag does
+  pub within_origin : (n f : ℕ) {k : Kind} → n < length (rows P) → node P n ≡ Within f → node P f ≡ Carried k → origin P n ≡ output f
+  within_origin n f within is flag =
+      ap (λ v. origin_of P v (region P v) (node P v)) ((known.table).value_within n f within is) ∙ ap (origin_of P f (region P f)) flag
 
   -- what speaks for a thing
   pub expression_speaks : (n : ℕ) (m : Node) → node P n ≡ m → is_expression m ≡ true → speaker P n ≡ origin P n
@@ -66,6 +73,7 @@ module _ (P : Checked) (known : IsKnown P) where
   binder_speaks n (Param x k) is h = ap (speaker_of P n) is ∙ ap output (sym (ap (label_by (block P n) n) is))
   binder_speaks n (Binding x a) is h = ap (speaker_of P n) is ∙ ap output (sym (ap (label_by (block P n) n) is))
   binder_speaks n (Next x k o v) is h = ap (speaker_of P n) is
+  binder_speaks n (Index x) is h = ap (speaker_of P n) is
   binder_speaks n _ is h = absurd (true_false (sym h))
 
   pub fed_as : (t : Origin) (n part : ℕ) (p : Port) (m : Node) → n < length (rows P) → node P n ≡ m

@@ -18,7 +18,7 @@ use Rattle.id_tag.specs.declared.Payload.TheVariants.{Token}
 use Rattle.id_core.specs.Machines.{World}
 use Rattle.id_value.specs.declared.Constant.{Constant}
 use Rattle.id_ops.specs.Operators.{constant_value}
-use Rattle.id_laws.proofs.FiringMeans.{constant_stands}
+use Rattle.id_laws.proofs.FiringMeans.{IsBacked, constant_stands}
 use Rattle.id_source.specs.declared.Fact.TheVariants.{Has}
 use Rattle.id_source.specs.Sources.{Source, IsInput, value_of}
 use Rattle.id_source.specs.Facts.{outermost, without, param_has}
@@ -115,17 +115,17 @@ module _ (S : Source) (known : IsKnown S.checked) (g : Parts) (number : ℕ → 
     structures = structures_apart g S.inputs count s run r
 
     -- every message of a run tells what its port wants
-    pub all_tell : AllTell S number run s
-    all_tell = tell.all_tell S known g number numbered run seats structures start_tells count s r
+    pub all_tell : IsBacked S run → AllTell S number run s
+    all_tell backed = tell.all_tell S known g number numbered run seats structures backed start_tells count s r
 
     -- a row that has made a context stands in a live region
-    pub opening_live : (a : Activation) (n h q : ℕ) (c : Context) → n < length (rows P) → Begins P n h q → Opens S number run a n c
+    pub opening_live : IsBacked S run → (a : Activation) (n h q : ℕ) (c : Context) → n < length (rows P) → Begins P n h q → Opens S number run a n c
         → Live S number run a (region P n)
-    opening_live a n h q c within is o =
-        let m = tell.firing_tells S known g number numbered run seats structures run r (λ z h. all_tell z (inr h)) o in
+    opening_live backed a n h q c within is o =
+        let m = tell.firing_tells S known g number numbered run seats structures backed run r (λ z h. all_tell backed z (inr h)) o in
         let one = one_part numbered (m.0).is_part (part_of within (opens is)) (ap (λ (t : Tag). t.instr) (m.0).at) in
         subst (λ k. Live S number run a (region P k)) one.0 (m.1).live
 
     -- and what feeds a part tells what it speaks of
-    pub all_speak : AllSpeak S number run
-    all_speak = tell.all_speak S known g number numbered run seats structures start_tells count s r
+    pub all_speak : IsBacked S run → AllSpeak S number run
+    all_speak backed = tell.all_speak S known g number numbered run seats structures backed start_tells count s r

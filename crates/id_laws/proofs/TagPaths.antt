@@ -30,6 +30,7 @@ use Rattle.id_runs.proofs.Entered.{WasEntered, entered_under, few_entered, main_
 use Rattle.id_laws.specs.Laws.{events}
 use Rattle.id_laws.specs.Activations.{Seat, Outermost, Below, path_at, Begins, of_call, of_loop, Opens, SeatOf, main_seat, made_seat, Live, PathOf}
 use Rattle.id_laws.proofs.Assumed.{IsKnown}
+use Rattle.id_laws.proofs.FiringMeans.{IsBacked}
 use Rattle.id_laws.proofs.Loops.{loop_of_start, start_place}
 use Rattle.id_table.specs.Tables.{begins_block}
 use Rattle.id_laws.proofs.Arcs.{opens, makes, part_of, place_shown, starts}
@@ -59,7 +60,7 @@ begins_shows P e (of_call is) = ap (place_shown P e) is
 begins_shows P e (of_loop is) = ap (place_shown P e) is
 
 module _ (S : Source) (known : IsKnown S.checked) (g : Parts) (number : ℕ → ℕ → ℕ) (numbered : Numbered S.checked g number) (count : ℕ)
-    (s : World) (run : List Event) (r : Reach g S.inputs count s run) where
+    (s : World) (run : List Event) (r : Reach g S.inputs count s run) (backed : IsBacked S run) where
   abbrev P : Checked
   P = S.checked
 
@@ -106,7 +107,7 @@ module _ (S : Source) (known : IsKnown S.checked) (g : Parts) (number : ℕ → 
   leads main_seat t is first = under_main t (ap entries is ∙ main_unentered g S.inputs count s run r)
   leads {c} (made_seat {a = a} {n = n} {s = u} within enter o seat) t is first =
       let up = tag_in a (number n 0) in
-      let live = opening_live S known g number numbered run count s r a n _ _ c within enter o in
+      let live = opening_live S known g number numbered run count s r backed a n _ _ c within enter o in
       let p = (path_at u a.iteration).steps in
       let longer = under_enter t up (depth u) p (ap entries is ∙ entered_under g S.inputs count s run r o) (leads seat up refl (first_of live)) in
       subst (λ (z : ℕ × List PathStep). Leads g entries t z.0 z.1)

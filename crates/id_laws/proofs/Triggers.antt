@@ -1,5 +1,5 @@
 -- In a quiet run the trigger of each live region has spoken, and names come there from their labels.
-use Rattle.std.proofs.Common.{◌≡◌, ℕ, suc, ◌<◌, inl, inr, Bool as Truth, true, cond, List, [], length, get_or, refl, sym, ◌∙◌, ap, subst, arith, Some, ◌+◌}
+use Rattle.std.proofs.Common.{◌≡◌, ℕ, suc, ◌<◌, inl, inr, Bool as Truth, true, List, length, get_or, refl, sym, ◌∙◌, ap, subst, arith, Some, ◌+◌}
 use Rattle.id_table.specs.declared.row.Region.{Region}
 use Rattle.id_table.specs.declared.row.Node.TheVariants.{Head, Program, Split, Start, Switches, LoopHead}
 use Rattle.id_table.specs.Loops.{depth, loops_from}
@@ -10,21 +10,19 @@ use Rattle.id_scope.specs.Scopes.{loops_between}
 use Rattle.id_check.specs.Programs.{place, region, rows}
 use Rattle.id_instr.specs.declared.dests.Port.TheVariants.{Zero, One as Second}
 use Rattle.id_instr.specs.declared.instr.Op.TheVariants.{Merge, Switch, Enter as EnterOp}
-use Rattle.id_instr.specs.declared.instr.PortKind.{PortKind}
 use Rattle.id_instr.specs.declared.instr.PortKind.TheVariants as kinds
 use Rattle.id_instr.specs.Graph.{Parts}
 use Rattle.id_tag.specs.declared.Value.{Value}
 use Rattle.id_tag.specs.declared.Value.TheVariants.{Signal, Bool as TruthValue, Continuation}
 use Rattle.id_tag.specs.Kinds.{kind_of, same_kind}
 use Rattle.id_ops.specs.declared.Operands.TheVariants.{One, Two}
-use Rattle.id_ops.specs.declared.Fired.TheVariants.{Side, Nothing}
 use Rattle.id_core.specs.Machines.{World}
 use Rattle.id_source.specs.declared.Path.{Path}
 use Rattle.id_source.specs.Sources.{Source}
 use Rattle.id_source.specs.Facts.{below, without}
 use Rattle.id_desugar.specs.Regions.{imports_of, nexts_of}
 use Rattle.id_pieces.specs.declared.arc.Origin.{Origin}
-use Rattle.id_pieces.specs.Rows.{block, entering, entries_row, label, node, name_in, origin, output, port_at, trigger_of}
+use Rattle.id_pieces.specs.Rows.{block, entering, entries_row, home as home_of, label, node, name_in, origin, output, port_at, trigger_of}
 use Rattle.id_pieces.specs.Schemas.{Feeds, Numbered}
 use Rattle.id_runs.specs.Activations.{Activation, main_activation, at_iteration, tag_in}
 use Rattle.id_runs.specs.Events.{Event}
@@ -33,14 +31,15 @@ use Rattle.id_runs.specs.OneMessage.{Exclusive}
 use Rattle.id_laws.specs.Activations.{path_at, Begins, Tests, of_call, of_loop, of_arms, of_turns, Live, at_start}
 use Rattle.id_laws.specs.Activations.{on_side, entered, again, PathOf, Speaks, main_head, Opens}
 use Rattle.id_laws.specs.Ways.{signal}
-use Rattle.id_laws.proofs.Arcs.{starts, turns_on, hands, imports_fed, opens, makes}
+use Rattle.id_laws.proofs.Arcs.{starts, turns_on, opens, makes}
+use Rattle.id_laws.proofs.Counting.{chosen_said, handed_on}
 use Rattle.id_laws.proofs.Assumed.{IsKnown}
 use Rattle.id_laws.proofs.Calls.{called_head}
 use Rattle.id_laws.proofs.Loops.{LoopOf, loop_of_start}
 use Rattle.id_laws.proofs.LoopFacts.{entering_long, entry_does, entry_within, import_entering, start_of_head, switches_of, taken_entry, turn_sees}
 use Rattle.id_laws.proofs.LoopFirings.{entered_in, merge_out, name_again, turned_again}
 use Rattle.id_laws.proofs.Iterations.{loop_between, seen_depth, without_below, without_moved}
-use Rattle.id_laws.proofs.Firings.{alone_fired, both_fired, came, spoken, spoken_on, start_handled, sent_handled}
+use Rattle.id_laws.proofs.Firings.{IsSettled, alone_fired, both_fired, came, spoken, spoken_on, start_handled, sent_handled}
 use Rattle.id_arcs.proofs.NamesSeen.{Sees, Comes, from_label, from_switch, from_entry, comes, listed}
 use Rattle.id_laws.proofs.Speakers.{fed_as}
 use Rattle.id_laws.proofs.TurnedOn.{without_none}
@@ -51,19 +50,20 @@ use Rattle.id_tag.specs.declared.Payload.TheVariants.{Token}
 use Rattle.id_instr.specs.declared.instr.Instr.{Instr}
 use Rattle.id_laws.proofs.Begun.{begun_at}
 use Rattle.id_laws.proofs.Conditionals.{tests_no_block}
-use Rattle.id_laws.proofs.Regions.{as_tests, label_depth, label_row, region_of, same_depth}
+use Rattle.id_laws.proofs.Regions.{as_tests, home_depth, home_row, region_of, same_depth}
 use Rattle.id_laws.proofs.Sources.{tests_other}
 use Rattle.id_laws.proofs.Seats.{OneSeat, entered_path, live_path, one_path, paths_apart}
 use Rattle.id_laws.proofs.Opened.{main_first, one_seats}
 use Rattle.id_runs.proofs.Serials.{contexts_apart}
 use Rattle.id_laws.proofs.StartTells.{opening_live}
+use Rattle.id_laws.proofs.FiringMeans.{IsBacked}
 use Rattle.id_runs.proofs.OneMessage.{fired_once}
 use Rattle.id_list.specs.List.{Among}
 use Rattle.id_laws.proofs.Started.{first_sent, second_sent}
 
 module _ (S : Source) (g : Parts) (number : ℕ → ℕ → ℕ) (numbered : Numbered S.checked g number) (known : IsKnown S.checked) (count : ℕ)
     (only : Exclusive g S.inputs count)
-    (s : World) (run : List Event) (r : Reach g S.inputs count s run) (quiet : s.flight ≡ []) where
+    (s : World) (run : List Event) (r : Reach g S.inputs count s run) (quiet : IsSettled S s) where
   abbrev P : Checked
   P = S.checked
 
@@ -77,6 +77,9 @@ module _ (S : Source) (g : Parts) (number : ℕ → ℕ → ℕ) (numbered : Num
   main_within = let d = known.main in let f = (known.table).formed in
       omega (arith, d.within, ((f.each P.main d.within).parts main (subst (λ m. HasPart m main) (sym d.node) (inl refl))).1)
 
+  backed : IsBacked S run
+  backed = record { once = fired_once g S.inputs count only s run r; wholes = λ p e i. quiet.wholes }
+
   -- two live activations of one path are one
   pub one_activation : {a a' : Activation} {q q' : Region} {p : Path} → Live S number run a q → Live S number run a' q' → PathOf S number run a p
       → PathOf S number run a' p → a ≡ a'
@@ -84,7 +87,7 @@ module _ (S : Source) (g : Parts) (number : ℕ → ℕ → ℕ) (numbered : Num
       paths_apart S known g number numbered run (contexts_apart g S.inputs count s run r)
       (fired_once g S.inputs count only s run r)
       (λ a n i q c within is o. main_first S known number run g numbered (contexts_apart g S.inputs count s run r)
-      (opening_live S known g number numbered run count s r a n i q c within is o)) h k
+      (opening_live S known g number numbered run count s r backed a n i q c within is o)) h k
       (main_first S known number run g numbered (contexts_apart g S.inputs count s run r) x)
       (main_first S known number run g numbered (contexts_apart g S.inputs count s run r) y)
 
@@ -111,10 +114,6 @@ module _ (S : Source) (g : Parts) (number : ℕ → ℕ → ℕ) (numbered : Num
       let out = sent_handled S g number numbered known count only s run r quiet o (Token (tag_in (at_iteration c 0) (number h 0 + 1)) Zero v)
       (second_sent g (tag_in a (number n 0)) c (number h 0) (number q 0) (opener_names within is)) in
       subst (λ k. Among (Token (tag_in (at_iteration c 0) k) Zero v) (handled run)) (sym (numbered.parts_behind h 1)) out
-
-  -- a value of the switch's kind goes to the side that the predicate has chosen
-  switched : (k : PortKind) (b : Truth) (v : Value) → same_kind (kind_of v) k ≡ true → cond (same_kind (kind_of v) k) (Side b v) Nothing ≡ Side b v
-  switched k b v e = ap (λ c. cond c (Side b v) Nothing) e
 
   -- what feeds the first of a row's switches
   switch_fed : {n t : ℕ} → Tests P n t → n < length (rows P) → Feeds P (origin P t) n 0 Zero × Feeds P (trigger_of (region P n)) n 0 Second
@@ -145,29 +144,16 @@ module _ (S : Source) (g : Parts) (number : ℕ → ℕ → ℕ) (numbered : Num
       let fired_so = alone_fired S g number numbered known count only s run r quiet main_activation main 0 (Merge kinds.Signal) Zero Signal main_within
       (starts (ap begins_block main_is)) refl came_in in
       spoken S g number numbered known count only s run r quiet main_activation main 0 (Merge kinds.Signal) (One Signal) Signal fired_so (λ f. refl)
-  live_turned (on_side within tests live says goes) = side_turned within tests (live_turned live) says
+  live_turned (on_side within tests live chosen goes) =
+      side_turned within tests (live_turned live) (chosen_said S g number numbered known count only s run r quiet within tests chosen)
   live_turned (entered within is live opened) = first_fired within is opened
-  live_turned (again {c = c} {k = k} {n = n} {e = t} within is live says goes) =
+  live_turned (again {c = c} {k = k} {n = n} {e = t} within is live chosen goes) =
       let z = switches_of known within is in
+      let says = chosen_said S g number numbered known count only s run r quiet within (of_turns is) chosen in
       let side = side_turned within (of_turns is) (live_turned live) says in
       let on = subst (λ w. Speaks S number run (at_iteration c k) (trigger_of (arm_at w true)) Signal) (sym z.switches) side in
       subst (λ q. Speaks S number run (at_iteration c (suc k)) (trigger_of q) Signal) (sym z.right)
       (turned_again S g number numbered known count only s run r quiet z.loop c k on)
-
-  -- what is handed into an arm comes from where the conditional stands
-  handed_on : (a : Activation) (n t k : ℕ) (b : Truth) (v : Value) → n < length (rows P) → Tests P n t → k < length (imports_of P n)
-      → same_kind (kind_of v) (port_at P (get_or (imports_of P n) k 0)) ≡ true
-      → Speaks S number run a (origin P t) (TruthValue b) → Speaks S number run a (name_in P (region P n) (get_or (imports_of P n) k 0)) v
-      → Speaks S number run a (record { row = n; part = suc k; side = b }) v
-  handed_on a n t k b v within is less fits says name =
-      let o = get_or (imports_of P n) k 0 in
-      let feeds = imports_fed P n t k within is less in
-      let test = came S g number numbered known count only s run r quiet a (origin P t) n (suc k) Zero (TruthValue b) says feeds.0 in
-      let value = came S g number numbered known count only s run r quiet a (name_in P (region P n) o) n (suc k) Second v name feeds.1 in
-      let fired_so = both_fired S g number numbered known count only s run r quiet a n (suc k) (Switch (port_at P o)) (TruthValue b) v within
-      (hands k is less) refl test value in
-      spoken_on S g number numbered known count only s run r quiet a n (suc k) (Switch (port_at P o)) (Two (TruthValue b) v) b v fired_so
-      (λ f. switched (port_at P o) b v fits)
 
   -- where the name is bound, as the region sees it: what its label has spoken there, of its kind, comes to the region
   pub record Home (a : Activation) (q : Region) (b : ℕ) : Type 0 where
@@ -178,13 +164,13 @@ module _ (S : Source) (g : Parts) (number : ℕ → ℕ → ℕ) (numbered : Num
     pub comes : (v : Value) → same_kind (kind_of v) (port_at P b) ≡ true → Speaks S number run activation (output (label P b)) v
         → Speaks S number run a (name_in P q b) v
 
-  at_label : (a : Activation) (b : ℕ) → b < length (rows P) → is_binder (node P b) ≡ true → Live S number run a (region P (label P b))
-      → name_in P (region P (label P b)) b ≡ output (label P b) → Home a (region P (label P b)) b
+  at_label : (a : Activation) (b : ℕ) → b < length (rows P) → is_binder (node P b) ≡ true → Live S number run a (region P (home_of P b))
+      → name_in P (region P (home_of P b)) b ≡ output (label P b) → Home a (region P (home_of P b)) b
   at_label a b within binds live from = record {
     activation = a;
-    home_region = region P (label P b);
+    home_region = region P (home_of P b);
     live = live;
-    path = λ p x. subst (PathOf S number run a) (sym (ap (λ d. without d p) (label_depth known within binds) ∙ without_none p)) x;
+    path = λ p x. subst (PathOf S number run a) (sym (ap (λ d. without d p) (home_depth known within binds) ∙ without_none p)) x;
     comes = λ v fits x. subst (λ z. Speaks S number run a z v) (sym from) x;
   }
 
@@ -207,7 +193,7 @@ module _ (S : Source) (g : Parts) (number : ℕ → ℕ → ℕ) (numbered : Num
         path = λ p x. subst (λ j. PathOf S number run h.activation (without j p)) deep (h.path p x);
         comes = λ v fits x.
             subst (λ z. Speaks S number run a z v) (sym from')
-            (handed_on a m e k d v inside tests less' (ap (λ z. same_kind (kind_of v) (port_at P z)) there' ∙ fits) says
+            (handed_on S g number numbered known count only s run r quiet a m e k d v inside tests less' (ap (λ z. same_kind (kind_of v) (port_at P z)) there' ∙ fits) says
             (subst (λ z. Speaks S number run a (name_in P (region P m) z) v) (sym there') (h.comes v fits x)));
       }
 
@@ -279,10 +265,10 @@ module _ (S : Source) (g : Parts) (number : ℕ → ℕ → ℕ) (numbered : Num
   -- the label of what a loop imports stands in no side of its switches
   not_inside : {h t w b : ℕ} → h < length (rows P) → node P h ≡ LoopHead t → w < length (rows P) → block P w ≡ h → b < length (rows P)
       → is_binder (node P b) ≡ true
-      → Sees P b (region P t) → region P (label P b) ≡ arm_at w true → ⊥
+      → Sees P b (region P t) → region P (home_of P b) ≡ arm_at w true → ⊥
   not_inside {h} {t} {w} {b} less is within of_block inside binds sees right =
       let z = start_of_head known less is in
-      let l = label_row known inside binds in
+      let l = home_row known inside binds in
       let own_block : block P b ≡ h =
       sym l.block ∙ sym (region_of known l.within l.other).block ∙ ap (λ (q : Region). block P q.head) right ∙ of_block in
       let head_block : block P h ≡ h = (known.table).head_block h less (ap begins_block is) in
@@ -311,7 +297,7 @@ module _ (S : Source) (g : Parts) (number : ℕ → ℕ → ℕ) (numbered : Num
           let from' : name_in P (arm_at w true) b ≡ record { row = w; part = suc k; side = true } = from ∙
           (λ i. record { row = sym head i; part = suc k; side = sym side i }) in
           subst (λ z. Speaks S number run a z v) (sym from')
-          (handed_on a w e k true v within (of_turns is') few' (ap (λ z. same_kind (kind_of v) (port_at P z)) there' ∙ fits) says
+          (handed_on S g number numbered known count only s run r quiet a w e k true v within (of_turns is') few' (ap (λ z. same_kind (kind_of v) (port_at P z)) there' ∙ fits) says
           (subst (λ z. Speaks S number run a (name_in P (region P w) z) v) (sym there') name))
       by (from_entry h' t' k less_h head few there rest at from) =
           let bad : Switches e ≡ LoopHead t' = sym is' ∙ ap (λ (q : Region). node P q.head) at ∙ head in
@@ -361,12 +347,13 @@ module _ (S : Source) (g : Parts) (number : ℕ → ℕ → ℕ) (numbered : Num
       by at_start (from_entry h t k less is few there rest at from) =
           let bad : Head ≡ LoopHead t = sym main_is ∙ ap (λ (q : Region). node P q.head) at ∙ is in
           cc
-      by (on_side within tests live says goes) (from_entry h t k less is few there rest at from) =
+      by (on_side within tests live chosen goes) (from_entry h t k less is few there rest at from) =
           absurd (tests_no_block tests (ap (λ (q : Region). begins_block (node P q.head)) at ∙ ap begins_block is))
       by (entered {n = n} within begins live opened) (from_entry h t k less is few there rest at from) =
           begun_home b k inside binds within begins live opened less is few there rest at from (λ sees. by live (comes P (region P n) b sees))
-      by (again {n = n} {e = e} within is' live says goes) (from_entry h t k less is few there rest at from) =
+      by (again {n = n} {e = e} within is' live chosen goes) (from_entry h t k less is few there rest at from) =
           let z = switches_of known within is' in
+          let says = chosen_said S g number numbered known count only s run r quiet within (of_turns is') chosen in
           let head : block P n ≡ h = ap (λ (q : Region). q.head) (sym z.right ∙ at) in
           let x : (l : LoopOf P h) × ((l.the).switches ≡ n) = subst (λ i. (l : LoopOf P i) × ((l.the).switches ≡ n)) head (z.loop, z.switches) in
           again_home b k x.0 less is within is' x.1 at head inside binds few there rest from says
@@ -375,9 +362,9 @@ module _ (S : Source) (g : Parts) (number : ℕ → ℕ → ℕ) (numbered : Num
           absurd (tests_no_block (as_tests is) (ap (λ (z : Region). begins_block (node P z.head)) (sym at) ∙ ap begins_block main_is))
       by (entered within begins live opened) (from_switch n t k c less_n is less there rest at from) =
           absurd (tests_no_block (as_tests is) (ap (λ (z : Region). begins_block (node P z.head)) (sym at) ∙ (begun_at known within begins).head))
-      by (again {n = m} {e = e} within is' live says goes) (from_switch n t k c less_n is less there rest at from) =
+      by (again {n = m} {e = e} within is' live chosen goes) (from_switch n t k c less_n is less there rest at from) =
           let z = switches_of known within is' in
           absurd (tests_no_block (as_tests is) (ap (λ (q : Region). begins_block (node P q.head)) (sym at ∙ z.right) ∙ ap begins_block (z.loop).head))
-      by {a} {q} (on_side {n = m} {e = e} {b = d} within tests live says goes) (from_switch n t k c less_n is less there rest at from) =
-          handed_home b n t k c within tests says less there at from
+      by {a} {q} (on_side {n = m} {e = e} {b = d} within tests live chosen goes) (from_switch n t k c less_n is less there rest at from) =
+          handed_home b n t k c within tests (chosen_said S g number numbered known count only s run r quiet within tests chosen) less there at from
           (by live (comes P (region P m) b (subst (λ z. Sees P b (region P z)) (sym (ap (λ (z : Region). z.head) at)) rest)))

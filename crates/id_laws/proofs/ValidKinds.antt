@@ -1,5 +1,5 @@
 -- What an arc brings is of the kind that its port takes.
-use Rattle.std.proofs.Common.{◌≡◌, inl, inr, ℕ, zero, suc, ◌<◌, ◌+◌, true, false, Some, List, map, length, unwrap_or, get_or, refl, sym, ◌∙◌, ap, subst, arith}
+use Rattle.std.proofs.Common.{◌≡◌, inl, inr, ℕ, zero, suc, ◌<◌, ◌≤◌, ◌+◌, ◌-◌, true, false, Some, List, ◌∷◌, ◌++◌, [], map, length, unwrap_or, get_or, refl, sym, ◌∙◌, ap, subst, arith}
 use Rattle.id_list.specs.List.{Among}
 use Rattle.id_list.proofs.AmongLemmas.{Among-either, Among-from_map}
 use Rattle.id_value.specs.declared.Kind.{Kind}
@@ -15,8 +15,10 @@ use Rattle.id_table.specs.declared.row.Node.TheVariants.{Head, Param, Literal, N
 use Rattle.id_table.specs.declared.row.Node.TheVariants.{Binding, Def, Program, Enter, Arg, Call, Array, Fetch}
 use Rattle.id_table.specs.declared.row.Node.TheVariants.{Address, Store}
 use Rattle.id_table.specs.declared.row.Node.TheVariants.{Start, LoopHead, Variable, Entries, Switches, Turn, NextUse, Next, Body, Reset, Loop}
-use Rattle.id_table.specs.Rows.{at}
-use Rattle.id_table.specs.Tables.{HasPart, HasOperand, begins_block, is_binder, is_block, is_expression}
+use Rattle.id_table.specs.declared.row.Node.TheVariants.{Bounds, Carried, Within, Count, Index, Span}
+use Rattle.id_table.specs.Loops.{IsLoop, IsLoopOf}
+use Rattle.id_table.specs.Rows.{arm_at, at}
+use Rattle.id_table.specs.Tables.{HasPart, HasOperand, begins_block, is_binder, is_block, is_carried, is_expression, is_in_loop, is_within}
 use Rattle.id_table.proofs.RegionLemmas.{HasPart-operand}
 use Rattle.id_check.specs.declared.checked.Checked.{Checked}
 use Rattle.id_scope.specs.Kinds.{constant_kind, unary_kind, binary_kind}
@@ -25,16 +27,16 @@ use Rattle.id_check.proofs.ProgramsLemmas.{unary_row, bound_name_row, loop_row, 
 use Rattle.id_instr.specs.declared.dests.Port.{Port}
 use Rattle.id_instr.specs.declared.dests.Port.TheVariants.{Zero, One}
 use Rattle.id_instr.specs.declared.instr.PortKind.{PortKind}
-use Rattle.id_instr.specs.declared.instr.PortKind.TheVariants.{Signal, Bool as TruthPort, Address as AddressPort, Context}
+use Rattle.id_instr.specs.declared.instr.PortKind.TheVariants.{Signal, Bool as TruthPort, Int as IntPort, Address as AddressPort, Context}
 use Rattle.id_instr.specs.Ports as ports
 use Rattle.id_instr.specs.Ports.{operand_kind, outcome_kind, port_kind, sends}
-use Rattle.id_desugar.specs.Regions.{nexts_of}
+use Rattle.id_desugar.specs.Regions.{carried, has_index, nexts_of}
 use Rattle.id_pieces.specs.declared.arc.Origin.{Origin}
 use Rattle.id_desugar.specs.Ends.{end_of, next_of}
 use Rattle.id_desugar.specs.Regions.{imports_of}
 use Rattle.id_pieces.specs.Rows.{node, port_of, port_at, binary_op, result_of, body_of, output, trigger_of, name_in}
 use Rattle.id_pieces.specs.Rows.{named_in, origin_of, origin, op_by, param_of}
-use Rattle.id_pieces.specs.Rows.{block, entering, entries_row, label, first_binder, turn_row}
+use Rattle.id_pieces.specs.Rows.{block, entering, entries_row, label, label_by, first_binder, part_of, turn_row}
 use Rattle.id_pieces.specs.Schemas.{Feeds}
 use Rattle.id_laws.specs.Activations.{Begins, of_call, of_loop, Tests, of_arms, of_turns}
 use Rattle.id_laws.specs.Topics.{Addresses, of_fetch, of_store}
@@ -42,19 +44,28 @@ use Rattle.id_laws.proofs.Stores.{address_at}
 use Rattle.id_laws.proofs.Arcs.{Does, starts, returns, constant, unary, binary, turns_on, hands, joins, names, fed}
 use Rattle.id_laws.proofs.Arcs.{sends_in, gives_back, varies, takes_in, moves_on, moves_name, advances, resets}
 use Rattle.id_laws.proofs.Arcs.{gets_last, allocates, addresses, fetches, gets_reply, stores, entered_at}
+use Rattle.id_laws.proofs.Arcs.{bounds_meet, begins_index, carries, meets_bound, goes_further, hands_index, has_one, adds_one, turned, carries_on}
+use Rattle.id_laws.proofs.Arcs.{behind_turned, carried_at, three_carried, three_turned}
+use Rattle.id_laws.proofs.Arcs.{to_carried_context, to_first_index, to_first_bound, to_first_flag, to_next_index, to_next_bound, to_next_flag}
+use Rattle.id_laws.proofs.Arcs.{to_lower, to_upper, to_first_test, to_first, to_carried, to_index_now, to_bound, to_further_test, to_further}
+use Rattle.id_laws.proofs.Arcs.{to_last_test, to_last, to_one, to_add, to_add_one}
 use Rattle.id_laws.proofs.Arcs.{Arc, to_back, to_literal, to_unary, to_left, to_right, to_test, to_trigger, to_import_test, to_import, to_then, to_else}
 use Rattle.id_laws.proofs.Arcs.{to_label, opens, passes, gets, to_enter, to_context, to_argument, to_loop_context, to_entering, to_head}
 use Rattle.id_laws.proofs.Arcs.{to_loop_back, to_variable, to_entry, to_turn, to_turn_name, to_next, to_reset, to_low}
 use Rattle.id_laws.proofs.Arcs.{to_high, to_target, to_index, to_fetch, to_store, to_stored}
-use Rattle.id_pieces.proofs.EndsLemmas.{end_is, HeadOf, of_procedure, of_arm, region_of}
+use Rattle.id_pieces.proofs.EndsLemmas.{end_is, HeadOf, of_procedure, of_arm, region_of, turn_low}
+use Rattle.std.proofs.lemmas.Bool.{cases_lt}
 use Rattle.id_pieces.proofs.EndsLemmas as ends
-use Rattle.id_pieces.proofs.LoopsLemmas.{the_loop, entries_node, entries_stand, entries_within, next_is, reset_is, start_head, turn_block, turn_is}
-use Rattle.id_arcs.proofs.ImportsLemmas.{name_seen, split_seen, switches_seen, first_seen, loop_seen, turn_seen}
+use Rattle.id_pieces.proofs.LoopsLemmas.{carried_nodes, switches_high, switches_low, turn_nodes, the_loop, entries_node, entries_stand, entries_within, next_is, reset_is, start_head, turn_block, turn_is}
+use Rattle.id_arcs.proofs.ImportsLemmas.{name_seen, split_seen, switches_seen, first_seen, loop_seen, turn_seen, upper_seen}
 use Rattle.id_arcs.proofs.RowLemmas.{IsSeen}
-use Rattle.id_laws.proofs.Assumed.{IsKnown}
+use Rattle.id_laws.proofs.Assumed.{IsKnown, is_handed}
+use Rattle.id_laws.proofs.Loops.{LoopKind, plain as by_predicate, counted as with_index, counted_of, has_three, kind_of}
+use Rattle.id_laws.proofs.Speakers.{within_origin}
 use Rattle.id_arcs.proofs.NamesSeen.{Comes, HasSwitches, from_entry, from_label, from_switch, comes, listed}
 use Rattle.id_arcs.proofs.NamesSeen as seen
-use Rattle.id_laws.proofs.LoopRows.{BinderAt, entered_as, entering_binds, import_binds, label_at}
+use Rattle.id_laws.proofs.LoopRows.{BinderAt, HandedAt, carried_row, carried_rows, entered_as, entering_binds, handed_at, handed_binder, handed_carried}
+use Rattle.id_laws.proofs.LoopRows.{import_binds, label_at}
 use Rattle.id_laws.proofs.WantedKinds.{operands_of}
 use Rattle.id_pieces.specs.declared.arc.Form.{Form}
 use Rattle.id_laws.proofs.Calls.{arg_at}
@@ -119,8 +130,8 @@ module _ (P : Checked) (known : IsKnown P) where
   value_kind zero e small x = absurd (omega (arith, small))
   value_kind (suc bound) e small x = go (node P e) refl (value_kind bound)
     where
-      itself : is_block (node P e) ≡ false → kind P (at R e).value ≡ kind P e
-      itself plain = ap (kind P) ((known.table).value_self e x.0 plain)
+      itself : is_block (node P e) ≡ false → is_within (node P e) ≡ false → kind P (at R e).value ≡ kind P e
+      itself plain own = ap (kind P) ((known.table).value_self e x.0 plain own)
 
       go : (m : Node) → node P e ≡ m → ((i : ℕ) → i < bound → Operand i → kind P (at R i).value ≡ kind P i) → kind P (at R e).value ≡ kind P e
       go (Block b) m rest =
@@ -129,39 +140,59 @@ module _ (P : Checked) (known : IsKnown P) where
           ap (kind P) ((known.table).value_block e b x.0 m)
           ∙ rest b (omega (arith, less.1, small)) (operand e b (Block b) x.0 m refl)
           ∙ sym (known.block_kind e b x.0 m)
-      go Head m rest = itself (ap is_block m)
-      go (Param y k) m rest = itself (ap is_block m)
-      go (Literal c) m rest = itself (ap is_block m)
-      go (Array y z) m rest = itself (ap is_block m)
-      go (Fetch y z) m rest = itself (ap is_block m)
-      go (Address y z) m rest = itself (ap is_block m)
-      go (Store y z) m rest = itself (ap is_block m)
-      go (Name y) m rest = itself (ap is_block m)
-      go (Unary o y) m rest = itself (ap is_block m)
-      go (Binary o y z) m rest = itself (ap is_block m)
-      go (Split t) m rest = itself (ap is_block m)
-      go (If s y z) m rest = itself (ap is_block m)
-      go (Enter y) m rest = itself (ap is_block m)
-      go (Arg s k y) m rest = itself (ap is_block m)
-      go (Call s c) m rest = itself (ap is_block m)
-      go (Binding y z) m rest = itself (ap is_block m)
-      go (Def y h k b) m rest = itself (ap is_block m)
-      go Program m rest = itself (ap is_block m)
-      go Start m rest = itself (ap is_block m)
-      go (LoopHead y) m rest = itself (ap is_block m)
-      go Variable m rest = itself (ap is_block m)
-      go Entries m rest = itself (ap is_block m)
-      go (Switches y) m rest = itself (ap is_block m)
-      go Turn m rest = itself (ap is_block m)
-      go (NextUse y) m rest = itself (ap is_block m)
-      go (Next y k o z) m rest = itself (ap is_block m)
-      go Body m rest = itself (ap is_block m)
-      go (Reset y) m rest = itself (ap is_block m)
-      go (Loop y w l) m rest = itself (ap is_block m)
+      go Head m rest = itself (ap is_block m) (ap is_within m)
+      go (Param y k) m rest = itself (ap is_block m) (ap is_within m)
+      go (Literal c) m rest = itself (ap is_block m) (ap is_within m)
+      go (Array y z) m rest = itself (ap is_block m) (ap is_within m)
+      go (Fetch y z) m rest = itself (ap is_block m) (ap is_within m)
+      go (Address y z) m rest = itself (ap is_block m) (ap is_within m)
+      go (Store y z) m rest = itself (ap is_block m) (ap is_within m)
+      go (Name y) m rest = itself (ap is_block m) (ap is_within m)
+      go (Unary o y) m rest = itself (ap is_block m) (ap is_within m)
+      go (Binary o y z) m rest = itself (ap is_block m) (ap is_within m)
+      go (Split t) m rest = itself (ap is_block m) (ap is_within m)
+      go (If s y z) m rest = itself (ap is_block m) (ap is_within m)
+      go (Enter y) m rest = itself (ap is_block m) (ap is_within m)
+      go (Arg s k y) m rest = itself (ap is_block m) (ap is_within m)
+      go (Call s c) m rest = itself (ap is_block m) (ap is_within m)
+      go (Binding y z) m rest = itself (ap is_block m) (ap is_within m)
+      go (Def y h k b) m rest = itself (ap is_block m) (ap is_within m)
+      go Program m rest = itself (ap is_block m) (ap is_within m)
+      go Start m rest = itself (ap is_block m) (ap is_within m)
+      go (LoopHead y) m rest = itself (ap is_block m) (ap is_within m)
+      go Variable m rest = itself (ap is_block m) (ap is_within m)
+      go Entries m rest = itself (ap is_block m) (ap is_within m)
+      go (Switches y) m rest = itself (ap is_block m) (ap is_within m)
+      go Turn m rest = itself (ap is_block m) (ap is_within m)
+      go (NextUse y) m rest = itself (ap is_block m) (ap is_within m)
+      go (Next y k o z) m rest = itself (ap is_block m) (ap is_within m)
+      go Body m rest = itself (ap is_block m) (ap is_within m)
+      go (Reset y) m rest = itself (ap is_block m) (ap is_within m)
+      go (Loop y w l) m rest = itself (ap is_block m) (ap is_within m)
+      go (Bounds y z) m rest = itself (ap is_block m) (ap is_within m)
+      go (Carried k) m rest = itself (ap is_block m) (ap is_within m)
+      go (Within f) m rest = let bad : false ≡ true = sym (ap is_expression m) ∙ x.1 in cc
+      go Count m rest = itself (ap is_block m) (ap is_within m)
+      go (Index y) m rest = itself (ap is_block m) (ap is_within m)
+      go Span m rest = itself (ap is_block m) (ap is_within m)
 
   -- the label of a binder sends its kind
   label_sender : (b : ℕ) → b < length R → is_binder (node P b) ≡ true → Sender P (label P b) 0 (port_at P b)
   label_sender b within e = let z = label_at P b within e in record { within = z.within; form = _; does = z.does; out = λ f. refl }
+
+  -- and so does what a loop carries on for its index
+  handed_sender : (b : ℕ) → b < length R → is_handed (node P b) ≡ true → Sender P (label P b) 0 (port_at P b)
+  handed_sender b within e = go (node P b) refl e
+    where
+      go : (m : Node) → node P b ≡ m → is_handed m ≡ true → Sender P (label P b) 0 (port_at P b)
+      go (Param y k) is h = label_sender b within (ap is_binder is)
+      go (Binding y a) is h = label_sender b within (ap is_binder is)
+      go (Next y k o v) is h = label_sender b within (ap is_binder is)
+      go (Index y) is h = label_sender b within (ap is_binder is)
+      go (Carried k) is h =
+          subst (λ l. Sender P l 0 (port_at P b)) (sym (ap (label_by (block P b) b) is))
+          (record { within = within; form = _; does = (carried_row P b k is).does; out = λ f. refl })
+      go _ is h = let bad : false ≡ true = h in cc
 
   abbrev SentBy : PortKind → Origin → Type 0
   SentBy k s = Sender P s.row s.part k
@@ -170,12 +201,12 @@ module _ (P : Checked) (known : IsKnown P) where
   tests_of (seen.of_arms is) = of_arms is
   tests_of (seen.of_turns is) = of_turns is
 
-  -- where a region has a name, its kind is sent
-  named_sender : (r : Region) (b : ℕ) → BinderAt P b → IsSeen P r b → SentBy (port_at P b) (name_in P r b)
-  named_sender r b binder there = by (comes P r b there.sees)
+  -- where a region has a name, or what a loop carries on, its kind is sent
+  named_sender : (r : Region) (b : ℕ) → HandedAt P b → IsSeen P r b → SentBy (port_at P b) (name_in P r b)
+  named_sender r b handed there = by (comes P r b there.sees)
     where
       by : Comes P r b → SentBy (port_at P b) (name_in P r b)
-      by (from_label is from) = subst (SentBy (port_at P b)) (sym from) (label_sender b binder.within binder.binds)
+      by (from_label is from) = subst (SentBy (port_at P b)) (sym from) (handed_sender b handed.within handed.handed)
       by (from_switch n t k c less is few at_slot rest at from) =
           subst (SentBy (port_at P b)) (sym from)
           (record { within = less; form = _; does = hands k (tests_of is) few; out = λ f. ap (λ z. Some (port_at P z)) at_slot })
@@ -211,7 +242,7 @@ module _ (P : Checked) (known : IsKnown P) where
           let from : origin_of P v (region P v) (node P v) ≡ name_in P (region P v) b =
           ap (origin_of P v (region P v)) is ∙ ap (named_in P (region P v) v) z.binds in
           let same = same_ports P b v (sym (known.name_kind v y b x.0 is z.binds)) in
-          subst (SentBy (port_at P v)) (sym from) (subst (λ k. SentBy k (name_in P (region P v) b)) same (named_sender (region P v) b binder z.seen))
+          subst (SentBy (port_at P v)) (sym from) (subst (λ k. SentBy k (name_in P (region P v) b)) same (named_sender (region P v) b (handed_binder P b binder) z.seen))
       go (Literal c) is =
           let here = port_is P v (constant_kind c) (known.literal_kind v c x.0 is) in
           own (Literal c) is refl (record { within = x.0; form = _; does = constant is; out = λ f. ap (λ k. Some k) (literal_port c ∙ sym here) })
@@ -286,13 +317,32 @@ module _ (P : Checked) (known : IsKnown P) where
   cell_operands n t i within (of_fetch is) = (operand n t (Fetch t i) within is (inl refl), operand n i (Fetch t i) within is (inr refl))
   cell_operands n t i within (of_store is) = (operand n t (Address t i) within is (inl refl), operand n i (Address t i) within is (inr refl))
 
-  test_operand : (n t : ℕ) → n < length R → Tests P n t → Operand t
-  test_operand n t within (of_arms is) = operand n t (Split t) within is refl
-  test_operand n t within (of_turns is) = operand n t (Switches t) within is refl
-
   test_kind : (n t : ℕ) → n < length R → Tests P n t → kind P t ≡ Some kinds.Bool
   test_kind n t within (of_arms is) = split_row P n t (record { within = within; node = is })
   test_kind n t within (of_turns is) = switches_row P n t (record { within = within; node = is })
+
+  -- what switches go by is sent: the value of a predicate, or of the flag of a loop with an index
+  test_sender : (n t : ℕ) → n < length R → Tests P n t → SentBy (port_at P t) (origin P t)
+  test_sender n t within (of_arms is) = sender t (operand n t (Split t) within is refl)
+  test_sender n t within (of_turns is) =
+      let z = (known.table).switches_of n t within is in
+      by (kind_of P ((known.table).loop_is z.0 (block P n) z.1)) z.1 z.2
+    where
+      less : t < length R
+      less = let part = (((known.table).formed).each n within).parts t (subst (λ m. HasPart m t) (sym is) refl) in omega (arith, within, part.1)
+
+      by : {q h w l : ℕ} {x : IsLoop R q h w l} → LoopKind P x → (c : IsLoopOf R q h) → w ≡ n → SentBy (port_at P t) (origin P t)
+      by {x = x} (by_predicate none expression turn first) c same =
+          let both : Switches t ≡ Switches (x.test).test = sym is ∙ ap (node P) (sym same) ∙ (x.test).node in
+          let one : (x.test).test ≡ t = cc in
+          sender t (less, subst (λ j. is_expression (node P j) ≡ true) one expression)
+      by {h = h} {x = x} (with_index k) c same =
+          let both : Switches t ≡ Switches (x.test).test = sym is ∙ ap (node P) (sym same) ∙ (x.test).node in
+          let one : (x.test).test ≡ t = cc in
+          let flag = carried_row P (h + 3) kinds.Bool k.flag in
+          let port : port_at P (h + 3) ≡ port_at P t = same_ports P (h + 3) t (flag.kind ∙ sym (test_kind n t within (of_turns is))) in
+          subst (SentBy (port_at P t)) (sym (within_origin P known t (h + 3) less (ap (node P) (sym one) ∙ k.test) k.flag))
+          (record { within = flag.within; form = _; does = flag.does; out = λ f. ap (λ j. Some j) port })
 
   test_port : (n t : ℕ) → n < length R → Tests P n t → Some TruthPort ≡ Some (port_at P t)
   test_port n t within is = ap (λ k. Some k) (sym (port_is P t kinds.Bool (test_kind n t within is)))
@@ -320,54 +370,217 @@ module _ (P : Checked) (known : IsKnown P) where
         | inr k ↦ let h = start_head P n within is in loop_seen P (n + 1) n b h.0 h.1 k
       ]
 
+  behind_get : (cs bs : List ℕ) (k : ℕ) → get_or (cs ++ bs) (length cs + k) 0 ≡ get_or bs k 0
+  behind_get [] bs k = let at : 0 + k ≡ k = omega arith in ap (λ z. get_or bs z 0) at
+  behind_get (c ∷ cs) bs k =
+      let at : length (c ∷ cs) + k ≡ suc (length cs + k) = omega arith in
+      ap (λ z. get_or (c ∷ (cs ++ bs)) z 0) at ∙ behind_get cs bs k
+
   -- what goes to the entry of a variable or an import of a loop
   entering_typed : (n k : ℕ) → n < length R → node P n ≡ Start → k < length (entering P (n + 1))
-      → Typed P (name_in P (region P n) (get_or (entering P (n + 1)) k 0)) n (suc k) One
+      → Typed P (name_in P (region P n) (get_or (entering P (n + 1)) k 0)) n (suc (carries_on P (n + 1) + k)) One
   entering_typed n k within is less =
-      let q = entered_at P (n + 1) k less in
-      let b = get_or (entering P (n + 1)) k 0 in
-      let among = listed (entering P (n + 1)) k less in
+      let h = n + 1 in
+      let q = entered_at P h k less in
+      let b = get_or (entering P h) k 0 in
+      let among = listed (entering P h) k less in
+      let head = start_head P n within is in
+      let name = behind_get (carried P h) (entering P h) k in
       record {
         kind = port_at P b;
-        source = named_sender (region P n) b (entering_binds P (n + 1) b among) (seen_at_start n b within is among);
+        source = named_sender (region P n) b (handed_binder P b (entering_binds P h n b head.1 among)) (seen_at_start n b within is among);
         target = record {
           within = within;
           form = _;
-          does = sends_in k q.0 is q.1;
-          into = λ f. ap (λ z. Some z) (same_ports P (q.0).binder b (sym (entered_as P (n + 1) k q.0 q.1).kind));
+          does = sends_in (carries_on P h + k) q.0 is q.1;
+          into = λ f. ap (λ z. Some z) (same_ports P (q.0).binder b (sym (entered_as P h (carries_on P h + k) q.0 q.1).kind ∙ ap (kind P) name));
         };
       }
 
+  -- what goes to the entries of what it carries on
+  begin_typed : (n k : ℕ) (s : Origin) (o : PortKind) → n < length R → node P n ≡ Start → has_index P (n + 1) ≡ true → k < 3 → SentBy o s
+      → port_at P (get_or (carried P (n + 1)) k 0) ≡ o → Typed P s n (suc k) One
+  begin_typed n k s o within is has less source port = record {
+    kind = o;
+    source = source;
+    target = record { within = within; form = _; does = sends_in k _ is (carried_at P (n + 1) k has less); into = λ f. ap (λ z. Some z) port };
+  }
+
+  -- the kinds of what a loop carries on
+  carried_ports : (h s : ℕ) → h < length R → node P h ≡ LoopHead s → has_index P h ≡ true
+      → (port_at P (h + 1) ≡ IntPort) × (port_at P (h + 2) ≡ IntPort) × (port_at P (h + 3) ≡ TruthPort)
+  carried_ports h s within is has =
+      let z = carried_rows P h s within is has in (
+        port_is P (h + 1) kinds.Int (carried_row P (h + 1) kinds.Int z.0).kind,
+        port_is P (h + 2) kinds.Int (carried_row P (h + 2) kinds.Int z.1).kind,
+        port_is P (h + 3) kinds.Bool (carried_row P (h + 3) kinds.Bool z.2).kind,
+      )
+
+  -- those that its `Start` sends to
+  begin_ports : (n : ℕ) → n < length R → node P n ≡ Start → has_index P (n + 1) ≡ true
+      → (port_at P (get_or (carried P (n + 1)) 0 0) ≡ IntPort) × (port_at P (get_or (carried P (n + 1)) 1 0) ≡ IntPort)
+      × (port_at P (get_or (carried P (n + 1)) 2 0) ≡ TruthPort)
+  begin_ports n within is has =
+      let head = start_head P n within is in
+      let z = carried_ports (n + 1) n head.0 head.1 has in
+      let same = three_carried P (n + 1) has in (
+        ap (λ bs. port_at P (get_or bs 0 0)) same ∙ z.0,
+        ap (λ bs. port_at P (get_or bs 1 0)) same ∙ z.1,
+        ap (λ bs. port_at P (get_or bs 2 0)) same ∙ z.2,
+      )
+
+  -- the loop of what hands on, of what counts and of what is carried on
+  record Inside (n : ℕ) : Type 0 where
+    row : ℕ
+    loop : IsLoopOf R row (block P n)
+    below : block P n < length R
+    head : node P (block P n) ≡ LoopHead (block P n - 1)
+
+  inside : {n q : ℕ} → IsLoopOf R q (block P n) → Inside n
+  inside {n} {q} c =
+      let x = (known.table).loop_is q (block P n) c in
+      let low = switches_low x in
+      let high = switches_high x in
+      record { row = q; loop = c; below = omega (arith, low, high, c.within); head = (x.before_test).head }
+
+  -- what hands on what is carried on
+  hands_typed : (n k : ℕ) (s : Origin) (o : PortKind) → n < length R → node P n ≡ Turn → has_index P (block P n) ≡ true → k < 3 → SentBy o s
+      → port_at P (get_or (carried P (block P n)) k 0) ≡ o → Typed P s n (suc k) Zero
+  hands_typed n k s o within is has less source port =
+      let h = block P n in
+      let few : k < length (carried P h) = subst (λ bs. k < length bs) (sym (three_carried P h has)) less in
+      record {
+        kind = o;
+        source = source;
+        target = record {
+          within = within;
+          form = _;
+          does = moves_name k is (three_turned P h has k less);
+          into = λ f. ap (λ b. Some (port_at P b)) (before_get (carried P h) (imports_of P h) k few) ∙ ap (λ z. Some z) port;
+        };
+      }
+    where
+      before_get : (cs bs : List ℕ) (j : ℕ) → j < length cs → get_or (cs ++ bs) j 0 ≡ get_or cs j 0
+      before_get [] bs j l = absurd (omega (arith, l))
+      before_get (c ∷ cs) bs zero l = refl
+      before_get (c ∷ cs) bs (suc j) l = before_get cs bs j (omega (arith, l))
+
+  turn_ports : (n : ℕ) → n < length R → node P n ≡ Turn → has_index P (block P n) ≡ true
+      → (port_at P (get_or (carried P (block P n)) 0 0) ≡ IntPort) × (port_at P (get_or (carried P (block P n)) 1 0) ≡ IntPort)
+      × (port_at P (get_or (carried P (block P n)) 2 0) ≡ TruthPort)
+  turn_ports n within is has =
+      let h = block P n in
+      let i = inside ((known.table).turn_of n within is).1 in
+      let z = carried_ports h (h - 1) i.below i.head has in
+      let same = three_carried P h has in (
+        ap (λ bs. port_at P (get_or bs 0 0)) same ∙ z.0,
+        ap (λ bs. port_at P (get_or bs 1 0)) same ∙ z.1,
+        ap (λ bs. port_at P (get_or bs 2 0)) same ∙ z.2,
+      )
+
+  -- what counts stands before what hands on
+  count_before : (n : ℕ) → n < length R → node P n ≡ Turn → has_index P (block P n) ≡ true → (n - 1 < length R) × (node P (n - 1) ≡ Count)
+  count_before n within is has =
+      let z = (known.table).turn_of n within is in
+      let x = (known.table).loop_is z.0 (block P n) z.1 in
+      let c = counted_of P x has in
+      let same : n - 1 ≡ (z.1).switches + 1 = omega (arith, c.turn, z.2) in
+      (omega (arith, within), ap (node P) same ∙ c.count)
+
+  -- what a loop with an index has before its `Start`
+  bounds_before : (n : ℕ) → n < length R → n - 1 < length R
+  bounds_before n within = omega (arith, within)
+
+  -- the upper bound is seen in the body
+  bound_sender : {q : ℕ} (n : ℕ) → n < length R → (c : IsLoopOf R q (block P n)) → ((known.table).loop_is q (block P n) c).carried ≡ 3
+      → region P n ≡ arm_at c.switches true → SentBy IntPort (name_in P (region P n) (block P n + 2))
+  bound_sender {q} n within c three right =
+      let h = block P n in
+      let x = (known.table).loop_is q h c in
+      let i = inside {n = n} c in
+      let z = carried_nodes (x.before_test).carried three in
+      let port = port_is P (h + 2) kinds.Int (carried_row P (h + 2) kinds.Int z.1).kind in
+      subst (λ o. SentBy o (name_in P (region P n) (h + 2))) port
+      (named_sender (region P n) (h + 2) (handed_carried P (h + 2) kinds.Int z.1) (upper_seen P q h n c x three right))
+
   -- what hands imports on goes to their entries
   entry_typed : (n k : ℕ) → n < length R → node P n ≡ Entries → k < length (imports_of P (block P n))
-      → Typed P (record { row = turn_row P (block P n); part = suc k; side = true }) n k Zero
+      → Typed P (part_of (turn_row P (block P n)) (suc (carries_on P (block P n) + k))) n k Zero
   entry_typed n k within is less =
       let h = block P n in
-      let c = ((known.table).entries_of n within is).1 in
-      let rows_are = (known.table).loop_is _ h c in
-      let low : h < length R = omega (
-        arith,
-        rows_are.before_test.low,
-        rows_are.test.low,
-        rows_are.test.behind,
-        rows_are.body_is.low,
-        rows_are.last_is.low,
-        rows_are.last_is.ends,
-        c.within,
-      ) in
-      let head = rows_are.before_test.head in
-      let t = turn_block P h _ low head in
-      let few : k < length (imports_of P (block P (turn_row P h))) = subst (λ g. k < length (imports_of P g)) (sym t.1) less in
+      let i = inside ((known.table).entries_of n within is).1 in
+      let t = turn_block P h _ i.below i.head in
+      let few : carries_on P h + k < length (turned P (block P (turn_row P h))) = subst (λ g. carries_on P h + k < length (turned P g)) (sym t.1)
+      (behind_turned P h k less) in
       record {
         kind = port_at P (get_or (imports_of P h) k 0);
         source = record {
           within = t.0;
           form = _;
-          does = moves_name k (turn_is P h _ low head) few;
-          out = λ f. ap (λ g. Some (port_at P (get_or (imports_of P g) k 0))) t.1;
+          does = moves_name (carries_on P h + k) (turn_is P h _ i.below i.head) few;
+          out = λ f. ap (λ g. Some (port_at P (get_or (turned P g) (carries_on P h + k) 0))) t.1
+              ∙ ap (λ b. Some (port_at P b)) (behind_get (carried P h) (imports_of P h) k);
         };
         target = record { within = within; form = _; does = takes_in k is less; into = λ f. refl };
       }
+
+  -- and what hands on what is carried on to their entries
+  carried_typed : {k : Kind} (n : ℕ) → n < length R → node P n ≡ Carried k → Typed P (part_of (turn_row P (block P n)) (n - block P n)) n 0 Zero
+  carried_typed {k} n within is =
+      let z = (known.table).carried_of n within (ap is_carried is) in
+      let i = inside {n = n} z.1 in
+      let t = turn_block P h _ i.below i.head in
+      let x = (known.table).loop_is z.0 h z.1 in
+      let has = has_three P x z.2 in
+      let above = behind_head i.head z.3 in
+      let slot = n - h - 1 in
+      let at : suc slot ≡ n - h = omega (arith, above) in
+      let few : slot < 3 = omega (arith, above, z.3) in
+      let there : slot < length (turned P (block P (turn_row P h))) = subst (λ g. slot < length (turned P g)) (sym t.1) (three_turned P h has slot few) in
+      let name : get_or (turned P h) slot 0 ≡ n = carried_get has slot few ∙ (let e : h + 1 + slot ≡ n = omega (arith, above) in e) in
+      let here : port_of k ≡ port_at P n = sym (port_is P n k (carried_row P n k is).kind) in
+      subst (λ j. Typed P (part_of (turn_row P h) j) n 0 Zero) at
+      (record {
+        kind = port_at P n;
+        source = record {
+          within = t.0;
+          form = _;
+          does = moves_name slot (turn_is P h _ i.below i.head) there;
+          out = λ f. ap (λ g. Some (port_at P (get_or (turned P g) slot 0))) t.1 ∙ ap (λ b. Some (port_at P b)) name;
+        };
+        target = record { within = within; form = _; does = carries is; into = λ f. ap (λ o. Some o) here };
+      })
+    where
+      h : ℕ
+      h = block P n
+
+      behind_head : node P h ≡ LoopHead (h - 1) → n ≤ h + 3 → h < n
+      behind_head head high = elim (cases_lt h n) [
+        | inl low ↦ low
+        | inr low ↦
+            let up = (known.table).loop_of n within (ap is_in_loop is) in
+            let below = ((known.table).block n (omega (arith, up.2, (up.1).within))).0 in
+            let same : n ≡ h = omega (arith, low, below) in
+            let bad : Carried k ≡ LoopHead (h - 1) = sym is ∙ ap (node P) same ∙ head in
+            cc
+      ]
+
+      carried_get : has_index P h ≡ true → (j : ℕ) → j < 3 → get_or (turned P h) j 0 ≡ h + 1 + j
+      carried_get has j few = ap (λ cs. get_or (cs ++ imports_of P h) j 0) (three_carried P h has) ∙ go j few
+        where
+          go : (j : ℕ) → j < 3 → get_or ((h + 1) ∷ (h + 2) ∷ (h + 3) ∷ imports_of P h) j 0 ≡ h + 1 + j
+          go zero l = omega arith
+          go (suc zero) l = omega arith
+          go (suc (suc zero)) l = omega arith
+          go (suc (suc (suc j))) l = absurd (omega (arith, l))
+
+  -- what counts has the index from its entry
+  index_sender : (n : ℕ) → n < length R → node P n ≡ Count → SentBy IntPort (output (block P n + 1))
+  index_sender n within is =
+      let z = (known.table).count_of n within is in
+      let x = (known.table).loop_is z.0 (block P n) z.1 in
+      let c = carried_row P (block P n + 1) kinds.Int (carried_nodes (x.before_test).carried z.2).0 in
+      record { within = c.within; form = _; does = c.does; out = λ f. ap (λ k. Some k) (port_is P (block P n + 1) kinds.Int c.kind) }
 
   by_arc : {n part : ℕ} {p : Port} {s : Origin} → n < length R → Arc P n part p s → Typed P s n part p
   by_arc {n} within (to_back is) = returned n within is
@@ -413,7 +626,7 @@ module _ (P : Checked) (known : IsKnown P) where
       }
   by_arc {n} within (to_test {t = t} is) = record {
     kind = port_at P t;
-    source = sender t (test_operand n t within is);
+    source = test_sender n t within is;
     target = record { within = within; form = _; does = turns_on is; into = λ f. test_port n t within is };
   }
   by_arc {n} within (to_trigger {t = t} is) = record {
@@ -423,7 +636,7 @@ module _ (P : Checked) (known : IsKnown P) where
   }
   by_arc {n} within (to_import_test {t = t} k is less) = record {
     kind = port_at P t;
-    source = sender t (test_operand n t within is);
+    source = test_sender n t within is;
     target = record { within = within; form = _; does = hands k is less; into = λ f. test_port n t within is };
   }
   by_arc {n} within (to_import {t = t} k is less) =
@@ -431,7 +644,7 @@ module _ (P : Checked) (known : IsKnown P) where
       let among = listed (imports_of P n) k less in
       record {
         kind = port_at P b;
-        source = named_sender (region P n) b (import_binds P n b among) (import_at_switches n t b within is among);
+        source = named_sender (region P n) b (handed_at P n t b within is among) (import_at_switches n t b within is among);
         target = record { within = within; form = _; does = hands k is less; into = λ f. refl };
       }
   by_arc {n} within (to_then {s = s} {x = x} {y = y} is) = record {
@@ -476,8 +689,24 @@ module _ (P : Checked) (known : IsKnown P) where
       record {
         kind = Context;
         source = record { within = within; form = _; does = opens (of_loop is); out = λ f. refl };
-        target = record { within = within; form = _; does = sends_in k z.0 is z.1; into = λ f. refl };
+        target = record { within = within; form = _; does = sends_in (carries_on P (n + 1) + k) z.0 is z.1; into = λ f. refl };
       }
+  by_arc {n} within (to_carried_context k is at has less) = record {
+    kind = Context;
+    source = record { within = within; form = _; does = opens (of_loop is); out = λ f. refl };
+    target = record { within = within; form = _; does = sends_in k _ is (carried_at P (n + 1) k has less); into = λ f. refl };
+  }
+  by_arc {n} within (to_first_index {a = a} {b = b} is at has) =
+      begin_typed n 0 _ IntPort within is has (omega arith)
+      (record { within = bounds_before n within; form = _; does = begins_index at; out = λ f. refl }) (begin_ports n within is has).0
+  by_arc {n} within (to_first_bound {a = a} {b = b} is at has) =
+      let less = bounds_before n within in
+      let port = port_is P b kinds.Int (known.range_kinds (n - 1) a b less at).1 in
+      begin_typed n 1 _ IntPort within is has (omega arith)
+      (subst (λ o. SentBy o (origin P b)) port (sender b (operand (n - 1) b (Bounds a b) less at (inr refl)))) (begin_ports n within is has).1
+  by_arc {n} within (to_first_flag {a = a} {b = b} is at has) =
+      begin_typed n 2 _ TruthPort within is has (omega arith)
+      (record { within = bounds_before n within; form = _; does = bounds_meet at; out = λ f. refl }) (begin_ports n within is has).2
   by_arc {n} within (to_entering k is less) = entering_typed n k within is less
   by_arc {n} within (to_head {s = s} is) =
       let t = turn_block P n s within is in
@@ -509,13 +738,33 @@ module _ (P : Checked) (known : IsKnown P) where
     target = record { within = within; form = _; does = moves_on is; into = λ f. refl };
   }
   by_arc {n} within (to_turn_name k is less) =
-      let b = get_or (imports_of P (block P n)) k 0 in
-      let among = listed (imports_of P (block P n)) k less in
+      let h = block P n in
+      let b = get_or (imports_of P h) k 0 in
+      let among = listed (imports_of P h) k less in
+      let i = inside ((known.table).turn_of n within is).1 in
       record {
         kind = port_at P b;
-        source = named_sender (region P n) b (import_binds P (block P n) b among) (turn_seen P n b within is among);
-        target = record { within = within; form = _; does = moves_name k is less; into = λ f. refl };
+        source = named_sender (region P n) b (handed_binder P b (import_binds P h (h - 1) b i.head among)) (turn_seen P n b within is among);
+        target = record {
+          within = within;
+          form = _;
+          does = moves_name (carries_on P h + k) is (behind_turned P h k less);
+          into = λ f. ap (λ q. Some (port_at P q)) (behind_get (carried P h) (imports_of P h) k);
+        };
       }
+  by_arc {n} within (to_next_index is has) =
+      let c = count_before n within is has in
+      hands_typed n 0 _ IntPort within is has (omega arith) (record { within = c.0; form = _; does = adds_one c.1; out = λ f. refl })
+      (turn_ports n within is has).0
+  by_arc {n} within (to_next_bound is has) =
+      let z = (known.table).turn_of n within is in
+      let x = (known.table).loop_is z.0 (block P n) z.1 in
+      let right = ap (region P) (sym z.2) ∙ ((x.body_is).begins x.turn (turn_low (x.body_is).turns) (omega arith)).1 in
+      hands_typed n 1 _ IntPort within is has (omega arith) (bound_sender n within z.1 (counted_of P x has).three right) (turn_ports n within is has).1
+  by_arc {n} within (to_next_flag is has) =
+      let c = count_before n within is has in
+      hands_typed n 2 _ TruthPort within is has (omega arith) (record { within = c.0; form = _; does = meets_bound c.1; out = λ f. refl })
+      (turn_ports n within is has).2
   by_arc {n} within (to_next {x = x} {k = k} {o = o} {v = v} is) = record {
     kind = port_at P v;
     source = sender v (operand n v (Next x k o v) within is refl);
@@ -552,6 +801,93 @@ module _ (P : Checked) (known : IsKnown P) where
       into = λ f. ap (λ k. Some k)
           (sym (port_is P b kinds.Int (known.bound_kinds n a b within is).1));
     };
+  }
+  by_arc {n} within (to_lower {a = a} {b = b} is) = record {
+    kind = port_at P a;
+    source = sender a (operand n a (Bounds a b) within is (inl refl));
+    target = record {
+      within = within;
+      form = _;
+      does = bounds_meet is;
+      into = λ f. ap (λ k. Some k) (sym (port_is P a kinds.Int (known.range_kinds n a b within is).0));
+    };
+  }
+  by_arc {n} within (to_upper {a = a} {b = b} is) = record {
+    kind = port_at P b;
+    source = sender b (operand n b (Bounds a b) within is (inr refl));
+    target = record {
+      within = within;
+      form = _;
+      does = bounds_meet is;
+      into = λ f. ap (λ k. Some k) (sym (port_is P b kinds.Int (known.range_kinds n a b within is).1));
+    };
+  }
+  by_arc {n} within (to_first_test is) = record {
+    kind = TruthPort;
+    source = record { within = within; form = _; does = bounds_meet is; out = λ f. refl };
+    target = record { within = within; form = _; does = begins_index is; into = λ f. refl };
+  }
+  by_arc {n} within (to_first {a = a} {b = b} is) = record {
+    kind = port_at P a;
+    source = sender a (operand n a (Bounds a b) within is (inl refl));
+    target = record {
+      within = within;
+      form = _;
+      does = begins_index is;
+      into = λ f. ap (λ k. Some k) (sym (port_is P a kinds.Int (known.range_kinds n a b within is).0));
+    };
+  }
+  by_arc {n} within (to_carried is) = carried_typed n within is
+  by_arc {n} within (to_index_now is) = record {
+    kind = IntPort;
+    source = index_sender n within is;
+    target = record { within = within; form = _; does = meets_bound is; into = λ f. refl };
+  }
+  by_arc {n} within (to_bound is) =
+      let z = (known.table).count_of n within is in
+      let x = (known.table).loop_is z.0 (block P n) z.1 in
+      let behind = turn_low (x.body_is).turns in
+      let three : x.turn ≡ (z.1).switches + 2 = (turn_nodes (x.body_is).turns z.2).0 in
+      let right = ((x.body_is).begins n (omega (arith, z.3)) (omega (arith, z.3, three))).1 in
+      record {
+        kind = IntPort;
+        source = bound_sender n within z.1 z.2 right;
+        target = record { within = within; form = _; does = meets_bound is; into = λ f. refl };
+      }
+  by_arc {n} within (to_further_test is) = record {
+    kind = TruthPort;
+    source = record { within = within; form = _; does = meets_bound is; out = λ f. refl };
+    target = record { within = within; form = _; does = goes_further is; into = λ f. refl };
+  }
+  by_arc {n} within (to_further is) = record {
+    kind = Signal;
+    source = trigger_sender n within (λ e. let bad : Program ≡ Count = sym e ∙ is in cc);
+    target = record { within = within; form = _; does = goes_further is; into = λ f. refl };
+  }
+  by_arc {n} within (to_last_test is) = record {
+    kind = TruthPort;
+    source = record { within = within; form = _; does = meets_bound is; out = λ f. refl };
+    target = record { within = within; form = _; does = hands_index is; into = λ f. refl };
+  }
+  by_arc {n} within (to_last is) = record {
+    kind = IntPort;
+    source = index_sender n within is;
+    target = record { within = within; form = _; does = hands_index is; into = λ f. refl };
+  }
+  by_arc {n} within (to_one is) = record {
+    kind = Signal;
+    source = record { within = within; form = _; does = goes_further is; out = λ f. refl };
+    target = record { within = within; form = _; does = has_one is; into = λ f. refl };
+  }
+  by_arc {n} within (to_add is) = record {
+    kind = IntPort;
+    source = record { within = within; form = _; does = hands_index is; out = λ f. refl };
+    target = record { within = within; form = _; does = adds_one is; into = λ f. refl };
+  }
+  by_arc {n} within (to_add_one is) = record {
+    kind = IntPort;
+    source = record { within = within; form = _; does = has_one is; out = λ f. refl };
+    target = record { within = within; form = _; does = adds_one is; into = λ f. refl };
   }
   by_arc {n} within (to_target {t = t} {i = i} is) = record {
     kind = port_at P t;

@@ -1,6 +1,8 @@
 -- Every graph that the schemas give a program is valid.
 use Rattle.std.proofs.Common.{◌≡◌, ◌⊎◌, inl, inr, ℕ, zero, suc, ◌+◌, ◌-◌, ◌<◌, ◌≤◌, ◌==◌, ◌&&◌, ◌||◌, Bool, true, false, cond, Option, Some, None, List, []}
 use Rattle.std.proofs.Common.{◌∷◌, get_or, length, map, slice_get, option_map, refl, sym, ◌∙◌, ap, subst, arith}
+use Rattle.std.proofs.Common.{length-append}
+use Rattle.std.specs.Prelude.{if◌then◌else◌}
 use Rattle.std.specs.Bool.{IsTrue}
 use Rattle.std.specs.Option.{IsSome, option_and_then}
 use Rattle.std.specs.List.{list_any, count_by}
@@ -14,7 +16,7 @@ use Rattle.id_table.specs.declared.row.Row.{Row}
 use Rattle.id_table.specs.declared.row.Node.{Node}
 use Rattle.id_table.specs.declared.row.Node.TheVariants.{Head, Param, Literal, Unary as UnaryNode, Binary as BinaryNode, Split, If, Binding, Program}
 use Rattle.id_table.specs.declared.row.Node.TheVariants.{Enter as EnterNode, Arg, Call, Start, LoopHead, Variable, Entries, Switches, Turn, Next as NextNode}
-use Rattle.id_table.specs.declared.row.Node.TheVariants.{Reset as ResetNode, Loop, Def, Array, Fetch, Address, Store}
+use Rattle.id_table.specs.declared.row.Node.TheVariants.{Reset as ResetNode, Loop, Def, Array, Fetch, Address, Store, Bounds, Carried, Count}
 use Rattle.id_table.specs.Rows.{at}
 use Rattle.id_table.specs.Tables.{begins_block, is_param}
 use Rattle.id_table.specs.Turns.{params_at}
@@ -36,10 +38,11 @@ use Rattle.id_instr.specs.Graph.{Parts, arcs, arcs_on, false_arcs, kind_at}
 use Rattle.id_source.specs.Sources.{source}
 use Rattle.id_pieces.specs.declared.arc.Origin.{Origin}
 use Rattle.id_desugar.specs.Ends.{end_of, next_of}
-use Rattle.id_desugar.specs.Regions.{imports_of}
+use Rattle.id_desugar.specs.Regions.{carried, has_index, imports_of}
 use Rattle.id_pieces.specs.Rows.{node, answer_row, body_of, name_in, feed, feeds_of, origin, port_at, port_of, result_of, trigger_of, called, op_by, output}
-use Rattle.id_pieces.specs.Rows.{param_of, Entry, block, entering, entries, entry_feeds, import_feeds, loop_entries, param_entry, turn_feeds, turn_row}
-use Rattle.id_pieces.specs.Rows.{entries_by}
+use Rattle.id_pieces.specs.Rows.{param_of, Entry, block, entering, entries, entry_feeds, import_feeds, loop_entries, param_entry, part_of, turn_feeds, turn_row}
+use Rattle.id_pieces.specs.Rows.{bounds_feeds, carried_feeds, entries_by}
+use Rattle.id_pieces.specs.declared.arc.Feed.{Feed}
 use Rattle.id_pieces.specs.Schemas.{Feeds, HasSide, Numbered, Schemas, Sends, all_heads, block_of}
 use Rattle.id_valid.specs.Roles.{op_at, merge_kind, back_kind, is_first, is_second, is_entry, is_reply, replies_to, same_port, is_dest, arcs_into}
 use Rattle.id_valid.specs.Roles.{needs_no_arc}
@@ -48,11 +51,14 @@ use Rattle.id_laws.specs.Activations.{main_head, Tests, of_arms, of_turns, Begin
 use Rattle.id_laws.specs.Topics.{Addresses, of_fetch, of_store, IsPart}
 use Rattle.id_laws.proofs.Arcs.{Does, starts, returns, enters, constant, unary, binary, turns_on, hands, joins, names, answers, doing, makes, imports_fed}
 use Rattle.id_laws.proofs.Arcs.{sends_in, gives_back, varies, takes_in, moves_on, moves_name, advances, resets, gets_last, allocates, addresses, fetches}
+use Rattle.id_laws.proofs.Arcs.{bounds_meet, begins_index, carries, meets_bound, goes_further, hands_index, has_one, adds_one, turned, carries_on}
+use Rattle.id_laws.proofs.Arcs.{none_carried, three_carried}
 use Rattle.id_laws.proofs.Arcs.{gets_reply, stores, import_listed, FromArm, one_feed, target_part, opens, passes, gets}
 use Rattle.id_laws.proofs.Blocks.{a_param, all_listed, any_head, param_listed}
 use Rattle.id_laws.proofs.LoopRows.{entered_as, entry_merge, loop_merge}
 use Rattle.id_pieces.proofs.EndsLemmas.{end_is, loop_same, not_last}
-use Rattle.id_pieces.proofs.LoopsLemmas.{the_loop, start_head}
+use Rattle.id_pieces.proofs.LoopsLemmas.{the_loop, start_head, switches_high, switches_low}
+use Rattle.id_laws.proofs.Loops.{counted_of, loop_of_start}
 use Rattle.id_laws.proofs.Assumed.{IsKnown}
 use Rattle.id_laws.proofs.Start.{main_block, main_is_head, main_within, the_block}
 use Rattle.id_laws.proofs.Tokens.{one_part}
@@ -316,7 +322,9 @@ module _ (P : Checked) (known : IsKnown P) (g : Parts) (number : ℕ → ℕ →
       let c : IsLoopOf R n h = record { switches = w; last = l; within = within; node = is } in
       let x = t.loop_is n h c in
       let s = x.start in
-      let less : s < length R = omega (arith, x.begins, x.before_test.low, x.test.low, x.test.behind, x.body_is.low, x.last_is.low, x.last_is.ends, within) in
+      let low = switches_low x in
+      let high = switches_high x in
+      let less : s < length R = omega (arith, x.begins, low, high, within) in
       let ends : end_of P (s + 1) ≡ n = ap (end_of P) x.begins ∙ loop_same P t n h c in
       let m = numbered.made s 0 _ _ (makes less (opens (of_loop (x.start_of).node))) in
       let op_is : (m.instr).op ≡ Enter (number (s + 1) 0) k = m.op ∙ ap (λ q. Enter (number (s + 1) 0) (number q 0)) ends in
@@ -326,23 +334,26 @@ module _ (P : Checked) (known : IsKnown P) (g : Parts) (number : ℕ → ℕ →
       or_last ((k == 0) || is_first g k || is_entry g k || (is_second g k && same_port p Zero)) reply
 
   -- the feeds of a loop's entries, of the sends to these, and of what hands imports on
-  entry_listed : (w j : ℕ) (bs : List ℕ) (k : ℕ) → k < length bs →
-      Among (feed (record { row = w; part = j + k + 1; side = true }) (j + k) Zero) (entry_feeds w j bs)
-  entry_listed w j [] k h = absurd (omega (arith, h))
-  entry_listed w j (b ∷ bs) zero h =
-      let at : j + 0 ≡ j = omega arith in inl (λ i. feed (record { row = w; part = at i + 1; side = true }) (at i) Zero)
-  entry_listed w j (b ∷ bs) (suc k) h =
-      let at : (j + 1) + k ≡ j + suc k = omega arith in
-      inr (subst (λ m. Among (feed (record { row = w; part = m + 1; side = true }) m Zero) (entry_feeds w (j + 1) bs)) at
-      (entry_listed w (j + 1) bs k (omega (arith, h))))
+  entry_listed : (w i j : ℕ) (bs : List ℕ) (k : ℕ) → k < length bs → Among (feed (part_of w (i + k)) (j + k) Zero) (entry_feeds w i j bs)
+  entry_listed w i j [] k h = absurd (omega (arith, h))
+  entry_listed w i j (b ∷ bs) zero h =
+      let at : i + 0 ≡ i = omega arith in
+      let there : j + 0 ≡ j = omega arith in
+      inl (λ z. feed (part_of w (at z)) (there z) Zero)
+  entry_listed w i j (b ∷ bs) (suc k) h =
+      let at : (i + 1) + k ≡ i + suc k = omega arith in
+      let there : (j + 1) + k ≡ j + suc k = omega arith in
+      inr (subst (λ (z : ℕ × ℕ). Among (feed (part_of w z.0) z.1 Zero) (entry_feeds w (i + 1) (j + 1) bs)) {x = ((i + 1) + k, (j + 1) + k)}
+      {y = (i + suc k, j + suc k)} (λ z. (at z, there z)) (entry_listed w (i + 1) (j + 1) bs k (omega (arith, h))))
 
   entry_fed : (n k : ℕ) → n < length R → node P n ≡ Entries → k < length (imports_of P (block P n)) → HasFeed P n k Zero
   entry_fed n k within is less =
       let w = turn_row P (block P n) in
+      let bs = imports_of P (block P n) in
+      let j = 1 + carries_on P (block P n) in
       let at : 0 + k ≡ k = omega arith in
-      feeds_at P (record { row = w; part = k + 1; side = true }) n k Zero Entries within is
-      (subst (λ m. Among (feed (record { row = w; part = m + 1; side = true }) m Zero) (entry_feeds w 0 (imports_of P (block P n)))) at
-      (entry_listed w 0 (imports_of P (block P n)) k less))
+      feeds_at P (part_of w (j + k)) n k Zero Entries within is
+      (subst (λ m. Among (feed (part_of w (j + k)) m Zero) (entry_feeds w j 0 bs)) at (entry_listed w j 0 bs k less))
 
   turn_listed : (r : Region) (j : ℕ) (bs : List ℕ) (k : ℕ) → k < length bs → Among (feed (name_in P r (get_or bs k 0)) (j + k) Zero) (turn_feeds P r j bs)
   turn_listed r j [] k h = absurd (omega (arith, h))
@@ -351,25 +362,121 @@ module _ (P : Checked) (known : IsKnown P) (g : Parts) (number : ℕ → ℕ →
       let at : (j + 1) + k ≡ j + suc k = omega arith in
       inr (subst (λ m. Among (feed (name_in P r (get_or bs k 0)) m Zero) (turn_feeds P r (j + 1) bs)) at (turn_listed r (j + 1) bs k (omega (arith, h))))
 
-  turn_fed : (n k : ℕ) → n < length R → node P n ≡ Turn → k < length (imports_of P (block P n)) → HasFeed P n (suc k) Zero
+  -- what hands on what the loop carries on, and its imports
+  carried_turns : (n k : ℕ) → n < length R → node P n ≡ Turn → has_index P (block P n) ≡ true → k < 3 → HasFeed P n (suc k) Zero
+  carried_turns n k within is has less = go k less
+    where
+      h : ℕ
+      h = block P n
+
+      first : List Feed
+      first = carried_feeds P n (region P n) h
+
+      rest : List Feed
+      rest = turn_feeds P (region P n) (1 + carries_on P h) (imports_of P h)
+
+      three : List Feed
+      three = feed (part_of (n - 1) 4) 1 Zero ∷ feed (name_in P (region P n) (h + 2)) 2 Zero ∷ feed (output (n - 1)) 3 Zero ∷ []
+
+      by : (s : Origin) (part : ℕ) → Among (feed s part Zero) three → HasFeed P n part Zero
+      by s part among =
+          feeds_at P s n part Zero Turn within is
+          (inr (Among-left (feed s part Zero) first rest (subst (λ (t : Bool). Among (feed s part Zero) (if t then three else [])) (sym has) among)))
+
+      go : (j : ℕ) → j < 3 → HasFeed P n (suc j) Zero
+      go zero l = by (part_of (n - 1) 4) 1 (inl refl)
+      go (suc zero) l = by (name_in P (region P n) (h + 2)) 2 (inr (inl refl))
+      go (suc (suc zero)) l = by (output (n - 1)) 3 (inr (inr (inl refl)))
+      go (suc (suc (suc j))) l = absurd (omega (arith, l))
+
+  turn_fed : (n k : ℕ) → n < length R → node P n ≡ Turn → k < length (turned P (block P n)) → HasFeed P n (suc k) Zero
   turn_fed n k within is less =
-      let bs = imports_of P (block P n) in
-      let at : 1 + k ≡ suc k = omega arith in
-      feeds_at P (name_in P (region P n) (get_or bs k 0)) n (suc k) Zero Turn within is
-      (inr (subst (λ m. Among (feed (name_in P (region P n) (get_or bs k 0)) m Zero) (turn_feeds P (region P n) 1 bs)) at
-      (turn_listed (region P n) 1 bs k less)))
+      elim (cases_lt k (carries_on P h)) [
+        | inl early ↦ among_three (has_index P h) refl early
+        | inr late ↦
+            let j = k - carries_on P h in
+            let few : j < length bs = omega (arith, late, less, length-append (carried P h) bs) in
+            let at : (1 + carries_on P h) + j ≡ suc k = omega (arith, late) in
+            let s = name_in P (region P n) (get_or bs j 0) in
+            let first = carried_feeds P n (region P n) h in
+            let rest = turn_feeds P (region P n) (1 + carries_on P h) bs in
+            feeds_at P s n (suc k) Zero Turn within is
+            (inr (Among-right (feed s (suc k) Zero) first rest
+            (subst (λ m. Among (feed s m Zero) rest) at (turn_listed (region P n) (1 + carries_on P h) bs j few))))
+      ]
+    where
+      h : ℕ
+      h = block P n
+
+      bs : List ℕ
+      bs = imports_of P h
+
+      among_three : (t : Bool) → has_index P h ≡ t → k < carries_on P h → HasFeed P n (suc k) Zero
+      among_three true has early =
+          let three : carries_on P h ≡ 3 = ap length (three_carried P h has) in
+          carried_turns n k within is has (omega (arith, early, three))
+      among_three false none early =
+          let no : carries_on P h ≡ 0 = ap length (none_carried P h none) in
+          absurd (omega (arith, early, no))
+
+  -- the sends to the entries of what it carries on
+  carried_sends : (n k : ℕ) → n < length R → node P n ≡ Start → has_index P (n + 1) ≡ true → k < 3 → HasFeed P n (suc k) Zero × HasFeed P n (suc k) One
+  carried_sends n k within is has less =
+      let l = loop_of_start known within is in
+      let c = counted_of P l.all has in
+      let row : c.row ≡ n - 1 = omega (arith, c.before, (l.all).begins) in
+      go (c.bounds).lower (c.bounds).upper (ap (node P) (sym row) ∙ (c.bounds).node) k less
+    where
+      rest : List Feed
+      rest = import_feeds P (output n) (region P n) (1 + carries_on P (n + 1)) (entering P (n + 1))
+
+      by : {a b : ℕ} (s : Origin) (part : ℕ) (p : Port) → node P (n - 1) ≡ Bounds a b → Among (feed s part p) (bounds_feeds P n (Bounds a b))
+          → HasFeed P n part p
+      by s part p at among =
+          feeds_at P s n part p Start within is
+          (inr (Among-left (feed s part p) (bounds_feeds P n (node P (n - 1))) rest (subst (λ m. Among (feed s part p) (bounds_feeds P n m)) (sym at) among)))
+
+      go : (a b : ℕ) → node P (n - 1) ≡ Bounds a b → (j : ℕ) → j < 3 → HasFeed P n (suc j) Zero × HasFeed P n (suc j) One
+      go a b at zero l = (by (output n) 1 Zero at (inl refl), by (part_of (n - 1) 1) 1 One at (inr (inl refl)))
+      go a b at (suc zero) l = (by (output n) 2 Zero at (inr (inr (inl refl))), by (origin P b) 2 One at (inr (inr (inr (inl refl)))))
+      go a b at (suc (suc zero)) l =
+          (by (output n) 3 Zero at (inr (inr (inr (inr (inl refl))))), by (output (n - 1)) 3 One at (inr (inr (inr (inr (inr (inl refl)))))))
+      go a b at (suc (suc (suc j))) l = absurd (omega (arith, l))
 
   send_fed : (n k : ℕ) (q : Entry) → n < length R → node P n ≡ Start → slice_get (loop_entries P (n + 1)) k ≡ Some q
       → HasFeed P n (suc k) Zero × HasFeed P n (suc k) One
   send_fed n k q within is there =
-      let bs = entering P (n + 1) in
-      let at : 1 + k ≡ suc k = omega arith in
-      let listed = import_listed P (output n) (region P n) 1 bs k (entered_as P (n + 1) k q there).less in (
-        feeds_at P (output n) n (suc k) Zero Start within is
-            (inr (subst (λ m. Among (feed (output n) m Zero) (import_feeds P (output n) (region P n) 1 bs)) at listed.0)),
-        feeds_at P (name_in P (region P n) (get_or bs k 0)) n (suc k) One Start within is
-            (inr (subst (λ m. Among (feed (name_in P (region P n) (get_or bs k 0)) m One) (import_feeds P (output n) (region P n) 1 bs)) at listed.1)),
-      )
+      elim (cases_lt k (carries_on P h)) [
+        | inl early ↦ among_three (has_index P h) refl early
+        | inr late ↦
+            let j = k - carries_on P h in
+            let less = (entered_as P h k q there).less in
+            let few : j < length bs = omega (arith, late, less, length-append (carried P h) bs) in
+            let at : (1 + carries_on P h) + j ≡ suc k = omega (arith, late) in
+            let s = name_in P (region P n) (get_or bs j 0) in
+            let first = bounds_feeds P n (node P (n - 1)) in
+            let rest = import_feeds P (output n) (region P n) (1 + carries_on P h) bs in
+            let listed = import_listed P (output n) (region P n) (1 + carries_on P h) bs j few in (
+              feeds_at P (output n) n (suc k) Zero Start within is
+                  (inr (Among-right (feed (output n) (suc k) Zero) first rest (subst (λ m. Among (feed (output n) m Zero) rest) at listed.0))),
+              feeds_at P s n (suc k) One Start within is
+                  (inr (Among-right (feed s (suc k) One) first rest (subst (λ m. Among (feed s m One) rest) at listed.1))),
+            )
+      ]
+    where
+      h : ℕ
+      h = n + 1
+
+      bs : List ℕ
+      bs = entering P h
+
+      among_three : (t : Bool) → has_index P h ≡ t → k < carries_on P h → HasFeed P n (suc k) Zero × HasFeed P n (suc k) One
+      among_three true has early =
+          let three : carries_on P h ≡ 3 = ap length (three_carried P h has) in
+          carried_sends n k within is has (omega (arith, early, three))
+      among_three false none early =
+          let no : carries_on P h ≡ 0 = ap length (none_carried P h none) in
+          absurd (omega (arith, early, no))
 
   -- what feeds the switches of a trigger, and what makes a context
   test_fed : (n t : ℕ) → n < length R → Tests P n t → HasFeed P n 0 Zero × HasFeed P n 0 One
@@ -423,7 +530,7 @@ module _ (P : Checked) (known : IsKnown P) (g : Parts) (number : ℕ → ℕ →
   served {n} within (sends_in k q is at) Zero h = inr (send_fed n k q within is at).0
   served {n} within (sends_in k q is at) One h = inr (send_fed n k q within is at).1
   served {n} within (gives_back is) Zero h = inl (second_served n within (ap begins_block is))
-  served {n} within (gives_back {s = s} is) One h = inr (feeds_at P (output (end_of P n - 1)) n 1 One (LoopHead s) within is (inr (inl refl)))
+  served {n} within (gives_back {s = s} is) One h = inr (feeds_at P (output (end_of P n - 2)) n 1 One (LoopHead s) within is (inr (inl refl)))
   served {n} within (varies is) Zero h = inr (feeds_at P (output (next_of P n)) n 0 Zero Variable within is (inl refl))
   served within (varies is) One h = cc
   served {n} within (takes_in k is less) Zero h = inr (entry_fed n k within is less)
@@ -446,6 +553,26 @@ module _ (P : Checked) (known : IsKnown P) (g : Parts) (number : ℕ → ℕ →
   served {n} within (gets_reply {t = t} {i = i} is) p h = inl (reply_served n t i p within is)
   served {n} within (stores {a = a} {v = v} is) Zero h = inr (feeds_at P (output a) n 0 Zero (Store a v) within is (inl refl))
   served {n} within (stores {a = a} {v = v} is) One h = inr (feeds_at P (origin P v) n 0 One (Store a v) within is (inr (inl refl)))
+  served {n} within (bounds_meet {a = a} {b = b} is) Zero h = inr (feeds_at P (origin P a) n 0 Zero (Bounds a b) within is (inl refl))
+  served {n} within (bounds_meet {a = a} {b = b} is) One h = inr (feeds_at P (origin P b) n 0 One (Bounds a b) within is (inr (inl refl)))
+  served {n} within (begins_index {a = a} {b = b} is) Zero h = inr (feeds_at P (output n) n 1 Zero (Bounds a b) within is (inr (inr (inl refl))))
+  served {n} within (begins_index {a = a} {b = b} is) One h = inr (feeds_at P (origin P a) n 1 One (Bounds a b) within is (inr (inr (inr (inl refl)))))
+  served {n} within (carries {k = k} is) Zero h =
+      inr (feeds_at P (part_of (turn_row P (block P n)) (n - block P n)) n 0 Zero (Carried k) within is (inl refl))
+  served within (carries is) One h = cc
+  served {n} within (meets_bound is) Zero h = inr (feeds_at P (output (block P n + 1)) n 0 Zero Count within is (inl refl))
+  served {n} within (meets_bound is) One h = inr (feeds_at P (name_in P (region P n) (block P n + 2)) n 0 One Count within is (inr (inl refl)))
+  served {n} within (goes_further is) Zero h = inr (feeds_at P (output n) n 1 Zero Count within is (inr (inr (inl refl))))
+  served {n} within (goes_further is) One h = inr (feeds_at P (trigger_of (region P n)) n 1 One Count within is (inr (inr (inr (inl refl)))))
+  served {n} within (hands_index is) Zero h = inr (feeds_at P (output n) n 2 Zero Count within is (inr (inr (inr (inr (inl refl))))))
+  served {n} within (hands_index is) One h =
+      inr (feeds_at P (output (block P n + 1)) n 2 One Count within is (inr (inr (inr (inr (inr (inl refl)))))))
+  served {n} within (has_one is) Zero h = inr (feeds_at P (part_of n 1) n 3 Zero Count within is (inr (inr (inr (inr (inr (inr (inl refl))))))))
+  served within (has_one is) One h = cc
+  served {n} within (adds_one is) Zero h =
+      inr (feeds_at P (part_of n 2) n 4 Zero Count within is (inr (inr (inr (inr (inr (inr (inr (inl refl)))))))))
+  served {n} within (adds_one is) One h =
+      inr (feeds_at P (part_of n 3) n 4 One Count within is (inr (inr (inr (inr (inr (inr (inr (inr (inl refl))))))))))
 
   -- an arc into a port counts
   fed_counts : (n part : ℕ) (p : Port) → HasFeed P n part p → 1 ≤ arcs_into g (number n part) p
@@ -472,6 +599,9 @@ module _ (P : Checked) (known : IsKnown P) (g : Parts) (number : ℕ → ℕ →
   begin_no_if : {n h q s x y : ℕ} → Begins P n h q → node P n ≡ If s x y → ⊥
   begin_no_if {s = s} {x = x} {y = y} (of_call {x = z} is) e = let bad : If s x y ≡ EnterNode z = sym e ∙ is in cc
   begin_no_if {s = s} {x = x} {y = y} (of_loop is) e = let bad : If s x y ≡ Start = sym e ∙ is in cc
+
+  count_no_if : (n : ℕ) {s x y : ℕ} → node P n ≡ Count → node P n ≡ If s x y → ⊥
+  count_no_if n {s = s} {x = x} {y = y} is e = let bad : If s x y ≡ Count = sym e ∙ is in cc
 
   -- a part is fed from one origin at each port, or is a merge
   one_or_merge : {n part : ℕ} {o : Form} → Does P n part o →
@@ -518,6 +648,16 @@ module _ (P : Checked) (known : IsKnown P) (g : Parts) (number : ℕ → ℕ →
   one_or_merge (gets_reply is) = inl refl
   one_or_merge (stores {a = e} {v = f} is) =
       inr (λ y z p h k. alone (λ a. let bad : If (a.0).split (a.0).then (a.0).otherwise ≡ Store e f = sym (a.0).node ∙ is in cc) (one_feed h k))
+  one_or_merge (bounds_meet {a = e} {b = f} is) =
+      inr (λ y z p h k. alone (λ a. let bad : If (a.0).split (a.0).then (a.0).otherwise ≡ Bounds e f = sym (a.0).node ∙ is in cc) (one_feed h k))
+  one_or_merge (begins_index {a = e} {b = f} is) =
+      inr (λ y z p h k. alone (λ a. let bad : If (a.0).split (a.0).then (a.0).otherwise ≡ Bounds e f = sym (a.0).node ∙ is in cc) (one_feed h k))
+  one_or_merge (carries is) = inl refl
+  one_or_merge {n} (meets_bound is) = inr (λ y z p h k. alone (λ a. count_no_if n is (a.0).node) (one_feed h k))
+  one_or_merge {n} (goes_further is) = inr (λ y z p h k. alone (λ a. count_no_if n is (a.0).node) (one_feed h k))
+  one_or_merge {n} (hands_index is) = inr (λ y z p h k. alone (λ a. count_no_if n is (a.0).node) (one_feed h k))
+  one_or_merge {n} (has_one is) = inr (λ y z p h k. alone (λ a. count_no_if n is (a.0).node) (one_feed h k))
+  one_or_merge {n} (adds_one is) = inr (λ y z p h k. alone (λ a. count_no_if n is (a.0).node) (one_feed h k))
 
   module _ (n : ℕ) (p : Port) (row part : ℕ) (here : IsPart P row part) (is : number row part ≡ n)
       (one : (x y : Origin) → Feeds P x row part p → Feeds P y row part p → x ≡ y) where
@@ -710,6 +850,14 @@ module _ (P : Checked) (known : IsKnown P) (g : Parts) (number : ℕ → ℕ →
   named within (fetches is) = op_made within (gets_reply is)
   named within (gets_reply is) = tt
   named within (stores is) = tt
+  named within (bounds_meet is) = tt
+  named within (begins_index is) = tt
+  named within (carries is) = tt
+  named within (meets_bound is) = tt
+  named within (goes_further is) = tt
+  named within (hands_index is) = tt
+  named within (has_one is) = tt
+  named within (adds_one is) = tt
 
   -- ---- the answer
 

@@ -1,5 +1,5 @@
 -- Where a context stands, which regions are live and where procedures return to, in a run (docs/MEANING.md, "Laws").
-use Rattle.std.specs.Prelude.{◌≡◌, ◌<◌, ◌+◌, ℕ, suc, Bool, true, List, length}
+use Rattle.std.specs.Prelude.{◌≡◌, ◌<◌, ◌+◌, ◌-◌, ℕ, suc, Bool, true, false, List, length}
 use Rattle.id_table.specs.declared.row.Region.{Region}
 use Rattle.id_table.specs.declared.row.Node.TheVariants.{Split, Enter, Start, Switches}
 use Rattle.id_table.specs.Rows.{arm_at, at, top}
@@ -12,13 +12,17 @@ use Rattle.id_ops.specs.declared.Fired.{Fired}
 use Rattle.id_ops.specs.declared.Fired.TheVariants.{Entered, Moved}
 use Rattle.id_source.specs.declared.Path.{Path}
 use Rattle.id_source.specs.declared.SourceValue.TheVariants as source
+use Rattle.id_source.specs.declared.Fact.{Fact}
 use Rattle.id_source.specs.declared.Fact.TheVariants.{Has}
 use Rattle.id_source.specs.Sources.{Source, head_of}
-use Rattle.id_source.specs.Facts.{outermost, below}
+use Rattle.id_source.specs.Facts.{GoesOn, outermost, below}
 use Rattle.id_desugar.specs.Ends.{end_of}
-use Rattle.id_source.specs.Rounds.{Holds}
+use Rattle.id_desugar.specs.Regions.{has_index}
+use Rattle.id_source.specs.Rounds.{Every, Holds}
 use Rattle.id_pieces.specs.declared.arc.Origin.{Origin}
-use Rattle.id_pieces.specs.Rows.{answer_row, called, node, origin}
+use Rattle.id_table.specs.Loops.{bounds_row}
+use Rattle.id_table.specs.Tables.{is_within}
+use Rattle.id_pieces.specs.Rows.{answer_row, block, called, node, origin, output, switches_at}
 use Rattle.id_runs.specs.Activations.{Activation, at_iteration, main_context, main_activation, tag_in}
 use Rattle.id_runs.specs.Events.{Event, FiresAs, GivesOn}
 
@@ -49,9 +53,21 @@ pub data Tests (P : Checked) (n : ℕ) : ℕ → Type 0 where
   of_arms : {e : ℕ} → node P n ≡ Split e → Tests P n e
   of_turns : {e : ℕ} → node P n ≡ Switches e → Tests P n e
 
--- by the facts of the source the switches at the row n go to this side at the path
-pub data Goes (S : Source) (p : Path) (n : ℕ) (b : Bool) : Type 0 where
-  by_test : {e : ℕ} → Tests S.checked n e → Holds S (Has p (place S.checked e) (source.Bool b)) → Goes S p n b
+-- by the facts of the source the switches at the row n go to this side at the path: that of the predicate, or, of a
+-- loop with an index, that by which it goes on in the iteration
+pub data Goes (S : Source) : Path → ℕ → Bool → Type 0 where
+  by_test : {p : Path} {n e : ℕ} {b : Bool} → Tests S.checked n e → is_within (node S.checked e) ≡ false
+      → Holds S (Has p (place S.checked e) (source.Bool b)) → Goes S p n b
+  by_index : {p : Path} {n w k : ℕ} {b : Bool} {fs : List Fact} → GoesOn S n w p k b fs → Every (Holds S) fs
+      → Goes S (below p (place S.checked n) k) w b
+
+-- the switches of the loop with the head h
+abbrev pub switches_of : Checked → ℕ → ℕ
+switches_of P h = switches_at (node P (end_of P h))
+
+-- where that loop, if it has an index, says whether it goes on in the next iteration
+abbrev pub count_row : Checked → ℕ → ℕ
+count_row P h = switches_of P h + 1
 
 module _ (S : Source) (number : ℕ → ℕ → ℕ) (run : List Event) where
   -- the `Enter` or `Start` at the row n has made the context under the activation
@@ -88,19 +104,32 @@ module _ (S : Source) (number : ℕ → ℕ → ℕ) (run : List Event) where
     pub path_of : PathOf a path
     pub goes : Goes S path n b
 
-  -- the region is live under the activation: main's body is from the start, an arm or a side of a loop is where the
-  -- predicate has chosen it, a procedure's body and a loop are in each context that an `Enter` or `Start` of a live
-  -- region has made for them, and a loop is again in the iteration behind one where its predicate is true
+  -- whether the loop with an index and the head h goes on under the activation was found to be the value: in the first
+  -- iteration by its bounds, in each other one by what counts in the iteration before
+  pub data Decided (h : ℕ) (v : Value) : Activation → Type 0 where
+    at_first : {a : Activation} {c : Context} → Opens a (h - 1) c → Speaks a (output (bounds_row h)) v
+        → Decided h v (at_iteration c 0)
+    at_next : {c : Context} {k : ℕ} → Speaks (at_iteration c k) (output (count_row S.checked h)) v
+        → Decided h v (at_iteration c (suc k))
+
+  -- the switches at the row n are to go to this side under the activation: their predicate has spoken so, or, where
+  -- the loop has an index, it was found so, whether the flag has come already or not
+  pub data Chosen (a : Activation) (n : ℕ) : Bool → Type 0 where
+    has_said : {e : ℕ} {b : Bool} → Tests S.checked n e → Speaks a (origin S.checked e) (value.Bool b) → Chosen a n b
+    has_counted : {e : ℕ} → node S.checked n ≡ Switches e → has_index S.checked (block S.checked n) ≡ true
+        → Decided (block S.checked n) (value.Bool true) a → Chosen a n true
+
+  -- the region is live under the activation: main's body is from the start, an arm or a side of a loop is where it was
+  -- chosen, a procedure's body and a loop are in each context that an `Enter` or `Start` of a live region has made for
+  -- them, and a loop is again in the iteration behind one in which it goes on
   pub data Live : Activation → Region → Type 0 where
     at_start : Live main_activation (top (main_head S.checked))
     on_side : {a : Activation} {n e : ℕ} {b : Bool} → n < length (rows S.checked) → Tests S.checked n e
-        → Live a (region S.checked n) → Speaks a (origin S.checked e) (value.Bool b) → GoesAt a n b
-        → Live a (arm_at n b)
+        → Live a (region S.checked n) → Chosen a n b → GoesAt a n b → Live a (arm_at n b)
     entered : {a : Activation} {n h q : ℕ} {c : Context} → n < length (rows S.checked) → Begins S.checked n h q
         → Live a (region S.checked n) → Opens a n c → Live (at_iteration c 0) (top h)
     again : {c : Context} {k n e : ℕ} → n < length (rows S.checked) → node S.checked n ≡ Switches e
-        → Live (at_iteration c k) (region S.checked n)
-        → Speaks (at_iteration c k) (origin S.checked e) (value.Bool true)
+        → Live (at_iteration c k) (region S.checked n) → Chosen (at_iteration c k) n true
         → GoesAt (at_iteration c k) n true → Live (at_iteration c (suc k)) (region S.checked n)
 
   -- what the block with this head gives under the context goes to the first instruction of the row, under the

@@ -1,7 +1,7 @@
 -- When a fact of the source is carried by a quiet run (docs/MEANING.md, "Laws").
 use Rattle.std.specs.Prelude.{◌≡◌, ◌<◌, ℕ, ℤ, true, List, length}
 use Rattle.id_table.specs.declared.row.Node.{Node}
-use Rattle.id_table.specs.declared.row.Node.TheVariants.{Param, Binding, Next, Fetch, Store}
+use Rattle.id_table.specs.declared.row.Node.TheVariants.{Param, Binding, Next, Index, Fetch, Store}
 use Rattle.id_table.specs.Tables.{is_thing}
 use Rattle.id_check.specs.declared.checked.Checked.{Checked}
 use Rattle.id_check.specs.Programs.{place, region, rows}
@@ -16,7 +16,7 @@ use Rattle.id_source.specs.declared.Fact.{Fact}
 use Rattle.id_source.specs.declared.Fact.TheVariants.{On, Has, Shape, Put, Ask}
 use Rattle.id_source.specs.Sources.{Source}
 use Rattle.id_pieces.specs.declared.arc.Origin.{Origin}
-use Rattle.id_pieces.specs.Rows.{label, node, origin, output}
+use Rattle.id_pieces.specs.Rows.{home, label, node, origin, output}
 use Rattle.id_runs.specs.Activations.{Activation, tag_in}
 use Rattle.id_runs.specs.Cells.{ReadBy, WrittenBy}
 use Rattle.id_runs.specs.Events.{Event}
@@ -28,14 +28,15 @@ abbrev pub speaker_of : Checked → ℕ → Node → Origin
 speaker_of P n (Param x k) = output n
 speaker_of P n (Binding x a) = output n
 speaker_of P n (Next x k o v) = output (label P n)
+speaker_of P n (Index x) = output (label P n)
 speaker_of P n _ = origin P n
 
 abbrev pub speaker : Checked → ℕ → Origin
 speaker P n = speaker_of P n (node P n)
 
 module _ (S : Source) (number : ℕ → ℕ → ℕ) (run : List Event) where
-  -- the thing at the place, under an activation of the path, in a live region: a loop's variable stands where its label
-  -- does
+  -- the thing at the place, under an activation of the path, in a live region: a loop's variable is at home where its
+  -- label stands
   pub record Here (p : Path) (e : ℕ) : Type 0 where
     pub activation : Activation
     pub path_of : PathOf S number run activation p
@@ -43,7 +44,7 @@ module _ (S : Source) (number : ℕ → ℕ → ℕ) (run : List Event) where
     pub within : row < length (rows S.checked)
     pub thing : is_thing (node S.checked row) ≡ true
     pub place : e ≡ place S.checked row
-    pub live : Live S number run activation (region S.checked (label S.checked row))
+    pub live : Live S number run activation (region S.checked (home S.checked row))
 
   -- what stands there has spoken the value
   pub record CarriedHas (p : Path) (e : ℕ) (v : SourceValue) : Type 0 where

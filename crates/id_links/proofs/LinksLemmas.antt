@@ -14,13 +14,14 @@ use Rattle.id_links.specs.declared.edges.Edges.{Edges}
 use Rattle.id_list.proofs.PlacesLemmas.{slice_get-left, slice_get-last}
 use Rattle.id_table.specs.declared.row.Row.{Row}
 use Rattle.id_table.specs.declared.row.Node.{Node}
-use Rattle.id_table.specs.declared.row.Node.TheVariants.{Unary, Binary, Split, If, Call, Next, Body, Block, Binding}
-use Rattle.id_table.specs.declared.row.Node.TheVariants.{Array, Fetch, Address, Store}
+use Rattle.id_table.specs.declared.row.Node.TheVariants.{Unary, Binary, Split, If, Call, Next, Body, Loop, Block, Binding}
+use Rattle.id_table.specs.declared.row.Node.TheVariants.{Array, Fetch, Address, Store, Bounds}
 use Rattle.id_table.specs.declared.row.Region.{Region}
+use Rattle.id_table.specs.Loops.{bounds_row, lower_at, lower_of, upper_at, upper_of}
 use Rattle.id_table.specs.Rows.{arm_at, at}
 use Rattle.id_table.specs.Tables.{around, has_statements, is_call, is_statement, is_switches}
 use Rattle.id_table.specs.Turns.{IsStatement, Turns, operand, left, right, test, argument, body, statement, in_block}
-use Rattle.id_table.specs.Turns.{low, high, fetched, fetch_index, address_target, address_index, stored, stored_value}
+use Rattle.id_table.specs.Turns.{index_low, index_high, low, high, fetched, fetch_index, address_target, address_index, stored, stored_value}
 use Rattle.id_links.specs.declared.links.Statement.{Statement}
 use Rattle.id_links.specs.Links.{AreArgsTo, AreNone, AreOpen, AreReadsTo, AreTurnsTo, From, Gains, GainsFrom, GainsTo, Leads, PartTurns, Statements}
 use Rattle.id_links.specs.Links.{Statements_at, StatementsRise, Takes, TakesAll, TurnsOn, asker_at, beyond, linked_at, linked_of, nexts_turned, of_binding}
@@ -144,6 +145,22 @@ gains_to-store E F G H n x t i u j p q f g h =
     let A : Option ℕ → Type 0 = λ o. GainsTo E H (some_row o ++ (some_row j ++ x ∷ [])) n in
     let B : Option ℕ → Type 0 = λ o. GainsTo F H (some_row o ++ x ∷ []) n in
     subst A p (gains_to-both E F H (some_row t) (some_row j ++ x ∷ []) n f (subst B q (gains_to-both F G H (some_row i) (x ∷ []) n g h)))
+
+-- those to the bounds of an index
+pub gains-bounds : (E F G : Edges) (n : ℕ) (a b u v : Option ℕ) → a ≡ u → b ≡ v → Gains E F n (some_row a) → Gains F G n (some_row b)
+    → Gains E G n (some_row u ++ some_row v)
+gains-bounds E F G n a b u v p q f g =
+    let A : Option ℕ → Type 0 = λ o. Gains E F n (some_row o) in
+    let B : Option ℕ → Type 0 = λ o. Gains F G n (some_row o) in
+    gains-both E F G n (some_row u) (some_row v) (subst A p f) (subst B q g)
+
+-- and from them
+pub gains_to-bounds : (E F G : Edges) (n : ℕ) (a b u v : Option ℕ) → a ≡ u → b ≡ v → GainsTo E F (some_row a) n → GainsTo F G (some_row b) n
+    → GainsTo E G (some_row u ++ some_row v) n
+gains_to-bounds E F G n a b u v p q f g =
+    let A : Option ℕ → Type 0 = λ o. GainsTo E F (some_row o) n in
+    let B : Option ℕ → Type 0 = λ o. GainsTo F G (some_row o) n in
+    gains_to-both E F G (some_row u) (some_row v) n (subst A p f) (subst B q g)
 
 -- ---- statements that wait
 
@@ -312,6 +329,14 @@ turned-part R n a k (test e f) =
     let Q : Node → Type 0 = λ z. Among a (some_row (test_of z)) in
     inl (subst P (sym e) (subst Q (sym f) (inl refl)))
 turned-part R n a k (argument e l f) = let c : true ≡ false = sym (ap is_call e) ∙ k in absurd (true≢false c)
+turned-part R n a k (index_low {h = h} e f) =
+    let P : Node → Type 0 = λ z. Among a (parts_turned R z) in
+    let l = lower_at R h in
+    inl (subst P (sym e) (Among-left a (some_row l) (some_row (upper_at R h)) (some-among l a (ap lower_of f))))
+turned-part R n a k (index_high {h = h} e f) =
+    let P : Node → Type 0 = λ z. Among a (parts_turned R z) in
+    let u = upper_at R h in
+    inl (subst P (sym e) (Among-right a (some_row (lower_at R h)) (some_row u) (some-among u a (ap upper_of f))))
 turned-part R n a k (body e) = let P : Node → Type 0 = λ z. Among a (parts_turned R z) in inl (subst P (sym e) (inl refl))
 turned-part R n a k (low {b = b} e) = let P : Node → Type 0 = λ z. Among a (parts_turned R z) in inl (subst P (sym e) (inl refl))
 turned-part R n a k (high {a = b} e) = let P : Node → Type 0 = λ z. Among a (parts_turned R z) in inl (subst P (sym e) (inr (inl refl)))
@@ -347,6 +372,20 @@ part-turned R n a (If s x y) e h = go (at R s).node refl h
     go (Split t) f (inl q) = let P : ℕ → Type 0 = λ c. Turns R n c in subst P (sym q) (test e f)
     go (Split t) f (inr k) = absurd k
     go _ f k = absurd k
+part-turned R n a (Loop h w l) e k = elim (Among-either a (some_row (lower_at R h)) (some_row (upper_at R h)) k) [
+  | inl j ↦ by_lower (at R (bounds_row h)).node refl j
+  | inr j ↦ by_upper (at R (bounds_row h)).node refl j
+]
+  where
+    by_lower : (m : Node) → (at R (bounds_row h)).node ≡ m → Among a (some_row (lower_of m)) → Turns R n a
+    by_lower (Bounds b c) f (inl q) = let P : ℕ → Type 0 = λ d. Turns R n d in subst P (sym q) (index_low e f)
+    by_lower (Bounds b c) f (inr i) = absurd i
+    by_lower _ f i = absurd i
+
+    by_upper : (m : Node) → (at R (bounds_row h)).node ≡ m → Among a (some_row (upper_of m)) → Turns R n a
+    by_upper (Bounds b c) f (inl q) = let P : ℕ → Type 0 = λ d. Turns R n d in subst P (sym q) (index_high e f)
+    by_upper (Bounds b c) f (inr i) = absurd i
+    by_upper _ f i = absurd i
 part-turned R n a (Block b) e (inl q) = let P : ℕ → Type 0 = λ c. Turns R n c in subst P (sym q) (body e)
 part-turned R n a (Block b) e (inr f) = absurd f
 part-turned R n a (Array b c) e (inl q) = let P : ℕ → Type 0 = λ d. Turns R n d in subst P (sym q) (low e)
@@ -623,6 +662,8 @@ module _ (R : List Row) (n : ℕ) (E D F : Edges) (ss : List Statement) (w : n <
       none-turned z e (argument h i j) = cc
       none-turned z e (body h) = cc
       none-turned z e (statement h i j) = cc
+      none-turned z e (index_low h i) = cc
+      none-turned z e (index_high h i) = cc
       none-turned z e (low h) = cc
       none-turned z e (high h) = cc
       none-turned z e (fetched h) = cc

@@ -7,9 +7,10 @@ use Rattle.id_table.specs.declared.row.Row.{Row}
 use Rattle.id_table.specs.declared.row.Node.{Node}
 use Rattle.id_table.specs.declared.row.Node.TheVariants.{Name, Unary, Binary, Split, If, Arg, Call}
 use Rattle.id_table.specs.declared.row.Node.TheVariants.{Switches, Next, Body, Loop, Block, Binding}
-use Rattle.id_table.specs.declared.row.Node.TheVariants.{Array, Fetch, Address, Store}
+use Rattle.id_table.specs.declared.row.Node.TheVariants.{Array, Fetch, Address, Store, Index}
+use Rattle.id_table.specs.Loops.{lower_at, upper_at}
 use Rattle.id_table.specs.Rows.{arm_at, at}
-use Rattle.id_table.specs.Tables.{is_call, is_switches}
+use Rattle.id_table.specs.Tables.{is_call, is_switches, is_within}
 use Rattle.id_table.specs.Turns.{IsStatement, Turns, in_block}
 use Rattle.id_check.specs.declared.checked.Checked.{Checked}
 use Rattle.id_check.specs.Programs.{binder, depth, rows}
@@ -77,10 +78,14 @@ index_of _ = None
 abbrev pub store_parts : List Row → ℕ → ℕ → List ℕ
 store_parts R a x = some_row (target_of (at R a).node) ++ (some_row (index_of (at R a).node) ++ x ∷ [])
 
--- the predicate that a row of this node follows, if it is the switches of a loop
-abbrev pub test_of_loop : Node → Option ℕ
-test_of_loop (Switches t) = Some t
-test_of_loop _ = None
+-- what the loop with the head h reads: the bounds of its index, if it has one
+abbrev pub bounds_parts : List Row → ℕ → List ℕ
+bounds_parts R h = some_row (lower_at R h) ++ some_row (upper_at R h)
+
+-- the predicate that a row of this node follows, if it is the switches of a loop that has one
+abbrev pub test_of_loop : List Row → Node → Option ℕ
+test_of_loop R (Switches t) = if is_within (at R t).node then None else Some t
+test_of_loop R _ = None
 
 -- the arm of a conditional that this truth value of its predicate turns On
 abbrev pub arm_of : Truth → ℕ → ℕ → ℕ
@@ -108,6 +113,7 @@ abbrev pub parts_turned : List Row → Node → List ℕ
 parts_turned R (Unary o a) = a ∷ []
 parts_turned R (Binary o a b) = a ∷ b ∷ []
 parts_turned R (If s x y) = some_row (test_of (at R s).node)
+parts_turned R (Loop h w l) = bounds_parts R h
 parts_turned R (Block b) = b ∷ []
 parts_turned R (Array a b) = a ∷ b ∷ []
 parts_turned R (Fetch t i) = t ∷ i ∷ []
@@ -127,7 +133,8 @@ reads_of R o (Binary p a b) = a ∷ b ∷ []
 reads_of R o (If s x y) = some_row o ++ x ∷ y ∷ []
 reads_of R o (Arg e k v) = v ∷ []
 reads_of R o (Call e c) = e ∷ []
-reads_of R o (Switches t) = t ∷ []
+reads_of R o (Loop h w l) = bounds_parts R h
+reads_of R o (Switches t) = some_row (test_of_loop R (Switches t))
 reads_of R o (Next x k u v) = v ∷ []
 reads_of R o (Block b) = b ∷ []
 reads_of R o (Binding x a) = a ∷ []
@@ -144,10 +151,12 @@ linked_of R o z = reads_of R o z
 abbrev pub linked_at : Checked → ℕ → List ℕ
 linked_at P n = let z = (at (rows P) n).node in linked_of (rows P) (beyond P n z) z
 
--- the binder that the row u of this node waits for: a name for its own, a `next` for that of its name outside
+-- what the row u of this node waits for: a name for its binder, a `next` for that of its name outside, and an index for
+-- its upper bound
 abbrev pub awaited_of : Checked → ℕ → Node → Option ℕ
 awaited_of P u (Name x) = binder P u
 awaited_of P u (Next x k o v) = binder P o
+awaited_of P u (Index x) = upper_at (rows P) (at (rows P) u).block
 awaited_of P u _ = None
 
 abbrev pub awaited : Checked → ℕ → Option ℕ

@@ -11,5 +11,7 @@ mod links;
 mod nodes;
 
 pub use edges::Edges;
-pub use links::{Links, awaited, beyond, binder_of, distance, far, link};
+pub use links::{
+    Links, awaited, beyond, binder_of, distance, far, link, lower_at, test_of_loop, upper_at,
+};
 pub use nodes::{block_of, node_of};

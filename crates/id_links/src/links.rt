@@ -5,11 +5,13 @@ ghost use Rattle.id_table.specs.Rows.{at};
 ghost use Rattle.id_check.specs.Programs.{binder, rows};
 ghost use Rattle.id_links.specs.Links.{AreArgs, AreReads, AreTurns, Gains, GainsFrom, GainsTo, Statements};
 ghost use Rattle.id_links.specs.Links.{StatementsRise, TakesAll, asker_of, awaited, beyond, far, far_from, index_of};
-ghost use Rattle.id_links.specs.Links.{linked_of, nexts_turned, parts_turned, some_row, store_parts, switches_of};
-ghost use Rattle.id_links.specs.Links.{target_of, test_of};
+ghost use Rattle.id_links.specs.Links.{bounds_parts, linked_of, nexts_turned, parts_turned, some_row};
+ghost use Rattle.id_links.specs.Links.{store_parts, switches_of, target_of, test_of, test_of_loop};
+ghost use Rattle.id_table.specs.Loops.{lower_at, upper_at};
+ghost use Rattle.id_table.specs.Tables.{is_within};
 
 use crate::edges::Edges;
-use crate::nodes::node_of;
+use crate::nodes::{block_of, node_of};
 use id_check::Checked;
 use id_table::{Node, Row};
 use std::alloc::{AllocError, Global};
@@ -117,8 +119,9 @@ fn add_parts(turns: &mut Edges, rows: &[Row], n: usize, node: Node) -> Result<()
         Node::Unary { operand, .. } => turns.add(n, operand),
         Node::Binary { left, right, .. } => add_two(turns, n, left, right),
         Node::If { split, .. } => add_some(turns, n, test_at(rows, split as usize)),
+        Node::Loop { head, .. } => add_bounds(turns, rows, n, head as usize),
         Node::Block { body } => turns.add(n, body),
-        Node::Array { low, high } => add_two(turns, n, low, high),
+        Node::Array { low, high, .. } => add_two(turns, n, low, high),
         Node::Fetch { target, index } => add_two(turns, n, target, index),
         Node::Store { address, value } => add_store_parts(turns, rows, n, address, value),
         _ => Ok(()),
@@ -148,6 +151,42 @@ fn add_store_parts(
     turns.add(n, value)
 }
 
+/// Adds the bounds of the index of the loop with this head, if it has one.
+fn add_bounds(turns: &mut Edges, rows: &[Row], n: usize, head: usize) -> Result<(), AllocError>
+    ensures { OnOk result (Gains turns.old turns.new n (bounds_parts rows.now head)) }
+{
+    add_some(turns, n, lower_at(rows, head))?;
+    add_some(turns, n, upper_at(rows, head))
+}
+
+/// The lower bound of the index of the loop with this head, if it has one.
+pub fn lower_at(rows: &[Row], head: usize) -> Option<usize>
+    ensures { result ≡ lower_at rows.now head }
+{
+    let bounds = head.saturating_sub(2);
+    if bounds >= rows.len() {
+        return None;
+    }
+    match rows[bounds].node {
+        Node::Bounds { low, .. } => Some(low),
+        _ => None,
+    }
+}
+
+/// The upper bound of the index of the loop with this head, if it has one.
+pub fn upper_at(rows: &[Row], head: usize) -> Option<usize>
+    ensures { result ≡ upper_at rows.now head }
+{
+    let bounds = head.saturating_sub(2);
+    if bounds >= rows.len() {
+        return None;
+    }
+    match rows[bounds].node {
+        Node::Bounds { high, .. } => Some(high),
+        _ => None,
+    }
+}
+
 /// Adds an edge to the row, if there is one.
 fn add_some(turns: &mut Edges, n: usize, row: Option<usize>) -> Result<(), AllocError>
     ensures { OnOk result (Gains turns.old turns.new n (some_row row)) }
@@ -169,6 +208,23 @@ fn test_at(rows: &[Row], split: usize) -> Option<usize>
         Node::Split { test } => Some(test),
         _ => None,
     }
+}
+
+/// The predicate that a row of this node follows, if it is the switches of a loop that has one.
+pub fn test_of_loop(rows: &[Row], node: Node) -> Option<usize>
+    ensures { result ≡ test_of_loop rows.now node }
+{
+    match node {
+        Node::Switches { test } if !is_within(rows, test) => Some(test),
+        _ => None,
+    }
+}
+
+/// Whether what a `for` has in the place of a predicate is at the row.
+fn is_within(rows: &[Row], test: usize) -> bool
+    ensures { result ≡ is_within (at rows.now test).node }
+{
+    test < rows.len() && matches!(rows[test].node, Node::Within { .. })
 }
 
 /// The target of the store whose address is at the row, if it is one.
@@ -264,11 +320,12 @@ fn add_reads(
         } => add_if_reads(reads, n, beyond, then as usize, otherwise as usize),
         Node::Arg { value, .. } => add_read(reads, n, Some(value as usize)),
         Node::Call { enter, .. } => add_read(reads, n, Some(enter)),
-        Node::Switches { test } => add_read(reads, n, Some(test)),
+        Node::Loop { head, .. } => add_bounds_reads(reads, rows, n, head as usize),
+        Node::Switches { .. } => add_read(reads, n, test_of_loop(rows, node)),
         Node::Next { value, .. } => add_read(reads, n, Some(value as usize)),
         Node::Block { body } => add_read(reads, n, Some(body)),
         Node::Binding { value, .. } => add_read(reads, n, Some(value)),
-        Node::Array { low, high } => add_both(reads, n, low, high),
+        Node::Array { low, high, .. } => add_both(reads, n, low, high),
         Node::Fetch { target, index } => add_both(reads, n, target, index),
         Node::Store { address, value } => add_store_reads(reads, rows, n, address, value),
         _ => Ok(()),
@@ -302,6 +359,19 @@ fn add_store_reads(
     add_read(reads, n, target_at(rows, address))?;
     add_read(reads, n, index_at(rows, address))?;
     add_read(reads, n, Some(value))
+}
+
+/// Adds the bounds of the index that the loop with this head reads, if it has one.
+fn add_bounds_reads(
+    reads: &mut Edges,
+    rows: &[Row],
+    n: usize,
+    head: usize,
+) -> Result<(), AllocError>
+    ensures { OnOk result (GainsTo reads.old reads.new (bounds_parts rows.now head) n) }
+{
+    add_read(reads, n, lower_at(rows, head))?;
+    add_read(reads, n, upper_at(rows, head))
 }
 
 fn add_both(reads: &mut Edges, n: usize, left: usize, right: usize) -> Result<(), AllocError>
@@ -345,13 +415,14 @@ fn asker_of(block: usize, node: Node) -> Option<usize>
     }
 }
 
-/// The binder that the row waits for: a name for its own, a `next` for that of its name outside.
+/// What the row waits for: a name for its binder, a `next` for that of its name outside, an index for its upper bound.
 pub fn awaited(checked: &Checked, user: usize) -> Option<usize>
     ensures { result ≡ awaited checked.now user }
 {
     match node_of(checked, user) {
         Node::Name { .. } => binder_of(checked, user),
         Node::Next { outer, .. } => binder_of(checked, outer as usize),
+        Node::Index { .. } => upper_at(checked.table.rows.as_slice(), block_of(checked, user)),
         _ => None,
     }
 }

@@ -9,8 +9,8 @@ use Rattle.id_table.specs.declared.node.Pairing.TheVariants.{Binary, Array, Fetc
 use Rattle.id_table.specs.Texts.{texts}
 use Rattle.id_table.specs.Names.{first_names, number_of}
 use Rattle.id_table.specs.declared.row.Stand.{Stand}
-use Rattle.id_table.specs.declared.row.Node.TheVariants.{Arg, Body, Loop, Next, NextUse, Reset, Turn}
-use Rattle.id_table.specs.Rows.{Parts, add, add_nexts, last, naming, size, with_row}
+use Rattle.id_table.specs.declared.row.Node.TheVariants.{Arg, Body, Next, NextUse, Turn}
+use Rattle.id_table.specs.Rows.{Parts, add, add_nexts, begin_counting, last, naming, size, with_row}
 
 -- the rows and the names that the maker has
 abbrev pub parts : Maker → Parts
@@ -53,12 +53,15 @@ add_next s i T x a p =
     let U = add s (with_row (naming T x) s p (size T) (NextUse n)) a in
     with_row U s p (size T) (Next n i (size T) (last U))
 
+-- the parts with the rows of the statements of a loop at this place, of whose entries k stand before those of its
+-- variables, and with the end of its body, whose rows begin at f
+abbrev pub add_statements : Stand → ℕ → ℕ → Parts → Tree → ℕ → Parts
+add_statements s k f T ss p = with_row (add_nexts s k T ss) s p f Body
+
 -- the parts with the rows of the body of a loop at this place
 abbrev pub add_body : Stand → Parts → Tree → ℕ → Parts
-add_body s T ss p =
-    let B = with_row T s p (size T) Turn in
-    with_row (add_nexts s 0 B ss) s p (size B) Body
+add_body s T ss p = let B = with_row T s p (size T) Turn in add_statements s 0 (size B) B ss p
 
--- the parts with the last rows of a loop, whose last expression i stands in o, with its rows from r on
-abbrev pub end_loop : Stand → Stand → ℕ → ℕ → ℕ → ℕ → Parts → Parts
-end_loop s o p f r i L = with_row (with_row L o p r (Reset i)) s p f (Loop o.block o.region.head i)
+-- the same of a `for`, whose index has this name at the place q
+abbrev pub add_counting : Stand → Parts → List ℕ → ℕ → Tree → ℕ → Parts
+add_counting s T x q ss p = let I = begin_counting s T x q p in add_statements s 3 (last I) I ss p

@@ -4,11 +4,12 @@ ghost use Rattle.std.specs.Prelude.{◌≡◌, ◌+◌, ◌∷◌, [], codes, le
 ghost use Rattle.id_grammar.specs.Tree.{literal, name as name_tree, params_tree};
 ghost use Rattle.id_table.specs.Names.{number_of, with_name};
 ghost use Rattle.id_table.specs.Rows.{arm, in_top, value_of, with_row, add, naming};
-ghost use Rattle.id_table.specs.Rows.{add_variables, begin_loop, size};
+ghost use Rattle.id_table.specs.Rows.{add_entries, add_variables, arm_at, begin_counting, begin_for, begin_loop, carry};
+ghost use Rattle.id_table.specs.Rows.{end_loop, enter_loop, last, size};
 ghost use Rattle.id_table.specs.declared.row.Node.TheVariants as variant;
 ghost use Rattle.id_table.specs.declared.row.Node.TheVariants.{Variable, If, Arg, Next, NextUse, Enter, Turn};
 ghost use Rattle.id_table.specs.Texts.{texts};
-ghost use Rattle.id_maker.specs.Making.{end_loop, parts, stmts_tree, IsAdded, IsStart};
+ghost use Rattle.id_maker.specs.Making.{parts, stmts_tree, IsAdded, IsStart};
 
 use id_grammar::{Def, Param, Stmt};
 use id_table::{
@@ -16,7 +17,7 @@ use id_table::{
     stand_in,
 };
 use id_text::Identifier;
-use id_value::Constant;
+use id_value::{Constant, Kind};
 use indexmap::IndexSet;
 use std::alloc::{AllocError, Global};
 
@@ -63,6 +64,7 @@ impl<'a> Maker<'a> {
                 Some(row) => row.value as usize,
                 None => 0,
             },
+            Node::Within { flag } => flag,
             _ => self.rows.len(),
         }
     }
@@ -263,18 +265,88 @@ impl<'a> Maker<'a> {
         ensures inside { IfOk result (λ s. s ≡ in_top (length self.old.rows.items + 1)) }
     {
         let inside = self.push_head(stand, place)?;
+        self.add_entries(inside, statements, place)?;
+        Ok(inside)
+    }
+
+    /// Adds the rows of a `for` from its `Start` up to its switches, and gives where their true side stands. Its index
+    /// is at this place.
+    pub fn begin_for(
+        &mut self,
+        stand: Stand,
+        statements: &'a [Stmt],
+        index: u32,
+        place: u32,
+    ) -> Result<Stand, AllocError>
+        ensures added { OnOk result (parts self.new
+            ≡ begin_for stand (parts self.old) (stmts_tree statements.now) index place) }
+        ensures side { IfOk result (λ s. s
+            ≡ arm (in_top (length self.old.rows.items + 1)) (last (parts self.new)) true) }
+    {
+        let inside = self.push_head(stand, place)?;
+        self.carry(inside, index, place)?;
+        self.add_entries(inside, statements, place)?;
+        let test = self.rows.len();
+        let flag = inside.block as usize + 3;
+        self.put(inside, place, test, Node::Within { flag })?;
+        self.push_sides(inside, place, test, Node::Switches { test })
+    }
+
+    /// Adds the entries of what a `for` carries on beside its variables; the index is at this place.
+    pub fn carry(&mut self, inside: Stand, index: u32, place: u32) -> Result<(), AllocError>
+        ensures { OnOk result (parts self.new ≡ carry inside (parts self.old) index place) }
+    {
+        self.push_carried(inside, index, Kind::Int)?;
+        self.push_carried(inside, place, Kind::Int)?;
+        self.push_carried(inside, place, Kind::Bool)
+    }
+
+    /// Adds the entry of something of this kind that a `for` carries on.
+    fn push_carried(&mut self, inside: Stand, place: u32, kind: Kind) -> Result<(), AllocError>
+        ensures { OnOk result (parts self.new
+            ≡ with_row (parts self.old) inside place (size (parts self.old)) (variant.Carried kind)) }
+    {
+        let first = self.rows.len();
+        self.put(inside, place, first, Node::Carried { kind })
+    }
+
+    /// Adds the entries of the variables of a loop of these statements, and of its imports.
+    pub fn add_entries(
+        &mut self,
+        inside: Stand,
+        statements: &'a [Stmt],
+        place: u32,
+    ) -> Result<(), AllocError>
+        ensures { OnOk result (parts self.new
+            ≡ add_entries inside (parts self.old) (stmts_tree statements.now) place) }
+    {
         self.add_variables(inside, statements)?;
         let first = self.rows.len();
-        self.put(inside, place, first, Node::Entries)?;
-        Ok(inside)
+        self.put(inside, place, first, Node::Entries)
+    }
+
+    /// Adds the first rows of the body of a `for` with this index, and gives the number of the last one, with which
+    /// the rows of the body begin.
+    pub fn begin_counting(
+        &mut self,
+        side: Stand,
+        name: &'a Identifier,
+        index: u32,
+        place: u32,
+    ) -> Result<usize, AllocError>
+        ensures { IfOk result (λ i. IsAdded i (parts self.new)
+            (begin_counting side (parts self.old) name.now index place)) }
+    {
+        let first = self.rows.len();
+        self.put(side, place, first, Node::Count)?;
+        let first = self.push_turn(side, place)?;
+        let name = self.number(name)?;
+        self.push(side, index, first, Node::Index { name })
     }
 
     /// Adds the rows of a loop before its variables, and gives where they stand.
     pub fn push_head(&mut self, stand: Stand, place: u32) -> Result<Stand, AllocError>
-        ensures added { OnOk result (parts self.new ≡ with_row
-            (with_row (parts self.old) stand place (size (parts self.old)) variant.Start)
-            (in_top (size (parts self.old) + 1)) place (size (parts self.old) + 1)
-            (variant.LoopHead (size (parts self.old)))) }
+        ensures added { OnOk result (parts self.new ≡ enter_loop stand (parts self.old) place) }
         ensures inside { IfOk result (λ s. s ≡ in_top (size (parts self.old) + 1)) }
     {
         let start = self.rows.len();
@@ -308,26 +380,29 @@ impl<'a> Maker<'a> {
         self.put(stand, place, first, Node::Variable)
     }
 
-    /// Adds the rows of a loop behind its last expression, whose number this is, where that stands on this side.
+    /// Adds the rows of a loop behind its last expression, whose number this is, where that stands on this side, with
+    /// its rows from `closed` on. The loop's rows begin at `first`, and its variables are seen from its `start` on.
     pub fn end_loop(
         &mut self,
         stand: Stand,
         side: Stand,
         place: u32,
+        first: usize,
         start: usize,
         closed: usize,
         last: usize,
     ) -> Result<usize, AllocError>
         ensures { IfOk result (λ i. IsAdded i (parts self.new)
-            (end_loop stand side place start closed last (parts self.old))) }
+            (end_loop stand side place first start closed last (parts self.old))) }
     {
         self.put(side, place, closed, Node::Reset { value: last })?;
+        self.put(stand, place, start, Node::Span)?;
         let node = Node::Loop {
             head: side.block,
             switches: side.region.head,
             last: short(last)?,
         };
-        self.push(stand, place, start, node)
+        self.push(stand, place, first, node)
     }
 
     /// Adds the row where the body of a loop begins, and gives the number of the next one.

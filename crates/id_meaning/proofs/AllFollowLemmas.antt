@@ -17,12 +17,12 @@ use Rattle.id_effects.specs.Effects.{all_effects, effects}
 use Rattle.id_cells.specs.Waits.{AreWaits}
 use Rattle.id_meaning.proofs.CallsFollowLemmas.{asks_argument-follows, begins-follows, ends-follows, name-follows, passes-follows}
 use Rattle.id_meaning.proofs.ComesLemmas.{all-effects-in}
-use Rattle.id_meaning.proofs.LoopsFollowLemmas.{again-follows, enters-follows, hands-follows, leads_out-follows, leaves-follows, runs-follows, starts-follows}
+use Rattle.id_meaning.proofs.LoopsFollowLemmas.{again-follows, counts_first-follows, counts_on-follows, enters-follows, hands-follows, leads_out-follows, leaves-follows, runs-follows, starts-follows}
 use Rattle.id_meaning.proofs.RowsFollowLemmas.{answered-follows, arm-follows, asked-follows, binary-follows, binding-follows, block-follows}
 use Rattle.id_meaning.proofs.RowsFollowLemmas.{conditional-follows, literal-follows, made_name-follows, made_shape-follows, put_there-follows, turned-follows}
 use Rattle.id_meaning.proofs.RowsFollowLemmas.{unary-follows}
 use Rattle.id_meaning.proofs.RulesLemmas.{AllAmong, RowRule, main, input, turned, literal, unary, binary, name, arm, conditional, block, binding}
-use Rattle.id_meaning.proofs.RulesLemmas.{made_shape, made_name, asked, answered, put_there, asks_argument, begins, passes, ends, starts, enters, again, runs}
+use Rattle.id_meaning.proofs.RulesLemmas.{made_shape, made_name, asked, answered, put_there, asks_argument, begins, passes, ends, starts, enters, counts_first, counts_on, again, runs}
 use Rattle.id_meaning.proofs.RulesLemmas.{leaves, hands}
 use Rattle.id_meaning.proofs.RulesLemmas.{leads_out}
 
@@ -62,9 +62,11 @@ module _ (S : Source) (l : Links) (W : Queues) (c : Cells) (chained : AreChained
   follows (ends st u df o) h g k = ends-follows S l W c chained found turns reads args waits few st u df o h g k
   follows (starts st o) h g k = starts-follows S l W c chained found turns reads args waits few st o h g k
   follows (enters st ne e o) h g k = enters-follows S l W c chained found turns reads args waits few st ne e o h g k
+  follows (counts_first s o e) h g k = counts_first-follows S l W c chained found turns reads args waits few s o e h g k
+  follows (counts_on j s o e) h g k = counts_on-follows S l W c chained found turns reads args waits few j s o e h g k
   follows (again j st o) h g k = again-follows S l W c chained found turns reads args waits few j st o h g k
-  follows (runs j st o b) h g k = runs-follows S l W c chained found turns reads args waits few j st o b h g k
-  follows (leaves j st o) h g k = leaves-follows S l W c chained found turns reads args waits few j st o h g k
+  follows (runs j st o go b) h g k = runs-follows S l W c chained found turns reads args waits few j st o go b h g k
+  follows (leaves j st o go) h g k = leaves-follows S l W c chained found turns reads args waits few j st o go h g k
   follows (hands j st ne o) h g k = hands-follows S l W c chained found turns reads args waits few j st ne o h g k
   follows (leads_out j st o) h g k = leads_out-follows S l W c chained found turns reads args waits few j st o h g k
 

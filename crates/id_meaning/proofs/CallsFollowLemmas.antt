@@ -1,5 +1,5 @@
 -- What follows at names and calls, by each premise of its rule.
-use Rattle.std.proofs.Common.{◌≡◌, inl, inr, ℕ, ◌<◌, Bool as Truth, true, ◌&&◌, nat_eq, Option, Some, List, [], ◌∷◌, length}
+use Rattle.std.proofs.Common.{◌≡◌, inl, inr, ℕ, ◌<◌, Bool as Truth, true, ◌&&◌, nat_eq, Option, Some, List, [], ◌∷◌, ◌++◌, length}
 use Rattle.std.proofs.Common.{if◌then◌else◌, refl, ap, sym, ◌∙◌, subst}
 use Rattle.std.specs.Prelude.{slice_get}
 use Rattle.std.proofs.lemmas.Bool.{eq-eqb}
@@ -28,11 +28,11 @@ use Rattle.id_cells.specs.Cells.{AreChained, find, items, out_of, values}
 use Rattle.id_facts.specs.RowFacts.{same_trail}
 use Rattle.id_effects.specs.Effects.{all_passed, all_passes, call_by, callee_by, callee_of, effects, entered, entered_by, entered_of, exit_by}
 use Rattle.id_given.specs.Given.{from_found}
-use Rattle.id_effects.specs.Effects.{body_in, is_awaited_by, is_end, is_row, param_haves, param_row, pass_by, passed_of, woken_by}
+use Rattle.id_effects.specs.Effects.{body_in, index_woken, is_awaited_by, is_end, is_row, param_haves, param_row, pass_by, passed_of, woken_by}
 use Rattle.id_given.specs.Given.{given_of, seen}
 use Rattle.id_facts.specs.Firsts.{haves}
 use Rattle.id_listing.specs.Listed.{AreFound}
-use Rattle.id_cells.specs.Waits.{AreWaits}
+use Rattle.id_cells.specs.Waits.{AreWaits, by_on}
 use Rattle.id_meaning.proofs.ArgumentsLemmas.{get-param_row}
 use Rattle.id_cells.proofs.LookupLemmas.{find-all, find-true, values-all}
 use Rattle.id_facts.proofs.OneLemmas.{trail-itself}
@@ -69,15 +69,16 @@ module _ (S : Source) (l : Links) (W : Queues) (c : Cells) (chained : AreChained
       let r = find-all c chained p n on in
       let a : awaited S.checked n ≡ Some b = ap (λ z. awaited_of S.checked n z) st.node ∙ e in
       let U : Node → Type 0 = λ z. Among n (users_of l n z) in
-      let A : Option ℕ → Type 0 =
-      λ o. Among (Has p n v) (if is_awaited_by S.checked c q b w o then woken_by S.checked w v (find c p n) (at (rows S.checked) n).node
-      (at (rows S.checked) n).node else []) in
-      let T : Truth → Type 0 =
-      λ t. Among (Has p n v) (if t then woken_by S.checked w v (find c p n) (at (rows S.checked) n).node (at (rows S.checked) n).node else []) in
+      let z = (at (rows S.checked) n).node in
+      let wakes = woken_by S.checked w v (find c p n) z z in
+      let counts = index_woken S.checked l c (Has q b v) w v z in
+      let A : Option ℕ → Type 0 = λ o. Among (Has p n v) (if is_awaited_by S.checked c q b w o then wakes ++ counts else []) in
+      let T : Truth → Type 0 = λ t. Among (Has p n v) (if t then wakes ++ counts else []) in
       let I : Option ℕ → Type 0 = λ o. Among (Has p n v) (woken_by S.checked w v o (at (rows S.checked) n).node (at (rows S.checked) n).node) in
       let N : Node → Type 0 = λ z. Among (Has p n v) (woken_by S.checked w v (Some r.0) z z) in
-      from-woken S l W c q b v (Has p n v) w (waits.all p n n on (subst U (sym st.node) (inl refl)) b a)
-      (subst A (sym a) (subst T (sym (awaited-is b q)) (subst I (sym r.1) (subst N (sym st.node) (when-same n (Has p n v) (Has p n v ∷ []) (inl refl))))))
+      let here = subst I (sym r.1) (subst N (sym st.node) (when-same n (Has p n v) (Has p n v ∷ []) (inl refl))) in
+      from-woken S l W c q b v (Has p n v) w (waits.all (On p n) p n n on (by_on (subst U (sym st.node) (inl refl))) b a)
+      (subst A (sym a) (subst T (sym (awaited-is b q)) (Among-left (Has p n v) wakes counts here)))
 
   -- a name Has what its binder Has
   pub name-follows : {p : Trail} {n x b : ℕ} {v : RowValue} → Stands S.checked n (node.Name x) → binder S.checked n ≡ Some b

@@ -28,7 +28,7 @@ use Rattle.id_cells.specs.Cells.{AreChained, ask_by, asks, bounds_by, find, item
 use Rattle.id_facts.specs.RowFacts.{chain_by, chain_of, fact_at}
 use Rattle.id_facts.specs.RowFacts.{same_trail}
 use Rattle.id_cells.specs.Cells.{shapes, value_by}
-use Rattle.id_effects.specs.Effects.{all_effects, call_at, effects, gain, gains}
+use Rattle.id_effects.specs.Effects.{all_effects, begin_at, call_at, effects, gain, gains}
 use Rattle.id_given.specs.Given.{from_found, from_on, given, given_of, is_in_some}
 use Rattle.id_effects.specs.Effects.{loop_by, pass_of, reached, start_at}
 use Rattle.id_facts.specs.Firsts.{ons}
@@ -107,14 +107,16 @@ module _ (S : Source) (l : Links) (W : Queues) (c : Cells) where
   from-turns p n a h =
       let g = On p n in
       let ns = targets l.turns.rows.items n in
-      Among-left (On p a) (ons p ns) (given S.checked c g p n ++ (call_at S.checked l c g p n ++ start_at S.checked l c g p n)) (ons-all p ns a h)
+      Among-left (On p a) (ons p ns) (given S.checked c g p n ++ (call_at S.checked l c g p n ++ (start_at S.checked l c g p n ++ begin_at S.checked l c g p n)))
+      (ons-all p ns a h)
 
   -- what comes at a row that reads, by its node
   gain-given : (p : Trail) (n : ℕ) (v : RowValue) (m : ℕ) (x : RowFact) → Among x (given S.checked c (Has p n v) p m)
       → Among x (gain S.checked l c p n v m)
   gain-given p n v m x h =
       let z = (at (rows S.checked) m).node in
-      Among-left x (given S.checked c (Has p n v) p m) (pass_of S.checked l c p n v z ++ loop_by S.checked l c p n v m z) h
+      Among-left x (given S.checked c (Has p n v) p m)
+      (pass_of S.checked l c p n v z ++ (loop_by S.checked l c p n v m z ++ begin_at S.checked l c (Has p n v) p m)) h
 
   pub from-reader : (p : Trail) (n : ℕ) (v : RowValue) (m : ℕ) (x : RowFact) → Leads l.reads n m → Among x (given S.checked c (Has p n v) p m)
       → Among x (effects S.checked l W c (Has p n v))

@@ -1,6 +1,7 @@
 -- What follows by a rule of the source, rows give.
 use Rattle.std.proofs.Common.{◌≡◌, ◌⊎◌, inl, inr, ℕ, zero, suc, ◌+◌, ◌≤◌, ◌<◌, ℤ, Bool as Truth, true, false, Some}
 use Rattle.std.proofs.Common.{List, [], ◌∷◌, length, refl, ap, sym, ◌∙◌, subst, arith}
+use Rattle.std.specs.Prelude.{pos, ◌+ℤ◌}
 use Rattle.id_list.specs.List.{Among}
 use Rattle.id_value.specs.declared.Constant.{Constant}
 use Rattle.id_value.specs.declared.Constant.TheVariants as constant
@@ -9,7 +10,8 @@ use Rattle.id_table.specs.declared.row.Node.TheVariants as node
 use Rattle.id_table.specs.Rows.{at}
 use Rattle.id_table.specs.Tables.{is_call, is_thing}
 use Rattle.id_table.specs.Turns.{Turns, operand, left, right, test, body, low, high, fetched, fetch_index, address_target, address_index}
-use Rattle.id_table.specs.Turns.{statement, stored, stored_value}
+use Rattle.id_table.specs.Turns.{statement, stored, stored_value, index_low, index_high}
+use Rattle.id_table.specs.Loops.{bounds_row}
 use Rattle.id_check.specs.Programs.{Stands, place, rows}
 use Rattle.id_source.specs.declared.Path.{Path}
 use Rattle.id_source.specs.declared.SourceValue.{SourceValue}
@@ -27,7 +29,7 @@ use Rattle.id_facts.specs.declared.facts.RowValue.TheVariants.{Int, Bool, Name}
 use Rattle.id_facts.specs.declared.facts.Trail.{Trail}
 use Rattle.id_facts.specs.declared.facts.Trail.TheVariants.{Outermost, Below}
 use Rattle.id_source.specs.Sources.{Source, main_body, value_of}
-use Rattle.id_source.specs.Facts.{LoopStands, StoreStands, Rule, ask, below, between, put, shape, site, without}
+use Rattle.id_source.specs.Facts.{ForStands, GoesOn, LoopStands, StoreStands, Rule, ask, below, between, put, shape, site, without}
 use Rattle.id_source.specs.Facts as rule
 use Rattle.id_source.specs.Rounds.{Every, Rounds}
 use Rattle.id_links.specs.Links.{BodyTurns, arm_of, far_from, of_binding, of_next, of_store}
@@ -41,11 +43,11 @@ use Rattle.id_source.proofs.CheckedLemmas.{apart_of, binder_of, far-between, nex
 use Rattle.id_source.proofs.Coherence.{choice}
 use Rattle.id_facts.proofs.FactsLemmas.{Inside, fact-before, inside-more}
 use Rattle.id_listing.proofs.PathsLemmas.{all_steps, path-below, path-out, steps-suc}
-use Rattle.id_meaning.proofs.RulesLemmas.{AllAmong, RowRule, value-row}
+use Rattle.id_meaning.proofs.RulesLemmas.{AllAmong, RowGoesOn, RowRule, value-row}
 use Rattle.id_facts.proofs.FactsLemmas.{IsOnBy}
 use Rattle.id_meaning.proofs.RulesLemmas as row
 use Rattle.id_source.proofs.StepsLemmas.{below-once, last-same, none-below, none-last}
-use Rattle.id_source.proofs.ThingsLemmas.{node-thing, part-thing}
+use Rattle.id_source.proofs.ThingsLemmas.{node-thing, part-thing, test-thing}
 use Rattle.id_facts.proofs.FactsLemmas.{among-at, index-of}
 
 pub among-inside : (fs : List RowFact) → AreBefore fs → (f : RowFact) → Among f fs → Inside (length fs) (path_of f)
@@ -408,22 +410,116 @@ module _ (S : Source) (k : ℕ) (fs : List RowFact) (s : IsRound S k fs) where
         known = subst F (value-constant S fs x.value (constant.Bool b) x.is_value) x.known;
       }
 
-  loop-thing : (n h w t l : ℕ) → LoopStands S.checked n h w t l → IsThing S n
-  loop-thing n h w t l st = node-thing S n (node.Loop h w l) st.loop refl
+  loop-thing : (n h w l : ℕ) → Stands S.checked n (node.Loop h w l) → IsThing S n
+  loop-thing n h w l st = node-thing S n (node.Loop h w l) st refl
 
-  test-thing : (n h w t l : ℕ) → LoopStands S.checked n h w t l → IsThing S t
-  test-thing n h w t l st = part-thing S w t (node.Switches t) st.switches refl
+  -- the bounds of an index
+  lower-thing : (n w x a b l : ℕ) (s : ForStands S.checked n w x a b l) → IsThing S a
+  lower-thing n w x a b l s = part-thing S (bounds_row s.head) a (node.Bounds a b) s.bounds (inl refl)
 
-  body-rises : (n h w t l j a : ℕ) (P : Path) → LoopStands S.checked n h w t l → BodyTurns (rows S.checked) w a
-      → Rounds S k (fact.Has (below P (place S.checked n) j) (place S.checked t) (value.Bool true)) →
-      Rises (fact.On (below P (place S.checked n) j) (place S.checked a))
-  body-rises n h w t l j a P st b g =
-      let x = truth-within P n j t true (loop-thing n h w t l st) (test-thing n h w t l st) g in
+  upper-thing : (n w x a b l : ℕ) (s : ForStands S.checked n w x a b l) → IsThing S b
+  upper-thing n w x a b l s = part-thing S (bounds_row s.head) b (node.Bounds a b) s.bounds (inr refl)
+
+  -- a loop goes on or not by facts of rows
+  record GoesBy (n w : ℕ) (P : Path) (j : ℕ) (b : Truth) : Type 0 where
+    pub number : ℕ
+    pub path : Trail
+    pub on : IsOnBy fs number path n
+    pub outer : P ≡ Of path
+    pub premises : List RowFact
+    pub goes : RowGoesOn S n w path number j b premises
+    pub known : AllAmong fs premises
+
+  -- an index and its upper bound, and both bounds
+  record Bounded (n : ℕ) (P : Path) (a b : ℕ) (lo hi : ℤ) : Type 0 where
+    pub number : ℕ
+    pub path : Trail
+    pub on : IsOnBy fs number path n
+    pub outer : P ≡ Of path
+    pub known : AllAmong fs (On path n ∷ Has path a (Int lo) ∷ Has path b (Int hi) ∷ [])
+
+  bounded : (n w x a b l : ℕ) (P : Path) (lo hi : ℤ) → ForStands S.checked n w x a b l → Rounds S k (fact.On P (place S.checked n))
+      → Rounds S k (fact.Has P (place S.checked a) (value.Int lo)) → Rounds S k (fact.Has P (place S.checked b) (value.Int hi)) → Bounded n P a b lo hi
+  bounded n w x a b l P lo hi s on under above =
+      let y = known-on n P (loop-thing n s.head w l s.loop) on in
+      let o = on-by y.0 n y.2 in
+      let i = there (On y.0 n) y.2 in
+      let z = number-at y.0 a P lo i (lower-thing n w x a b l s) y.1 under in
+      let u = number-at y.0 b P hi i (upper-thing n w x a b l s) y.1 above in
+      record { number = o.0; path = y.0; on = o.1; outer = y.1; known = (y.2, (z, (u, tt))) }
+
+  record Counted (n : ℕ) (P : Path) (j x b : ℕ) (y hi : ℤ) : Type 0 where
+    pub number : ℕ
+    pub path : Trail
+    pub on : IsOnBy fs number path n
+    pub outer : P ≡ Of path
+    pub known : AllAmong fs (Has (Below number j) x (Int y) ∷ Has path b (Int hi) ∷ [])
+
+  counted : (n w x a b l j : ℕ) (P : Path) (y hi : ℤ) → ForStands S.checked n w x a b l
+      → Rounds S k (fact.Has (below P (place S.checked n) j) (place S.checked x) (value.Int y))
+      → Rounds S k (fact.Has P (place S.checked b) (value.Int hi)) → Counted n P j x b y hi
+  counted n w x a b l j P y hi s index above =
+      let r = in-iteration P n j x (value.Int y) (loop-thing n s.head w l s.loop) (node-thing S x (node.Index s.name) s.index refl) index in
+      let F : RowValue → Type 0 = λ v. Among (Has (Below r.number j) x v) fs in
+      let G : RowFact → Type 0 = λ f. Among f fs in
+      let on = subst G r.on.fact (among-at fs r.number r.on.within) in
+      let u = number-at r.path b P hi (there (On r.path n) on) (upper-thing n w x a b l s) r.outer above in
       record {
-        premises = Has (Below x.number j) t (Bool true) ∷ [];
-        given = On (Below x.number j) a;
-        rule = row.runs j st x.on b;
+        number = r.number;
+        path = r.path;
+        on = r.on;
+        outer = r.outer;
+        known = (subst F (value-number S fs r.value y r.is_value) r.known, (u, tt));
+      }
+
+  goes-rises : (n h w l j : ℕ) (P : Path) (b : Truth) {ps : List Fact} → Stands S.checked n (node.Loop h w l) → GoesOn S n w P j b ps
+      → Every (Rounds S k) ps → GoesBy n w P j b
+  goes-rises n h w l j P b st (rule.by_predicate {h = g} {t = t} {l = d} i ls) f =
+      let x = truth-within P n i t b (loop-thing n h w l st) (test-thing S n g w t d ls) f.0 in
+      record {
+        number = x.number;
+        path = x.path;
+        on = x.on;
+        outer = x.outer;
+        premises = Has (Below x.number i) t (Bool b) ∷ [];
+        goes = row.by_predicate i ls;
         known = (x.known, tt);
+      }
+  goes-rises n h w l j P b st (rule.by_bounds {x = x} {a = a} {b = c} {l = d} {lo = lo} {hi = hi} s e) f =
+      let y = bounded n w x a c d P lo hi s f.0 f.1.0 f.1.1.0 in
+      record {
+        number = y.number;
+        path = y.path;
+        on = y.on;
+        outer = y.outer;
+        premises = On y.path n ∷ Has y.path a (Int lo) ∷ Has y.path c (Int hi) ∷ [];
+        goes = row.by_bounds s e;
+        known = y.known;
+      }
+  goes-rises n h w l j P b st (rule.by_index {x = x} {a = a} {b = c} {l = d} {i = v} {hi = hi} i s e) f =
+      let y = counted n w x a c d i P v hi s f.0 f.1.0 in
+      let q : i + 1 ≡ suc i = omega arith in
+      let ps = Has (Below y.number i) x (Int v) ∷ Has y.path c (Int hi) ∷ [] in
+      let F : ℕ → Type 0 = λ m. RowGoesOn S n w y.path y.number m b ps in
+      record {
+        number = y.number;
+        path = y.path;
+        on = y.on;
+        outer = y.outer;
+        premises = ps;
+        goes = subst F q (row.by_index i s e);
+        known = y.known;
+      }
+
+  body-rises : (n h w l j a : ℕ) (P : Path) {ps : List Fact} → Stands S.checked n (node.Loop h w l) → GoesOn S n w P j true ps
+      → BodyTurns (rows S.checked) w a → Every (Rounds S k) ps → Rises (fact.On (below P (place S.checked n) j) (place S.checked a))
+  body-rises n h w l j a P st go b f =
+      let x = goes-rises n h w l j P true st go f in
+      record {
+        premises = x.premises;
+        given = On (Below x.number j) a;
+        rule = row.runs j st x.on x.goes b;
+        known = x.known;
         is = ap (λ q. fact.On q (place S.checked a)) (below-by x.number j n x.path P x.on x.outer);
       }
 
@@ -564,7 +660,7 @@ module _ (S : Source) (k : ℕ) (fs : List RowFact) (s : IsRound S k fs) where
         is = ap (λ r. fact.Has r (place S.checked n) u) y.1 ∙ ap (λ w. fact.Has (Of y.0) (place S.checked n) w) z.1;
       }
   complete (rule.loop_test_on {n = n} {h = g} {w = w} {t = t} {l = l} {p = p} st) h =
-      let y = known-on n p (loop-thing n g w t l st) h.0 in
+      let y = known-on n p (loop-thing n g w l st.loop) h.0 in
       let o = on-by y.0 n y.2 in
       record {
         premises = On y.0 n ∷ [];
@@ -573,12 +669,12 @@ module _ (S : Source) (k : ℕ) (fs : List RowFact) (s : IsRound S k fs) where
         known = (y.2, tt);
         is = ap (λ q. fact.On q (place S.checked t)) (below-by o.0 0 n y.0 p o.1 y.1);
       }
-  complete (rule.first_has {n = n} {h = g} {w = w} {t = t} {l = l} {m = m} {o = x} {v = a} {c = c} {p = p} {u = u} st y e) h =
-      let z = known-on n p (loop-thing n g w t l st) h.0 in
+  complete (rule.first_has {n = n} {h = g} {w = w} {l = l} {m = m} {o = x} {v = a} {c = c} {p = p} {u = u} st y e) h =
+      let z = known-on n p (loop-thing n g w l st) h.0 in
       let o = on-by z.0 n z.2 in
       let q = use_binder S.checked m g x a c y e in
       let i : IsThing S c = record { within = q.0; thing = thing-binder (at (rows S.checked) c).node q.1 } in
-      let v = look-known z.0 n c p u i st.loop.within z.2 z.1 h.1.0 in
+      let v = look-known z.0 n c p u i st.within z.2 z.1 h.1.0 in
       record {
         premises = On z.0 n ∷ Has (out_of fs (far_from S.checked n (Some c)) z.0) c v.0 ∷ [];
         given = Has (Below o.0 0) m v.0;
@@ -586,8 +682,32 @@ module _ (S : Source) (k : ℕ) (fs : List RowFact) (s : IsRound S k fs) where
         known = (z.2, (v.2, tt));
         is = ap (λ r. fact.Has r (place S.checked m) u) (below-by o.0 0 n z.0 p o.1 z.1) ∙ ap (λ b. fact.Has (Of (Below o.0 0)) (place S.checked m) b) v.1;
       }
+  complete (rule.lower_on {n = n} {w = w} {x = x} {a = a} {b = b} {l = l} {p = p} s) h =
+      on-rises n a p (node.Loop s.head w l) s.loop refl refl (index_low s.loop.node s.bounds.node) h.0
+  complete (rule.upper_on {n = n} {w = w} {x = x} {a = a} {b = b} {l = l} {p = p} s) h =
+      on-rises n b p (node.Loop s.head w l) s.loop refl refl (index_high s.loop.node s.bounds.node) h.0
+  complete (rule.index_begins {n = n} {w = w} {x = x} {a = a} {b = b} {l = l} {p = p} {lo = lo} {hi = hi} s e) h =
+      let y = bounded n w x a b l p lo hi s h.0 h.1.0 h.1.1.0 in
+      record {
+        premises = On y.path n ∷ Has y.path a (Int lo) ∷ Has y.path b (Int hi) ∷ [];
+        given = Has (Below y.number 0) x (Int lo);
+        rule = row.counts_first s y.on e;
+        known = y.known;
+        is = ap (λ q. fact.Has q (place S.checked x) (value.Int lo)) (below-by y.number 0 n y.path p y.on y.outer);
+      }
+  complete (rule.index_counts {n = n} {w = w} {x = x} {a = a} {b = b} {l = l} {i = v} {hi = hi} p j s e) h =
+      let y = counted n w x a b l j p v hi s h.0 h.1.0 in
+      let q : suc j ≡ j + 1 = omega arith in
+      record {
+        premises = Has (Below y.number j) x (Int v) ∷ Has y.path b (Int hi) ∷ [];
+        given = Has (Below y.number (j + 1)) x (Int (v +ℤ pos 1));
+        rule = row.counts_on j s y.on e;
+        known = y.known;
+        is = ap (λ i. fact.Has (below p (place S.checked n) i) (place S.checked x) (value.Int (v +ℤ pos 1))) q
+            ∙ ap (λ r. fact.Has r (place S.checked x) (value.Int (v +ℤ pos 1))) (below-by y.number (j + 1) n y.path p y.on y.outer);
+      }
   complete (rule.turn_on {n = n} {h = g} {w = w} {t = t} {l = l} p j st) h =
-      let x = truth-within p n j t true (loop-thing n g w t l st) (test-thing n g w t l st) h.0 in
+      let x = truth-within p n j t true (loop-thing n g w l st.loop) (test-thing S n g w t l st) h.0 in
       let e : suc j ≡ j + 1 = omega arith in
       record {
         premises = Has (Below x.number j) t (Bool true) ∷ [];
@@ -597,14 +717,14 @@ module _ (S : Source) (k : ℕ) (fs : List RowFact) (s : IsRound S k fs) where
         is = ap (λ i. fact.On (below p (place S.checked n) i) (place S.checked t)) e
             ∙ ap (λ q. fact.On q (place S.checked t)) (below-by x.number (j + 1) n x.path p x.on x.outer);
       }
-  complete (rule.loop_statement_on {n = n} {h = g} {w = w} {t = t} {l = l} {m = m} {a = a} p j st b) h =
-      body-rises n g w t l j a p st (of_binding b.ends.within b.ends.node b.side b.statement b.binding.node) h.0
-  complete (rule.loop_store_on {n = n} {h = g} {w = w} {t = t} {l = l} {m = m} p j st b) h =
-      body-rises n g w t l j m p st (of_store b.ends.within b.ends.node b.side b.statement b.store.node) h.0
-  complete (rule.next_on {n = n} {h = g} {w = w} {t = t} {l = l} {m = m} {o = o} {v = v} p j st x) h =
-      body-rises n g w t l j v p st (of_next x.next.within x.next.node (next-region S.checked n g w t l m o v st x)) h.0
-  complete (rule.next_has {n = n} {h = g} {w = w} {t = t} {l = l} {m = m} {o = o} {v = v} {u = u} p j st y) h =
-      let x = in-iteration p n j v u (loop-thing n g w t l st) (part-thing S m v (node.Next y.name y.index o v) y.next refl) h.0 in
+  complete (rule.loop_statement_on {n = n} {h = g} {w = w} {l = l} {m = m} {a = a} p j st go b) h =
+      body-rises n g w l j a p st go (of_binding b.ends.within b.ends.node b.side b.statement b.binding.node) h
+  complete (rule.loop_store_on {n = n} {h = g} {w = w} {l = l} {m = m} p j st go b) h =
+      body-rises n g w l j m p st go (of_store b.ends.within b.ends.node b.side b.statement b.store.node) h
+  complete (rule.next_on {n = n} {h = g} {w = w} {l = l} {m = m} {o = o} {v = v} p j st go x) h =
+      body-rises n g w l j v p st go (of_next x.next.within x.next.node (next-region S.checked n g w l m o v st x)) h
+  complete (rule.next_has {n = n} {h = g} {w = w} {l = l} {m = m} {o = o} {v = v} {u = u} p j st y) h =
+      let x = in-iteration p n j v u (loop-thing n g w l st) (part-thing S m v (node.Next y.name y.index o v) y.next refl) h.0 in
       let e : suc j ≡ j + 1 = omega arith in
       record {
         premises = Has (Below x.number j) v x.value ∷ [];
@@ -615,17 +735,17 @@ module _ (S : Source) (k : ℕ) (fs : List RowFact) (s : IsRound S k fs) where
             ∙ ap (λ q. fact.Has q (place S.checked m) u) (below-by x.number (j + 1) n x.path p x.on x.outer)
             ∙ ap (λ b. fact.Has (Of (Below x.number (j + 1))) (place S.checked m) b) x.is_value;
       }
-  complete (rule.last_on {n = n} {h = g} {w = w} {t = t} {l = l} p j st) h =
-      let x = truth-within p n j t false (loop-thing n g w t l st) (test-thing n g w t l st) h.0 in
+  complete (rule.last_on {n = n} {h = g} {w = w} {l = l} p j st go) h =
+      let x = goes-rises n g w l j p false st go h in
       record {
-        premises = Has (Below x.number j) t (Bool false) ∷ [];
+        premises = x.premises;
         given = On (Below x.number j) l;
-        rule = row.leaves j st x.on;
-        known = (x.known, tt);
+        rule = row.leaves j st x.on x.goes;
+        known = x.known;
         is = ap (λ q. fact.On q (place S.checked l)) (below-by x.number j n x.path p x.on x.outer);
       }
-  complete (rule.loop_has {n = n} {h = g} {w = w} {t = t} {l = l} {u = u} p j st) h =
-      let x = in-iteration p n j l u (loop-thing n g w t l st) (part-thing S n l (node.Loop g w l) st.loop refl) h.0 in
+  complete (rule.loop_has {n = n} {h = g} {w = w} {l = l} {u = u} p j st) h =
+      let x = in-iteration p n j l u (loop-thing n g w l st) (part-thing S n l (node.Loop g w l) st refl) h.0 in
       record {
         premises = Has (Below x.number j) l x.value ∷ [];
         given = Has x.path n x.value;

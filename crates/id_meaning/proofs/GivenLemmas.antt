@@ -25,7 +25,7 @@ use Rattle.id_source.specs.Sources.{Source}
 use Rattle.id_links.specs.Links.{AreTurns, TurnsOn, targets}
 use Rattle.id_cells.specs.Cells.{AreChained, ask_by, asks, chain, items, named, named_by, put_by, puts, queue_of}
 use Rattle.id_facts.specs.RowFacts.{chain_by, fact_at}
-use Rattle.id_effects.specs.Effects.{all_effects, all_woken, call_at, effects, exit_at, gain, gains, loop_by, pass_of, reached, start_at}
+use Rattle.id_effects.specs.Effects.{all_effects, all_woken, begin_at, call_at, effects, exit_at, gain, gains, index_at, loop_by, pass_of, reached, start_at}
 use Rattle.id_cells.specs.Queues.{queue}
 use Rattle.id_given.specs.Given.{given}
 use Rattle.id_facts.specs.Firsts.{ons}
@@ -34,7 +34,7 @@ use Rattle.id_source.specs.Things.{IsThing}
 use Rattle.id_meaning.proofs.CompleteLemmas.{among-inside}
 use Rattle.id_cells.proofs.LookupLemmas.{ask-true, fact-there, named-true, put-true, told-among}
 use Rattle.id_meaning.proofs.EffectsLemmas.{Given, given-only, haves-among, ons-among}
-use Rattle.id_meaning.proofs.FollowsLemmas.{BeginsIn, all-woken-only, answered-only, call-only, exit-only, loop-only, pass-only, start-only}
+use Rattle.id_meaning.proofs.FollowsLemmas.{BeginsIn, all-woken-only, answered-only, begin-only, call-only, exit-only, index-only, loop-only, pass-only, start-only}
 use Rattle.id_meaning.proofs.RulesLemmas as row
 
 -- switches are no thing
@@ -67,7 +67,7 @@ module _ (S : Source) (l : Links) (W : Queues) (c : Cells) (chained : AreChained
 
   on-only : (p : Trail) (n : ℕ) (x : RowFact) → Among (On p n) (items c) → Among x (effects S.checked l W c (On p n)) → Given S c chained x
   on-only p n x here h =
-      elim (Among-either x (ons p (targets l.turns.rows.items n)) (at_row ++ (call ++ start)) h) [
+      elim (Among-either x (ons p (targets l.turns.rows.items n)) (at_row ++ (call ++ (start ++ begin))) h) [
         | inl i ↦ ons-only p n x here i
         | inr i ↦ more i
       ]
@@ -81,14 +81,23 @@ module _ (S : Source) (l : Links) (W : Queues) (c : Cells) (chained : AreChained
       start : List RowFact
       start = start_at S.checked l c (On p n) p n
 
-      enters : Among x (call ++ start) → Given S c chained x
-      enters j = elim (Among-either x call start j) [
-        | inl i ↦ call-only S c chained l (On p n) p n x here i
-        | inr i ↦ start-only S c chained l (On p n) p n x here i
+      begin : List RowFact
+      begin = begin_at S.checked l c (On p n) p n
+
+      loops : Among x (start ++ begin) → Given S c chained x
+      loops j = elim (Among-either x start begin j) [
+        | inl i ↦ start-only S c chained l (On p n) p n x here i
+        | inr i ↦ begin-only S c chained l turns (On p n) p n x here i
       ]
 
-      more : Among x (at_row ++ (call ++ start)) → Given S c chained x
-      more j = elim (Among-either x at_row (call ++ start) j) [
+      enters : Among x (call ++ (start ++ begin)) → Given S c chained x
+      enters j = elim (Among-either x call (start ++ begin) j) [
+        | inl i ↦ call-only S c chained l (On p n) p n x here i
+        | inr i ↦ loops i
+      ]
+
+      more : Among x (at_row ++ (call ++ (start ++ begin))) → Given S c chained x
+      more j = elim (Among-either x at_row (call ++ (start ++ begin)) j) [
         | inl i ↦ given-only S c chained (On p n) p n x here i
         | inr i ↦ enters i
       ]
@@ -98,7 +107,7 @@ module _ (S : Source) (l : Links) (W : Queues) (c : Cells) (chained : AreChained
   -- what comes at a row that reads it
   gain-only : (p : Trail) (n : ℕ) (v : RowValue) (m : ℕ) (x : RowFact) → Among (Has p n v) (items c) → Among x (gain S.checked l c p n v m)
       → Given S c chained x
-  gain-only p n v m x here h = elim (Among-either x (given S.checked c (Has p n v) p m) (pass ++ loop) h) [
+  gain-only p n v m x here h = elim (Among-either x (given S.checked c (Has p n v) p m) (pass ++ (loop ++ begin)) h) [
     | inl i ↦ given-only S c chained (Has p n v) p m x here i
     | inr i ↦ more i
   ]
@@ -109,10 +118,19 @@ module _ (S : Source) (l : Links) (W : Queues) (c : Cells) (chained : AreChained
       loop : List RowFact
       loop = loop_by S.checked l c p n v m (at (rows S.checked) m).node
 
-      more : Among x (pass ++ loop) → Given S c chained x
-      more j = elim (Among-either x pass loop j) [
+      begin : List RowFact
+      begin = begin_at S.checked l c (Has p n v) p m
+
+      loops : Among x (loop ++ begin) → Given S c chained x
+      loops j = elim (Among-either x loop begin j) [
+        | inl i ↦ loop-only S c chained l turns p n v m x (begins-in p n v here) here i
+        | inr i ↦ begin-only S c chained l turns (Has p n v) p m x here i
+      ]
+
+      more : Among x (pass ++ (loop ++ begin)) → Given S c chained x
+      more j = elim (Among-either x pass (loop ++ begin) j) [
         | inl i ↦ pass-only S c chained l p m n v x here i
-        | inr i ↦ loop-only S c chained l turns p n v m x (begins-in p n v here) here i
+        | inr i ↦ loops i
       ]
 
   gains-only : (p : Trail) (n : ℕ) (v : RowValue) (ms : List ℕ) (x : RowFact) → Among (Has p n v) (items c) → Among x (gains S.checked l c p n v ms)
@@ -125,21 +143,30 @@ module _ (S : Source) (l : Links) (W : Queues) (c : Cells) (chained : AreChained
 
   has-only : (p : Trail) (n : ℕ) (v : RowValue) (x : RowFact) → Among (Has p n v) (items c) → Among x (effects S.checked l W c (Has p n v))
       → Given S c chained x
-  has-only p n v x here h = elim (Among-either x (gains S.checked l c p n v (targets l.reads.rows.items n)) (wakes ++ exits) h) [
+  has-only p n v x here h = elim (Among-either x (gains S.checked l c p n v (targets l.reads.rows.items n)) (wakes ++ (exits ++ counts)) h) [
     | inl i ↦ gains-only p n v (targets l.reads.rows.items n) x here i
     | inr i ↦ more i
   ]
     where
       wakes : List RowFact
-      wakes = all_woken S.checked c p n v (queue W.queues.items (queue_of p n))
+      wakes = all_woken S.checked l c p n v (queue W.queues.items (queue_of p n))
 
       exits : List RowFact
       exits = exit_at S.checked c p n v
 
-      more : Among x (wakes ++ exits) → Given S c chained x
-      more j = elim (Among-either x wakes exits j) [
-        | inl i ↦ all-woken-only S c chained (queue W.queues.items (queue_of p n)) p n v x here i
-        | inr i ↦ exit-only S c chained p n v x (begins-in p n v here) here i
+      counts : List RowFact
+      counts = index_at S.checked l c p n v
+
+      ends : Among x (exits ++ counts) → Given S c chained x
+      ends j = elim (Among-either x exits counts j) [
+        | inl i ↦ exit-only S c chained p n v x (begins-in p n v here) here i
+        | inr i ↦ index-only S c chained l turns p n v x (begins-in p n v here) here i
+      ]
+
+      more : Among x (wakes ++ (exits ++ counts)) → Given S c chained x
+      more j = elim (Among-either x wakes (exits ++ counts) j) [
+        | inl i ↦ all-woken-only S c chained l turns (queue W.queues.items (queue_of p n)) p n v x begins-in here i
+        | inr i ↦ ends i
       ]
 
   -- ---- structures

@@ -1,5 +1,5 @@
 -- What a round learns: facts behind those that are there, sound, and all that follows.
-use Rattle.std.proofs.Common.{◌≡◌, ◌⊎◌, inl, inr, ℕ, zero, suc, ◌+◌, ◌≤◌, ◌<◌, ◌&&◌, nat_lt, true, false, Option, None, Some}
+use Rattle.std.proofs.Common.{◌≡◌, ◌⊎◌, inl, inr, ℕ, zero, suc, ◌+◌, ◌≤◌, ◌<◌, ◌&&◌, nat_lt, Bool as Truth, true, Option, None, Some}
 use Rattle.std.proofs.Common.{List, [], ◌∷◌, ◌++◌, length, take, drop, get_or, refl, ap, sym, ◌∙◌, subst, arith}
 use Rattle.std.specs.Prelude.{slice_get}
 use Rattle.std.proofs.lemmas.Bool.{and_from, lt-ltb, ltb-true}
@@ -39,7 +39,7 @@ use Rattle.id_meaning.proofs.CompleteLemmas.{among-inside, complete}
 use Rattle.id_facts.proofs.FactsLemmas.{Inside, at-front, fact-before, inside-more}
 use Rattle.id_listing.proofs.PathsLemmas.{path-grown}
 use Rattle.id_source.proofs.RoundsLemmas.{Rounds-follow}
-use Rattle.id_meaning.proofs.RulesLemmas.{AllAmong, RowRule, sound}
+use Rattle.id_meaning.proofs.RulesLemmas.{AllAmong, RowGoesOn, RowRule, sound}
 use Rattle.id_facts.proofs.FactsLemmas.{IsOnBy}
 use Rattle.id_meaning.proofs.RulesLemmas as row
 use Rattle.id_cells.proofs.WaitsLemmas.{out-grown}
@@ -102,9 +102,11 @@ rule-path S fs b (row.passes st t d f g o) h = o.within
 rule-path S fs b (row.ends {p = p} {n = n} st d f o) h = among-inside fs b (On p n) h.0
 rule-path S fs b (row.starts ls o) h = o.within
 rule-path S fs b (row.enters ls y e o) h = o.within
+rule-path S fs b (row.counts_first st o e) h = o.within
+rule-path S fs b (row.counts_on k st o e) h = o.within
 rule-path S fs b (row.again k ls o) h = o.within
-rule-path S fs b (row.runs k ls o t) h = o.within
-rule-path S fs b (row.leaves k ls o) h = o.within
+rule-path S fs b (row.runs k st o g t) h = o.within
+rule-path S fs b (row.leaves k st o g) h = o.within
 rule-path S fs b (row.hands k ls y o) h = o.within
 rule-path S fs b (row.leads_out {p = p} {n = n} {i = i} k ls o) h =
     let F : RowFact → Type 0 = λ g. Among g fs in among-inside fs b (On p n) (subst F o.fact (among-at fs i o.within))
@@ -273,6 +275,12 @@ module _ (S : Source) (fs ds news : List RowFact) (grows : ds ≡ fs ++ news) (b
   on-below : {i : ℕ} {p : Trail} {n : ℕ} → IsOnBy ds i p n → i < length fs → IsOnBy fs i p n
   on-below {i} o l = record { within = l; fact = sym (front-at i l) ∙ o.fact }
 
+  -- and so is a loop that goes on or not by old facts
+  on-going : {n w k i : ℕ} {p : Trail} {t : Truth} {gs : List RowFact} → IsOnBy ds i p n → RowGoesOn S n w p i k t gs → AllAmong fs gs → IsOnBy fs i p n
+  on-going {i = i} {t = u} o (row.by_predicate {t = t} k ls) h = on-below o (among-inside fs b (Has (Below i k) t (Bool u)) h.0)
+  on-going o (row.by_bounds st e) h = on-before o h.0
+  on-going {i = i} o (row.by_index {x = x} {j = j} k st e) h = on-below o (among-inside fs b (Has (Below i k) x (Int j)) h.0)
+
   -- a rule gives of old facts what it gave before
   pub rule-before : {gs : List RowFact} {x : RowFact} → RowRule S ds gs x → AllAmong fs gs → RowRule S fs gs x
   rule-before row.main h = row.main
@@ -303,9 +311,12 @@ module _ (S : Source) (fs ds news : List RowFact) (grows : ds ≡ fs ++ news) (b
       let q = front-out (far_from S.checked n (Some c)) p (among-inside fs b (On p n) h.0) in
       let F : Trail → Type 0 = λ r. RowRule S fs (On p n ∷ Has r c u ∷ []) (Has (Below i 0) m u) in
       subst F (sym q) (row.enters ls y e (on-before o h.0))
+  rule-before (row.counts_first st o e) h = row.counts_first st (on-before o h.0) e
+  rule-before (row.counts_on {x = x} {i = i} {j = j} k st o e) h =
+      row.counts_on k st (on-below o (among-inside fs b (Has (Below i k) x (Int j)) h.0)) e
   rule-before (row.again {t = t} {i = i} k ls o) h = row.again k ls (on-below o (among-inside fs b (Has (Below i k) t (Bool true)) h.0))
-  rule-before (row.runs {t = t} {i = i} k ls o y) h = row.runs k ls (on-below o (among-inside fs b (Has (Below i k) t (Bool true)) h.0)) y
-  rule-before (row.leaves {t = t} {i = i} k ls o) h = row.leaves k ls (on-below o (among-inside fs b (Has (Below i k) t (Bool false)) h.0))
+  rule-before (row.runs k st o g y) h = row.runs k st (on-going o g h) g y
+  rule-before (row.leaves k st o g) h = row.leaves k st (on-going o g h) g
   rule-before (row.hands {v = v} {i = i} {u = u} k ls y o) h = row.hands k ls y (on-below o (among-inside fs b (Has (Below i k) v u) h.0))
   rule-before (row.leads_out {l = l} {i = i} {u = u} k ls o) h = row.leads_out k ls (on-below o (among-inside fs b (Has (Below i k) l u) h.0))
 
@@ -374,11 +385,19 @@ module _ (S : Source) where
       let F : RowFact → Type 0 = λ g. Arises S [] g in
       subst F (sym r.5) (record { premises = []; rule = row.input i; known = tt })
 
+  -- a loop goes on or not by some fact
+  goes-none : {n w k i : ℕ} {p : Trail} {t : Truth} {gs : List RowFact} → RowGoesOn S n w p i k t gs → AllAmong [] gs → ⊥
+  goes-none (row.by_predicate k ls) h = h.0
+  goes-none (row.by_bounds st e) h = h.0
+  goes-none (row.by_index k st e) h = h.0
+
   from-none : {gs : List RowFact} {x : RowFact} → RowRule S [] gs x → AllAmong [] gs → Among x (first_facts S.checked S.inputs)
   from-none row.main h = inl refl
   from-none (row.input {n = n} {c = c} i) h =
       let q : i.number ≡ 0 + i.number = omega arith in
       inr (input-among 0 (main_params S.checked) S.inputs i.number n c i.param (ap (λ j. slice_get S.inputs j) (sym q) ∙ i.value))
+  from-none (row.runs k st o g b) h = absurd (goes-none g h)
+  from-none (row.leaves k st o g) h = absurd (goes-none g h)
   from-none _ h = absurd h.0
 
   pub first-all : (x : RowFact) → Arises S [] x → Among x (first_facts S.checked S.inputs)

@@ -1,4 +1,5 @@
 pub mod ArgumentsLemmas
+pub mod ForLemmas
 pub mod RulesLemmas
 pub mod CompleteLemmas
 pub mod EffectsLemmas

@@ -18,7 +18,7 @@ use Rattle.id_cells.specs.declared.queues.Wait.{Wait}
 use Rattle.id_source.specs.Sources.{Source}
 use Rattle.id_links.specs.Links.{AreArgs, AreReads, Leads, asker_of, beyond, linked_of, targets}
 use Rattle.id_cells.specs.Cells.{AreChained, find, items, queue_of}
-use Rattle.id_effects.specs.Effects.{all_woken, call_at, effects, exit_at, gain, gains, loop_by, pass_of, start_at, woken}
+use Rattle.id_effects.specs.Effects.{all_woken, begin_at, call_at, effects, exit_at, gain, gains, index_at, loop_by, pass_of, start_at, woken}
 use Rattle.id_cells.specs.Queues.{queue}
 use Rattle.id_given.specs.Given.{given}
 use Rattle.id_facts.specs.Firsts.{haves, ons}
@@ -60,26 +60,43 @@ module _ (S : Source) (c : Cells) (chained : AreChained c) (found : AreFound S (
 -- ---- into the parts of what follows
 
 module _ (S : Source) (l : Links) (W : Queues) (c : Cells) where
-  -- what comes at a row that is On, by its call, and by its loop
+  -- what comes where a row is On, by parts
+  abbrev Calls : Trail → ℕ → List RowFact
+  Calls p n = call_at S.checked l c (On p n) p n
+
+  abbrev Starts : Trail → ℕ → List RowFact
+  Starts p n = start_at S.checked l c (On p n) p n
+
+  abbrev Begins : Trail → ℕ → List RowFact
+  Begins p n = begin_at S.checked l c (On p n) p n
+
+  -- what comes at a row that is On, by its call, by its loop, and by the bounds of that
   pub from-given : (p : Trail) (n : ℕ) (x : RowFact) → Among x (given S.checked c (On p n) p n) → Among x (effects S.checked l W c (On p n))
   from-given p n x h =
-      let g = On p n in
-      Among-right x (ons p (targets l.turns.rows.items n)) (given S.checked c g p n ++ (call_at S.checked l c g p n ++ start_at S.checked l c g p n))
-      (Among-left x (given S.checked c g p n) (call_at S.checked l c g p n ++ start_at S.checked l c g p n) h)
+      let g = given S.checked c (On p n) p n in
+      let rest = Calls p n ++ (Starts p n ++ Begins p n) in
+      Among-right x (ons p (targets l.turns.rows.items n)) (g ++ rest) (Among-left x g rest h)
 
   pub from-call : (p : Trail) (n : ℕ) (x : RowFact) → Among x (call_at S.checked l c (On p n) p n) → Among x (effects S.checked l W c (On p n))
   from-call p n x h =
-      let g = On p n in
-      Among-right x (ons p (targets l.turns.rows.items n)) (given S.checked c g p n ++ (call_at S.checked l c g p n ++ start_at S.checked l c g p n))
-      (Among-right x (given S.checked c g p n) (call_at S.checked l c g p n ++ start_at S.checked l c g p n)
-      (Among-left x (call_at S.checked l c g p n) (start_at S.checked l c g p n) h))
+      let g = given S.checked c (On p n) p n in
+      let rest = Starts p n ++ Begins p n in
+      Among-right x (ons p (targets l.turns.rows.items n)) (g ++ (Calls p n ++ rest))
+      (Among-right x g (Calls p n ++ rest) (Among-left x (Calls p n) rest h))
 
   pub from-start : (p : Trail) (n : ℕ) (x : RowFact) → Among x (start_at S.checked l c (On p n) p n) → Among x (effects S.checked l W c (On p n))
   from-start p n x h =
-      let g = On p n in
-      Among-right x (ons p (targets l.turns.rows.items n)) (given S.checked c g p n ++ (call_at S.checked l c g p n ++ start_at S.checked l c g p n))
-      (Among-right x (given S.checked c g p n) (call_at S.checked l c g p n ++ start_at S.checked l c g p n)
-      (Among-right x (call_at S.checked l c g p n) (start_at S.checked l c g p n) h))
+      let g = given S.checked c (On p n) p n in
+      let rest = Starts p n ++ Begins p n in
+      Among-right x (ons p (targets l.turns.rows.items n)) (g ++ (Calls p n ++ rest))
+      (Among-right x g (Calls p n ++ rest) (Among-right x (Calls p n) rest (Among-left x (Starts p n) (Begins p n) h)))
+
+  pub from-begin : (p : Trail) (n : ℕ) (x : RowFact) → Among x (begin_at S.checked l c (On p n) p n) → Among x (effects S.checked l W c (On p n))
+  from-begin p n x h =
+      let g = given S.checked c (On p n) p n in
+      let rest = Starts p n ++ Begins p n in
+      Among-right x (ons p (targets l.turns.rows.items n)) (g ++ (Calls p n ++ rest))
+      (Among-right x g (Calls p n ++ rest) (Among-right x (Calls p n) rest (Among-right x (Starts p n) (Begins p n) h)))
 
   -- what comes at one of these rows
   pub gains-all : (p : Trail) (n : ℕ) (v : RowValue) (x : RowFact) (m : ℕ) (ms : List ℕ) → Among m ms → Among x (gain S.checked l c p n v m)
@@ -90,55 +107,79 @@ module _ (S : Source) (l : Links) (W : Queues) (c : Cells) where
       Among-left x (gain S.checked l c p n v a) (gains S.checked l c p n v ms) (subst F e k)
   gains-all p n v x m (a ∷ ms) (inr h) k = Among-right x (gain S.checked l c p n v a) (gains S.checked l c p n v ms) (gains-all p n v x m ms h k)
 
+  -- what comes where a row Has a value, by parts
+  abbrev Wakes : Trail → ℕ → RowValue → List RowFact
+  Wakes p n v = all_woken S.checked l c p n v (queue W.queues.items (queue_of p n))
+
+  abbrev Counts : Trail → ℕ → RowValue → List RowFact
+  Counts p n v = exit_at S.checked c p n v ++ index_at S.checked l c p n v
+
   -- what comes at a row that reads this one
   pub from-gain : (p : Trail) (n : ℕ) (v : RowValue) (x : RowFact) (m : ℕ) → Leads l.reads n m → Among x (gain S.checked l c p n v m)
       → Among x (effects S.checked l W c (Has p n v))
   from-gain p n v x m h k =
       let ms = targets l.reads.rows.items n in
-      Among-left x (gains S.checked l c p n v ms) (all_woken S.checked c p n v (queue W.queues.items (queue_of p n)) ++ exit_at S.checked c p n v)
-      (gains-all p n v x m ms h k)
+      Among-left x (gains S.checked l c p n v ms) (Wakes p n v ++ Counts p n v) (gains-all p n v x m ms h k)
 
-  -- and of that what comes by an argument, and by the switches or a `next` of a loop
+  -- and of that what comes by an argument, by the switches or a `next` of a loop, and by the bounds of one
   pub from-pass : (p : Trail) (n : ℕ) (v : RowValue) (x : RowFact) (m : ℕ) (z : Node) → Stands S.checked m z → Leads l.reads n m
       → Among x (pass_of S.checked l c p n v z) → Among x (effects S.checked l W c (Has p n v))
   from-pass p n v x m z st h k =
       let y = (at (rows S.checked) m).node in
       let F : Node → Type 0 = λ a. Among x (pass_of S.checked l c p n v a) in
-      from-gain p n v x m h
-      (Among-right x (given S.checked c (Has p n v) p m) (pass_of S.checked l c p n v y ++ loop_by S.checked l c p n v m y)
-      (Among-left x (pass_of S.checked l c p n v y) (loop_by S.checked l c p n v m y) (subst F (sym st.node) k)))
+      let a = given S.checked c (Has p n v) p m in
+      let b = pass_of S.checked l c p n v y in
+      let rest = loop_by S.checked l c p n v m y ++ begin_at S.checked l c (Has p n v) p m in
+      from-gain p n v x m h (Among-right x a (b ++ rest) (Among-left x b rest (subst F (sym st.node) k)))
 
   pub from-loop : (p : Trail) (n : ℕ) (v : RowValue) (x : RowFact) (m : ℕ) (z : Node) → Stands S.checked m z → Leads l.reads n m
       → Among x (loop_by S.checked l c p n v m z) → Among x (effects S.checked l W c (Has p n v))
   from-loop p n v x m z st h k =
       let y = (at (rows S.checked) m).node in
       let F : Node → Type 0 = λ a. Among x (loop_by S.checked l c p n v m a) in
-      from-gain p n v x m h
-      (Among-right x (given S.checked c (Has p n v) p m) (pass_of S.checked l c p n v y ++ loop_by S.checked l c p n v m y)
-      (Among-right x (pass_of S.checked l c p n v y) (loop_by S.checked l c p n v m y) (subst F (sym st.node) k)))
+      let a = given S.checked c (Has p n v) p m in
+      let b = pass_of S.checked l c p n v y in
+      let d = loop_by S.checked l c p n v m y in
+      let e = begin_at S.checked l c (Has p n v) p m in
+      from-gain p n v x m h (Among-right x a (b ++ (d ++ e)) (Among-right x b (d ++ e) (Among-left x d e (subst F (sym st.node) k))))
 
-  woken-all : (p : Trail) (n : ℕ) (v : RowValue) (x : RowFact) (w : Wait) (ws : List Wait) → Among w ws → Among x (woken S.checked c p n v w)
-      → Among x (all_woken S.checked c p n v ws)
+  pub from-bound : (p : Trail) (n : ℕ) (v : RowValue) (x : RowFact) (m : ℕ) → Leads l.reads n m
+      → Among x (begin_at S.checked l c (Has p n v) p m) → Among x (effects S.checked l W c (Has p n v))
+  from-bound p n v x m h k =
+      let y = (at (rows S.checked) m).node in
+      let a = given S.checked c (Has p n v) p m in
+      let b = pass_of S.checked l c p n v y in
+      let d = loop_by S.checked l c p n v m y in
+      let e = begin_at S.checked l c (Has p n v) p m in
+      from-gain p n v x m h (Among-right x a (b ++ (d ++ e)) (Among-right x b (d ++ e) (Among-right x d e k)))
+
+  woken-all : (p : Trail) (n : ℕ) (v : RowValue) (x : RowFact) (w : Wait) (ws : List Wait) → Among w ws → Among x (woken S.checked l c p n v w)
+      → Among x (all_woken S.checked l c p n v ws)
   woken-all p n v x w [] h k = absurd h
   woken-all p n v x w (a ∷ ws) (inl e) k =
-      let F : Wait → Type 0 = λ b. Among x (woken S.checked c p n v b) in
-      Among-left x (woken S.checked c p n v a) (all_woken S.checked c p n v ws) (subst F e k)
-  woken-all p n v x w (a ∷ ws) (inr h) k = Among-right x (woken S.checked c p n v a) (all_woken S.checked c p n v ws) (woken-all p n v x w ws h k)
+      let F : Wait → Type 0 = λ b. Among x (woken S.checked l c p n v b) in
+      Among-left x (woken S.checked l c p n v a) (all_woken S.checked l c p n v ws) (subst F e k)
+  woken-all p n v x w (a ∷ ws) (inr h) k = Among-right x (woken S.checked l c p n v a) (all_woken S.checked l c p n v ws) (woken-all p n v x w ws h k)
 
   -- what comes by one that waits for the value
   pub from-woken : (p : Trail) (n : ℕ) (v : RowValue) (x : RowFact) (w : Wait) → Among w (queue W.queues.items (queue_of p n))
-      → Among x (woken S.checked c p n v w) → Among x (effects S.checked l W c (Has p n v))
+      → Among x (woken S.checked l c p n v w) → Among x (effects S.checked l W c (Has p n v))
   from-woken p n v x w h k =
       let ws = queue W.queues.items (queue_of p n) in
-      Among-right x (gains S.checked l c p n v (targets l.reads.rows.items n)) (all_woken S.checked c p n v ws ++ exit_at S.checked c p n v)
-      (Among-left x (all_woken S.checked c p n v ws) (exit_at S.checked c p n v) (woken-all p n v x w ws h k))
+      Among-right x (gains S.checked l c p n v (targets l.reads.rows.items n)) (Wakes p n v ++ Counts p n v)
+      (Among-left x (Wakes p n v) (Counts p n v) (woken-all p n v x w ws h k))
 
   -- what comes where a call or a loop ends
   pub from-exit : (p : Trail) (n : ℕ) (v : RowValue) (x : RowFact) → Among x (exit_at S.checked c p n v) → Among x (effects S.checked l W c (Has p n v))
   from-exit p n v x h =
-      let ws = queue W.queues.items (queue_of p n) in
-      Among-right x (gains S.checked l c p n v (targets l.reads.rows.items n)) (all_woken S.checked c p n v ws ++ exit_at S.checked c p n v)
-      (Among-right x (all_woken S.checked c p n v ws) (exit_at S.checked c p n v) h)
+      Among-right x (gains S.checked l c p n v (targets l.reads.rows.items n)) (Wakes p n v ++ Counts p n v)
+      (Among-right x (Wakes p n v) (Counts p n v) (Among-left x (exit_at S.checked c p n v) (index_at S.checked l c p n v) h))
+
+  -- and where an index has a value
+  pub from-index : (p : Trail) (n : ℕ) (v : RowValue) (x : RowFact) → Among x (index_at S.checked l c p n v) → Among x (effects S.checked l W c (Has p n v))
+  from-index p n v x h =
+      Among-right x (gains S.checked l c p n v (targets l.reads.rows.items n)) (Wakes p n v ++ Counts p n v)
+      (Among-right x (Wakes p n v) (Counts p n v) (Among-right x (exit_at S.checked c p n v) (index_at S.checked l c p n v) h))
 
   -- ---- who reads, and who asks
 

@@ -1,7 +1,7 @@
 -- The rules by path and row, and that what they give follows by a rule of the source.
 use Rattle.std.proofs.Common.{◌≡◌, inl, inr, ℕ, zero, suc, ◌+◌, ◌<◌, ℤ, Bool as Truth, true, false, Some, List, []}
 use Rattle.std.proofs.Common.{◌∷◌, length, refl, ap, sym, ◌∙◌, subst, arith}
-use Rattle.std.specs.Prelude.{slice_get}
+use Rattle.std.specs.Prelude.{slice_get, pos, ◌+ℤ◌, int_le, int_lt}
 use Rattle.id_list.specs.List.{Among}
 use Rattle.id_list.proofs.AmongLemmas.{Among-from_at}
 use Rattle.id_value.specs.declared.Constant.{Constant}
@@ -17,13 +17,14 @@ use Rattle.id_table.specs.declared.row.Node.TheVariants as node
 use Rattle.id_table.specs.Rows.{at}
 use Rattle.id_table.specs.Tables.{HasPart, is_call}
 use Rattle.id_table.specs.Turns.{Turns, operand, left, right, test, argument, body, low, high, fetched, fetch_index, address_target, address_index}
-use Rattle.id_table.specs.Turns.{params_at, statement, stored, stored_value}
+use Rattle.id_table.specs.Turns.{params_at, statement, stored, stored_value, index_low, index_high}
 use Rattle.id_check.specs.Programs.{Stands, binder, place, rows}
 use Rattle.id_check.proofs.ProgramsLemmas.{binder_below, table_of}
 use Rattle.id_source.specs.declared.Path.{Path}
 use Rattle.id_source.specs.declared.SourceValue.{SourceValue}
 use Rattle.id_source.specs.declared.SourceValue.TheVariants as value
 use Rattle.id_source.specs.declared.Site.{Site}
+use Rattle.id_source.specs.declared.Fact.{Fact}
 use Rattle.id_source.specs.declared.Fact.TheVariants as fact
 use Rattle.id_facts.specs.declared.facts.RowFact.{RowFact}
 use Rattle.id_facts.specs.declared.facts.RowFact.TheVariants.{On, Has, Shape, Put, Ask}
@@ -32,9 +33,9 @@ use Rattle.id_facts.specs.declared.facts.RowValue.TheVariants.{Int, Bool, Name}
 use Rattle.id_facts.specs.declared.facts.Trail.{Trail}
 use Rattle.id_facts.specs.declared.facts.Trail.TheVariants.{Outermost, Below}
 use Rattle.id_source.specs.Sources.{Source, IsInput, main_body, value_of}
-use Rattle.id_source.specs.Facts.{LoopStands, NextStands, StoreStands, BodyBinds, BodyStores, Rule, ask, below, between, put, shape, site, without}
+use Rattle.id_source.specs.Facts.{ForStands, GoesOn, LoopStands, NextStands, StoreStands, BodyBinds, BodyStores, Rule, ask, below, between, put, shape, site, without}
 use Rattle.id_source.specs.Facts as rule
-use Rattle.id_source.specs.Rounds.{Rounds}
+use Rattle.id_source.specs.Rounds.{Every, Rounds}
 use Rattle.id_links.specs.Links.{BodyTurns, PartTurns, arm_of, far_from, of_binding, of_next, of_store}
 use Rattle.id_facts.specs.RowFacts.{fact_at, path_of, row_of}
 use Rattle.id_cells.specs.Cells.{out_of}
@@ -45,8 +46,19 @@ use Rattle.id_source.proofs.CheckedLemmas.{far-between, next-loop, thing-param, 
 use Rattle.id_links.proofs.AroundLemmas.{around-within}
 use Rattle.id_source.proofs.ParamsLemmas.{input_param, params-among}
 use Rattle.id_listing.proofs.PathsLemmas.{path-below, path-out}
-use Rattle.id_source.proofs.ThingsLemmas.{main-thing, node-thing, part-thing}
+use Rattle.id_source.proofs.ThingsLemmas.{main-thing, node-thing, part-thing, test-thing}
+use Rattle.id_meaning.proofs.ForLemmas.{for-by-bounds}
+use Rattle.id_table.specs.Loops.{bounds_row}
 use Rattle.id_facts.proofs.FactsLemmas.{IsOnBy}
+
+-- by these facts of rows the loop at the row n, with its switches at w, which is On at the path p by the fact of number
+-- i, goes on or not in iteration k (GoesOn of a source)
+pub data RowGoesOn (S : Source) (n w : ℕ) (p : Trail) (i : ℕ) : ℕ → Truth → List RowFact → Type 0 where
+  by_predicate : {h t l : ℕ} {b : Truth} (k : ℕ) → LoopStands S.checked n h w t l → RowGoesOn S n w p i k b (Has (Below i k) t (Bool b) ∷ [])
+  by_bounds : {x a b l : ℕ} {lo hi : ℤ} {c : Truth} → ForStands S.checked n w x a b l → int_le lo hi ≡ c
+      → RowGoesOn S n w p i 0 c (On p n ∷ Has p a (Int lo) ∷ Has p b (Int hi) ∷ [])
+  by_index : {x a b l : ℕ} {j hi : ℤ} {c : Truth} (k : ℕ) → ForStands S.checked n w x a b l → int_lt j hi ≡ c
+      → RowGoesOn S n w p i (k + 1) c (Has (Below i k) x (Int j) ∷ Has p b (Int hi) ∷ [])
 
 -- from these facts of rows this one follows by one rule, where these are all
 pub data RowRule (S : Source) (fs : List RowFact) : List RowFact → RowFact → Type 0 where
@@ -85,17 +97,22 @@ pub data RowRule (S : Source) (fs : List RowFact) : List RowFact → RowFact →
   ends : {p : Trail} {n e c d x h b i : ℕ} {k : Kind} {v : RowValue} → Stands S.checked n (node.Call e c) → binder S.checked e ≡ Some d
       → Stands S.checked d (node.Def x h k b) → IsOnBy fs i p n → RowRule S fs (On p n ∷ Has (Below i 0) b v ∷ []) (Has p n v)
   starts : {p : Trail} {n h w t l i : ℕ} → LoopStands S.checked n h w t l → IsOnBy fs i p n → RowRule S fs (On p n ∷ []) (On (Below i 0) t)
-  enters : {p : Trail} {n h w t l m o v c i : ℕ} {u : RowValue} → LoopStands S.checked n h w t l → NextStands S.checked m h o v → binder S.checked o ≡ Some c
+  enters : {p : Trail} {n h w l m o v c i : ℕ} {u : RowValue} → Stands S.checked n (node.Loop h w l) → NextStands S.checked m h o v
+      → binder S.checked o ≡ Some c
       → IsOnBy fs i p n → RowRule S fs (On p n ∷ Has (out_of fs (far_from S.checked n (Some c)) p) c u ∷ []) (Has (Below i 0) m u)
+  counts_first : {p : Trail} {n w x a b l i : ℕ} {lo hi : ℤ} → ForStands S.checked n w x a b l → IsOnBy fs i p n → int_le lo hi ≡ true
+      → RowRule S fs (On p n ∷ Has p a (Int lo) ∷ Has p b (Int hi) ∷ []) (Has (Below i 0) x (Int lo))
+  counts_on : {p : Trail} {n w x a b l i : ℕ} {j hi : ℤ} (k : ℕ) → ForStands S.checked n w x a b l → IsOnBy fs i p n → int_lt j hi ≡ true
+      → RowRule S fs (Has (Below i k) x (Int j) ∷ Has p b (Int hi) ∷ []) (Has (Below i (k + 1)) x (Int (j +ℤ pos 1)))
   again : {p : Trail} {n h w t l i : ℕ} (k : ℕ) → LoopStands S.checked n h w t l → IsOnBy fs i p n
       → RowRule S fs (Has (Below i k) t (Bool true) ∷ []) (On (Below i (k + 1)) t)
-  runs : {p : Trail} {n h w t l i a : ℕ} (k : ℕ) → LoopStands S.checked n h w t l → IsOnBy fs i p n → BodyTurns (rows S.checked) w a
-      → RowRule S fs (Has (Below i k) t (Bool true) ∷ []) (On (Below i k) a)
-  leaves : {p : Trail} {n h w t l i : ℕ} (k : ℕ) → LoopStands S.checked n h w t l → IsOnBy fs i p n
-      → RowRule S fs (Has (Below i k) t (Bool false) ∷ []) (On (Below i k) l)
-  hands : {p : Trail} {n h w t l m o v i : ℕ} {u : RowValue} (k : ℕ) → LoopStands S.checked n h w t l → NextStands S.checked m h o v → IsOnBy fs i p n
+  runs : {p : Trail} {n h w l i a : ℕ} {gs : List RowFact} (k : ℕ) → Stands S.checked n (node.Loop h w l) → IsOnBy fs i p n
+      → RowGoesOn S n w p i k true gs → BodyTurns (rows S.checked) w a → RowRule S fs gs (On (Below i k) a)
+  leaves : {p : Trail} {n h w l i : ℕ} {gs : List RowFact} (k : ℕ) → Stands S.checked n (node.Loop h w l) → IsOnBy fs i p n
+      → RowGoesOn S n w p i k false gs → RowRule S fs gs (On (Below i k) l)
+  hands : {p : Trail} {n h w l m o v i : ℕ} {u : RowValue} (k : ℕ) → Stands S.checked n (node.Loop h w l) → NextStands S.checked m h o v → IsOnBy fs i p n
       → RowRule S fs (Has (Below i k) v u ∷ []) (Has (Below i (k + 1)) m u)
-  leads_out : {p : Trail} {n h w t l i : ℕ} {u : RowValue} (k : ℕ) → LoopStands S.checked n h w t l → IsOnBy fs i p n
+  leads_out : {p : Trail} {n h w l i : ℕ} {u : RowValue} (k : ℕ) → Stands S.checked n (node.Loop h w l) → IsOnBy fs i p n
       → RowRule S fs (Has (Below i k) l u ∷ []) (Has p n u)
 
 -- all of the facts are among these
@@ -187,6 +204,14 @@ module _ (S : Source) (k : ℕ) (fs : List RowFact) (s : IsRound S k fs) where
       let sp : Stands S.checked i (node.Split a) = record { within = part-within S n i (node.If i x y) st (inl refl); node = f } in
       on-sound p n a (part-thing S i a (node.Split a) sp refl) h (rule.test_on (rule.then_arm st sp))
   turned-sound p n a l k (argument e w f) h = let c : true ≡ false = sym (ap is_call e) ∙ k in cc
+  turned-sound p n a l k (index_low {h = g} {w = w} {l = d} {b = b} e f) h =
+      let st : Stands S.checked n (node.Loop g w d) = record { within = l; node = e } in
+      let fo = for-by-bounds S.checked n g w d a b st f in
+      on-sound p n a (part-thing S (bounds_row fo.head) a (node.Bounds a b) fo.bounds (inl refl)) h (rule.lower_on fo)
+  turned-sound p n a l k (index_high {h = g} {w = w} {l = d} {a = b} e f) h =
+      let st : Stands S.checked n (node.Loop g w d) = record { within = l; node = e } in
+      let fo = for-by-bounds S.checked n g w d b a st f in
+      on-sound p n a (part-thing S (bounds_row fo.head) a (node.Bounds b a) fo.bounds (inr refl)) h (rule.upper_on fo)
   turned-sound p n a l k (body e) h =
       let st : Stands S.checked n (node.Block a) = record { within = l; node = e } in
       on-sound p n a (part-thing S n a (node.Block a) st refl) h (rule.body_on st)
@@ -236,11 +261,30 @@ module _ (S : Source) (k : ℕ) (fs : List RowFact) (s : IsRound S k fs) where
       let F : Path → Type 0 = λ q. Rounds S k (fact.Has q (place S.checked a) (value_at S.checked fs v)) in
       subst F (path-by i j n p b) (only (Has (Below i j) a v) h)
 
-  runs-sound : (i j n h w t l a : ℕ) (p : Trail) → LoopStands S.checked n h w t l → IsOnBy fs i p n → Among (Has (Below i j) t (Bool true)) fs
-      → BodyTurns (rows S.checked) w a → Sound (On (Below i j) a)
-  runs-sound i j n h w t l a p ls b g (of_binding {b = d} {m = m} {x = x} u z side st is) =
+  -- by these facts the loop goes on or not, also in the source
+  goes-sound : (i j n w : ℕ) (p : Trail) (b : Truth) {gs : List RowFact} → IsOnBy fs i p n → RowGoesOn S n w p i j b gs → AllAmong fs gs
+      → (ps : List Fact) × GoesOn S n w (Of p) j b ps × Every (Rounds S k) ps
+  goes-sound i j n w p b o (by_predicate {t = t} d ls) h = (
+    fact.Has (below (Of p) (place S.checked n) d) (place S.checked t) (value.Bool b) ∷ [],
+    rule.by_predicate d ls,
+    (run-has i d n t p (Bool b) o h.0, tt),
+  )
+  goes-sound i j n w p b o (by_bounds {a = a} {b = c} {lo = lo} {hi = hi} st e) h = (
+    fact.On (Of p) (place S.checked n) ∷ fact.Has (Of p) (place S.checked a) (value.Int lo) ∷ fact.Has (Of p) (place S.checked c) (value.Int hi) ∷ [],
+    rule.by_bounds st e,
+    (only (On p n) h.0, (only (Has p a (Int lo)) h.1.0, (only (Has p c (Int hi)) h.1.1.0, tt))),
+  )
+  goes-sound i j n w p b o (by_index {x = x} {b = c} {j = y} {hi = hi} d st e) h =
+      let ps = fact.Has (below (Of p) (place S.checked n) d) (place S.checked x) (value.Int y) ∷ fact.Has (Of p) (place S.checked c) (value.Int hi) ∷ [] in
+      let q : suc d ≡ d + 1 = omega arith in
+      let F : ℕ → Type 0 = λ m. GoesOn S n w (Of p) m b ps in
+      (ps, subst F q (rule.by_index d st e), (run-has i d n x p (Int y) o h.0, (only (Has p c (Int hi)) h.1.0, tt)))
+
+  runs-sound : (i j n h w l a : ℕ) (p : Trail) {gs : List RowFact} → Stands S.checked n (node.Loop h w l) → IsOnBy fs i p n
+      → RowGoesOn S n w p i j true gs → AllAmong fs gs → BodyTurns (rows S.checked) w a → Sound (On (Below i j) a)
+  runs-sound i j n h w l a p lo o go known (of_binding {b = d} {m = m} {x = x} u z side st is) =
       let P = Of p in
-      let L = place S.checked n in
+      let g = goes-sound i j n w p true o go known in
       let F : Path → Type 0 = λ y. Rounds S (suc k) (fact.On y (place S.checked a)) in
       let v = (around-within (rows S.checked) d m st.inside).1 in
       let tb : Stands S.checked m (node.Binding x a) = record { within = omega arith; node = is } in
@@ -248,16 +292,12 @@ module _ (S : Source) (k : ℕ) (fs : List RowFact) (s : IsRound S k fs) where
       record { body = d; name = x; ends = record { within = u; node = z }; side = side; statement = st; binding = tb } in (
         part-thing S m a (node.Binding x a) tb refl,
         tt,
-        begins-by i j n p b,
-        subst F (sym (path-by i j n p b)) (inr (
-          fact.Has (below P L j) (place S.checked t) (value.Bool true) ∷ [],
-          rule.loop_statement_on P j ls y,
-          (run-has i j n t p (Bool true) b g, tt),
-        )),
+        begins-by i j n p o,
+        subst F (sym (path-by i j n p o)) (inr (g.0, rule.loop_statement_on P j lo g.1 y, g.2)),
       )
-  runs-sound i j n h w t l a p ls b g (of_store {b = d} {a = c} {x = x} u z side st is) =
+  runs-sound i j n h w l a p lo o go known (of_store {b = d} {a = c} {x = x} u z side st is) =
       let P = Of p in
-      let L = place S.checked n in
+      let g = goes-sound i j n w p true o go known in
       let F : Path → Type 0 = λ y. Rounds S (suc k) (fact.On y (place S.checked a)) in
       let v = (around-within (rows S.checked) d a st.inside).1 in
       let tb : Stands S.checked a (node.Store c x) = record { within = omega arith; node = is } in
@@ -265,26 +305,18 @@ module _ (S : Source) (k : ℕ) (fs : List RowFact) (s : IsRound S k fs) where
       record { body = d; address = c; value = x; ends = record { within = u; node = z }; side = side; statement = st; store = tb } in (
         node-thing S a (node.Store c x) tb refl,
         tt,
-        begins-by i j n p b,
-        subst F (sym (path-by i j n p b)) (inr (
-          fact.Has (below P L j) (place S.checked t) (value.Bool true) ∷ [],
-          rule.loop_store_on P j ls y,
-          (run-has i j n t p (Bool true) b g, tt),
-        )),
+        begins-by i j n p o,
+        subst F (sym (path-by i j n p o)) (inr (g.0, rule.loop_store_on P j lo g.1 y, g.2)),
       )
-  runs-sound i j n h w t l a p ls b g (of_next {m = m} {x = x} {k = c} {o = o} u is side) =
+  runs-sound i j n h w l a p lo o go known (of_next {m = m} {x = x} {k = c} {o = d} u is side) =
       let P = Of p in
-      let L = place S.checked n in
+      let g = goes-sound i j n w p true o go known in
       let F : Path → Type 0 = λ y. Rounds S (suc k) (fact.On y (place S.checked a)) in
-      let y = next-loop S.checked n h w t l m x c o a ls u is side in (
-        part-thing S m a (node.Next y.name y.index o a) y.next refl,
+      let y = next-loop S.checked n h w l m x c d a lo u is side in (
+        part-thing S m a (node.Next y.name y.index d a) y.next refl,
         tt,
-        begins-by i j n p b,
-        subst F (sym (path-by i j n p b)) (inr (
-          fact.Has (below P L j) (place S.checked t) (value.Bool true) ∷ [],
-          rule.next_on P j ls y,
-          (run-has i j n t p (Bool true) b g, tt),
-        )),
+        begins-by i j n p o,
+        subst F (sym (path-by i j n p o)) (inr (g.0, rule.next_on P j lo g.1 y, g.2)),
       )
 
   pub sound : {gs : List RowFact} {g : RowFact} → RowRule S fs gs g → AllAmong fs gs → Sound g
@@ -476,14 +508,14 @@ module _ (S : Source) (k : ℕ) (fs : List RowFact) (s : IsRound S k fs) where
           (only (On p n) h.0, (subst F (path-by i 0 n p o) (only (Has (Below i 0) b v) h.1.0), tt)),
         ),
       )
-  sound (starts {p = p} {n = n} {w = w} {t = t} {i = i} ls o) h =
+  sound (starts {p = p} {n = n} {h = g} {w = w} {t = t} {l = l} {i = i} ls o) h =
       let F : Path → Type 0 = λ q. Rounds S (suc k) (fact.On q (place S.checked t)) in (
-        part-thing S w t (node.Switches t) ls.switches refl,
+        test-thing S n g w t l ls,
         tt,
         begins-by i 0 n p o,
         subst F (sym (path-by i 0 n p o)) (inr (fact.On (Of p) (place S.checked n) ∷ [], rule.loop_test_on ls, (only (On p n) h.0, tt))),
       )
-  sound (enters {p = p} {n = n} {h = g} {m = m} {o = x} {v = v} {c = c} {i = i} {u = u} ls y e o) h =
+  sound (enters {p = p} {n = n} {h = g} {m = m} {o = x} {v = v} {c = c} {i = i} {u = u} st y e o) h =
       let q = use_binder S.checked m g x v c y e in
       let d = out_of fs (far_from S.checked n (Some c)) p in
       let F : Path → Type 0 = λ r. Rounds S (suc k) (fact.Has r (place S.checked m) (value_at S.checked fs u)) in
@@ -493,16 +525,41 @@ module _ (S : Source) (k : ℕ) (fs : List RowFact) (s : IsRound S k fs) where
         begins-by i 0 n p o,
         subst F (sym (path-by i 0 n p o)) (inr (
           fact.On (Of p) (place S.checked n) ∷ fact.Has (without (between S n c) (Of p)) (place S.checked c) (value_at S.checked fs u) ∷ [],
-          rule.first_has ls y e,
-          (only (On p n) h.0, (subst G (look-path p n c ls.loop.within q.0) (only (Has d c u) h.1.0), tt)),
+          rule.first_has st y e,
+          (only (On p n) h.0, (subst G (look-path p n c st.within q.0) (only (Has d c u) h.1.0), tt)),
         )),
       )
-  sound (again {p = p} {n = n} {w = w} {t = t} {i = i} j ls o) h =
+  sound (counts_first {p = p} {n = n} {x = x} {a = a} {b = b} {i = i} {lo = lo} {hi = hi} st o e) h =
+      let F : Path → Type 0 = λ q. Rounds S (suc k) (fact.Has q (place S.checked x) (value.Int lo)) in (
+        node-thing S x (node.Index st.name) st.index refl,
+        tt,
+        begins-by i 0 n p o,
+        subst F (sym (path-by i 0 n p o)) (inr (
+          fact.On (Of p) (place S.checked n) ∷ fact.Has (Of p) (place S.checked a) (value.Int lo) ∷ fact.Has (Of p) (place S.checked b) (value.Int hi) ∷ [],
+          rule.index_begins st e,
+          (only (On p n) h.0, (only (Has p a (Int lo)) h.1.0, (only (Has p b (Int hi)) h.1.1.0, tt))),
+        )),
+      )
+  sound (counts_on {p = p} {n = n} {x = x} {b = b} {i = i} {j = y} {hi = hi} j st o e) h =
+      let P = Of p in
+      let L = place S.checked n in
+      let next : j + 1 ≡ suc j = omega arith in
+      let F : Path → Type 0 = λ q. Rounds S (suc k) (fact.Has q (place S.checked x) (value.Int (y +ℤ pos 1))) in (
+        node-thing S x (node.Index st.name) st.index refl,
+        tt,
+        begins-by i (j + 1) n p o,
+        subst F (sym (path-by i (j + 1) n p o ∙ ap (λ m. below P L m) next)) (inr (
+          fact.Has (below P L j) (place S.checked x) (value.Int y) ∷ fact.Has P (place S.checked b) (value.Int hi) ∷ [],
+          rule.index_counts P j st e,
+          (run-has i j n x p (Int y) o h.0, (only (Has p b (Int hi)) h.1.0, tt)),
+        )),
+      )
+  sound (again {p = p} {n = n} {h = g} {w = w} {t = t} {l = l} {i = i} j ls o) h =
       let P = Of p in
       let L = place S.checked n in
       let e : j + 1 ≡ suc j = omega arith in
       let F : Path → Type 0 = λ z. Rounds S (suc k) (fact.On z (place S.checked t)) in (
-        part-thing S w t (node.Switches t) ls.switches refl,
+        test-thing S n g w t l ls,
         tt,
         begins-by i (j + 1) n p o,
         subst F (sym (path-by i (j + 1) n p o ∙ ap (λ m. below P L m) e)) (inr (
@@ -511,20 +568,17 @@ module _ (S : Source) (k : ℕ) (fs : List RowFact) (s : IsRound S k fs) where
           (run-has i j n t p (Bool true) o h.0, tt),
         )),
       )
-  sound (runs {p = p} {n = n} {h = g} {w = w} {t = t} {l = l} {i = i} {a = a} j ls o b) h = runs-sound i j n g w t l a p ls o h.0 b
-  sound (leaves {p = p} {n = n} {h = g} {w = w} {t = t} {l = l} {i = i} j ls o) h =
+  sound (runs {p = p} {n = n} {h = g} {w = w} {l = l} {i = i} {a = a} j st o go b) h = runs-sound i j n g w l a p st o go h b
+  sound (leaves {p = p} {n = n} {h = g} {w = w} {l = l} {i = i} j st o go) h =
       let P = Of p in
+      let q = goes-sound i j n w p false o go h in
       let F : Path → Type 0 = λ z. Rounds S (suc k) (fact.On z (place S.checked l)) in (
-        part-thing S n l (node.Loop g w l) ls.loop refl,
+        part-thing S n l (node.Loop g w l) st refl,
         tt,
         begins-by i j n p o,
-        subst F (sym (path-by i j n p o)) (inr (
-          fact.Has (below P (place S.checked n) j) (place S.checked t) (value.Bool false) ∷ [],
-          rule.last_on P j ls,
-          (run-has i j n t p (Bool false) o h.0, tt),
-        )),
+        subst F (sym (path-by i j n p o)) (inr (q.0, rule.last_on P j st q.1, q.2)),
       )
-  sound (hands {p = p} {n = n} {m = m} {o = x} {v = v} {i = i} {u = u} j ls y o) h =
+  sound (hands {p = p} {n = n} {m = m} {o = x} {v = v} {i = i} {u = u} j st y o) h =
       let P = Of p in
       let L = place S.checked n in
       let e : j + 1 ≡ suc j = omega arith in
@@ -534,19 +588,19 @@ module _ (S : Source) (k : ℕ) (fs : List RowFact) (s : IsRound S k fs) where
         begins-by i (j + 1) n p o,
         subst F (sym (path-by i (j + 1) n p o ∙ ap (λ r. below P L r) e)) (inr (
           fact.Has (below P L j) (place S.checked v) (value_at S.checked fs u) ∷ [],
-          rule.next_has P j ls y,
+          rule.next_has P j st y,
           (run-has i j n v p u o h.0, tt),
         )),
       )
-  sound (leads_out {p = p} {n = n} {h = g} {w = w} {l = l} {i = i} {u = u} j ls o) h =
+  sound (leads_out {p = p} {n = n} {h = g} {w = w} {l = l} {i = i} {u = u} j st o) h =
       let q = ap path_of o.fact in
       let F : Trail → Type 0 = λ z. BeginsOn fs z in (
-        node-thing S n (node.Loop g w l) ls.loop refl,
+        node-thing S n (node.Loop g w l) st refl,
         s.found.arrays (Has (Below i j) l u) h.0,
         subst F q (begun (fact_at fs i) (among-at fs i o.within)),
         inr (
           fact.Has (below (Of p) (place S.checked n) j) (place S.checked l) (value_at S.checked fs u) ∷ [],
-          rule.loop_has (Of p) j ls,
+          rule.loop_has (Of p) j st,
           (run-has i j n l p u o h.0, tt),
         ),
       )

@@ -12,7 +12,7 @@ use Rattle.id_source.specs.declared.Fact.TheVariants as fact
 use Rattle.id_source.specs.declared.Path.{Path}
 use Rattle.id_cells.specs.declared.cells.Cells.{Cells}
 use Rattle.id_facts.specs.declared.facts.RowFact.{RowFact}
-use Rattle.id_facts.specs.declared.facts.RowFact.TheVariants.{On, Has}
+use Rattle.id_facts.specs.declared.facts.RowFact.TheVariants.{Has}
 use Rattle.id_facts.specs.declared.facts.RowValue.{RowValue}
 use Rattle.id_facts.specs.declared.facts.Trail.TheVariants.{Below}
 use Rattle.id_links.specs.declared.links.Links.{Links}
@@ -130,7 +130,7 @@ module _ (S : Source) (fs : List RowFact) where
         waits =
             record {
               wide = fresh.wide;
-              all = λ p m u on h. absurd (let F : List RowFact → Type 0 = λ y. Among (On p m) y in let b : ⊥ = subst F z on in b);
+              all = λ g p m u on h. absurd (let F : List RowFact → Type 0 = λ y. Among g y in let b : ⊥ = subst F z on in b);
             };
         few = f.few;
       }
@@ -177,7 +177,7 @@ module _ (S : Source) (l : Links) (r : ℕ) (a : Followed) (fs : List RowFact) (
         let G : List RowFact → Type 0 = λ y. AreWaits S.checked l y b.waits in
         subst G (sym g.adds.items)
         (AreWaits-more S.checked l (items a.cells) ns a.waits b.waits f.old.found.before
-        (λ p m h. among-inside (items a.cells) f.old.found.before (On p m) h) f.waits (subst F g.adds.items g.waits))
+        (λ g h. among-inside (items a.cells) f.old.found.before g h) f.waits (subst F g.adds.items g.waits))
 
     abbrev effects : List RowFact → List RowFact
     effects gs = all_effects S.checked l b.waits b.cells gs

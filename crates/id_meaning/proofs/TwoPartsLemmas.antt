@@ -1,5 +1,5 @@
 -- Two operands of one row are different rows.
-use Rattle.std.proofs.Common.{◌≡◌, inl, inr, ◌<◌, ◌-◌, ℕ, zero, suc, true, false, List, [], ◌∷◌, length, refl, sym, ◌∙◌, subst, arith}
+use Rattle.std.proofs.Common.{◌≡◌, inl, inr, ◌<◌, ◌+◌, ◌-◌, ℕ, zero, suc, true, false, List, [], ◌∷◌, length, refl, sym, ◌∙◌, subst, arith}
 use Rattle.id_list.specs.List.{Among}
 use Rattle.id_list.proofs.AmongLemmas.{Among-either}
 use Rattle.id_value.specs.declared.BinaryOp.{BinaryOp}
@@ -9,11 +9,13 @@ use Rattle.id_table.specs.declared.row.Stand.{Stand}
 use Rattle.id_table.specs.declared.row.Node.{Node}
 use Rattle.id_table.specs.declared.row.Node.TheVariants.{Head, Param, Literal, Name, Unary, Binary, Split, If, Enter, Arg, Call, Block, Binding, Def, Program}
 use Rattle.id_table.specs.declared.row.Node.TheVariants.{Start, LoopHead, Variable, Entries, Switches, Turn, NextUse, Next, Body, Reset, Loop}
-use Rattle.id_table.specs.declared.row.Node.TheVariants.{Array, Fetch, Address, Store}
+use Rattle.id_table.specs.declared.row.Node.TheVariants.{Array, Fetch, Address, Store, Bounds, Carried, Within, Count, Index, Span}
+use Rattle.id_value.specs.declared.Kind.TheVariants as kind
 use Rattle.id_table.specs.Names.{first_names, number_of}
-use Rattle.id_table.specs.Rows.{Parts, add, add_arguments, add_nexts, add_variables, arm, at, count_of, in_top, last, naming, rows_of, size, with_row}
+use Rattle.id_table.specs.Rows.{Parts, add, add_arguments, add_entries, add_nexts, add_variables, arm, at, begin_counting, begin_for, carry, count_of, end_loop}
+use Rattle.id_table.specs.Rows.{enter_loop, in_top, last, naming, rows_of, size, with_row}
 use Rattle.id_table.specs.Trees.{IsProgramTree, IsTree, Sort, Expression, Arguments, Statements, by_literal, by_unary, by_binary, by_name, by_conditional}
-use Rattle.id_table.specs.Trees.{by_call, by_loop, by_array, by_fetch, next_statement, store_statement, no_arguments, more_arguments, by_block}
+use Rattle.id_table.specs.Trees.{by_call, by_loop, by_for, by_array, by_fetch, next_statement, store_statement, no_arguments, more_arguments, by_block}
 use Rattle.id_table.specs.Trees.{no_statements, more_statements, no_params, more_params, no_defs, more_defs}
 use Rattle.id_table.proofs.TableLemmas.{Are-add}
 use Rattle.id_check.proofs.NotedLemmas.{IsProgramTree-tree_in}
@@ -25,6 +27,7 @@ use Rattle.id_source.specs.Facts.{StoreStands}
 -- the one operand of two stands before the other
 abbrev Two : Node → Type 0
 Two (Binary o a b) = a < b
+Two (Bounds a b) = a < b
 Two (Array a b) = a < b
 Two (Fetch t i) = t < i
 Two _ = Unit {0}
@@ -60,6 +63,42 @@ variables-two (more (next x a p) b) s T h = variables-two b s (with_row T s p (s
 variables-two (more a b) s T h = variables-two b s T h
 variables-two _ s T h = h
 
+-- what stands before, in and behind the parts of a loop
+enter-two : (s : Stand) (T : Parts) (p : ℕ) → AreTwo T.rows → AreTwo (enter_loop s T p).rows
+enter-two s T p h =
+    let k = suc (size T) in
+    push (with_row T s p (size T) Start) (in_top k) p k (LoopHead (size T)) tt (push T s p (size T) Start tt h)
+
+entries-two : (s : Stand) (T : Parts) (ss : Tree) (p : ℕ) → AreTwo T.rows → AreTwo (add_entries s T ss p).rows
+entries-two s T ss p h = let V = add_variables s T ss in push V s p (size V) Entries tt (variables-two ss s T h)
+
+carry-two : (s : Stand) (T : Parts) (q p : ℕ) → AreTwo T.rows → AreTwo (carry s T q p).rows
+carry-two s T q p h =
+    let I = with_row T s q (size T) (Carried kind.Int) in
+    let B = with_row I s p (size I) (Carried kind.Int) in
+    push B s p (size B) (Carried kind.Bool) tt (push I s p (size I) (Carried kind.Int) tt (push T s q (size T) (Carried kind.Int) tt h))
+
+begin-two : (s : Stand) (T : Parts) (ss : Tree) (q p : ℕ) → AreTwo T.rows → AreTwo (begin_for s T ss q p).rows
+begin-two s T ss q p h =
+    let k = suc (size T) in
+    let C = carry (in_top k) (enter_loop s T p) q p in
+    let E = add_entries (in_top k) C ss p in
+    let W = with_row E (in_top k) p (size E) (Within (k + 3)) in
+    push W (in_top k) p (size E) (Switches (last W)) tt (push E (in_top k) p (size E) (Within (k + 3)) tt
+    (entries-two (in_top k) C ss p (carry-two (in_top k) (enter_loop s T p) q p (enter-two s T p h))))
+
+counting-two : (s : Stand) (T : Parts) (x : List ℕ) (q p : ℕ) → AreTwo T.rows → AreTwo (begin_counting s T x q p).rows
+counting-two s T x q p h =
+    let C = with_row T s p (size T) Count in
+    let B = with_row C s p (size C) Turn in
+    push (naming B x) s q (size B) (Index (number_of B.names x)) tt (push C s p (size C) Turn tt (push T s p (size T) Count tt h))
+
+end-two : (s o : Stand) (p f g r i : ℕ) (T : Parts) → AreTwo T.rows → AreTwo (end_loop s o p f g r i T).rows
+end-two s o p f g r i T h =
+    let R = with_row T o p r (Reset i) in
+    let G = with_row R s p g Span in
+    push G s p f (Loop o.block o.region.head i) tt (push R s p g Span tt (push T o p r (Reset i) tt h))
+
 -- the parts with a binding, whose expression has its rows
 abbrev bound : Stand → Parts → List ℕ → Tree → ℕ → Parts
 bound s T x a p = add s T (binding x a p)
@@ -91,10 +130,7 @@ mutual
       (arguments-two s p (size T) 0 E d (push (naming T x) s p (size T) n tt h))
   add-two s T (by_loop {t} {ss} {l} {p} d e f) h =
       let k = suc (size T) in
-      let A = with_row T s p (size T) Start in
-      let H = with_row A (in_top k) p k (LoopHead (size T)) in
-      let V = add_variables (in_top k) H ss in
-      let E = with_row V (in_top k) p (size V) Entries in
+      let E = add_entries (in_top k) (enter_loop s T p) ss p in
       let U = add (in_top k) E t in
       let w = size U in
       let b = arm (in_top k) w true in
@@ -104,12 +140,23 @@ mutual
       let N = add_nexts b 0 B ss in
       let D = with_row N b p (size B) Body in
       let L = add o D l in
-      let M = with_row L o p (size D) (Reset (last L)) in
-      let v = variables-two ss (in_top k) H (push A (in_top k) p k (LoopHead (size T)) tt (push T s p (size T) Start tt h)) in
-      let u = add-two (in_top k) E d (push V (in_top k) p (size V) Entries tt v) in
+      let u = add-two (in_top k) E d (entries-two (in_top k) (enter_loop s T p) ss p (enter-two s T p h)) in
       let n = nexts-two b 0 B e (push W b p (size W) Turn tt (push U (in_top k) p (size E) (Switches (last U)) tt u)) in
-      push M s p (size T) (Loop k w (last L)) tt
-      (push L o p (size D) (Reset (last L)) tt (add-two o D f (push N b p (size B) Body tt n)))
+      end-two s o p (size T) (size T) (size D) (last L) L (add-two o D f (push N b p (size B) Body tt n))
+  add-two s T (by_for {x = x} {a = a} {b = c} {ss = ss} {l = l} {q = q} {p = p} d g e f) h =
+      let U = add s T a in
+      let V = add s U c in
+      let A = with_row V s p (size T) (Bounds (last U) (last V)) in
+      let W = begin_for s A ss q p in
+      let b = arm (in_top (suc (size A))) (last W) true in
+      let o = arm (in_top (suc (size A))) (last W) false in
+      let I = begin_counting b W x q p in
+      let N = add_nexts b 3 I ss in
+      let D = with_row N b p (last I) Body in
+      let L = add o D l in
+      let u = push V s p (size T) (Bounds (last U) (last V)) (order s T d g) (add-two s U g (add-two s T d h)) in
+      let n = nexts-two b 3 I e (counting-two b W x q p (begin-two s A ss q p u)) in
+      end-two s o p (size T) (size A) (size D) (last L) L (add-two o D f (push N b p (last I) Body tt n))
   add-two s T (by_array {a} {b} {p} d e) h =
       let U = add s T a in
       let V = add s U b in
@@ -192,6 +239,9 @@ binary-order P n a b o st = two-at P n (Binary o a b) st
 
 pub array-order : (P : Checked) (n a b : ℕ) → Stands P n (Array a b) → a < b
 array-order P n a b st = two-at P n (Array a b) st
+
+pub bounds-order : (P : Checked) (n a b : ℕ) → Stands P n (Bounds a b) → a < b
+bounds-order P n a b st = two-at P n (Bounds a b) st
 
 pub fetch-order : (P : Checked) (n t i : ℕ) → Stands P n (Fetch t i) → t < i
 fetch-order P n t i st = two-at P n (Fetch t i) st

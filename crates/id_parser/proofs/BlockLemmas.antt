@@ -12,16 +12,16 @@ use Rattle.id_grammar.specs.declared.tokens.Word.TheVariants as the
 use Rattle.id_grammar.specs.declared.tree.Stmt.{Stmt}
 use Rattle.id_grammar.specs.declared.tree.TreeError.{TreeError}
 use Rattle.id_grammar.specs.Tree.{Tree, stmt_tree, binding, next, none, more}
-use Rattle.id_grammar.specs.Grammar.{Atom, Tail, Rest, done, name, part, either, with_statement, statement_of}
-use Rattle.id_grammar.specs.Grammar.{assigned_of, last_of, block_of, loop_of, Opens, by_braces, by_statement, by_next}
-use Rattle.id_grammar.specs.Grammar.{by_body, by_last}
+use Rattle.id_grammar.specs.Grammar.{Atom, Tail, Rest, done, name, part, with_statement, statement_of}
+use Rattle.id_grammar.specs.Grammar.{assigned_of, last_of, block_of, loop_of, for_of, braces_of, Opens, by_braces}
+use Rattle.id_grammar.specs.Grammar.{by_statement, by_next, by_body, by_last}
 use Rattle.id_grammar.specs.Machine.{opening, Inside, Want, Have, name_in, run}
 use Rattle.id_grammar.specs.Readers.{first_kind, second_kind, IsRead, IsGathered, Leads, Fails, BeginsWithName}
 use Rattle.id_grammar.specs.Readers.{LacksName, Encloses, Exposes, Surrounds, Bares, onto, last_word, Adds, Gathers}
 use Rattle.id_grammar.proofs.RunLemmas.{run-none, run-done, run-part, run-inside}
 use Rattle.id_grammar.proofs.ReaderLemmas.{EndsBy-at, At, At-opens, At-chosen, At-left_out, At-enclosed, Fails-enclosed, Leads-done, Leads-at}
 
-pub opens_braces : {k : TokenKind} {p : ℕ} → k ≡ Sign LeftBrace → Opens Atom k p (either (the.Key keyword.While) (λ _. loop_of p) (block_of p))
+pub opens_braces : {k : TokenKind} {p : ℕ} → k ≡ Sign LeftBrace → Opens Atom k p (braces_of p)
 opens_braces q = rw q by_braces
 
 opens_statement : {k : TokenKind} {p : ℕ} (o : Scope) (x : List ℕ) → k ≡ Name x → Opens (Tail o) k p (assigned_of o x p)
@@ -34,16 +34,24 @@ opens_last : {k : TokenKind} {p : ℕ} (o : Scope) → k ≡ Key (last_word o) �
 opens_last scope.Block q = rw q by_body
 opens_last scope.Loop q = rw q by_last
 
--- behind a brace comes the word `while`, or a block
+-- behind a brace comes the word `while`, the word `for`, or a block
 module _ {ts us : List Token} {t : Token} {d : ℕ} (e : ts ≡ t ∷ us) (is : first_kind ts ≡ Sign LeftBrace) (w : d + 1 + 1 ≤ 200) where
-  At-braces : At ts Atom d us (either (the.Key keyword.While) (λ _. loop_of t.start) (block_of t.start)) 0
+  At-braces : At ts Atom d us (braces_of t.start) 0
   At-braces = At-opens e (opens_braces is) d w
 
-  pub At-block : (second_kind ts ≡ Key keyword.While → ⊥) → At ts Atom d us (block_of t.start) 0
-  At-block f = At-left_out At-braces (λ q. f (ap second_kind e ∙ q))
+  pub At-block : (second_kind ts ≡ Key keyword.While → ⊥) → (second_kind ts ≡ Key keyword.For → ⊥) → At ts Atom d us (block_of t.start) 0
+  At-block f g = At-left_out (At-left_out At-braces (λ q. f (ap second_kind e ∙ q))) (λ q. g (ap second_kind e ∙ q))
 
   pub At-loop : {v : Token} {vs : List Token} → us ≡ v ∷ vs → second_kind ts ≡ Key keyword.While → At ts Atom d vs (loop_of t.start) 0
   At-loop i q = At-chosen At-braces i (ap second_kind (sym e) ∙ q)
+
+  pub At-for : {v : Token} {vs : List Token} → us ≡ v ∷ vs → second_kind ts ≡ Key keyword.For → At ts Atom d vs (for_of t.start) 0
+  At-for i q =
+      let is_for = ap second_kind (sym e) ∙ q in
+      At-chosen (At-left_out At-braces (λ r. not_while is_for r)) i is_for
+    where
+      not_while : {k : TokenKind} → k ≡ Key keyword.For → k ≡ Key keyword.While → ⊥
+      not_while p r = cc
 
 -- what is read in a tail is read in as many expressions as the tail
 pub Encloses-tail : {ts us : List Token} {d h : ℕ} {w : Word} {e : Tree} → Encloses ts d w us e h → Encloses ts (d + 0) w us e h

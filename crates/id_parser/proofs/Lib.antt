@@ -1,5 +1,6 @@
 pub mod ArrayLemmas
 pub mod BlockLemmas
 pub mod CallLemmas
+pub mod ForLemmas
 pub mod ReadLemmas
 pub mod WholeLemmas

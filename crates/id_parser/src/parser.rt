@@ -12,14 +12,15 @@ ghost use Rattle.id_grammar.specs.Readers.{first_kind, second_kind, last_word, m
 ghost use Rattle.id_grammar.specs.Readers.{IsPrefix, Leads, Fails, Grows, Stunts, Encloses, Exposes};
 ghost use Rattle.id_grammar.specs.Readers.{Surrounds, Bares, Indexes, Misindexes, Adds, Assigns, Misassigns};
 ghost use Rattle.id_grammar.specs.Readers.{Gathers, IsGathered, Applies, Misapplies, Hands, passed, Rises};
+ghost use Rattle.id_grammar.specs.Readers.{Ranges, Misranges};
 
 use id_grammar::{
-    ArgumentList, Level, MAX_NESTING, Part, Scope, Statement, StatementList, TreeError, Word,
-    add_argument, add_statement, array, begins_with, begins_with_bracket, begins_with_sign, binary,
-    binding, block, call, conditional, copied, denies, enter, expect_name, expect_word, fetch,
-    first_argument, is_sign, name, next, no_arguments, no_room, no_statements, number, open_behind,
-    open_first, operator_within, split, store, truth, truth_of, unary, unexpected, whole_loop,
-    with_rest,
+    ArgumentList, IndexPart, Level, MAX_NESTING, Part, Scope, Statement, StatementList, TreeError,
+    Word, add_argument, add_statement, array, begins_with, begins_with_bracket, begins_with_sign,
+    binary, binding, block, call, conditional, copied, denies, enter, expect_name, expect_word,
+    fetch, first_argument, indexed, is_sign, name, next, no_arguments, no_room, no_statements,
+    number, open_behind, open_first, operator_within, split, store, truth, truth_of, unary,
+    unexpected, whole_for, whole_loop, with_rest,
 };
 use id_text::{Identifier, Keyword, Symbol, Token, TokenKind};
 use id_value::{BinaryOp, UnaryOp};
@@ -325,7 +326,7 @@ fn parse_fetch(
     with_rest(fetch(alloc, target, index, first.start), rest)
 }
 
-/// `atom = "(" expr ")" | block | loop | array | leaf`
+/// `atom = "(" expr ")" | block | loop | for | array | leaf`
 #[cycle(expr)]
 fn parse_atom(alloc: Global, tokens: &[Token], depth: usize) -> Result<(Part, &[Token]), TreeError>
     requires ends { EndsOnce tokens.now }
@@ -438,7 +439,7 @@ fn parse_between(
     parse_enclosed(alloc, begun, Word::Sign(closing), depth)
 }
 
-/// `block | loop`
+/// `block | loop | for`
 #[cycle(expr)]
 fn parse_braces(
     alloc: Global,
@@ -456,6 +457,8 @@ fn parse_braces(
     let (_, opened) = split(tokens);
     if begins_with(opened, Keyword::While) {
         parse_loop(alloc, tokens, depth)
+    } else if begins_with(opened, Keyword::For) {
+        parse_for(alloc, tokens, depth)
     } else {
         parse_block(alloc, tokens, depth)
     }
@@ -467,6 +470,7 @@ fn parse_block(alloc: Global, tokens: &[Token], depth: usize) -> Result<(Part, &
     requires ends { EndsOnce tokens.now }
     requires begins { first_kind tokens.now ≡ TokenKind.Sign Symbol.LeftBrace }
     requires no_while { second_kind tokens.now ≢ TokenKind.Key Keyword.While }
+    requires no_for { second_kind tokens.now ≢ TokenKind.Key Keyword.For }
     requires room { depth < MAX_NESTING }
     ensures { MatchResult result
         (λ x. IsRead tokens.now x.1.now depth x.0.height
@@ -501,6 +505,49 @@ fn parse_loop(alloc: Global, tokens: &[Token], depth: usize) -> Result<(Part, &[
     let (_, left) = split(ending);
     let (last, rest) = found!(parse_enclosed(alloc, left, Word::Sign(Symbol::RightBrace), inner));
     with_rest(whole_loop(alloc, test, statements, last, first.start), rest)
+}
+
+/// `for = "{" "for" NAME "<-" expr "to" expr "do" { stmt | next } "finally" expr "}"`
+#[cycle(expr)]
+fn parse_for(alloc: Global, tokens: &[Token], depth: usize) -> Result<(Part, &[Token]), TreeError>
+    requires ends { EndsOnce tokens.now }
+    requires begins { first_kind tokens.now ≡ TokenKind.Sign Symbol.LeftBrace }
+    requires counts { second_kind tokens.now ≡ TokenKind.Key Keyword.For }
+    requires room { depth < MAX_NESTING }
+    ensures { MatchResult result
+        (λ x. IsRead tokens.now x.1.now depth x.0.height
+        × Leads tokens.now Atom depth x.1.now (tree_of x.0.expr) x.0.height)
+        (Fails tokens.now Atom depth) }
+{
+    let inner = depth + 1;
+    let (first, opened) = found!(enter(tokens, inner + 1));
+    let (_, named) = split(opened);
+    let (index, begun) = found!(parse_index(alloc, named, inner));
+    let (statements, ending) = found!(parse_statements(alloc, begun, Scope::Loop, inner));
+    let (_, left) = split(ending);
+    let (last, rest) = found!(parse_enclosed(alloc, left, Word::Sign(Symbol::RightBrace), inner));
+    with_rest(whole_for(alloc, index, statements, last, first.start), rest)
+}
+
+/// The index of a `for` and its bounds, from behind the word: `NAME "<-" expr "to" expr "do"`
+#[cycle(expr)]
+fn parse_index(
+    alloc: Global,
+    tokens: &[Token],
+    depth: usize,
+) -> Result<(IndexPart, &[Token]), TreeError>
+    requires ends { EndsOnce tokens.now }
+    requires room { depth < MAX_NESTING }
+    ensures { MatchResult result
+        (λ x. IsRead tokens.now x.1.now depth x.0.height
+        × Ranges tokens.now depth x.1.now x.0.name x.0.place (tree_of x.0.low) (tree_of x.0.high) x.0.height)
+        (Misranges tokens.now depth) }
+{
+    let (x, place, named) = found!(expect_name(alloc, tokens));
+    let arrow = found!(expect_word(named, Word::Sign(Symbol::Arrow)));
+    let (low, begun) = found!(parse_enclosed(alloc, arrow, Word::Key(Keyword::To), depth));
+    let (high, rest) = found!(parse_enclosed(alloc, begun, Word::Key(Keyword::Do), depth));
+    Ok((indexed(x, place, low, high), rest))
 }
 
 /// `{ stmt }` or `{ stmt | next }`, and the tokens from the last word on.

@@ -6,7 +6,7 @@ use mathlib.Core.Former.{Count}
 use Rattle.id_value.specs.declared.Kind.{Kind}
 use Rattle.id_value.specs.declared.BinaryOp.{BinaryOp}
 use Rattle.id_value.specs.declared.UnaryOp.{UnaryOp}
-use Rattle.id_grammar.specs.declared.tree.Expr.{Loop, Loop'}
+use Rattle.id_grammar.specs.declared.tree.Expr.{Loop, Loop', For, For'}
 use Rattle.id_grammar.specs.declared.tree.Expr.{Expr, Array, Binary, Fetch, If, Unary, Call, Call', Block, Block'}
 use Rattle.id_grammar.specs.declared.tree.Pair.{Pair}
 use Rattle.id_grammar.specs.declared.tree.Expr.{Row_of-Expr, end_of-Expr, more_of-Expr, items-the_row-Expr, items_hidden-the_row-Expr-0}
@@ -15,10 +15,11 @@ use Rattle.id_grammar.specs.declared.tree.Triple.{Triple}
 use Rattle.id_grammar.specs.declared.tree.Call.{Call as Passing}
 use Rattle.id_grammar.specs.declared.tree.Block.{Block as Inner}
 use Rattle.id_grammar.specs.declared.tree.Loop.{Loop as Round}
+use Rattle.id_grammar.specs.declared.tree.For.{For as Counted}
 use Rattle.id_grammar.specs.declared.tree.Def.{Def}
 use Rattle.id_grammar.specs.declared.tree.Stmt.{Stmt}
 use Rattle.id_grammar.specs.declared.tree.Stmt as stmt
-use Rattle.id_grammar.specs.Tree.{Tree, array, binary, call, block, binding, conditional, fetch, store, define, loop, more, unary}
+use Rattle.id_grammar.specs.Tree.{Tree, array, binary, call, block, binding, conditional, fetch, store, define, loop, for_loop, more, unary}
 use Rattle.id_grammar.specs.Tree.{tree_of, args_tree, stmt_tree, row_tree, def_tree, defs_tree}
 use Rattle.id_table.specs.declared.node.Pairing.{Pairing}
 use Rattle.id_table.specs.declared.node.Pairing.TheVariants as pair
@@ -26,9 +27,10 @@ use Rattle.id_table.specs.declared.row.Stand.{Stand}
 use Rattle.id_table.specs.declared.row.Node.{Node}
 use Rattle.id_table.specs.declared.row.Node.TheVariants as node
 use Rattle.id_table.specs.Names.{number_of}
-use Rattle.id_table.specs.Rows.{Parts, add, add_arguments, add_nexts, arm, begin_loop, count_of, in_top, last, naming, size, with_row}
+use Rattle.id_table.specs.Rows.{Parts, add, add_arguments, add_nexts, arm, begin_counting, begin_for, begin_loop, count_of, end_loop, in_top, last, naming}
+use Rattle.id_table.specs.Rows.{size, with_row}
 use Rattle.id_table.specs.Nodes.{other_side, pair_node}
-use Rattle.id_maker.specs.Making.{IsAdded, add_argument, add_body, add_next, end_loop, exprs_tree, pair_tree, stmts_tree}
+use Rattle.id_maker.specs.Making.{IsAdded, add_argument, add_body, add_counting, add_next, add_statements, exprs_tree, pair_tree, stmts_tree}
 
 row_tree-items : (n : _) (r : Row_of-Stmt n) → row_tree r ≡ stmts_tree (items-the_row-Stmt n r)
 row_tree-items _ end_of-Stmt = refl
@@ -92,6 +94,18 @@ tree_of-loop : (place : ℕ) (b : Box Round Global)
 tree_of-loop place b =
     let row = loop_row_of (Loop place b) in
     ap (λ t. loop (tree_of b.value.test) t (tree_of b.value.last) place)
+    (row_tree-items row.0 row.1 ∙ ap stmts_tree (items_hidden-the_row-Stmt-1 b.value.statements))
+
+abbrev for_row_of : Expr → (n : Count) × Row_of-Stmt n
+for_row_of (For' place p x q low high _ r last) = (_, r)
+for_row_of _ = (_, end_of-Stmt)
+
+tree_of-for : (place : ℕ) (b : Box Counted Global)
+    → tree_of (For place b)
+    ≡ for_loop b.value.name b.value.index (tree_of b.value.low) (tree_of b.value.high) (stmts_tree b.value.statements.items) (tree_of b.value.last) place
+tree_of-for place b =
+    let row = for_row_of (For place b) in
+    ap (λ t. for_loop b.value.name b.value.index (tree_of b.value.low) (tree_of b.value.high) t (tree_of b.value.last) place)
     (row_tree-items row.0 row.1 ∙ ap stmts_tree (items_hidden-the_row-Stmt-1 b.value.statements))
 
 pub next_step : (s : Stand) (k i : ℕ) (T U V : Parts) (xs : List Stmt) (x : List ℕ) (e : Expr) (p : ℕ) (d : Stmt) → i < length xs
@@ -218,18 +232,23 @@ next_row s T E U x a p f n i k h0 h1 h2 w =
 
 -- the rows of the body of a loop, whose statements were added
 pub body_row : (s : Stand) (W B N : Parts) (ss : Tree) (p r : ℕ) → B ≡ with_row W s p (size W) node.Turn → r ≡ size B
-    → N ≡ add_nexts s 0 B ss → with_row N s p r node.Body ≡ add_body s W ss p
+    → N ≡ add_statements s 0 r B ss p → N ≡ add_body s W ss p
 body_row s W B N ss p r h0 h1 h2 =
-    ap (λ m. with_row N s p m node.Body) h1 ∙ ap (λ X. with_row X s p (size B) node.Body) h2
-    ∙ ap (λ Y. with_row (add_nexts s 0 Y ss) s p (size Y) node.Body) h0
+    h2 ∙ ap (λ m. add_statements s 0 m B ss p) h1 ∙ ap (λ Y. add_statements s 0 (size Y) Y ss p) h0
+
+-- those of the body of a `for`
+pub counting_row : (s : Stand) (W I N : Parts) (x : List ℕ) (q : ℕ) (ss : Tree) (p r : ℕ) → IsAdded r I (begin_counting s W x q p)
+    → N ≡ add_statements s 3 r I ss p → N ≡ add_counting s W x q ss p
+counting_row s W I N x q ss p r u h =
+    h ∙ ap (λ m. add_statements s 3 m I ss p) u.number ∙ ap (λ Y. add_statements s 3 (last (begin_counting s W x q p)) Y ss p) u.parts
 
 -- those of a loop from the end of its body on
-abbrev loop_tail : Stand → Tree → ℕ → ℕ → Stand → Parts → Parts
-loop_tail s l p f o Y = let V = add o Y l in end_loop s o p f (size Y) (last V) V
+abbrev loop_tail : Stand → Tree → ℕ → ℕ → ℕ → Stand → Parts → Parts
+loop_tail s l p f g o Y = let V = add o Y l in end_loop s o p f g (size Y) (last V) V
 
 -- from its switches on
 abbrev loop_ending : Stand → Tree → Tree → ℕ → ℕ → Stand → Parts → Parts
-loop_ending s ss l p f b Y = loop_tail s l p f (other_side b) (add_body b Y ss p)
+loop_ending s ss l p f b Y = loop_tail s l p f f (other_side b) (add_body b Y ss p)
 
 -- from its predicate on
 abbrev loop_rest : Stand → Tree → Tree → Tree → ℕ → ℕ → Stand → Parts → Parts
@@ -241,18 +260,51 @@ loop_rest s t ss l p f i Y =
 pub loop_row : (s i b o : Stand) (T E U W D L : Parts) (t ss l : Tree) (p f g m r k : ℕ)
     → f ≡ size T → E ≡ begin_loop s T ss p → i ≡ in_top (size T + 1) → g ≡ size E → IsAdded m U (add i E t)
     → W ≡ with_row U i p g (node.Switches m) → b ≡ arm i (size U) true → D ≡ add_body b W ss p → o ≡ other_side b → r ≡ size D
-    → IsAdded k L (add o D l) → end_loop s o p f r k L ≡ add s T (loop t ss l p)
+    → IsAdded k L (add o D l) → end_loop s o p f f r k L ≡ add s T (loop t ss l p)
 loop_row s i b o T E U W D L t ss l p f g m r k h0 h1 h2 h3 u h4 h5 h6 h7 h8 v =
     let high : size T + 1 ≡ suc (size T) = omega arith in
-    ap (λ q. end_loop s o p f r q L) v.number ∙ ap (λ Y. end_loop s o p f r (last (add o D l)) Y) v.parts
-    ∙ ap (λ q. end_loop s o p f q (last (add o D l)) (add o D l)) h8
-    ∙ ap (λ q. loop_tail s l p f q D) h7 ∙ ap (loop_tail s l p f (other_side b)) h6
+    ap (λ q. end_loop s o p f f r q L) v.number ∙ ap (λ Y. end_loop s o p f f r (last (add o D l)) Y) v.parts
+    ∙ ap (λ q. end_loop s o p f f q (last (add o D l)) (add o D l)) h8
+    ∙ ap (λ q. loop_tail s l p f f q D) h7 ∙ ap (loop_tail s l p f f (other_side b)) h6
     ∙ ap (λ q. loop_ending s ss l p f q W) h5
     ∙ ap (loop_ending s ss l p f (arm i (size U) true)) (h4 ∙ ap (λ q. with_row U i p q (node.Switches m)) h3
     ∙ ap (λ q. with_row U i p (size E) (node.Switches q)) u.number)
     ∙ ap (λ Y. loop_ending s ss l p f (arm i (size Y) true) (with_row Y i p (size E) (node.Switches (last (add i E t))))) u.parts
     ∙ ap (λ q. loop_rest s t ss l p f q E) (h2 ∙ ap in_top high) ∙ ap (loop_rest s t ss l p f (in_top (suc (size T)))) h1
     ∙ ap (λ q. loop_rest s t ss l p q (in_top (suc (size T))) (begin_loop s T ss p)) h0
+
+-- those of a `for` from its switches on
+abbrev for_ending : Stand → List ℕ → ℕ → Tree → Tree → ℕ → ℕ → ℕ → Stand → Parts → Parts
+for_ending s x q ss l p f g b Y = loop_tail s l p f g (other_side b) (add_counting b Y x q ss p)
+
+-- behind its bounds
+abbrev for_rest : Stand → List ℕ → ℕ → Tree → Tree → ℕ → ℕ → Parts → Parts
+for_rest s x q ss l p f Y =
+    let W = begin_for s Y ss q p in
+    for_ending s x q ss l p f (size Y) (arm (in_top (suc (size Y))) (last W) true) W
+
+-- the rows of a `for`, whose parts were added
+pub for_row : (s b o : Stand) (T U V A W D L : Parts) (x : List ℕ) (q : ℕ) (a c ss l : Tree) (p f g i j r k : ℕ)
+    → f ≡ size T → IsAdded i U (add s T a) → IsAdded j V (add s U c) → A ≡ with_row V s p f (node.Bounds i j) → g ≡ size A
+    → W ≡ begin_for s A ss q p → b ≡ arm (in_top (size A + 1)) (last W) true → D ≡ add_counting b W x q ss p → o ≡ other_side b → r ≡ size D
+    → IsAdded k L (add o D l) → end_loop s o p f g r k L ≡ add s T (for_loop x q a c ss l p)
+for_row s b o T U V A W D L x q a c ss l p f g i j r k h0 u v h1 h2 h3 h4 h5 h6 h7 w =
+    let high : size A + 1 ≡ suc (size A) = omega arith in
+    let C = add s U c in
+    let Z = add s T a in
+    let E = begin_for s A ss q p in
+    ap (λ n. end_loop s o p f g r n L) w.number ∙ ap (λ Y. end_loop s o p f g r (last (add o D l)) Y) w.parts
+    ∙ ap (λ n. end_loop s o p f g n (last (add o D l)) (add o D l)) h7
+    ∙ ap (λ y. loop_tail s l p f g y D) h6 ∙ ap (loop_tail s l p f g (other_side b)) h5
+    ∙ ap (λ y. for_ending s x q ss l p f g y W) (h4 ∙ ap (λ n. arm (in_top n) (last W) true) high)
+    ∙ ap (λ Y. for_ending s x q ss l p f g (arm (in_top (suc (size A))) (last Y) true) Y) h3
+    ∙ ap (λ n. for_ending s x q ss l p f n (arm (in_top (suc (size A))) (last E) true) E) h2
+    ∙ ap (for_rest s x q ss l p f) h1
+    ∙ ap (λ n. for_rest s x q ss l p f (with_row V s p f (node.Bounds i n))) v.number
+    ∙ ap (λ Y. for_rest s x q ss l p f (with_row Y s p f (node.Bounds i (last C)))) v.parts
+    ∙ ap (λ n. for_rest s x q ss l p f (with_row C s p f (node.Bounds n (last C)))) u.number
+    ∙ ap (λ Y. for_rest s x q ss l p f (with_row (add s Y c) s p f (node.Bounds (last Z) (last (add s Y c))))) u.parts
+    ∙ ap (λ n. for_rest s x q ss l p n (with_row (add s Z c) s p n (node.Bounds (last Z) (last (add s Z c))))) h0
 
 -- one statement of a block more was added
 pub statement_step : (s : Stand) (i : ℕ) (T U V : Parts) (xs : List Stmt) (d : Stmt) → i < length xs
@@ -289,6 +341,12 @@ pub loop_tree : (e : Expr) (place : ℕ) (b : Box Round Global) (v : Round) → 
     → loop (tree_of v.test) (stmts_tree v.statements.items) (tree_of v.last) place ≡ tree_of e
 loop_tree e place b v h0 h1 =
     ap (λ x. loop (tree_of x.test) (stmts_tree x.statements.items) (tree_of x.last) place) h0 ∙ sym (tree_of-loop place b) ∙ ap tree_of (sym h1)
+
+pub counted_tree : (e : Expr) (place : ℕ) (b : Box Counted Global) (v : Counted) → v ≡ b.value → e ≡ For place b
+    → for_loop v.name v.index (tree_of v.low) (tree_of v.high) (stmts_tree v.statements.items) (tree_of v.last) place ≡ tree_of e
+counted_tree e place b v h0 h1 =
+    ap (λ x. for_loop x.name x.index (tree_of x.low) (tree_of x.high) (stmts_tree x.statements.items) (tree_of x.last) place) h0
+    ∙ sym (tree_of-for place b) ∙ ap tree_of (sym h1)
 
 pub unary_tree : (e : Expr) (o : UnaryOp) (place : ℕ) (b : Box Expr Global) (v : Expr) → v ≡ b.value → e ≡ Unary o place b
     → unary o (tree_of v) place ≡ tree_of e

@@ -1,13 +1,13 @@
 //! The walk over the tree, in which a name gets its number where it first stands.
 
 ghost use Rattle.std.specs.Prelude.{◌≡◌, codes, IfOk, OnOk};
-ghost use Rattle.id_grammar.specs.Tree.{unary, conditional, call, block, binding, loop as loop_tree, store};
+ghost use Rattle.id_grammar.specs.Tree.{unary, conditional, call, block, binding, loop as loop_tree, for_loop, store};
 ghost use Rattle.id_grammar.specs.Tree.{tree_of, stmt_tree, def_tree, defs_tree, program_tree};
 ghost use Rattle.id_table.specs.Rows.{in_top, add, add_arguments, parts_of, rows_of};
-ghost use Rattle.id_maker.specs.Making.{add_argument, add_body, add_next, pair_tree};
+ghost use Rattle.id_maker.specs.Making.{add_argument, add_body, add_counting, add_next, add_statements, pair_tree};
 ghost use Rattle.id_maker.specs.Making.{parts, exprs_tree, stmts_tree, IsAdded, IsStart};
 
-use id_grammar::{Block, Call, Def, Expr, Loop, Pair, Program, Stmt, Triple};
+use id_grammar::{Block, Call, Def, Expr, For, Loop, Pair, Program, Stmt, Triple};
 use id_maker::Maker;
 use id_table::{
     Node, Pairing, Stand, Table, about_names, about_rows, names_of, other_side, pair_node, stand_in,
@@ -94,6 +94,7 @@ fn add_expr<'a>(maker: &mut Maker<'a>, stand: Stand, expr: &'a Expr) -> Result<u
         Expr::Call { place, inside } => add_call(maker, stand, inside, *place),
         Expr::Block { place, inside } => add_block(maker, stand, inside, *place),
         Expr::Loop { place, inside } => add_loop(maker, stand, inside, *place),
+        Expr::For { place, inside } => add_for(maker, stand, inside, *place),
         Expr::Array { place, inside } => add_pair(maker, stand, Pairing::Array, inside, *place),
         Expr::Fetch { place, inside } => add_pair(maker, stand, Pairing::Fetch, inside, *place),
     }
@@ -271,7 +272,49 @@ fn add_loop<'a>(
     let behind = other_side(body);
     let closed = maker.rows.len();
     let last = add_expr(maker, behind, &round.last)?;
-    maker.end_loop(stand, behind, place, start, closed, last)
+    maker.end_loop(stand, behind, place, start, start, closed, last)
+}
+
+#[cycle(add)]
+fn add_for<'a>(
+    maker: &mut Maker<'a>,
+    stand: Stand,
+    round: &'a For,
+    place: u32,
+) -> Result<usize, AllocError>
+    ensures { IfOk result (λ i. IsAdded i (parts maker.new) (add stand (parts maker.old)
+        (for_loop round.now.name round.now.index (tree_of round.now.low) (tree_of round.now.high)
+        (stmts_tree round.now.statements.items) (tree_of round.now.last) place))) }
+{
+    let first = maker.rows.len();
+    let low = add_expr(maker, stand, &round.low)?;
+    let high = add_expr(maker, stand, &round.high)?;
+    maker.put(stand, place, first, Node::Bounds { low, high })?;
+    let start = maker.rows.len();
+    let statements = round.statements.as_slice();
+    let body = maker.begin_for(stand, statements, round.index, place)?;
+    add_counting(maker, body, &round.name, round.index, statements, place)?;
+    let behind = other_side(body);
+    let closed = maker.rows.len();
+    let last = add_expr(maker, behind, &round.last)?;
+    maker.end_loop(stand, behind, place, first, start, closed, last)
+}
+
+/// Adds the rows of the body of a `for` with this index.
+#[cycle(add)]
+fn add_counting<'a>(
+    maker: &mut Maker<'a>,
+    stand: Stand,
+    name: &'a Identifier,
+    index: u32,
+    statements: &'a [Stmt],
+    place: u32,
+) -> Result<(), AllocError>
+    ensures { OnOk result (parts maker.new
+        ≡ add_counting stand (parts maker.old) name.now index (stmts_tree statements.now) place) }
+{
+    let begun = maker.begin_counting(stand, name, index, place)?;
+    add_loop_statements(maker, stand, 3, begun, statements, place)
 }
 
 /// Adds the rows of the body of a loop.
@@ -285,7 +328,24 @@ fn add_body<'a>(
     ensures { OnOk result (parts maker.new ≡ add_body stand (parts maker.old) (stmts_tree statements.now) place) }
 {
     let begun = maker.push_turn(stand, place)?;
-    let mut index = 0;
+    add_loop_statements(maker, stand, 0, begun, statements, place)
+}
+
+/// Adds the rows of the statements of a loop, of whose entries so many stand before those of its variables, and the end
+/// of its body, whose rows begin at `begun`.
+#[cycle(add)]
+fn add_loop_statements<'a>(
+    maker: &mut Maker<'a>,
+    stand: Stand,
+    carried: u32,
+    begun: usize,
+    statements: &'a [Stmt],
+    place: u32,
+) -> Result<(), AllocError>
+    ensures { OnOk result (parts maker.new
+        ≡ add_statements stand carried begun (parts maker.old) (stmts_tree statements.now) place) }
+{
+    let mut index = carried as usize;
     for statement in statements {
         match statement {
             Stmt::Next { place, name, value } => {

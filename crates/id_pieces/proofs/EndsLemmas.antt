@@ -1,6 +1,6 @@
 -- Where what begins at a head or at the switches of a conditional ends, and what the head of a region is.
 use Rattle.std.proofs.Common.{◌≡◌, inl, inr, ℕ, zero, suc, ◌+◌, ◌-◌, ◌<◌, Bool as Truth, true, false, cond, nat_eq, Option, Some, None, length, refl}
-use Rattle.std.proofs.Common.{sym, ◌∙◌, ap, subst, arith}
+use Rattle.std.proofs.Common.{sym, ◌∙◌, ap, subst, arith, List}
 use Rattle.std.specs.Option.{option_or}
 use Rattle.std.specs.Prelude.{unwrap_or}
 use Rattle.std.proofs.lemmas.Bool.{cases_eq, eqb-true, false≢true}
@@ -11,7 +11,8 @@ use Rattle.id_table.specs.declared.row.Node.TheVariants.{Head, Split, If, Enter,
 use Rattle.id_table.specs.Rows.{at, top}
 use Rattle.id_table.specs.Tables.{HasPart, begins_block}
 use Rattle.id_table.specs.Calls.{IsCallOf}
-use Rattle.id_table.specs.Loops.{IsLoopOf, InSide, StandsInSide}
+use Rattle.id_table.specs.Loops.{IsBody, IsLoopOf, IsTurn, InSide, StandsInSide, behind_count, right}
+use Rattle.id_table.specs.declared.row.Row.{Row}
 use Rattle.id_table.specs.Regions.{IsIfOf, StandsInArm}
 use Rattle.id_table.specs.Turns as roots
 use Rattle.id_table.specs.Turns.{IsTable, IsDefOf}
@@ -21,6 +22,17 @@ use Rattle.id_scope.specs.Scopes.{first_of}
 use Rattle.id_check.specs.Programs.{region, rows}
 use Rattle.id_desugar.specs.Ends.{ends_what, end_of}
 use Rattle.id_pieces.specs.Rows.{node}
+
+-- ---- the rows of a loop's body
+
+-- a `Turn` stands behind the switches
+pub turn_low : {R : List Row} {w t c : ℕ} → IsTurn R w t c → w < t
+turn_low (right e) = omega (arith, e)
+turn_low (behind_count e k x) = omega (arith, e)
+
+-- and so does the end of the body
+pub body_low : {R : List Row} {h w t b c : ℕ} → IsBody R h w t b c → w < b
+body_low x = let l = turn_low x.turns in omega (arith, l, x.low)
 
 -- ---- where rows end
 
@@ -206,7 +218,7 @@ module _ (P : Checked) (table : IsTable (rows P)) where
   block_head r _ is b t = absurd (false≢true b)
 
   -- a row in a side of switches stands behind them
-  side_low : (w b n i : ℕ) (c : Truth) → w + 1 < b → InSide w b n c i → w < i
+  side_low : (w b n i : ℕ) (c : Truth) → w < b → InSide w b n c i → w < i
   side_low w b n i true low h = h.0
   side_low w b n i false low h = omega (arith, low, h.0)
 
@@ -238,7 +250,7 @@ module _ (P : Checked) (table : IsTable (rows P)) where
           let c = x.loop in
           let z = (table.loop_is x.row (at (rows P) n).block c).test in
           let head : (region P n).head ≡ c.switches = ap (λ (r : Region). r.head) x.region in
-          let low = side_low c.switches x.body x.row n x.side x.body_is.low x.among in
+          let low = side_low c.switches x.body x.row n x.side (body_low x.body_is) x.among in
           record { below = omega (arith, within, low, head); head = of_side (ap (node P) head ∙ z.node) }
 
   -- the body of a definition stands right in the region that its head turns on

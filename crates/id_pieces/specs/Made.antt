@@ -4,6 +4,7 @@ use Rattle.std.specs.Prelude.{List, [], ◌∷◌, ◌++◌, map, length, slice_
 use Rattle.std.specs.Bool.{beq}
 use Rattle.id_table.specs.declared.row.Node.{Node}
 use Rattle.id_table.specs.declared.row.Node.TheVariants.{LoopHead, Start, Variable, Entries, Turn}
+use Rattle.id_table.specs.declared.row.Node.TheVariants.{Bounds, Carried, Count}
 use Rattle.id_check.specs.declared.checked.Checked.{Checked}
 use Rattle.id_check.specs.Programs.{rows}
 use Rattle.id_desugar.specs.Regions.{imports_of}
@@ -50,10 +51,13 @@ arc_of firsts n f = arc_to firsts f.origin (number_by firsts n f.part) f.port
 
 -- whether a row of this node is a marker of a loop that has instructions
 abbrev pub is_of_loop : Node → Bool
+is_of_loop (Bounds a b) = true
 is_of_loop Start = true
 is_of_loop (LoopHead t) = true
+is_of_loop (Carried k) = true
 is_of_loop Variable = true
 is_of_loop Entries = true
+is_of_loop Count = true
 is_of_loop Turn = true
 is_of_loop _ = false
 

@@ -1,12 +1,15 @@
 -- What each row makes: its instructions, and what feeds them, by cases on the row (docs/GRAPH.md, "Schemas").
 use Rattle.std.specs.Prelude.{◌≡◌, ◌<◌, ℕ, zero, suc, ◌+◌, ◌-◌, ◌==◌, Bool as Truth, true, false, if◌then◌else◌, ◌&&◌}
+use Rattle.std.specs.Prelude.{pos}
 use Rattle.std.specs.Prelude.{List, [], ◌∷◌, ◌++◌, length, map, Option, None, Some, unwrap_or}
 use Rattle.std.specs.Bool.{beq}
 use Rattle.id_value.specs.declared.Kind.{Kind}
 use Rattle.id_value.specs.declared.Kind.TheVariants as kind
 use Rattle.id_value.specs.declared.BinaryOp.{BinaryOp}
 use Rattle.id_value.specs.declared.BinaryOp.TheVariants as class
-use Rattle.id_value.specs.declared.Comparison.TheVariants.{Eq, Ne}
+use Rattle.id_value.specs.declared.Comparison.TheVariants.{Eq, Ne, Lt, Le}
+use Rattle.id_value.specs.declared.Arithmetic.TheVariants.{Add}
+use Rattle.id_value.specs.declared.Constant.TheVariants as constant
 use Rattle.id_value.specs.declared.Logic.TheVariants as logic
 use Rattle.id_value.specs.declared.Truth.TheVariants.{Eqb, Neb, And, Or}
 use Rattle.id_table.specs.declared.row.Region.{Region}
@@ -16,6 +19,7 @@ use Rattle.id_table.specs.declared.row.Node.TheVariants.{Unary as UnaryNode, Bin
 use Rattle.id_table.specs.declared.row.Node.TheVariants.{Split, If, Enter, Arg, Call, Block, Binding, Def, Program}
 use Rattle.id_table.specs.declared.row.Node.TheVariants.{Start, LoopHead, Variable, Entries, Switches, Turn, NextUse}
 use Rattle.id_table.specs.declared.row.Node.TheVariants.{Next, Body, Reset, Loop, Array, Fetch, Address, Store}
+use Rattle.id_table.specs.declared.row.Node.TheVariants.{Bounds, Carried, Within, Count, Index, Span}
 use Rattle.id_table.specs.Rows.{at}
 use Rattle.id_table.specs.Tables.{is_param}
 use Rattle.id_table.specs.Turns.{params_at}
@@ -24,7 +28,7 @@ use Rattle.id_check.specs.Programs as checked
 use Rattle.id_check.specs.Programs.{binder, rows, place, region}
 use Rattle.id_desugar.specs.Ends.{end_of}
 pub use Rattle.id_desugar.specs.Ends.{next_of}
-use Rattle.id_desugar.specs.Regions.{imports_of, nexts_of}
+use Rattle.id_desugar.specs.Regions.{carried, first_variable, has_index, imports_of, nexts_of}
 use Rattle.id_instr.specs.declared.instr.Op.{Op}
 use Rattle.id_instr.specs.declared.instr.Op.TheVariants.{Const, Unary, Binary, Merge, Switch, Back}
 use Rattle.id_instr.specs.declared.instr.Op.TheVariants.{Enter as EnterOp, Send, Next as NextOp, Reset as ResetOp}
@@ -99,7 +103,7 @@ param_of P e i = param_at P (called P e + 1 + i)
 
 -- the row of the entries of the names that the loop with this head imports: they are behind those of its variables
 abbrev pub entries_row : Checked → ℕ → ℕ
-entries_row P h = h + 1 + length (nexts_of P h)
+entries_row P h = first_variable P h + length (nexts_of P h)
 
 -- an entry of a block: the merge that is this part of this row, which takes the values of this binder
 pub record Entry : Type 0 where
@@ -120,9 +124,13 @@ abbrev pub import_entries : ℕ → ℕ → List ℕ → List Entry
 import_entries e k [] = []
 import_entries e k (b ∷ bs) = record { binder = b; row = e; part = k } ∷ import_entries e (k + 1) bs
 
--- the entries of a loop: its variables, in the order of their `next` statements, and then its imports
+-- the entries of a loop: what it carries on beside its variables, these in the order of their `next` statements, and
+-- then its imports
 abbrev pub loop_entries : Checked → ℕ → List Entry
-loop_entries P h = variable_entries (h + 1) (nexts_of P h) ++ import_entries (entries_row P h) 0 (imports_of P h)
+loop_entries P h =
+    map param_entry (carried P h)
+    ++ (variable_entries (first_variable P h) (nexts_of P h)
+    ++ import_entries (entries_row P h) 0 (imports_of P h))
 
 -- the entries of the block whose head is at the row h with this node: of a procedure its parameters
 abbrev pub entries_by : Checked → ℕ → Node → List Entry
@@ -137,9 +145,10 @@ abbrev pub switches_at : Node → ℕ
 switches_at (Loop h w l) = w
 switches_at _ = 0
 
--- the row of what hands the trigger and the imports of the loop with this head on, right behind its switches
+-- the row of what hands the trigger and the imports of the loop with this head on: right behind its switches, or, where
+-- it has an index, behind what counts
 abbrev pub turn_row : Checked → ℕ → ℕ
-turn_row P h = switches_at (node P (end_of P h)) + 1
+turn_row P h = switches_at (node P (end_of P h)) + (if has_index P h then 2 else 1)
 
 -- the row of the `NextUse` of the `next` statement at a row of this node
 abbrev pub outer_at : Node → ℕ
@@ -191,17 +200,27 @@ made_of P n e (If s x y) = piece (Plain (Merge (port_at P n))) e ∷ []
 made_of P n e (Enter x) = piece (EnterAt (called P n) (end_of P n)) e ∷ []
 made_of P n e (Arg s i v) = send_to P e (param_entry (param_of P s i)) ∷ []
 made_of P n e (Call s c) = piece (Plain (Merge (port_at P n))) e ∷ []
+made_of P n e (Bounds a b) =
+    piece (Plain (Binary (dyadic.Comparison Le))) e ∷ piece (Plain (Switch Int)) e ∷ []
 made_of P n e Start = piece (EnterAt (n + 1) (end_of P (n + 1))) e ∷ map (send_to P e) (loop_entries P (n + 1))
 made_of P n e (LoopHead s) =
     piece (Plain (Merge Signal)) e ∷ piece (Plain (Back (port_at P (end_of P n)))) e ∷ []
+made_of P n e (Carried k) = piece (Plain (Merge (port_of k))) e ∷ []
 made_of P n e Variable = piece (Plain (Merge (port_at P (next_of P n)))) e ∷ []
 made_of P n e Entries = for_each P Merge e (imports_of P (block P n))
+made_of P n e (Within f) = []
 made_of P n e (Switches t) = piece (Plain (Switch Signal)) e ∷ switches P e (imports_of P n)
-made_of P n e Turn = piece (Plain (NextOp Signal)) e ∷ for_each P NextOp e (imports_of P (block P n))
+made_of P n e Count =
+    piece (Plain (Binary (dyadic.Comparison Lt))) e ∷ piece (Plain (Switch Signal)) e ∷ piece (Plain (Switch Int)) e
+    ∷ piece (Plain (Const (constant.Int (pos 1)))) e ∷ piece (Plain (Binary (dyadic.Arithmetic Add))) e ∷ []
+made_of P n e Turn =
+    let h = block P n in piece (Plain (NextOp Signal)) e ∷ for_each P NextOp e (carried P h ++ imports_of P h)
+made_of P n e (Index x) = []
 made_of P n e (NextUse x) = []
 made_of P n e (Next x k o v) = piece (Plain (NextOp (port_at P n))) e ∷ []
 made_of P n e Body = []
 made_of P n e (Reset v) = piece (Plain (ResetOp (port_at P v))) e ∷ []
+made_of P n e Span = []
 made_of P n e (Loop h w l) = piece (Plain (Merge (port_at P n))) e ∷ []
 made_of P n e (Array a b) = piece (Plain Alloc) e ∷ []
 made_of P n e (Fetch t i) = piece (Plain AddressOp) e ∷ piece (FetchAt n) e ∷ piece (Plain (Merge Int)) e ∷ []
@@ -236,14 +255,25 @@ abbrev pub slot_of : List ℕ → ℕ → ℕ
 slot_of [] b = 0
 slot_of (x ∷ xs) b = if x == b then 0 else slot_of xs b + 1
 
--- the row of the label of the binder at the row b, in the block h with this node: a loop's variable has it at its entry
+-- the row of the label of the binder at the row b, in the block h with this node: a loop's variable has it at its
+-- entry, and so has its index, at the first one
 abbrev pub label_by : ℕ → ℕ → Node → ℕ
 label_by h b (Next x k o v) = h + 1 + k
+label_by h b (Index x) = h + 1
 label_by h b _ = b
 
 -- the row of the label of a binder
 abbrev pub label : Checked → ℕ → ℕ
 label P b = label_by (block P b) b (node P b)
+
+-- the row in whose region a binder has what its label gives: that of the label, but of an index its own, since the
+-- entry of an index has a value in no other iteration than those that go on
+abbrev pub home_by : ℕ → ℕ → Node → ℕ
+home_by h b (Next x k o v) = h + 1 + k
+home_by h b _ = b
+
+abbrev pub home : Checked → ℕ → ℕ
+home P b = home_by (block P b) b (node P b)
 
 -- where a region's head, of this node, hands in the value of a binder: a loop's by an entry, else by the switch of the
 -- binder on the region's side
@@ -252,11 +282,11 @@ handed_by P r b (LoopHead s) =
     record { row = entries_row P r.head; part = slot_of (imports_of P r.head) b; side = true }
 handed_by P r b _ = record { row = r.head; part = slot_of (imports_of P r.head) b + 1; side = r.side }
 
--- where the value of a binder comes from in a region: from its label in the label's own, else from what the head hands
+-- where the value of a binder comes from in a region: from its label in the binder's own, else from what the head hands
 -- in
 abbrev pub name_in : Checked → Region → ℕ → Origin
 name_in P r b =
-    if same_region (region P (label P b)) r
+    if same_region (region P (home P b)) r
     then output (label P b)
     else handed_by P r b (node P r.head)
 
@@ -285,11 +315,30 @@ abbrev pub import_feeds : Checked → Origin → Region → ℕ → List ℕ →
 import_feeds P s r k [] = []
 import_feeds P s r k (b ∷ bs) = feed s k Zero ∷ feed (name_in P r b) k One ∷ import_feeds P s r (k + 1) bs
 
--- what feeds the entries of a loop's imports, from the part k on, where this row hands them on: the part behind, since
--- its first hands the trigger on
-abbrev pub entry_feeds : ℕ → ℕ → List ℕ → List Feed
-entry_feeds n k [] = []
-entry_feeds n k (b ∷ bs) = feed (record { row = n; part = k + 1; side = true }) k Zero ∷ entry_feeds n (k + 1) bs
+-- this part of a row, on its true side
+abbrev pub part_of : ℕ → ℕ → Origin
+part_of n k = record { row = n; part = k; side = true }
+
+-- what feeds the entries of a loop's imports, from the part k on, where this row hands them on, from its part j on
+abbrev pub entry_feeds : ℕ → ℕ → ℕ → List ℕ → List Feed
+entry_feeds n j k [] = []
+entry_feeds n j k (b ∷ bs) = feed (part_of n j) k Zero ∷ entry_feeds n (j + 1) (k + 1) bs
+
+-- what feeds the `send`s of the loop whose `Start` is at the row n to the entries of what it carries on: of an index
+-- the first one, where there is one, of its upper bound that, and of the flag whether there is a first one
+abbrev pub bounds_feeds : Checked → ℕ → Node → List Feed
+bounds_feeds P n (Bounds a b) =
+    feed (output n) 1 Zero ∷ feed (part_of (n - 1) 1) 1 One ∷ feed (output n) 2 Zero ∷ feed (origin P b) 2 One
+    ∷ feed (output n) 3 Zero ∷ feed (output (n - 1)) 3 One ∷ []
+bounds_feeds P n _ = []
+
+-- what feeds the parts of the row n, in the region r, that hand what the loop with the head h carries on: of an index
+-- the next one, of its upper bound that, and of the flag whether there is a next one
+abbrev pub carried_feeds : Checked → ℕ → Region → ℕ → List Feed
+carried_feeds P n r h =
+    if has_index P h
+    then (feed (part_of (n - 1) 4) 1 Zero ∷ feed (name_in P r (h + 2)) 2 Zero ∷ feed (output (n - 1)) 3 Zero ∷ [])
+    else []
 
 -- what feeds the parts that hand them on, from the part k on: each name as the region r has it
 abbrev pub turn_feeds : Checked → Region → ℕ → List ℕ → List Feed
@@ -310,17 +359,33 @@ feeds_of P n r (If s x y) = feed (origin P x) 0 Zero ∷ feed (origin P y) 0 Zer
 feeds_of P n r (Enter x) = feed (trigger_of r) 0 Zero ∷ []
 feeds_of P n r (Arg s i v) = feed (output s) 0 Zero ∷ feed (origin P v) 0 One ∷ []
 feeds_of P n r (Call s c) = []
-feeds_of P n r Start = feed (trigger_of r) 0 Zero ∷ import_feeds P (output n) r 1 (entering P (n + 1))
-feeds_of P n r (LoopHead s) = feed (output (turn_row P n)) 0 Zero ∷ feed (output (end_of P n - 1)) 1 One ∷ []
+feeds_of P n r (Bounds a b) =
+    feed (origin P a) 0 Zero ∷ feed (origin P b) 0 One ∷ feed (output n) 1 Zero ∷ feed (origin P a) 1 One ∷ []
+feeds_of P n r Start =
+    feed (trigger_of r) 0 Zero ∷ bounds_feeds P n (node P (n - 1))
+    ++ import_feeds P (output n) r (1 + length (carried P (n + 1))) (entering P (n + 1))
+feeds_of P n r (LoopHead s) = feed (output (turn_row P n)) 0 Zero ∷ feed (output (end_of P n - 2)) 1 One ∷ []
+feeds_of P n r (Carried k) = let h = block P n in feed (part_of (turn_row P h) (n - h)) 0 Zero ∷ []
 feeds_of P n r Variable = feed (output (next_of P n)) 0 Zero ∷ []
-feeds_of P n r Entries = entry_feeds (turn_row P (block P n)) 0 (imports_of P (block P n))
+feeds_of P n r Entries =
+    let h = block P n in entry_feeds (turn_row P h) (1 + length (carried P h)) 0 (imports_of P h)
+feeds_of P n r (Within f) = []
 feeds_of P n r (Switches t) =
     feed (origin P t) 0 Zero ∷ feed (trigger_of r) 0 One ∷ import_feeds P (origin P t) r 1 (imports_of P n)
-feeds_of P n r Turn = feed (trigger_of r) 0 Zero ∷ turn_feeds P r 1 (imports_of P (block P n))
+feeds_of P n r Count =
+    let x = output (block P n + 1) in
+    feed x 0 Zero ∷ feed (name_in P r (block P n + 2)) 0 One
+    ∷ feed (output n) 1 Zero ∷ feed (trigger_of r) 1 One ∷ feed (output n) 2 Zero ∷ feed x 2 One
+    ∷ feed (part_of n 1) 3 Zero ∷ feed (part_of n 2) 4 Zero ∷ feed (part_of n 3) 4 One ∷ []
+feeds_of P n r Turn =
+    let h = block P n in
+    feed (trigger_of r) 0 Zero ∷ carried_feeds P n r h ++ turn_feeds P r (1 + length (carried P h)) (imports_of P h)
+feeds_of P n r (Index x) = []
 feeds_of P n r (NextUse x) = []
 feeds_of P n r (Next x k o v) = feed (origin P v) 0 Zero ∷ []
 feeds_of P n r Body = []
 feeds_of P n r (Reset v) = feed (origin P v) 0 Zero ∷ []
+feeds_of P n r Span = []
 feeds_of P n r (Loop h w l) = []
 feeds_of P n r (Array a b) = feed (origin P a) 0 Zero ∷ feed (origin P b) 0 One ∷ []
 feeds_of P n r (Fetch t i) = feed (origin P t) 0 Zero ∷ feed (origin P i) 0 One ∷ feed (output n) 1 Zero ∷ []

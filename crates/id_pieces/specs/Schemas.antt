@@ -13,8 +13,8 @@ use Rattle.id_instr.specs.declared.instr.Block.{Block}
 use Rattle.id_instr.specs.Graph.{Parts, IsPort, arcs_on}
 use Rattle.id_pieces.specs.declared.arc.Origin.{Origin}
 use Rattle.id_pieces.specs.declared.arc.Form.{Form}
-use Rattle.id_desugar.specs.Regions.{is_loop_head, those}
-use Rattle.id_pieces.specs.Rows.{answer_row, entries, feed, feeds, made, node, op_by, piece}
+use Rattle.id_desugar.specs.Regions.{loop_heads}
+use Rattle.id_pieces.specs.Rows.{answer_row, entries, feed, feeds, made, op_by, piece}
 
 -- the part k of the row n is an instruction with this form of operator and this place
 pub record Makes (P : Checked) (n k : ℕ) (f : Form) (e : ℕ) : Type 0 where
@@ -67,14 +67,10 @@ pub record IsArc (P : Checked) (number : ℕ → ℕ → ℕ) (m : ℕ) (side : 
   pub from : number origin.row origin.part ≡ m
   pub goes : number row part ≡ to.instr
 
--- the heads of the loops among the first n rows
-abbrev pub loop_heads_below : Checked → ℕ → List ℕ
-loop_heads_below P n = those (λ i. is_loop_head (node P i)) n
-
 -- the heads of all blocks: those of the procedures, in order of definition, and then those of the loops, in order of
 -- place
 abbrev pub all_heads : Checked → List ℕ
-all_heads P = heads_of (rows P) ++ loop_heads_below P (length (rows P))
+all_heads P = heads_of (rows P) ++ loop_heads P
 
 -- the block with this head, and its entries in order: the labels of a procedure's parameters, or of a loop's variables,
 -- and then the entries of its imports

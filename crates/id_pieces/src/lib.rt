@@ -19,6 +19,6 @@ pub use arc::{Arc, Feed, Form, Origin, Piece};
 pub use calls::is_param;
 pub use columns::Columns;
 pub use error::BuildError;
-pub use loops::{entries_row, first_binder, label, nexts_at, turn_row};
+pub use loops::{entries_row, first_binder, home, label, nexts_at, turn_row};
 pub use pieces::push_pieces;
 pub use slots::{Slots, find_slots, slot_of};

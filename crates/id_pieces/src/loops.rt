@@ -5,15 +5,16 @@ ghost use Rattle.id_check.specs.Programs as programs;
 ghost use Rattle.id_desugar.specs.Ends.{end_of};
 ghost use Rattle.id_desugar.specs.Regions.{is_loop_head, nexts_of};
 ghost use Rattle.id_pieces.specs.Rows as rows;
-ghost use Rattle.id_pieces.specs.Rows.{first_binder, entries_row, label, outer_at, switches_at, turn_row};
+ghost use Rattle.id_pieces.specs.Rows.{first_binder, entries_row, home, label, outer_at, switches_at, turn_row};
 ghost use Rattle.id_pieces.specs.Slots.{AreColumns};
 
 use crate::columns::Columns;
 use id_check::Checked;
-use id_desugar::{binder_at, row_at};
+use id_desugar::{binder_at, first_variable, has_index, row_at};
 use id_table::Node;
 
-/// The `next` statements of the loop with this head, by index: the first of what its switches hand on.
+/// The `next` statements of the loop with this head, in order: the first of what its switches hand on, but for the
+/// upper bound of its index.
 pub fn nexts_at<'a>(checked: &Checked, columns: Columns<'a>, head: usize) -> &'a [u32]
     requires columns { AreColumns checked.now columns }
     requires head { is_loop_head (rows.node checked.now head) ≡ true }
@@ -22,7 +23,8 @@ pub fn nexts_at<'a>(checked: &Checked, columns: Columns<'a>, head: usize) -> &'a
 {
     let handed = columns.imports(checked, switches_row(checked, columns, head));
     let inner = columns.imports(checked, head);
-    &handed[..handed.len() - inner.len()]
+    let first = if has_index(checked, head) { 1 } else { 0 };
+    &handed[first..handed.len() - inner.len()]
 }
 
 /// The row of the entries of what the loop with this head imports.
@@ -31,7 +33,7 @@ pub fn entries_row(checked: &Checked, columns: Columns<'_>, head: usize) -> usiz
     requires head { is_loop_head (rows.node checked.now head) ≡ true }
     ensures { result ≡ entries_row checked.now head }
 {
-    head + 1 + nexts_at(checked, columns, head).len()
+    first_variable(checked, head) + nexts_at(checked, columns, head).len()
 }
 
 /// The row of the switches of the loop with this head.
@@ -50,7 +52,8 @@ pub fn turn_row(checked: &Checked, columns: Columns<'_>, head: usize) -> usize
     requires within { head < length (programs.rows checked.now) }
     ensures { result ≡ turn_row checked.now head }
 {
-    switches_row(checked, columns, head) + 1
+    let behind = if has_index(checked, head) { 2 } else { 1 };
+    switches_row(checked, columns, head) + behind
 }
 
 /// The switches of the loop that ends at a row of this node.
@@ -83,6 +86,18 @@ fn outer_at(node: Node) -> usize
 /// The row of the label of a binder.
 pub fn label(checked: &Checked, binder: usize) -> usize
     ensures { result ≡ label checked.now binder }
+{
+    let row = row_at(checked, binder);
+    match row.node {
+        Node::Next { index, .. } => row.block as usize + 1 + index as usize,
+        Node::Index { .. } => row.block as usize + 1,
+        _ => binder,
+    }
+}
+
+/// The row in whose region a binder has what its label gives.
+pub fn home(checked: &Checked, binder: usize) -> usize
+    ensures { result ≡ home checked.now binder }
 {
     let row = row_at(checked, binder);
     match row.node {

@@ -1,17 +1,21 @@
 //! The instructions of a row (docs/GRAPH.md, "Schemas").
 
-ghost use Rattle.std.specs.Prelude.{[], ◌∷◌, ◌≡◌, ◌++◌, ◌<◌, ◌^◌, length, map, false, true, IfErr, OnOk};
+ghost use Rattle.std.specs.Prelude.{[], ◌∷◌, ◌≡◌, ◌++◌, ◌<◌, ◌^◌, pos, length, map, false, true, IfErr, OnOk};
 ghost use Rattle.id_check.specs.Programs as programs;
 ghost use Rattle.id_table.specs.Tables.{is_thing};
 ghost use Rattle.id_table.specs.declared.row.Node.TheVariants.{Start};
-ghost use Rattle.id_desugar.specs.Regions.{is_loop_head};
+ghost use Rattle.id_desugar.specs.Regions.{carried, is_loop_head};
+ghost use Rattle.id_value.specs.declared.Arithmetic.TheVariants.{Add};
+ghost use Rattle.id_value.specs.declared.Comparison.TheVariants.{Lt, Le};
+ghost use Rattle.id_value.specs.declared.Constant.TheVariants as constant;
+ghost use Rattle.id_instr.specs.declared.instr.Dyadic.TheVariants as dyadic;
 ghost use Rattle.id_pieces.specs.Made.{is_of_loop};
 ghost use Rattle.id_pieces.specs.Rows.{for_each, import_entries, loop_entries, made, made_of, result_of, send_to};
-ghost use Rattle.id_pieces.specs.Rows.{switches, variable_entries};
+ghost use Rattle.id_pieces.specs.Rows.{param_entry, switches, variable_entries};
 ghost use Rattle.id_pieces.specs.Rows as rows;
 ghost use Rattle.id_pieces.specs.Slots.{AreColumns};
 ghost use Rattle.id_pieces.specs.declared.arc.Form.TheVariants.{Plain, EnterAt, FetchAt};
-ghost use Rattle.id_instr.specs.declared.instr.Op.TheVariants.{Merge, Back, Next, Switch, Address};
+ghost use Rattle.id_instr.specs.declared.instr.Op.TheVariants.{Merge, Back, Next, Switch, Address, Binary, Const};
 ghost use Rattle.id_instr.specs.declared.instr.PortKind.TheVariants.{Signal, Int};
 
 use crate::arc::{Form, Piece};
@@ -21,10 +25,10 @@ use crate::error::BuildError;
 use crate::loops::{entries_row, nexts_at};
 use crate::operators::{binary_op, port_at, port_of};
 use id_check::Checked;
-use id_desugar::row_at;
-use id_instr::{Op, PortKind};
+use id_desugar::{carried_count, first_variable, row_at};
+use id_instr::{Dyadic, Op, PortKind};
 use id_table::Node;
-use id_value::Kind;
+use id_value::{Arithmetic, Comparison, Constant, Kind};
 
 /// Adds the instructions of the row n.
 pub fn push_pieces(
@@ -68,7 +72,7 @@ fn push_row(
             Op::Binary(binary_op(op, port_at(checked, left))),
             place,
         ),
-        Node::Name { .. } | Node::Block { .. } | Node::Def { .. } => Ok(()),
+        Node::Name { .. } | Node::Block { .. } | Node::Index { .. } | Node::Def { .. } => Ok(()),
         Node::Next { .. } => push(pieces, Op::Next(port_at(checked, n)), place),
         Node::Loop { .. } => push(pieces, Op::Merge(port_at(checked, n)), place),
         Node::Array { .. } => push(pieces, Op::Alloc, place),
@@ -111,7 +115,10 @@ fn push_marker(
             let param = param_of(checked, enter as usize, index as usize);
             push_send(checked, param, param, 0, place, pieces)
         }
-        Node::Start | Node::LoopHead { .. } | Node::Variable | Node::Entries | Node::Turn => {
+        Node::Bounds { .. } | Node::Start | Node::LoopHead { .. } | Node::Carried { .. } => {
+            push_of_loop(checked, columns, n, place, node, pieces)
+        }
+        Node::Variable | Node::Entries | Node::Count | Node::Turn => {
             push_of_loop(checked, columns, n, place, node, pieces)
         }
         Node::Reset { value } => push(pieces, Op::Reset(port_at(checked, value)), place),
@@ -139,10 +146,13 @@ fn push_of_loop(
     ensures memory { IfErr result (λ e. e ≡ BuildError.Memory) }
 {
     match node {
+        Node::Bounds { .. } => push_bounds(place, pieces),
         Node::Start => push_start(checked, columns, n, place, pieces),
         Node::LoopHead { .. } => {
             push_head(port_at(checked, columns.end(checked, n)), place, pieces)
         }
+        Node::Carried { kind } => push(pieces, Op::Merge(port_of(kind)), place),
+        Node::Count => push_count(place, pieces),
         Node::Variable => {
             let next = columns.next(checked, n);
             push(pieces, Op::Merge(port_at(checked, next)), place)
@@ -153,7 +163,7 @@ fn push_of_loop(
         }
         Node::Turn => {
             let head = row_at(checked, n).block as usize;
-            push_turn(checked, columns.imports(checked, head), place, pieces)
+            push_turn(checked, columns.imports(checked, head), head, place, pieces)
         }
         _ => Ok(()),
     }
@@ -209,18 +219,55 @@ fn push_entries(
     Ok(())
 }
 
-/// Adds what hands the trigger and these imports of a loop on to the next iteration.
+/// Adds what tells whether a loop with an index has a first one, and the switch of that.
+fn push_bounds(place: usize, pieces: &mut Vec<Piece>) -> Result<(), BuildError>
+    ensures pieces { OnOk result (pieces.new.items ≡ pieces.old.items
+        ++ rows.piece (Plain (Binary (dyadic.Comparison Le))) place
+        ∷ rows.piece (Plain (Switch Int)) place ∷ []) }
+    ensures memory { IfErr result (λ e. e ≡ BuildError.Memory) }
+{
+    let within = Op::Binary(Dyadic::Comparison(Comparison::Le));
+    push(pieces, within, place)?;
+    push(pieces, Op::Switch(PortKind::Int), place)
+}
+
+/// Adds what tells whether a loop with an index has a next one, and what gives that.
+fn push_count(place: usize, pieces: &mut Vec<Piece>) -> Result<(), BuildError>
+    ensures pieces { OnOk result (pieces.new.items ≡ pieces.old.items
+        ++ rows.piece (Plain (Binary (dyadic.Comparison Lt))) place
+        ∷ rows.piece (Plain (Switch Signal)) place ∷ rows.piece (Plain (Switch Int)) place
+        ∷ rows.piece (Plain (Const (constant.Int (pos 1)))) place
+        ∷ rows.piece (Plain (Binary (dyadic.Arithmetic Add))) place ∷ []) }
+    ensures memory { IfErr result (λ e. e ≡ BuildError.Memory) }
+{
+    let below = Op::Binary(Dyadic::Comparison(Comparison::Lt));
+    push(pieces, below, place)?;
+    push(pieces, Op::Switch(PortKind::Signal), place)?;
+    push(pieces, Op::Switch(PortKind::Int), place)?;
+    push(pieces, Op::Const(Constant::Int(1)), place)?;
+    let add = Op::Binary(Dyadic::Arithmetic(Arithmetic::Add));
+    push(pieces, add, place)
+}
+
+/// Adds what hands the trigger, what the loop with this head carries on, and these imports on to the next iteration.
 fn push_turn(
     checked: &Checked,
     imports: &[u32],
+    head: usize,
     place: usize,
     pieces: &mut Vec<Piece>,
 ) -> Result<(), BuildError>
+    requires head { head < length (programs.rows checked.now) }
     ensures pieces { OnOk result (pieces.new.items ≡ pieces.old.items
-        ++ rows.piece (Plain (Next Signal)) place ∷ for_each checked.now Next place imports.now) }
+        ++ rows.piece (Plain (Next Signal)) place
+        ∷ for_each checked.now Next place (carried checked.now head ++ imports.now)) }
     ensures memory { IfErr result (λ e. e ≡ BuildError.Memory) }
 {
     push(pieces, Op::Next(PortKind::Signal), place)?;
+    for part in 0..carried_count(checked, head) {
+        let entry = head + 1 + part;
+        push(pieces, Op::Next(port_at(checked, entry)), place)?;
+    }
     for import in imports {
         push(pieces, Op::Next(port_at(checked, *import as usize)), place)?;
     }
@@ -261,8 +308,10 @@ fn push_sends(
         ≡ pieces.old.items ++ map (send_to checked.now place) (loop_entries checked.now head)) }
     ensures memory { IfErr result (λ e. e ≡ BuildError.Memory) }
 {
+    push_carried_sends(checked, head, place, pieces)?;
     let nexts = nexts_at(checked, columns, head);
-    push_variable_sends(checked, nexts, head + 1, place, pieces)?;
+    let first = first_variable(checked, head);
+    push_variable_sends(checked, nexts, first, place, pieces)?;
     let entries = entries_row(checked, columns, head);
     push_import_sends(
         checked,
@@ -271,6 +320,25 @@ fn push_sends(
         place,
         pieces,
     )
+}
+
+/// Adds the `send`s to the entries of what the loop with this head carries on beside its variables.
+fn push_carried_sends(
+    checked: &Checked,
+    head: usize,
+    place: usize,
+    pieces: &mut Vec<Piece>,
+) -> Result<(), BuildError>
+    requires head { head < length (programs.rows checked.now) }
+    ensures pieces { OnOk result (pieces.new.items
+        ≡ pieces.old.items ++ map (send_to checked.now place) (map param_entry (carried checked.now head))) }
+    ensures memory { IfErr result (λ e. e ≡ BuildError.Memory) }
+{
+    for part in 0..carried_count(checked, head) {
+        let entry = head + 1 + part;
+        push_send(checked, entry, entry, 0, place, pieces)?;
+    }
+    Ok(())
 }
 
 /// Adds the `send`s to the entries of the variables with these `next` statements, which are the rows from this one on.

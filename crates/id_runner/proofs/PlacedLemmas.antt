@@ -1,17 +1,20 @@
 -- The facts and the instructions of a source stand at places of its program, and those lie in its text.
-use Rattle.std.proofs.Common.{◌≡◌, ℕ, Bool, zero, suc, ◌+◌, ◌<◌, ◌≤◌, true, false, List, [], ◌∷◌, All, length, map}
+use Rattle.std.proofs.Common.{◌≡◌, ℕ, Bool, zero, suc, ◌+◌, ◌-◌, ◌<◌, ◌≤◌, true, false, List, [], ◌∷◌, ◌++◌, All, length, map, inl, inr}
 use Rattle.std.proofs.Common.{Option, Some, None, refl, sym, ap, subst, ◌∙◌, arith}
 use Rattle.std.specs.Prelude.{get_or, slice_get, IfSome}
+use Rattle.std.proofs.lemmas.Bool.{cases_eq}
+use Rattle.id_value.specs.declared.Kind.{Kind}
 use Rattle.std.proofs.lemmas.Option.{slice_get-get_or}
 use Rattle.id_list.proofs.AmongLemmas.{Among-from_at}
 use Rattle.id_table.specs.declared.row.Node.{Node}
 use Rattle.id_table.specs.declared.row.Node.TheVariants.{Head, Param, Literal, Name, Unary, Binary, Split, If, Enter, Arg, Call, Block, Binding, Def, Program}
 use Rattle.id_table.specs.declared.row.Node.TheVariants.{Start, LoopHead, Variable, Entries, Switches, Turn, NextUse, Next, Body, Reset, Loop}
 use Rattle.id_table.specs.declared.row.Node.TheVariants.{Array as ArrayRow, Fetch, Address, Store}
+use Rattle.id_table.specs.declared.row.Node.TheVariants.{Bounds, Carried, Within, Count, Index, Span}
 use Rattle.id_table.specs.Stores.{IsStoreOf}
-use Rattle.id_table.specs.Tables.{is_thing, is_variable}
+use Rattle.id_table.specs.Tables.{is_carried, is_thing, is_variable}
 use Rattle.id_table.specs.Calls.{IsArgIn, IsCallOf}
-use Rattle.id_table.specs.Loops.{IsLoopOf}
+use Rattle.id_table.specs.Loops.{AreBounds, Begins, IsLoopOf, IsTurn, behind_count, index_row, plainly, right, with_bounds}
 use Rattle.id_table.specs.Regions.{IsIfOf}
 use Rattle.id_table.specs.Turns.{IsDefOf}
 use Rattle.id_check.specs.declared.checked.Checked.{Checked}
@@ -44,7 +47,8 @@ use Rattle.id_source.proofs.CheckedLemmas.{placed_of}
 use Rattle.id_source.proofs.PlacedLemmas.{IsPoint, IsSite, Placed, PlacedFault, PlacedValue, round_placed, holds_placed, fault_placed}
 use Rattle.id_pieces.specs.declared.arc.Form.{Form}
 use Rattle.id_pieces.specs.declared.arc.Piece.{Piece}
-use Rattle.id_desugar.specs.Regions.{imports_of}
+use Rattle.id_desugar.specs.Regions.{carried, imports_of}
+use Rattle.id_pieces.proofs.EndsLemmas.{not_last}
 use Rattle.id_pieces.specs.Rows.{Entry, block, for_each, loop_entries, made_of, node, piece, send_to}
 use Rattle.id_pieces.specs.Schemas.{Makes, Schemas}
 use Rattle.id_check.proofs.ProgramsLemmas.{table_of}
@@ -61,7 +65,7 @@ use Rattle.id_names.specs.Within.{ReportWithin}
 use Rattle.id_compile.specs.Programs.{IsPlacedWithin}
 use Rattle.id_runner.specs.Reports.{SaysTruly, IsTrueOf}
 
--- a piece of a list of one or two, which have one place, has it
+-- a piece of a list of a few, which have one place, has it
 one_place : (a : Piece) (k : ℕ) (f : Form) (e : ℕ) → slice_get (a ∷ []) k ≡ Some (piece f e) → e ≡ a.place
 one_place a zero f e h = let is : a ≡ piece f e = cc in sym (ap (λ (p : Piece). p.place) is)
 one_place a (suc k) f e h = absurd cc
@@ -73,6 +77,12 @@ two_place a b (suc k) f e same h = one_place b k f e h ∙ same
 three_place : (a b c : Piece) (k : ℕ) (f : Form) (e : ℕ) → b.place ≡ a.place → c.place ≡ a.place → slice_get (a ∷ b ∷ c ∷ []) k ≡ Some (piece f e) → e ≡ a.place
 three_place a b c zero f e same also h = let is : a ≡ piece f e = cc in sym (ap (λ (p : Piece). p.place) is)
 three_place a b c (suc k) f e same also h = two_place b c k f e (also ∙ sym same) h ∙ same
+
+five_place : (a b c d g : Piece) (k : ℕ) (f : Form) (e : ℕ) → b.place ≡ a.place → c.place ≡ a.place → d.place ≡ a.place → g.place ≡ a.place
+    → slice_get (a ∷ b ∷ c ∷ d ∷ g ∷ []) k ≡ Some (piece f e) → e ≡ a.place
+five_place a b c d g zero f e second third fourth last h = let is : a ≡ piece f e = cc in sym (ap (λ (p : Piece). p.place) is)
+five_place a b c d g (suc zero) f e second third fourth last h = let is : b ≡ piece f e = cc in sym (ap (λ (p : Piece). p.place) is) ∙ second
+five_place a b c d g (suc (suc k)) f e second third fourth last h = three_place c d g k f e (fourth ∙ sym third) (last ∙ sym third) h ∙ third
 
 the_piece : (a c : Piece) → Some a ≡ Some c → a ≡ c
 the_piece a c h = cc
@@ -161,6 +171,24 @@ module _ {size : ℕ} {P : Checked} (h : IsPlacedWithin size P) where
       let d : IsStoreOf (rows P) c.0 n = c.1 in
       subst (λ (q : ℕ). q ≤ size) (sym ((table_of P).address_of c.0 n d).place) (thing_within c.0 d.within (ap is_thing d.node))
 
+  -- the `Turn` is behind the switches, and behind what counts where a loop has an index; the bounds of one stand before
+  turns_behind : {w t c : ℕ} → IsTurn (rows P) w t c → w < t
+  turns_behind (right e) = omega (arith, e)
+  turns_behind (behind_count e count index) = omega (arith, e)
+
+  turn_behind_count : {w t c : ℕ} → IsTurn (rows P) w t c → c ≡ 3 → t ≡ w + 2
+  turn_behind_count (right e) three = absurd cc
+  turn_behind_count (behind_count e count index) three = e
+
+  -- the index is behind what counts
+  index_there : {w t c : ℕ} → IsTurn (rows P) w t c → c ≡ 3 → (x : ℕ) × (node P (index_row w) ≡ Index x) × (t ≡ w + 2)
+  index_there (right e) three = absurd cc
+  index_there (behind_count {x = x} e count index) three = (x, index, e)
+
+  its_bounds : {s n c : ℕ} → Begins (rows P) s n c → c ≡ 3 → (b : ℕ) × (b + 1 ≡ s) × AreBounds (rows P) b n
+  its_bounds (plainly e) three = absurd cc
+  its_bounds (with_bounds {c = b} e x) three = (b, e, x)
+
   -- the markers of a loop have its place
   loop_within : (n g : ℕ) → IsLoopOf (rows P) n g → place P n ≤ size
   loop_within n g c = thing_within n c.within (ap is_thing c.node)
@@ -172,7 +200,7 @@ module _ {size : ℕ} {P : Checked} (h : IsPlacedWithin size P) where
   start_within n l is =
       let c = (table_of P).start_of_loop n l is in
       let d = (table_of P).loop_is c.0 (n + 1) c.1 in
-      marker_within n c.0 d.start (loop_within c.0 (n + 1) c.1) (omega (arith, d.begins)) (d.start_of).place
+      marker_within n c.0 d.start (loop_within c.0 (n + 1) c.1) (omega (arith, d.begins)) ((d.start_of).beside).place
 
   loop_head_within : (n s : ℕ) → n < length (rows P) → node P n ≡ LoopHead s → place P n ≤ size
   loop_head_within n s l is =
@@ -196,7 +224,48 @@ module _ {size : ℕ} {P : Checked} (h : IsPlacedWithin size P) where
   turn_within n l is =
       let c = (table_of P).turn_of n l is in
       let d = (table_of P).loop_is c.0 (block P n) c.1 in
-      marker_within n c.0 ((c.1).switches + 1) (loop_within c.0 (block P n) c.1) c.2 (d.place).turn
+      marker_within n c.0 d.turn (loop_within c.0 (block P n) c.1) c.2 ((d.place).begins d.turn (omega (arith, turns_behind (d.body_is).turns)) (omega arith))
+
+  -- those of a loop with an index, but for the index's entry, which has the place of the index
+  bounds_within : (n a b : ℕ) → n < length (rows P) → node P n ≡ Bounds a b → place P n ≤ size
+  bounds_within n a b l is =
+      let c = (table_of P).bounds_of n a b l is in
+      let d = (table_of P).loop_is c.0 (n + 2) c.1 in
+      let z = its_bounds d.from c.2 in
+      marker_within n c.0 z.0 (loop_within c.0 (n + 2) c.1) (omega (arith, z.1, d.begins)) ((z.2).beside).place
+
+  index_within : (n x : ℕ) → n < length (rows P) → node P n ≡ Index x → place P n ≤ size
+  index_within n x l is = thing_within n l (ap is_thing is)
+
+  carried_within : (n : ℕ) (k : Kind) → n < length (rows P) → node P n ≡ Carried k → place P n ≤ size
+  carried_within n k l is =
+      let c = (table_of P).carried_of n l (ap is_carried is) in
+      let h = block P n in
+      let d = (table_of P).loop_is c.0 h c.1 in
+      let inner = (table_of P).block n (not_last P (table_of P) n l (λ f. (let bad : Carried k ≡ Program = sym is ∙ f in cc))) in
+      let three = c.2 in
+      let whole = loop_within c.0 h c.1 in
+      let there = index_there (d.body_is).turns three in
+      let index : place P (index_row (c.1).switches) ≤ size =
+      index_within (index_row (c.1).switches) there.0
+      (omega (arith, there.2, (d.body_is).low, (d.last_is).low, (d.last_is).ends, (c.1).within)) there.1 in
+      elim (cases_eq n h) [
+        | inl same ↦ absurd (let bad : LoopHead (h - 1) ≡ Carried k = sym (d.before_test).head ∙ ap (node P) (sym same) ∙ is in cc)
+        | inr other ↦ elim (cases_eq n (h + 1)) [
+          | inl first ↦ marker_within n (index_row (c.1).switches) (h + 1) index (sym first) ((d.place_carried).index three)
+          | inr behind ↦ elim (cases_eq n (h + 2)) [
+            | inl second ↦ marker_within n c.0 (h + 2) whole (sym second) ((d.place_carried).bound three)
+            | inr far ↦ marker_within n c.0 (h + 3) whole (omega (arith, other, behind, far, inner.0, c.3)) ((d.place_carried).flag three)
+          ]
+        ]
+      ]
+
+  count_within : (n : ℕ) → n < length (rows P) → node P n ≡ Count → place P n ≤ size
+  count_within n l is =
+      let c = (table_of P).count_of n l is in
+      let d = (table_of P).loop_is c.0 (block P n) c.1 in
+      let there = turn_behind_count (d.body_is).turns c.2 in
+      marker_within n c.0 n (loop_within c.0 (block P n) c.1) refl ((d.place).begins n (omega (arith, c.3)) (omega (arith, c.3, there)))
 
   reset_within : (n v : ℕ) → n < length (rows P) → node P n ≡ Reset v → place P n ≤ size
   reset_within n v l is =
@@ -239,7 +308,13 @@ module _ {size : ℕ} {P : Checked} (h : IsPlacedWithin size P) where
       go Variable is at = its (one_place _ k f e at) (variable_within n m.within is)
       go Entries is at = its (for_each_place P Merge (place P n) (imports_of P (block P n)) k f e at) (entries_within n m.within is)
       go (Switches t) is at = its (all_place _ _ (for_each_place P Switch (place P n) (imports_of P n)) k f e at) (switches_within n t m.within is)
-      go Turn is at = its (all_place _ _ (for_each_place P NextOp (place P n) (imports_of P (block P n))) k f e at) (turn_within n m.within is)
+      go Turn is at = its (all_place _ _ (for_each_place P NextOp (place P n) (carried P (block P n) ++ imports_of P (block P n))) k f e at) (turn_within n m.within is)
+      go (Bounds a b) is at = its (two_place _ _ k f e refl at) (bounds_within n a b m.within is)
+      go (Carried j) is at = its (one_place _ k f e at) (carried_within n j m.within is)
+      go (Within j) is at = absurd cc
+      go Count is at = its (five_place _ _ _ _ _ k f e refl refl refl refl at) (count_within n m.within is)
+      go (Index y) is at = absurd cc
+      go Span is at = absurd cc
       go (NextUse y) is at = absurd cc
       go (Next y j o v) is at = own (one_place _ k f e at) (ap is_thing is)
       go Body is at = absurd cc

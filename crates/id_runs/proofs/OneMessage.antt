@@ -1,12 +1,15 @@
 -- At most one message in flight or handled has a key, in a graph where one event alone sends for each.
-use Rattle.std.proofs.Common.{◌≡◌, ◌⊎◌, inl, inr, ℕ, zero, suc, ◌+◌, ◌≤◌, Some, List, ◌∷◌, slice_get, refl, sym, ◌∙◌, ap, arith}
+use Rattle.std.proofs.Common.{◌≡◌, ◌⊎◌, inl, inr, false, ℕ, zero, suc, ◌+◌, ◌≤◌, Some, List, ◌∷◌, slice_get, refl, sym, ◌∙◌, ap, subst, arith}
 use Rattle.std.specs.List.{remove}
 use Rattle.id_instr.specs.declared.dests.Port.{Port}
 use Rattle.id_instr.specs.declared.dests.Port.TheVariants.{Zero, One}
+use Rattle.id_instr.specs.declared.instr.Instr.{Instr}
 use Rattle.id_instr.specs.Graph.{Parts}
 use Rattle.id_instr.specs.Ports.{two_ports}
 use Rattle.id_tag.specs.declared.Value.{Value}
+use Rattle.id_tag.specs.declared.Tag.{Tag}
 use Rattle.id_tag.specs.declared.Payload.{Payload}
+use Rattle.id_tag.specs.declared.Payload.TheVariants.{Token}
 use Rattle.id_tag.specs.declared.Message.{Message}
 use Rattle.id_tag.specs.Routes.{route_of}
 use Rattle.id_front.specs.Ports.{other_port}
@@ -38,9 +41,15 @@ none (suc a) b f g = absurd (f (omega arith))
 none zero (suc b) f g = absurd (g (omega arith))
 
 module _ (g : Parts) (vs : List Constant) (count : ℕ) (only : Exclusive g vs count) where
-  -- where what was handled has each key at most once, each tag has fired once
-  pub fires_once : (s : World) (run : List Event) → Reach g vs count s run → Few run → FiresOnce run
-  fires_once s run r few t f f' x y = by (z.met)
+  -- each token handled for an operator of one port is for its port 0
+  abbrev AtFirst : List Event → Type 0
+  AtFirst run =
+      (t : Tag) (p : Port) (v : Value) (i : Instr) → Among (Token t p v) (handled run) → slice_get g.instrs t.instr ≡ Some i → two_ports i.op ≡ false
+      → p ≡ Zero
+
+  -- where that is so, and what was handled has each key at most once, each tag has fired once
+  once_by : (s : World) (run : List Event) → Reach g vs count s run → AtFirst run → Few run → FiresOnce run
+  once_by s run r first few t f f' x y = by (z.met)
     where
       z : Firing g run t x.port x.value x.operands f
       z = firing g vs count s run r x.element t x.port x.value x.operands f x.among
@@ -61,8 +70,22 @@ module _ (g : Parts) (vs : List Constant) (count : ℕ) (only : Exclusive g vs c
 
       by : Met run t x.port x.value (two_ports (z.instr).op) x.operands → fired_event x ≡ fired_event y
       by (alone one e) =
-          at_port Zero (only.first_port s run r t x.port x.value z.instr (took x) z.at one) (only.first_port s run r t y.port y.value z.instr (took y) z.at one)
+          at_port Zero (first t x.port x.value z.instr (took x) z.at one) (first t y.port y.value z.instr (took y) z.at one)
       by (with_partner u two e w) = elim (port_is x.port y.port) [ inl b ↦ at_port x.port refl b | inr b ↦ by_waiting u w b ]
+
+  -- where what was handled has each key at most once, each tag has fired once: so it was before the last message, which
+  -- was in flight then
+  pub fires_once : (s : World) (run : List Event) → Reach g vs count s run → Few run → FiresOnce run
+  fires_once s run begin few = λ t f f' x y. absurd x.among
+  fires_once s run (deliver {s = s₀} {run = run₀} k m e r f q) few =
+      let n = route_of m.payload count in
+      let new = happens g n e m.payload in
+      let before = fires_once s₀ run₀ r (λ j. omega (arith, few j, count_cons j (payload_of new) (handled run₀))) in
+      once_by s run (deliver k m e r f q) (λ t p v i among at one. only.first_port s₀ run₀ r before t p v i (was_moving (Token t p v) among) at one) few
+    where
+      was_moving : (x : Payload) → Among x (handled (happens g (route_of m.payload count) e m.payload ∷ run₀)) → Moving s₀ run₀ x
+      was_moving x (inl is) = inl (subst (λ y. Among y (flying s₀)) (sym is) (was_flying g k s₀ m (route_of m.payload count) e f))
+      was_moving x (inr old) = inr old
 
   -- the message that an event takes, before and after it
   took_one : (k : ℕ) (s : World) (m : Message) (n : ℕ) (e : State) (j : Key) → slice_get s.flight k ≡ Some m

@@ -14,7 +14,7 @@ use Rattle.id_value.specs.declared.Constant.{Constant}
 use Rattle.id_list.specs.List.{Among}
 use Rattle.id_runs.specs.Events.{Event, sends_of, FiresOnce}
 use Rattle.id_runs.specs.Keys.{Key, key_of, same_key}
-use Rattle.id_runs.specs.Runs.{Reach, handled, flying, starting}
+use Rattle.id_runs.specs.Runs.{Reach, handled, flying, starting, Moving}
 
 -- how many of the messages have the key
 abbrev pub count_for : Key → List Payload → ℕ
@@ -32,9 +32,9 @@ AtMostOne s run = (k : Key) → count_for k (flying s) + count_for k (handled ru
 -- once, and a tag fired once
 pub record Exclusive (g : Parts) (vs : List Constant) (count : ℕ) : Type 0 where
   -- a token for an operator of one port is for its port 0
-  pub first_port : (s : World) (run : List Event) → Reach g vs count s run
+  pub first_port : (s : World) (run : List Event) → Reach g vs count s run → FiresOnce run
       → (t : Tag) (p : Port) (v : Value) (i : Instr)
-      → Among (Token t p v) (handled run) → slice_get g.instrs t.instr ≡ Some i → two_ports i.op ≡ false → p ≡ Zero
+      → Moving s run (Token t p v) → slice_get g.instrs t.instr ≡ Some i → two_ports i.op ≡ false → p ≡ Zero
   -- an event sends at most one message for a key, and so does the start
   pub sends_once : (s : World) (run : List Event) → Reach g vs count s run → Few run → FiresOnce run → (e : Event)
       → Among e run → (k : Key)

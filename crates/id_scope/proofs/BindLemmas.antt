@@ -8,7 +8,7 @@ use Rattle.std.proofs.lemmas.Bool.Decides.{nat_tests}
 use Rattle.std.proofs.lemmas.List.{get_or_default, get_or-set_same, get_or-set_other}
 use Rattle.id_table.specs.declared.row.Row.{Row}
 use Rattle.id_table.specs.declared.row.Node.{Node}
-use Rattle.id_table.specs.declared.row.Node.TheVariants.{Name, Enter, Block, Def, Program, NextUse, Body, Loop}
+use Rattle.id_table.specs.declared.row.Node.TheVariants.{Name, Enter, Block, Def, Program, NextUse, Body, Span}
 use Rattle.id_table.specs.Rows.{at}
 use Rattle.id_table.specs.Tables.{around}
 use Rattle.id_scope.specs.declared.scope.Bound.{Bound}
@@ -70,10 +70,10 @@ key_is Body (Name y) x k r q e = value_key x y k r q e
 key_is Body (NextUse y) x k r q e = value_key x y k r q e
 key_is Body (Enter y) x k r q e = odd_key x y k (r && q) e
 key_is Body _ x k r q e = refl
-key_is (Loop h w l) (Name y) x k r q e = value_key x y k r q e
-key_is (Loop h w l) (NextUse y) x k r q e = value_key x y k r q e
-key_is (Loop h w l) (Enter y) x k r q e = odd_key x y k (r && q) e
-key_is (Loop h w l) _ x k r q e = refl
+key_is Span (Name y) x k r q e = value_key x y k r q e
+key_is Span (NextUse y) x k r q e = value_key x y k r q e
+key_is Span (Enter y) x k r q e = odd_key x y k (r && q) e
+key_is Span _ x k r q e = refl
 key_is (Def z h j b) (Name y) x k r q e = value_key x y k r q e
 key_is (Def z h j b) (NextUse y) x k r q e = value_key x y k r q e
 key_is (Def z h j b) (Enter y) x k r q e = odd_key x y k (r && q) e
@@ -87,7 +87,7 @@ key_is _ n x k r q e = let d : None ≡ Some k = e in cc
 key_none : (m n : Node) (x : ℕ) (r q p : Bool) → sought m x ≡ None → (((looks m n && r) && q) && p) ≡ false
 key_none (Block b) n x r q p e = let d : Some (x + x) ≡ None = e in cc
 key_none Body n x r q p e = let d : Some (x + x) ≡ None = e in cc
-key_none (Loop h w l) n x r q p e = let d : Some (x + x) ≡ None = e in cc
+key_none Span n x r q p e = let d : Some (x + x) ≡ None = e in cc
 key_none (Def z h j b) n x r q p e = let d : Some (x + x) ≡ None = e in cc
 key_none Program n x r q p e = let d : Some (x + x + 1) ≡ None = e in cc
 key_none _ n x r q p e = refl
@@ -168,7 +168,7 @@ bound_kept o s b y bs is =
 pub sought_below : (m : Node) (x k n : ℕ) → sought m x ≡ Some k → x < n → k < n + n
 sought_below (Block b) x k n e h = let d : x + x ≡ k = cc in omega arith
 sought_below Body x k n e h = let d : x + x ≡ k = cc in omega arith
-sought_below (Loop y w l) x k n e h = let d : x + x ≡ k = cc in omega arith
+sought_below Span x k n e h = let d : x + x ≡ k = cc in omega arith
 sought_below (Def z y j b) x k n e h = let d : x + x ≡ k = cc in omega arith
 sought_below Program x k n e h = let d : x + x + 1 ≡ k = cc in omega arith
 sought_below _ x k n e h = let d : None ≡ Some k = e in cc

@@ -4,9 +4,10 @@ use Rattle.id_table.specs.declared.row.Row.{Row}
 use Rattle.id_table.specs.declared.row.Node.{Node}
 use Rattle.id_table.specs.declared.row.Node.TheVariants.{Head, Param, Literal, Name, Unary, Binary, Split, If, Enter, Arg, Call, Block, Binding, Def, Program}
 use Rattle.id_table.specs.declared.row.Node.TheVariants.{Start, LoopHead, Variable, Entries, Switches, Turn, NextUse, Next, Body, Reset, Loop}
+use Rattle.id_table.specs.declared.row.Node.TheVariants.{Bounds, Carried, Within, Count, Index, Span}
 use Rattle.id_table.specs.declared.row.Node.TheVariants.{Fetch, Address, Store}
 use Rattle.id_table.specs.declared.row.Node.TheVariants as node
-use Rattle.id_value.specs.declared.Kind.TheVariants.{Int, Array}
+use Rattle.id_value.specs.declared.Kind.TheVariants.{Int, Bool, Array}
 use Rattle.id_table.specs.Rows.{at}
 use Rattle.id_table.specs.Tables.{HasPart, IsFormed}
 use Rattle.id_scope.specs.Causes.{callee, head_in}
@@ -59,16 +60,22 @@ link_below R β t within i j less e = of (at R i).node refl e
     of (Binding x a) s f = part (Binding x a) a s refl f
     of (Def x h k b) s f = let d : Fixed k ≡ To j = f in cc
     of Program s f = let d : Nowhere ≡ To j = f in cc
+    of (Bounds a b) s f = let d : Nowhere ≡ To j = f in cc
     of Start s f = let d : Nowhere ≡ To j = f in cc
     of (LoopHead k) s f = let d : Nowhere ≡ To j = f in cc
+    of (Carried k) s f = let d : Fixed k ≡ To j = f in cc
     of Variable s f = let d : Nowhere ≡ To j = f in cc
     of Entries s f = let d : Nowhere ≡ To j = f in cc
+    of (Within k) s f = let d : Fixed Bool ≡ To j = f in cc
     of (Switches k) s f = let d : Nowhere ≡ To j = f in cc
+    of Count s f = let d : Nowhere ≡ To j = f in cc
     of Turn s f = let d : Nowhere ≡ To j = f in cc
+    of (Index x) s f = let d : Fixed Int ≡ To j = f in cc
     of (NextUse x) s f = named (length R) j (β i) (λ b. within i b less) f
     of (Next x k o v) s f = part (Next x k o v) o s (inl refl) f
     of Body s f = let d : Nowhere ≡ To j = f in cc
     of (Reset v) s f = let d : Nowhere ≡ To j = f in cc
+    of Span s f = let d : Nowhere ≡ To j = f in cc
     of (Loop h w l) s f = part (Loop h w l) l s (inr (inr refl)) f
     of (node.Array a b) s f = let d : Fixed Array ≡ To j = f in cc
     of (Fetch t i) s f = let d : Fixed Int ≡ To j = f in cc

@@ -7,10 +7,10 @@ use Rattle.std.proofs.lemmas.Bool.{false≢true}
 use Rattle.std.proofs.lemmas.Bool.Decides.{nat_tests}
 use Rattle.id_table.specs.declared.row.Row.{Row}
 use Rattle.id_table.specs.Rows.{at}
-use Rattle.id_table.specs.Tables.{around, is_binding, is_def, is_next, is_param}
+use Rattle.id_table.specs.Tables.{around, is_binding, is_def, is_index, is_next, is_param}
 use Rattle.id_scope.specs.declared.cause.CheckCause.{CheckCause}
 use Rattle.id_table.specs.declared.row.Node.{Node}
-use Rattle.id_table.specs.declared.row.Node.TheVariants.{Param, Block, Binding, Def, Program, NextUse, Next, Body, Loop}
+use Rattle.id_table.specs.declared.row.Node.TheVariants.{Param, Block, Binding, Def, Program, NextUse, Next, Index, Body, Span}
 use Rattle.id_scope.specs.Names.{seen}
 use Rattle.id_scope.specs.Scopes.{closes, confines, is_next_use, keeps, looks, sees, sees_own, takes}
 use Rattle.id_scope.specs.Scopes.{binder_at, binder_by, binder_in, binder_of, binds, bound_name, first_of, held, is_name, is_scope, used_name}
@@ -86,41 +86,45 @@ keeps_not R s b e = no_scope (takes (at R s).node (at R b).node) (at R s).first 
 takes-none : (m n : Node) → is_scope m ≡ false → takes m n ≡ false
 takes-none (Block b) n e = cc
 takes-none Body n e = cc
-takes-none (Loop h w l) n e = cc
+takes-none Span n e = cc
 takes-none (Def x h k b) n e = cc
 takes-none Program n e = cc
 takes-none _ n e = refl
 
-takes-neither : (m n : Node) → is_binding n ≡ false → is_param n ≡ false → is_def n ≡ false → is_next n ≡ false → is_next_use n ≡ false → takes m n ≡ false
-takes-neither (Block b) n e f g i j = e
-takes-neither Body n e f g i j = ap (λ t. t || is_next n) e ∙ i
-takes-neither (Loop h w l) n e f g i j = ap (λ t. t || is_next_use n) i ∙ j
-takes-neither (Def x h k b) n e f g i j = f
-takes-neither Program n e f g i j = g
-takes-neither _ n e f g i j = refl
+takes-neither : (m n : Node) → is_binding n ≡ false → is_param n ≡ false → is_def n ≡ false → is_next n ≡ false → is_next_use n ≡ false → is_index n ≡ false →
+    takes m n ≡ false
+takes-neither (Block b) n e f g i j k = e
+takes-neither Body n e f g i j k = ap (λ t. t || is_index n) (ap (λ t. t || is_next n) e ∙ i) ∙ k
+takes-neither Span n e f g i j k = ap (λ t. t || is_next_use n) i ∙ j
+takes-neither (Def x h y b) n e f g i j k = f
+takes-neither Program n e f g i j k = g
+takes-neither _ n e f g i j k = refl
 
 -- what sees its own scope is in none
 takes-own : (m n : Node) → sees_own n ≡ true → takes m n ≡ false
 takes-own m (Param x k) e = absurd (false≢true e)
 takes-own m (Binding x a) e = absurd (false≢true e)
 takes-own m (Next x k o v) e = absurd (false≢true e)
+takes-own m (Index x) e = absurd (false≢true e)
 takes-own m (NextUse x) e = absurd (false≢true e)
 takes-own m (Def x h k b) e = absurd (false≢true e)
-takes-own m n e = takes-neither m n refl refl refl refl refl
+takes-own m n e = takes-neither m n refl refl refl refl refl refl
 
-or_left : (a b : Bool) → (a || b) ≡ false → a ≡ false
-or_left true b e = e
-or_left false b e = refl
+-- without the middle one
+or_outer : (a b c : Bool) → ((a || b) || c) ≡ false → (a || c) ≡ false
+or_outer true b c e = e
+or_outer false true c e = cc
+or_outer false false c e = e
 
 -- what a part closes it takes
 closes-none : (m n : Node) → takes m n ≡ false → closes m n ≡ false
-closes-none Body n e = or_left (is_binding n) (is_next n) e
+closes-none Body n e = or_outer (is_binding n) (is_next n) (is_index n) e
 closes-none _ n e = e
 
 looks-none : (m n : Node) → is_scope m ≡ false → looks m n ≡ false
 looks-none (Block b) n e = cc
 looks-none Body n e = cc
-looks-none (Loop h w l) n e = cc
+looks-none Span n e = cc
 looks-none (Def x h k b) n e = cc
 looks-none Program n e = cc
 looks-none _ n e = refl

@@ -9,7 +9,7 @@ use Rattle.id_value.specs.declared.Comparison.TheVariants.{Eq, Ne}
 use Rattle.id_table.specs.declared.row.Row.{Row}
 use Rattle.id_table.specs.declared.row.Node.{Node}
 use Rattle.id_table.specs.declared.row.Node.TheVariants.{Param, Name, Unary, Binary, Split, If, Enter, Arg, Call, Def}
-use Rattle.id_table.specs.declared.row.Node.TheVariants.{Switches, NextUse, Next, Fetch, Address, Store}
+use Rattle.id_table.specs.declared.row.Node.TheVariants.{Switches, NextUse, Next, Fetch, Address, Store, Bounds}
 use Rattle.id_table.specs.declared.row.Node.TheVariants as node
 use Rattle.id_list.specs.List.{Among}
 use Rattle.id_grammar.specs.Tree.{Tree}
@@ -155,6 +155,7 @@ causes_in R κ o e (If s x y) = wrong_like R κ (κ x) y
 causes_in R κ o e (Enter x) = unknown o e
 causes_in R κ o e (Arg s k v) = wrong_argument R κ (callee R o) (count_at R (length R) s) k v
 causes_in R κ o e (Call s c) = wrong_count R (callee R o) c e
+causes_in R κ o e (Bounds a b) = wrong_both R κ Int a b
 causes_in R κ o e (Switches t) = wrong R κ Bool t
 causes_in R κ o e (NextUse x) = unknown o e
 causes_in R κ o e (Next x k u v) = wrong_like R κ (κ u) v

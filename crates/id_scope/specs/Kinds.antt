@@ -14,6 +14,7 @@ use Rattle.id_table.specs.declared.row.Node.TheVariants.{Head, Param, Literal, N
 use Rattle.id_table.specs.declared.row.Node.TheVariants.{Split, If, Enter, Arg, Call, Block, Binding, Def, Program}
 use Rattle.id_table.specs.declared.row.Node.TheVariants.{Start, LoopHead, Variable, Entries, Switches, Turn, NextUse}
 use Rattle.id_table.specs.declared.row.Node.TheVariants.{Next, Body, Reset, Loop, Fetch, Address, Store}
+use Rattle.id_table.specs.declared.row.Node.TheVariants.{Bounds, Carried, Within, Count, Index, Span}
 use Rattle.id_table.specs.declared.row.Node.TheVariants as node
 use Rattle.id_table.specs.Rows.{at}
 use Rattle.id_scope.specs.Scopes.{user_of}
@@ -55,16 +56,22 @@ link_of o (If s x y) = To x
 link_of o (Enter x) = Nowhere
 link_of o (Arg e i v) = Nowhere
 link_of o (Call e c) = link_of_name o
+link_of o (Bounds a b) = Nowhere
 link_of o Start = Nowhere
 link_of o (LoopHead s) = Nowhere
+link_of o (Carried k) = Fixed k
 link_of o Variable = Nowhere
 link_of o Entries = Nowhere
+link_of o (Within f) = Fixed Bool
 link_of o (Switches t) = Nowhere
+link_of o Count = Nowhere
 link_of o Turn = Nowhere
+link_of o (Index x) = Fixed Int
 link_of o (NextUse x) = link_of_name o
 link_of o (Next x k u v) = To u
 link_of o Body = Nowhere
 link_of o (Reset v) = Nowhere
+link_of o Span = Nowhere
 link_of o (Loop h w l) = To l
 link_of o (node.Array a b) = Fixed Array
 link_of o (Fetch t i) = Fixed Int

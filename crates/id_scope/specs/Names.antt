@@ -4,7 +4,7 @@ use Rattle.std.specs.Prelude.{length, get_or, nat_le, Option, None, Some, if◌t
 use Rattle.std.specs.Option.{option_or}
 use Rattle.id_table.specs.declared.row.Row.{Row}
 use Rattle.id_table.specs.declared.row.Node.{Node}
-use Rattle.id_table.specs.declared.row.Node.TheVariants.{Name, Enter, Block, Def, Program, NextUse, Body, Loop}
+use Rattle.id_table.specs.declared.row.Node.TheVariants.{Name, Enter, Block, Def, Program, NextUse, Body, Span}
 use Rattle.id_table.specs.Rows.{at}
 use Rattle.id_table.specs.Tables.{around}
 use Rattle.id_scope.specs.declared.cause.CheckCause.{CheckCause}
@@ -87,7 +87,7 @@ key_of _ = None
 abbrev pub sought : Node → ℕ → Option ℕ
 sought (Block b) x = Some (x + x)
 sought Body x = Some (x + x)
-sought (Loop h w l) x = Some (x + x)
+sought Span x = Some (x + x)
 sought (Def y h k b) x = Some (x + x)
 sought Program x = Some (x + x + 1)
 sought _ x = None

@@ -7,16 +7,16 @@ use Rattle.std.specs.Option.{option_or}
 use Rattle.id_table.specs.declared.row.Row.{Row}
 use Rattle.id_table.specs.declared.row.Node.{Node}
 use Rattle.id_table.specs.declared.row.Node.TheVariants.{Param, Name, Enter, Arg, Call, Block, Binding, Def, Program}
-use Rattle.id_table.specs.declared.row.Node.TheVariants.{NextUse, Next, Body, Loop}
+use Rattle.id_table.specs.declared.row.Node.TheVariants.{NextUse, Next, Index, Body, Span}
 use Rattle.id_table.specs.Loops.{depth}
 use Rattle.id_table.specs.Rows.{at}
-use Rattle.id_table.specs.Tables.{around, is_binding, is_def, is_next, is_param}
+use Rattle.id_table.specs.Tables.{around, is_binding, is_def, is_index, is_next, is_param}
 
 -- whether names that are bound in the part are seen in the whole of it
 abbrev pub is_scope : Node → Bool
 is_scope (Block b) = true
 is_scope Body = true
-is_scope (Loop h w l) = true
+is_scope Span = true
 is_scope (Def x h k b) = true
 is_scope Program = true
 is_scope _ = false
@@ -26,11 +26,12 @@ abbrev pub is_next_use : Node → Bool
 is_next_use (NextUse x) = true
 is_next_use _ = false
 
--- whether the first part is one in which a binder like the second is seen; a loop has the uses of its first values too
+-- whether the first part is one in which a binder like the second is seen; the span of a loop has the uses of its first
+-- values too
 abbrev pub takes : Node → Node → Bool
 takes (Block b) n = is_binding n
-takes Body n = is_binding n || is_next n
-takes (Loop h w l) n = is_next n || is_next_use n
+takes Body n = (is_binding n || is_next n) || is_index n
+takes Span n = is_next n || is_next_use n
 takes (Def x h k b) n = is_param n
 takes Program n = is_def n
 takes _ n = false
@@ -38,7 +39,7 @@ takes _ n = false
 -- whether the first part is the outermost one in which a binder like the second is seen: a loop's variables are seen
 -- outside of its body too
 abbrev pub closes : Node → Node → Bool
-closes Body n = is_binding n
+closes Body n = is_binding n || is_index n
 closes s n = takes s n
 
 -- whether a name of a value is used at a row of this node
@@ -57,7 +58,7 @@ uses_procedure _ = false
 abbrev pub looks : Node → Node → Bool
 looks (Block b) n = uses_value n
 looks Body n = uses_value n
-looks (Loop h w l) n = uses_value n
+looks Span n = uses_value n
 looks (Def y h k b) n = uses_value n
 looks Program n = uses_procedure n
 looks _ n = false
@@ -67,6 +68,7 @@ abbrev pub bound_name : Node → Option ℕ
 bound_name (Param x k) = Some x
 bound_name (Binding x a) = Some x
 bound_name (Next x k o v) = Some x
+bound_name (Index x) = Some x
 bound_name (Def x h k b) = Some x
 bound_name _ = None
 

@@ -185,8 +185,13 @@ fn link_of(binder: Option<usize>, node: Node) -> Link
         Node::Head | Node::Split { .. } | Node::Program => Link::Nowhere,
         Node::Enter { .. } | Node::Arg { .. } => Link::Nowhere,
         Node::Address { .. } | Node::Store { .. } => Link::Nowhere,
-        Node::Start | Node::LoopHead { .. } | Node::Variable | Node::Entries => Link::Nowhere,
-        Node::Switches { .. } | Node::Turn | Node::Body | Node::Reset { .. } => Link::Nowhere,
+        Node::Carried { kind } => Link::Fixed(kind),
+        Node::Within { .. } => Link::Fixed(Kind::Bool),
+        Node::Index { .. } => Link::Fixed(Kind::Int),
+        Node::Bounds { .. } | Node::Start | Node::LoopHead { .. } => Link::Nowhere,
+        Node::Variable | Node::Entries | Node::Switches { .. } => Link::Nowhere,
+        Node::Count | Node::Turn | Node::Body => Link::Nowhere,
+        Node::Reset { .. } | Node::Span => Link::Nowhere,
     }
 }
 

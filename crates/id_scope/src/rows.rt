@@ -11,19 +11,22 @@ pub fn is_scope(node: Node) -> bool
 {
     matches!(
         node,
-        Node::Block { .. } | Node::Body | Node::Loop { .. } | Node::Def { .. } | Node::Program
+        Node::Block { .. } | Node::Body | Node::Span | Node::Def { .. } | Node::Program
     )
 }
 
-/// Whether the first part is one in which a binder like the second is seen; a loop has the uses of its first values
-/// too.
+/// Whether the first part is one in which a binder like the second is seen; the span of a loop has the uses of its
+/// first values too.
 pub fn takes(scope: Node, binder: Node) -> bool
     ensures { result ≡ scopes.takes scope binder }
 {
     match scope {
         Node::Block { .. } => matches!(binder, Node::Binding { .. }),
-        Node::Body => matches!(binder, Node::Binding { .. } | Node::Next { .. }),
-        Node::Loop { .. } => matches!(binder, Node::Next { .. } | Node::NextUse { .. }),
+        Node::Body => matches!(
+            binder,
+            Node::Binding { .. } | Node::Next { .. } | Node::Index { .. }
+        ),
+        Node::Span => matches!(binder, Node::Next { .. } | Node::NextUse { .. }),
         Node::Def { .. } => matches!(binder, Node::Param { .. }),
         Node::Program => matches!(binder, Node::Def { .. }),
         _ => false,
@@ -35,7 +38,7 @@ pub fn closes(scope: Node, binder: Node) -> bool
     ensures { result ≡ scopes.closes scope binder }
 {
     match scope {
-        Node::Body => matches!(binder, Node::Binding { .. }),
+        Node::Body => matches!(binder, Node::Binding { .. } | Node::Index { .. }),
         _ => takes(scope, binder),
     }
 }
@@ -45,7 +48,7 @@ pub fn bound_name(node: Node) -> Option<usize>
     ensures { result ≡ scopes.bound_name node }
 {
     match node {
-        Node::Param { name, .. } | Node::Binding { name, .. } => Some(name),
+        Node::Param { name, .. } | Node::Binding { name, .. } | Node::Index { name } => Some(name),
         Node::Next { name, .. } | Node::Def { name, .. } => Some(name as usize),
         _ => None,
     }
@@ -60,6 +63,7 @@ pub fn sees_own(node: Node) -> bool
         Node::Param { .. }
             | Node::Binding { .. }
             | Node::Next { .. }
+            | Node::Index { .. }
             | Node::NextUse { .. }
             | Node::Def { .. }
     )

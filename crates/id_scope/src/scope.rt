@@ -529,7 +529,7 @@ fn sought(scope: Node, name: usize) -> Option<usize>
     ensures { result ≡ names.sought scope name }
 {
     match scope {
-        Node::Block { .. } | Node::Body | Node::Loop { .. } | Node::Def { .. } => Some(name + name),
+        Node::Block { .. } | Node::Body | Node::Span | Node::Def { .. } => Some(name + name),
         Node::Program => Some(name + name + 1),
         _ => None,
     }

@@ -1,5 +1,5 @@
 -- A source without a fault is coherent.
-use Rattle.std.proofs.Common.{◌≡◌, ◌⊎◌, ℤ, inl, inr, ℕ, zero, suc, Bool as Truth, true, false, Some, arith, List, [], ◌∷◌, length, refl, ap, sym, ◌∙◌, subst}
+use Rattle.std.proofs.Common.{◌≡◌, ◌⊎◌, ℤ, inl, inr, ℕ, zero, suc, pos, ◌+◌, ◌+ℤ◌, int_le, int_lt, Bool as Truth, true, false, Some, arith, List, [], ◌∷◌, length, refl, ap, sym, ◌∙◌, subst}
 use Rattle.std.specs.Prelude.{slice_get}
 use Rattle.std.proofs.lemmas.Bool.{cases_lt, false≢true}
 use Rattle.id_value.specs.declared.Kind.{Kind}
@@ -10,7 +10,8 @@ use Rattle.id_value.specs.declared.Outcome.TheVariants.{Gives}
 use Rattle.id_value.specs.Results.{result_of_unary, result_of_binary}
 use Rattle.id_table.specs.declared.row.Node.{Node}
 use Rattle.id_table.specs.declared.row.Node.TheVariants.{Param, Literal, Name, Unary, Binary, Split, If, Arg, Call, Switches, Next, Loop, Block, Binding, Def}
-use Rattle.id_table.specs.declared.row.Node.TheVariants.{Array, Fetch, Store}
+use Rattle.id_table.specs.declared.row.Node.TheVariants.{Array, Fetch, Store, Bounds, Index}
+use Rattle.id_table.specs.Loops.{bounds_row, index_row}
 use Rattle.id_table.specs.Rows.{at}
 use Rattle.id_table.specs.Tables.{is_param, is_thing}
 use Rattle.id_table.specs.Turns.{params_at}
@@ -24,15 +25,16 @@ use Rattle.id_source.specs.declared.SourceValue.TheVariants as value
 use Rattle.id_source.specs.declared.Site.{Site}
 use Rattle.id_source.specs.declared.SourceFault.TheVariants.{SecondStore}
 use Rattle.id_source.specs.declared.Fact.{Fact}
-use Rattle.id_source.specs.declared.Fact.TheVariants.{Has}
+use Rattle.id_source.specs.declared.Fact.TheVariants.{On, Has}
 use Rattle.id_source.specs.Sources.{Source, IsInput, value_of}
+use Rattle.id_source.specs.Facts.{ForStands, GoesOn, by_predicate, by_bounds, by_index, index_begins, index_counts}
 use Rattle.id_source.specs.Facts.{LoopStands, NextStands, first_has, next_has, loop_has, outermost, below, without, between, Chooses, then_arm, else_arm, Rule}
 use Rattle.id_source.specs.Facts.{StoreStands, array_has, ask, asks, fetch_has, put, puts, second_store, shape, shape_made, site}
 use Rattle.id_source.specs.Facts.{param_has, literal_has, unary_has, binary_has, name_has, conditional_has, argument_has, call_has, block_has, binding_has}
 use Rattle.id_source.specs.Rounds.{Every, FaultFree, Rounds, Holds, IsCoherent}
 use Rattle.id_links.specs.Links.{arm_of}
-use Rattle.id_source.proofs.CheckedLemmas.{apart_of, loop-of}
-use Rattle.id_source.proofs.LiveLemmas.{all-fine, false-there, true-below}
+use Rattle.id_source.proofs.CheckedLemmas.{apart_of, loop-of, within-there}
+use Rattle.id_source.proofs.LiveLemmas.{GoesIn, IsFetch, all-fine, false-there, true-below}
 use Rattle.id_source.proofs.ParamsLemmas.{input_param, once, one_input, params-among, params-differ}
 use Rattle.id_source.proofs.StepsLemmas.{below-once, none-below}
 use Rattle.id_source.proofs.RoundsLemmas.{again}
@@ -96,15 +98,7 @@ pub arm-among : (x y : ℕ) (b : Truth) (a : ℕ) → arm_of b x y ≡ a → (a 
 arm-among x y true a h = inl (sym h)
 arm-among x y false a h = inr (sym h)
 
--- a fetch stands at the place of the site
-pub record IsFetch (S : Source) (f : Site) : Type 0 where
-  pub row : ℕ
-  pub target : ℕ
-  pub index : ℕ
-  pub stands : Stands S.checked row (Fetch target index)
-  pub here : place S.checked row ≡ f.place
-
--- it asks for cells of a structure that its target Has, by an index that its index Has
+-- a fetch asks for cells of a structure that its target Has, by an index that its index Has
 pub record IsAsked (S : Source) (F : Fact → Type 0) (f s : Site) (j : ℤ) : Type 0 where
   pub fetch : IsFetch S f
   pub target : F (Has f.path (place S.checked fetch.target) (value.Name s))
@@ -203,9 +197,8 @@ pub record IsNext (S : Source) (m o a : ℕ) : Type 0 where
   pub row : ℕ
   pub head : ℕ
   pub switches : ℕ
-  pub test : ℕ
   pub last : ℕ
-  pub loop : LoopStands S.checked row head switches test last
+  pub loop : Stands S.checked row (Loop head switches last)
   pub next : NextStands S.checked m head o a
 
 -- in iteration 0 a variable Has what its name means outside
@@ -225,12 +218,40 @@ pub record IsLater (S : Source) (F : Fact → Type 0) (m o a : ℕ) (p : Path) (
   pub path : p ≡ below outer (place S.checked of.row) (suc number)
   pub has : F (Has (below outer (place S.checked of.row) number) (place S.checked a) v)
 
+-- in iteration 0 an index Has what its lower bound Has
+pub record IsBegun (S : Source) (F : Fact → Type 0) (x : ℕ) (p : Path) (v : SourceValue) : Type 0 where
+  pub row : ℕ
+  pub switches : ℕ
+  pub lower : ℕ
+  pub upper : ℕ
+  pub last : ℕ
+  pub loop : ForStands S.checked row switches x lower upper last
+  pub outer : Path
+  pub low : ℤ
+  pub path : p ≡ below outer (place S.checked row) 0
+  pub has : F (Has outer (place S.checked lower) (value.Int low))
+  pub gives : v ≡ value.Int low
+
+-- in a later one, one more than in the one before
+pub record IsCounted (S : Source) (F : Fact → Type 0) (x : ℕ) (p : Path) (v : SourceValue) : Type 0 where
+  pub row : ℕ
+  pub switches : ℕ
+  pub lower : ℕ
+  pub upper : ℕ
+  pub last : ℕ
+  pub loop : ForStands S.checked row switches x lower upper last
+  pub outer : Path
+  pub number : ℕ
+  pub index : ℤ
+  pub path : p ≡ below outer (place S.checked row) (suc number)
+  pub has : F (Has (below outer (place S.checked row) number) (place S.checked x) (value.Int index))
+  pub gives : v ≡ value.Int (index +ℤ pos 1)
+
 -- the loop at the row n Has what its last expression Has in an iteration
 pub record IsLeft (S : Source) (F : Fact → Type 0) (n l : ℕ) (p : Path) (v : SourceValue) : Type 0 where
   pub head : ℕ
   pub switches : ℕ
-  pub test : ℕ
-  pub loop : LoopStands S.checked n head switches test l
+  pub loop : Stands S.checked n (Loop head switches l)
   pub number : ℕ
   pub has : F (Has (below p (place S.checked n) number) (place S.checked l) v)
 
@@ -244,7 +265,7 @@ pub record IsFetched (S : Source) (F : Fact → Type 0) (n : ℕ) (p : Path) (v 
 
 -- what follows at a row of this node from facts: a literal's value, an operator's result on what its operands Have, what a name's
 -- binder, the chosen arm of a conditional, a callee's body at the path of the call, a block's body, a loop's last expression and a
--- binding's expression Has, and what follows at a parameter and at a loop's variable
+-- binding's expression Has, and what follows at a parameter, at a loop's variable and at an index
 abbrev pub Follows : Source → (Fact → Type 0) → ℕ → Node → Path → SourceValue → Type 0
 Follows S F n (Literal c) p v = v ≡ value_of c
 Follows S F n (Unary o a) p v =
@@ -259,6 +280,7 @@ Follows S F n (Call e c) p v = (d : IsCall S n) × F (Has (below p (place S.chec
 Follows S F n (Block b) p v = F (Has p (place S.checked b) v)
 Follows S F n (Loop h w l) p v = IsLeft S F n l p v
 Follows S F n (Next y i o a) p v = IsFirst S F n o a p v ⊎ IsLater S F n o a p v
+Follows S F n (Index y) p v = IsBegun S F n p v ⊎ IsCounted S F n p v
 Follows S F n (Binding y a) p v = F (Has p (place S.checked a) v)
 Follows S F n (Array a b) p v = v ≡ value.Name (site p (place S.checked n))
 Follows S F n (Fetch t i) p v = IsFetched S F n p v
@@ -316,8 +338,8 @@ follows_by {S} F asked (argument_has {n = n} {h = g} {m = m} {i = i} {v = a} {q 
 follows_by {S} F asked (call_has {n = n} s is def) h =
     let call : IsCall S n = record { enter = _; count = _; def = _; name = _; head = _; kind = _; body = _; stands = s; binder = is; definition = def } in
     record { row = n; node = _; stands = s; thing = refl; here = refl; follows = (call, h.1.0) }
-follows_by {S} F asked (first_has {n = n} {h = g} {w = w} {t = t} {l = l} {m = m} {o = o} {v = a} {c = c} {p = q} s x e) h =
-    let of : IsNext S m o a = record { row = n; head = g; switches = w; test = t; last = l; loop = s; next = x } in
+follows_by {S} F asked (first_has {n = n} {h = g} {w = w} {l = l} {m = m} {o = o} {v = a} {c = c} {p = q} s x e) h =
+    let of : IsNext S m o a = record { row = n; head = g; switches = w; last = l; loop = s; next = x } in
     record {
       row = m;
       node = Next x.name x.index o a;
@@ -326,8 +348,8 @@ follows_by {S} F asked (first_has {n = n} {h = g} {w = w} {t = t} {l = l} {m = m
       here = refl;
       follows = inl (record { of = of; outer = q; outside = c; binder = e; path = refl; has = h.1.0 });
     }
-follows_by {S} F asked (next_has {n = n} {h = g} {w = w} {t = t} {l = l} {m = m} {o = o} {v = a} q k s x) h =
-    let of : IsNext S m o a = record { row = n; head = g; switches = w; test = t; last = l; loop = s; next = x } in
+follows_by {S} F asked (next_has {n = n} {h = g} {w = w} {l = l} {m = m} {o = o} {v = a} q k s x) h =
+    let of : IsNext S m o a = record { row = n; head = g; switches = w; last = l; loop = s; next = x } in
     record {
       row = m;
       node = Next x.name x.index o a;
@@ -336,14 +358,34 @@ follows_by {S} F asked (next_has {n = n} {h = g} {w = w} {t = t} {l = l} {m = m}
       here = refl;
       follows = inr (record { of = of; outer = q; number = k; path = refl; has = h.0 });
     }
-follows_by F asked (loop_has {n = n} {h = g} {w = w} {t = t} {l = l} q k s) h =
+follows_by F asked (index_begins {n = n} {w = w} {x = x} {a = a} {b = b} {l = l} {p = q} {lo = lo} s e) h =
+    record {
+      row = x;
+      node = Index s.name;
+      stands = s.index;
+      thing = refl;
+      here = refl;
+      follows = inl
+          (record { row = n; switches = w; lower = a; upper = b; last = l; loop = s; outer = q; low = lo; path = refl; has = h.1.0; gives = refl });
+    }
+follows_by F asked (index_counts {n = n} {w = w} {x = x} {a = a} {b = b} {l = l} {i = i} q k s e) h =
+    record {
+      row = x;
+      node = Index s.name;
+      stands = s.index;
+      thing = refl;
+      here = refl;
+      follows = inr
+          (record { row = n; switches = w; lower = a; upper = b; last = l; loop = s; outer = q; number = k; index = i; path = refl; has = h.0; gives = refl });
+    }
+follows_by F asked (loop_has {n = n} {h = g} {w = w} {l = l} q k s) h =
     record {
       row = n;
       node = Loop g w l;
-      stands = s.loop;
+      stands = s;
       thing = refl;
       here = refl;
-      follows = record { head = g; switches = w; test = t; loop = s; number = k; has = h.0 };
+      follows = record { head = g; switches = w; loop = s; number = k; has = h.0 };
     }
 follows_by F asked (block_has s) h = record { row = _; node = _; stands = s; thing = refl; here = refl; follows = h.1.0 }
 follows_by F asked (binding_has s) h = record { row = _; node = _; stands = s; thing = refl; here = refl; follows = h.0 }
@@ -400,9 +442,9 @@ one_loop : (S : Source) (m o a : ℕ) (x y : IsNext S m o a) → x.row ≡ y.row
 one_loop S m o a x y =
     let P = S.checked in
     let q : x.head ≡ y.head = sym x.next.block ∙ y.next.block in
-    let L : ℕ → Type 0 = λ h. LoopStands P y.row h y.switches y.test y.last in
+    let L : ℕ → Type 0 = λ h. Stands P y.row (Loop h y.switches y.last) in
     let s = subst L (sym q) y.loop in
-    (table_of P).one_loop x.row y.row x.head (loop-of P x.row x.head x.switches x.test x.last x.loop) (loop-of P y.row x.head y.switches y.test y.last s)
+    (table_of P).one_loop x.row y.row x.head (loop-of P x.row x.head x.switches x.last x.loop) (loop-of P y.row x.head y.switches y.last s)
 
 one_first : (S : Source) (n : ℕ) → Earlier S n → (m o a : ℕ) (p : Path) (v w : SourceValue) → IsFirst S (Rounds S n) m o a p v → IsFirst S (Holds S) m o a p w
     → v ≡ w
@@ -445,36 +487,137 @@ one_variable S n early m o a p v w (inr h) (inl k) = absurd (first_or_later S (H
 one_variable S n early m o a p v w (inr h) (inr k) = one_later S n early m o a p v w h k
 
 -- a loop has one predicate
-one_predicate : (S : Source) (n h g w x t u l : ℕ) → LoopStands S.checked n h w t l → LoopStands S.checked n g x u l → t ≡ u
-one_predicate S n h g w x t u l s r =
-    let e : Loop h w l ≡ Loop g x l = sym s.loop.node ∙ r.loop.node in
+one_predicate : (S : Source) (n h g w x t u l m : ℕ) → LoopStands S.checked n h w t l → LoopStands S.checked n g x u m → t ≡ u
+one_predicate S n h g w x t u l m s r =
+    let e : Loop h w l ≡ Loop g x m = sym s.loop.node ∙ r.loop.node in
     let q : w ≡ x = cc in
     let k : Switches t ≡ Switches u = sym s.switches.node ∙ ap (λ i. (at (rows S.checked) i).node) q ∙ r.switches.node in
     cc
 
-truth-differs : Bool true ≡ Bool false → ⊥
-truth-differs e = cc
+-- a loop with a predicate has no index
+no_predicate : (S : Source) (n w x a b l h t k : ℕ) → LoopStands S.checked n h w t l → ForStands S.checked n w x a b k → ⊥
+no_predicate S n w x a b l h t k s r = false≢true (sym s.predicate ∙ within-there S.checked w t x r.name s.switches.node r.index r.behind)
 
--- a loop is left in one iteration: in those before it the predicate Has true, and there false
+-- a `for` has one index and one pair of bounds
+record IsSameFor (x a b y c d : ℕ) : Type 0 where
+  pub index : x ≡ y
+  pub lower : a ≡ c
+  pub upper : b ≡ d
+
+one_for : (S : Source) (n m w x a b l v y c d k : ℕ) → ForStands S.checked n w x a b l → ForStands S.checked m v y c d k → n ≡ m → IsSameFor x a b y c d
+one_for S n m w x a b l v y c d k s r q =
+    let R = rows S.checked in
+    let e : Loop s.head w l ≡ Loop r.head v k = sym s.loop.node ∙ ap (λ i. (at R i).node) q ∙ r.loop.node in
+    let h : s.head ≡ r.head = cc in
+    let z : w ≡ v = cc in
+    let f : Bounds a b ≡ Bounds c d = sym s.bounds.node ∙ ap (λ i. (at R (bounds_row i)).node) h ∙ r.bounds.node in
+    let i : a ≡ c = cc in
+    let j : b ≡ d = cc in
+    record { index = s.behind ∙ ap index_row z ∙ sym r.behind; lower = i; upper = j }
+
+-- an index Has one first value
+one_begun : (S : Source) (m : ℕ) → Earlier S m → (x : ℕ) (p : Path) (v w : SourceValue) → IsBegun S (Rounds S m) x p v → IsBegun S (Holds S) x p w → v ≡ w
+one_begun S m early x p v w h k =
+    let P = S.checked in
+    let z = below-once h.outer k.outer (place P h.row) (place P k.row) 0 0 (sym h.path ∙ k.path) in
+    let s = h.loop.loop in
+    let r = k.loop.loop in
+    let n = (apart_of P).apart h.row k.row s.within r.within (ap is_thing s.node) (ap is_thing r.node) z.1 in
+    let c = one_for S h.row k.row h.switches x h.lower h.upper h.last k.switches x k.lower k.upper k.last h.loop k.loop n in
+    let A : Path → Type 0 = λ q. Holds S (Has q (place P k.lower) (value.Int k.low)) in
+    let B : ℕ → Type 0 = λ i. Holds S (Has h.outer (place P i) (value.Int k.low)) in
+    h.gives ∙ early h.outer (place P h.lower) (value.Int h.low) (value.Int k.low) h.has (subst B (sym c.lower) (subst A (sym z.0) k.has)) ∙ sym k.gives
+
+int_same : (i j : ℤ) → value.Int i ≡ value.Int j → i ≡ j
+int_same i j e = cc
+
+-- and one in each later iteration
+one_counted : (S : Source) (m : ℕ) → Earlier S m → (x : ℕ) (p : Path) (v w : SourceValue) → IsCounted S (Rounds S m) x p v → IsCounted S (Holds S) x p w → v ≡ w
+one_counted S m early x p v w h k =
+    let P = S.checked in
+    let L = place P h.row in
+    let z = below-once h.outer k.outer L (place P k.row) (suc h.number) (suc k.number) (sym h.path ∙ k.path) in
+    let i : h.number ≡ k.number = (let e = z.2 in omega arith) in
+    let A : ℕ → Type 0 = λ e. Holds S (Has (below k.outer e k.number) (place P x) (value.Int k.index)) in
+    let B : Path → Type 0 = λ q. Holds S (Has (below q L k.number) (place P x) (value.Int k.index)) in
+    let C : ℕ → Type 0 = λ j. Holds S (Has (below h.outer L j) (place P x) (value.Int k.index)) in
+    let e = early (below h.outer L h.number) (place P x) (value.Int h.index) (value.Int k.index) h.has
+    (subst C (sym i) (subst B (sym z.0) (subst A (sym z.1) k.has))) in
+    h.gives ∙ ap (λ j. value.Int (j +ℤ pos 1)) (int_same h.index k.index e) ∙ sym k.gives
+
+begun_or_counted : (S : Source) (F G : Fact → Type 0) (x : ℕ) (p : Path) (v w : SourceValue) → IsBegun S F x p v → IsCounted S G x p w → ⊥
+begun_or_counted S F G x p v w h k =
+    let z = below-once h.outer k.outer (place S.checked h.row) (place S.checked k.row) 0 (suc k.number) (sym h.path ∙ k.path) in
+    let e = z.2 in
+    omega arith
+
+one_index : (S : Source) (m : ℕ) → Earlier S m → (x : ℕ) (p : Path) (v w : SourceValue)
+    → IsBegun S (Rounds S m) x p v ⊎ IsCounted S (Rounds S m) x p v
+    → IsBegun S (Holds S) x p w ⊎ IsCounted S (Holds S) x p w → v ≡ w
+one_index S m early x p v w (inl h) (inl k) = one_begun S m early x p v w h k
+one_index S m early x p v w (inl h) (inr k) = absurd (begun_or_counted S (Rounds S m) (Holds S) x p v w h k)
+one_index S m early x p v w (inr h) (inl k) = absurd (begun_or_counted S (Holds S) (Rounds S m) x p w v k h)
+one_index S m early x p v w (inr h) (inr k) = one_counted S m early x p v w h k
+
+truth-same : (b c : Truth) → Bool b ≡ Bool c → b ≡ c
+truth-same b c e = cc
+
+-- in one iteration a loop either goes on or not
+one_way : (S : Source) (m : ℕ) → Earlier S m → (n w : ℕ) (p : Path) (k : ℕ) (b c : Truth) {fs gs : List Fact} → GoesOn S n w p k b fs → GoesOn S n w p k c gs
+    → Every (Rounds S m) fs → Every (Holds S) gs → b ≡ c
+one_way S m early n w p k b c (by_predicate {h = h} {t = t} {l = l} i s) (by_predicate {h = g} {t = u} {l = j} d r) x y =
+    let L = place S.checked n in
+    let q = one_predicate S n h g w w t u l j s r in
+    let A : ℕ → Type 0 = λ e. Holds S (Has (below p L k) (place S.checked e) (Bool c)) in
+    truth-same b c (early (below p L k) (place S.checked t) (Bool b) (Bool c) x.0 (subst A (sym q) y.0))
+one_way S m early n w p k b c (by_predicate {h = h} {t = t} {l = l} i s) (by_bounds {x = x} {a = u} {b = v} {l = j} r e) f g =
+    absurd (no_predicate S n w x u v l h t j s r)
+one_way S m early n w p k b c (by_predicate {h = h} {t = t} {l = l} i s) (by_index {x = x} {a = u} {b = v} {l = j} d r e) f g =
+    absurd (no_predicate S n w x u v l h t j s r)
+one_way S m early n w p k b c (by_bounds {x = x} {a = u} {b = v} {l = j} r e) (by_predicate {h = h} {t = t} {l = l} i s) f g =
+    absurd (no_predicate S n w x u v l h t j s r)
+one_way S m early n w p k b c (by_index {x = x} {a = u} {b = v} {l = j} d r e) (by_predicate {h = h} {t = t} {l = l} i s) f g =
+    absurd (no_predicate S n w x u v l h t j s r)
+one_way S m early n w p k b c (by_bounds {x = x} {a = u} {b = v} {l = l} {lo = lo} {hi = hi} s e)
+    (by_bounds {x = y} {a = d} {b = i} {l = j} {lo = low} {hi = high} r q) f g =
+    let P = S.checked in
+    let z = one_for S n n w x u v l w y d i j s r refl in
+    let A : ℕ → Type 0 = λ h. Holds S (Has p (place P h) (value.Int low)) in
+    let B : ℕ → Type 0 = λ h. Holds S (Has p (place P h) (value.Int high)) in
+    let a = int_same lo low (early p (place P u) (value.Int lo) (value.Int low) f.1.0 (subst A (sym z.lower) g.1.0)) in
+    let h = int_same hi high (early p (place P v) (value.Int hi) (value.Int high) f.1.1.0 (subst B (sym z.upper) g.1.1.0)) in
+    sym e ∙ ap (λ k. int_le k hi) a ∙ ap (λ k. int_le low k) h ∙ q
+one_way S m early n w p k b c (by_index {x = x} {a = u} {b = v} {l = l} {i = ix} {hi = hi} o s e)
+    (by_index {x = y} {a = d} {b = i} {l = j} {i = iy} {hi = high} t r q) f g =
+    let P = S.checked in
+    let z = one_for S n n w x u v l w y d i j s r refl in
+    let h = below p (place P n) o in
+    let A : ℕ → Type 0 = λ m. Holds S (Has h (place P m) (value.Int iy)) in
+    let B : ℕ → Type 0 = λ m. Holds S (Has p (place P m) (value.Int high)) in
+    let a = int_same ix iy (early h (place P x) (value.Int ix) (value.Int iy) f.0 (subst A (sym z.index) g.0)) in
+    let c = int_same hi high (early p (place P v) (value.Int hi) (value.Int high) f.1.0 (subst B (sym z.upper) g.1.0)) in
+    sym e ∙ ap (λ k. int_lt k hi) a ∙ ap (λ k. int_lt iy k) c ∙ q
+
+-- a loop is left in one iteration: in those before it it goes on, and there it does not
 one_left : (S : Source) (m : ℕ) → Earlier S m → (n l : ℕ) (p : Path) (v w : SourceValue) → IsLeft S (Rounds S m) n l p v → IsLeft S (Holds S) n l p w → v ≡ w
 one_left S m early n l p v w h k =
     let P = S.checked in
     let L = place P n in
     let r = k.has.round in
-    let t = one_predicate S n h.head k.head h.switches k.switches h.test k.test l h.loop k.loop in
-    let mine = false-there S m (all-fine S m) n h.head h.switches h.test l h.number p v h.loop h.has in
-    let other = false-there S r (all-fine S r) n k.head k.switches k.test l k.number p w k.loop k.has.there in
-    let T : ℕ → Truth → ℕ → Type 0 = λ i b u. Holds S (Has (below p L i) (place P u) (Bool b)) in
+    let e : Loop k.head k.switches l ≡ Loop h.head h.switches l = sym k.loop.node ∙ h.loop.node in
+    let q : k.switches ≡ h.switches = cc in
+    let mine = false-there S m (all-fine S m) n h.head h.switches l h.number p v h.loop h.has in
+    let A : ℕ → Type 0 = λ s. GoesIn S (Rounds S r) n s p k.number false in
+    let other = subst A q (false-there S r (all-fine S r) n k.head k.switches l k.number p w k.loop k.has.there) in
+    let W = h.switches in
     elim (cases_lt h.number k.number) [
       | inl c ↦
-          let x = true-below S r (all-fine S r) n k.head k.switches k.test l h.number p (Bool false) k.loop k.number c other in
-          let y : T h.number true h.test = subst (λ u. T h.number true u) (sym t) (record { round = r; there = x }) in
-          absurd (truth-differs (sym (early (below p L h.number) (place P h.test) (Bool false) (Bool true) mine y)))
+          let x = true-below S r (all-fine S r) n W h.number false p k.number c other in
+          absurd (false≢true (one_way S m early n W p h.number false true mine.goes x.goes mine.hold (every_holds S r x.facts x.hold)))
       | inr c ↦ elim (cases_lt k.number h.number) [
         | inl d ↦
-            let x = true-below S m (all-fine S m) n h.head h.switches h.test l k.number p (Bool false) h.loop h.number d mine in
-            let y : T k.number false h.test = subst (λ u. T k.number false u) (sym t) (record { round = r; there = other }) in
-            absurd (truth-differs (early (below p L k.number) (place P h.test) (Bool true) (Bool false) x y))
+            let x = true-below S m (all-fine S m) n W k.number false p h.number d mine in
+            absurd (false≢true (sym (one_way S m early n W p k.number true false x.goes other.goes x.hold (every_holds S r other.facts other.hold))))
         | inr d ↦
             let e : k.number ≡ h.number = omega arith in
             let A : ℕ → Type 0 = λ i. Holds S (Has (below p L i) (place P l) w) in
@@ -606,6 +749,7 @@ one_at_node S free m early n (Call e c) p v w h k =
 one_at_node S free m early n (Block b) p v w h k = early p _ v w h k
 one_at_node S free m early n (Loop g x l) p v w h k = one_left S m early n l p v w h k
 one_at_node S free m early n (Next y i o a) p v w h k = one_variable S m early n o a p v w h k
+one_at_node S free m early n (Index y) p v w h k = one_index S m early n p v w h k
 one_at_node S free m early n (Binding y a) p v w h k = early p _ v w h k
 one_at_node S free m early n (Array a b) p v w h k = h ∙ sym k
 one_at_node S free m early n (Fetch t i) p v w h k = one_fetched S free m early n p v w h k

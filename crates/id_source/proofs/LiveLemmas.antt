@@ -1,26 +1,28 @@
--- What is On in an iteration of a loop is so since the predicate Has a value there.
-use Rattle.std.proofs.Common.{◌≡◌, ◌||◌, inl, inr, ℕ, zero, suc, ◌-◌, ◌<◌, Bool as Truth, true, false, List, length, refl, ap, sym, ◌∙◌, subst, arith}
+-- What is On in an iteration of a loop is so since the predicate Has a value there, or since the loop goes on there or not.
+use Rattle.std.proofs.Common.{◌≡◌, ◌||◌, inl, inr, ℕ, zero, suc, ◌-◌, ◌+◌, ◌<◌, Bool as Truth, true, false, List, length, refl, ap, sym, ◌∙◌, subst, arith}
 use Rattle.std.proofs.lemmas.Bool.{cases_lt, false≢true}
 use Rattle.id_list.proofs.AmongLemmas.{Among-from_at}
 use Rattle.id_value.specs.declared.Kind.{Kind}
 use Rattle.id_table.specs.declared.row.Region.{Region}
 use Rattle.id_table.specs.declared.row.Node.{Node}
 use Rattle.id_table.specs.declared.row.Node.TheVariants.{Head, Param, Unary, Binary, Split, If, Arg, Call, Switches, LoopHead, Next, Loop, Block, Binding, Def}
-use Rattle.id_table.specs.declared.row.Node.TheVariants.{Array, Fetch, Address, Store}
-use Rattle.id_table.specs.Loops.{IsLoop}
+use Rattle.id_table.specs.declared.row.Node.TheVariants.{Literal, Name, Array, Fetch, Address, Store, Bounds, Index}
+use Rattle.id_table.specs.Loops.{bounds_row, index_row}
 use Rattle.id_table.specs.Regions.{IsIfOf}
 use Rattle.id_table.specs.Rows.{arm_at, at, top}
-use Rattle.id_table.specs.Tables.{HasNear, HasOperand, HasPart, begins_block, is_top, is_expression, is_param, is_store, is_thing}
+use Rattle.id_table.specs.Tables.{HasNear, HasOperand, HasPart, begins_block, is_index, is_top, is_expression, is_param, is_store, is_thing}
 use Rattle.id_table.specs.Turns.{params_at}
 use Rattle.id_scope.specs.Causes.{defines_main}
 use Rattle.id_check.specs.Programs.{Stands, place, region, rows}
 use Rattle.id_check.proofs.ProgramsLemmas.{part_row, table_of}
 use Rattle.id_source.specs.declared.Path.{Path}
 use Rattle.id_source.specs.declared.SourceValue.{SourceValue}
-use Rattle.id_source.specs.declared.SourceValue.TheVariants.{Bool}
+use Rattle.id_source.specs.declared.SourceValue.TheVariants.{Bool, Int}
+use Rattle.id_source.specs.declared.Site.{Site}
 use Rattle.id_source.specs.declared.Fact.{Fact}
 use Rattle.id_source.specs.declared.Fact.TheVariants.{On, Has, Shape, Put, Ask}
 use Rattle.id_source.specs.Sources.{Source, body_of, main_body}
+use Rattle.id_source.specs.Facts.{GoesOn, by_predicate, by_bounds, by_index, ForStands, lower_on, upper_on, index_begins, index_counts}
 use Rattle.id_source.specs.Facts.{LoopStands, below, Chooses, then_arm, else_arm, Rule, main_on, param_has, literal_has, operand_on, left_on, right_on}
 use Rattle.id_source.specs.Facts.{unary_has, binary_has, name_has, test_on, arm_on, conditional_has}
 use Rattle.id_source.specs.Facts.{argument_on, callee_on, argument_has, call_has, loop_test_on, first_has, turn_on, loop_statement_on, next_on, next_has}
@@ -28,8 +30,9 @@ use Rattle.id_source.specs.Facts.{last_on, loop_has, statement_on, body_on, bloc
 use Rattle.id_source.specs.Facts.{StoreStands, ask, loop_store_on, store_on, bounds_low_on, bounds_high_on, shape_made, array_has, fetch_target_on}
 use Rattle.id_source.specs.Facts.{fetch_index_on, asks, fetch_has, store_target_on, store_index_on, store_value_on, puts}
 use Rattle.id_source.specs.Rounds.{Every, Rounds}
-use Rattle.id_source.proofs.CheckedLemmas.{apart_of, loop-of, next-region, thing-expression, thing-param, thing-store}
+use Rattle.id_source.proofs.CheckedLemmas.{apart_of, bounds-region, loop-of, loop-rows, next-region, test-row, thing-expression, thing-param, thing-store}
 use Rattle.id_source.proofs.ParamsLemmas.{input_param, params-among}
+use Rattle.id_source.proofs.RoundsLemmas.{Every-more}
 use Rattle.id_source.proofs.StepsLemmas.{below-once}
 
 -- the path ends in an iteration of the loop with this head, which is On; in the one before it the predicate Has true
@@ -45,10 +48,36 @@ pub record Iterates (S : Source) (F : Fact → Type 0) (p : Path) (h : ℕ) : Ty
   pub on : F (On outer (place S.checked loop))
   pub before : (j : ℕ) → number ≡ suc j → F (Has (below outer (place S.checked loop) j) (place S.checked test) (Bool true))
 
--- at the path a region is live that begins at a row of this node: behind switches the predicate Has that value, in a loop
--- the path ends in an iteration of it
+-- by facts the loop at the row n, with its switches at w, which is On at the path p, goes on or not in iteration k
+pub record GoesIn (S : Source) (F : Fact → Type 0) (n w : ℕ) (p : Path) (k : ℕ) (c : Truth) : Type 0 where
+  pub on : F (On p (place S.checked n))
+  pub facts : List Fact
+  pub goes : GoesOn S n w p k c facts
+  pub hold : Every F facts
+
+-- the path ends in an iteration of the loop with these switches, which goes on or not in it
+pub record GoesAt (S : Source) (F : Fact → Type 0) (p : Path) (w : ℕ) (c : Truth) : Type 0 where
+  pub loop : ℕ
+  pub head : ℕ
+  pub last : ℕ
+  pub stands : Stands S.checked loop (Loop head w last)
+  pub outer : Path
+  pub number : ℕ
+  pub path : p ≡ below outer (place S.checked loop) number
+  pub there : GoesIn S F loop w outer number c
+
+-- a fetch stands at the place of the site
+pub record IsFetch (S : Source) (f : Site) : Type 0 where
+  pub row : ℕ
+  pub target : ℕ
+  pub index : ℕ
+  pub stands : Stands S.checked row (Fetch target index)
+  pub here : place S.checked row ≡ f.place
+
+-- at the path a region is live that begins at a row of this node: behind switches it ends in an iteration in which their
+-- loop goes on or not, in a loop in an iteration of it
 abbrev LiveAt : Source → (Fact → Type 0) → Path → Region → Node → Type 0
-LiveAt S F p r (Switches t) = F (Has p (place S.checked t) (Bool r.side))
+LiveAt S F p r (Switches t) = GoesAt S F p r.head r.side
 LiveAt S F p r (LoopHead s) = Iterates S F p r.head
 LiveAt S F p r _ = Unit {0}
 
@@ -59,12 +88,19 @@ LiveIn S F p r = LiveAt S F p r (at (rows S.checked) r.head).node
 abbrev is_evaluated : Node → Truth
 is_evaluated z = is_expression z || is_store z
 
--- an expression or store that is On stands in a live region, one that Has a value is On, and so is a fetch that asks
+-- at a place where this holds a value may be had: an expression or store there is On, and in an iteration in which an index
+-- Has one its loop goes on
+abbrev FineAt : Source → (Fact → Type 0) → Path → ℕ → Type 0
+FineAt S F p e =
+    ((a : ℕ) → a < length (rows S.checked) → is_evaluated (at (rows S.checked) a).node ≡ true → place S.checked a ≡ e → F (On p e))
+    × ((x y w : ℕ) → Stands S.checked x (Index y) → x ≡ index_row w → place S.checked x ≡ e → GoesAt S F p w true)
+
+-- an expression or store that is On stands in a live region, what Has a value may have one, and a fetch that asks is On
 abbrev Fine : Source → (Fact → Type 0) → Fact → Type 0
 Fine S F (On p e) =
     (a : ℕ) → a < length (rows S.checked) → is_evaluated (at (rows S.checked) a).node ≡ true → place S.checked a ≡ e → LiveIn S F p (region S.checked a)
-Fine S F (Has p e v) = (a : ℕ) → a < length (rows S.checked) → is_evaluated (at (rows S.checked) a).node ≡ true → place S.checked a ≡ e → F (On p e)
-Fine S F (Ask a) = F (On a.fetch.path a.fetch.place)
+Fine S F (Has p e v) = FineAt S F p e
+Fine S F (Ask a) = F (On a.fetch.path a.fetch.place) × IsFetch S a.fetch
 Fine S F _ = Unit {0}
 
 evaluated-thing : (z : Node) → is_evaluated z ≡ true → is_thing z ≡ true
@@ -80,6 +116,10 @@ expression-evaluated z e = ap (λ b. b || is_store z) e
 param-none : (z : Node) → is_param z ≡ true → is_evaluated z ≡ false
 param-none (Param x k) h = refl
 param-none _ h = absurd (false≢true h)
+
+param-plain : (z : Node) → is_param z ≡ true → is_index z ≡ false
+param-plain (Param x k) h = refl
+param-plain _ h = absurd (false≢true h)
 
 module _ (S : Source) where
   -- an expression or a store stands there
@@ -105,6 +145,14 @@ module _ (S : Source) where
   none-there m z st t f a l e q =
       let k = one-there a m l e st.within (ap is_thing st.node ∙ t) q in
       false≢true (sym (ap is_evaluated st.node ∙ f) ∙ ap (λ i. is_evaluated (at (rows S.checked) i).node) (sym k) ∙ e)
+
+  -- and no index
+  no-index : (m : ℕ) (z : Node) → Stands S.checked m z → is_thing z ≡ true → is_index z ≡ false
+      → (x y : ℕ) → Stands S.checked x (Index y) → place S.checked x ≡ place S.checked m → ⊥
+  no-index m z st t f x y i q =
+      let R = rows S.checked in
+      let k = (apart_of S.checked).apart x m i.within st.within (ap is_thing i.node) (ap is_thing st.node ∙ t) q in
+      false≢true (sym (ap is_index st.node ∙ f) ∙ ap (λ j. is_index (at R j).node) (sym k) ∙ ap is_index i.node)
 
   -- at an expression's region
   live-there : (F : Fact → Type 0) (p : Path) (b : ℕ) → IsExpression b → LiveIn S F p (region S.checked b) → Fine S F (On p (place S.checked b))
@@ -158,17 +206,16 @@ module _ (S : Source) where
       let own : (at R d).block ≡ h = sym B ∙ T.head_block h w (ap begins_block i.0) in
       (near d b (Def x h k b) st (inr refl) ∙ T.at_top d st.within (ap is_top st.node) ∙ ap (λ j. top j) own, i.0)
 
-  loop-rows : (n h w t l : ℕ) → LoopStands S.checked n h w t l → IsLoop (rows S.checked) n h w l
-  loop-rows n h w t l s = (table_of S.checked).loop_is n h (loop-of S.checked n h w t l s)
-
   test-region : (n h w t l : ℕ) → LoopStands S.checked n h w t l → region S.checked t ≡ top h
-  test-region n h w t l s = near w t (Switches t) s.switches refl ∙ (loop-rows n h w t l s).test.region
+  test-region n h w t l s = near w t (Switches t) s.switches refl ∙ (loop-rows S.checked n h w l s.loop).test.region
 
   test-part : (n h w t l : ℕ) → LoopStands S.checked n h w t l → IsExpression t
-  test-part n h w t l s = part w t (Switches t) s.switches refl
+  test-part n h w t l s =
+      let q = test-row S.checked n h w t l s in
+      record { within = q.0; is = expression-evaluated (at (rows S.checked) t).node q.1 }
 
-  last-part : (n h w t l : ℕ) → LoopStands S.checked n h w t l → IsExpression l
-  last-part n h w t l s = part n l (Loop h w l) s.loop refl
+  last-part : (n h w l : ℕ) → Stands S.checked n (Loop h w l) → IsExpression l
+  last-part n h w l s = part n l (Loop h w l) s refl
 
   -- ---- what is known in one round
 
@@ -185,8 +232,9 @@ module _ (S : Source) where
     iterates m h w t l k p v s g =
         let q = below p (place S.checked m) k in
         let x = test-part m h w t l s in
-        let on = fine (Has q (place S.checked t) v) g t x.within x.is refl in
-        live-from F q t (top h) (LoopHead (h - 1)) x (test-region m h w t l s) (loop-rows m h w t l s).before_test.head (fine (On q (place S.checked t)) on)
+        let on = (fine (Has q (place S.checked t) v) g).0 t x.within x.is refl in
+        live-from F q t (top h) (LoopHead (h - 1)) x (test-region m h w t l s) (loop-rows S.checked m h w l s.loop).before_test.head
+        (fine (On q (place S.checked t)) on)
 
     -- and the loop is On
     loop-on : (m h w t l k : ℕ) (p : Path) (v : SourceValue) → LoopStands S.checked m h w t l → F (Has (below p (place S.checked m) k) (place S.checked t) v)
@@ -199,14 +247,15 @@ module _ (S : Source) where
         subst G (sym z.0) (subst H (sym z.1) i.on)
 
     -- in the iteration before it the predicate Has true
-    pub true-before : (m h w t l k : ℕ) (p : Path) (v : SourceValue) → LoopStands S.checked m h w t l
+    test-before : (m h w t l k : ℕ) (p : Path) (v : SourceValue) → LoopStands S.checked m h w t l
         → F (Has (below p (place S.checked m) (suc k)) (place S.checked t) v)
         → F (Has (below p (place S.checked m) k) (place S.checked t) (Bool true))
-    true-before m h w t l k p v s g =
+    test-before m h w t l k p v s g =
         let i = iterates m h w t l (suc k) p v s g in
         let L = place S.checked m in
         let z = below-once p i.outer L (place S.checked i.loop) (suc k) i.number i.path in
-        let same = (table_of S.checked).one_loop i.loop m h (loop-of S.checked i.loop h i.switches i.test i.last i.stands) (loop-of S.checked m h w t l s) in
+        let P = S.checked in
+        let same = (table_of P).one_loop i.loop m h (loop-of P i.loop h i.switches i.last i.stands.loop) (loop-of P m h w l s.loop) in
         let b = i.before k (sym z.2) in
         let R = rows S.checked in
         let k1 : Loop h i.switches i.last ≡ Loop h w l = sym i.stands.loop.node ∙ ap (λ j. (at R j).node) same ∙ s.loop.node in
@@ -218,36 +267,86 @@ module _ (S : Source) where
         let C : ℕ → Type 0 = λ y. F (Has (below i.outer (place S.checked i.loop) k) (place S.checked y) (Bool true)) in
         subst A (sym z.0) (subst B (sym z.1) (subst C te b))
 
+    -- of the loop itself
+    settled : (m h w l k : ℕ) (c : Truth) (p : Path) → Stands S.checked m (Loop h w l) → GoesAt S F (below p (place S.checked m) k) w c → GoesIn S F m w p k c
+    settled m h w l k c p s g =
+        let z = below-once p g.outer (place S.checked m) (place S.checked g.loop) k g.number g.path in
+        let same : g.loop ≡ m =
+        (apart_of S.checked).apart g.loop m g.stands.within s.within (ap is_thing g.stands.node) (ap is_thing s.node) (sym z.1) in
+        let A : Path → Type 0 = λ q. GoesIn S F m w q k c in
+        let B : ℕ → Type 0 = λ j. GoesIn S F m w g.outer j c in
+        let C : ℕ → Type 0 = λ i. GoesIn S F i w g.outer g.number c in
+        subst A (sym z.0) (subst B (sym z.2) (subst C same g.there))
+
+    -- where its index Has a value it goes on
+    index-goes : (m w x a b l k : ℕ) (p : Path) (v : SourceValue) → ForStands S.checked m w x a b l → F (Has (below p (place S.checked m) k) (place S.checked x) v)
+        → GoesIn S F m w p k true
+    index-goes m w x a b l k p v s g =
+        settled m s.head w l k true p s.loop ((fine (Has (below p (place S.checked m) k) (place S.checked x) v) g).1 x s.name w s.index s.behind refl)
+
+    -- where it goes on or not it is On
+    on-there : (m w k : ℕ) (c : Truth) (p : Path) {fs : List Fact} → GoesOn S m w p k c fs → Every F fs → F (On p (place S.checked m))
+    on-there m w k c p (by_predicate {h = h} {t = t} {l = l} j s) g = loop-on m h w t l j p (Bool c) s g.0
+    on-there m w k c p (by_bounds s e) g = g.0
+    on-there m w k c p (by_index {x = x} {a = a} {b = b} {l = l} {i = i} j s e) g = (index-goes m w x a b l j p (Int i) s g.0).on
+
+    goes-in : {fs : List Fact} (m w k : ℕ) (c : Truth) (p : Path) → GoesOn S m w p k c fs → Every F fs → GoesIn S F m w p k c
+    goes-in {fs = fs} m w k c p o g = record { on = on-there m w k c p o g; facts = fs; goes = o; hold = g }
+
+    -- in the iteration before it goes on
+    before : (m w k : ℕ) (c : Truth) (p : Path) {fs : List Fact} → GoesOn S m w p (suc k) c fs → Every F fs → GoesIn S F m w p k true
+    before m w k c p (by_predicate {h = h} {t = t} {l = l} j s) g =
+        goes-in m w k true p (by_predicate k s) (test-before m h w t l k p (Bool c) s g.0, tt)
+    before m w k c p (by_index {x = x} {a = a} {b = b} {l = l} {i = i} j s e) g = index-goes m w x a b l k p (Int i) s g.0
+
+    pub true-before : (m w k : ℕ) (c : Truth) (p : Path) → GoesIn S F m w p (suc k) c → GoesIn S F m w p k true
+    true-before m w k c p g = before m w k c p g.goes g.hold
+
     -- and so in all before it
-    pub true-below : (m h w t l j : ℕ) (p : Path) (v : SourceValue) → LoopStands S.checked m h w t l → (k : ℕ) → j < k
-        → F (Has (below p (place S.checked m) k) (place S.checked t) v)
-        → F (Has (below p (place S.checked m) j) (place S.checked t) (Bool true))
-    true-below m h w t l j p v s zero b g = absurd (omega arith)
-    true-below m h w t l j p v s (suc k) b g = elim (cases_lt j k) [
-      | inl c ↦ true-below m h w t l j p (Bool true) s k c (true-before m h w t l k p v s g)
-      | inr c ↦
+    pub true-below : (m w j : ℕ) (c : Truth) (p : Path) (k : ℕ) → j < k → GoesIn S F m w p k c → GoesIn S F m w p j true
+    true-below m w j c p zero b g = absurd (omega arith)
+    true-below m w j c p (suc k) b g = elim (cases_lt j k) [
+      | inl d ↦ true-below m w j true p k d (true-before m w k c p g)
+      | inr d ↦
           let e : j ≡ k = omega arith in
-          let G : ℕ → Type 0 = λ i. F (Has (below p (place S.checked m) i) (place S.checked t) (Bool true)) in
-          subst G (sym e) (true-before m h w t l k p v s g)
+          let G : ℕ → Type 0 = λ i. GoesIn S F m w p i true in
+          subst G (sym e) (true-before m w k c p g)
     ]
 
-    -- where the last expression Has a value the predicate Has false
-    pub false-there : (m h w t l k : ℕ) (p : Path) (v : SourceValue) → LoopStands S.checked m h w t l
+    -- where the last expression Has a value the loop does not go on
+    pub false-there : (m h w l k : ℕ) (p : Path) (v : SourceValue) → Stands S.checked m (Loop h w l)
         → F (Has (below p (place S.checked m) k) (place S.checked l) v)
-        → F (Has (below p (place S.checked m) k) (place S.checked t) (Bool false))
-    false-there m h w t l k p v s g =
+        → GoesIn S F m w p k false
+    false-there m h w l k p v s g =
         let q = below p (place S.checked m) k in
-        let x = last-part m h w t l s in
-        let on = fine (Has q (place S.checked l) v) g l x.within x.is refl in
-        live-from F q l (arm_at w false) (Switches t) x (loop-rows m h w t l s).last_is.region s.switches.node (fine (On q (place S.checked l)) on)
+        let x = last-part m h w l s in
+        let on = (fine (Has q (place S.checked l) v) g).0 l x.within x.is refl in
+        let r = loop-rows S.checked m h w l s in
+        settled m h w l k false p s
+        (live-from F q l (arm_at w false) (Switches r.test.test) x r.last_is.region r.test.node (fine (On q (place S.checked l)) on))
 
     -- ---- what follows is fine
 
     abbrev G : Fact → Type 0
     G f = Rounds S (suc n) f
 
+    more-goes : {m w k : ℕ} {c : Truth} {p : Path} → GoesIn S F m w p k c → GoesIn S G m w p k c
+    more-goes g = record { on = inl g.on; facts = g.facts; goes = g.goes; hold = Every-more S n g.facts g.hold }
+
+    more-there : {p : Path} {w : ℕ} {c : Truth} → GoesAt S F p w c → GoesAt S G p w c
+    more-there g = record {
+      loop = g.loop;
+      head = g.head;
+      last = g.last;
+      stands = g.stands;
+      outer = g.outer;
+      number = g.number;
+      path = g.path;
+      there = more-goes g.there;
+    }
+
     more-at : (p : Path) (r : Region) (z : Node) → LiveAt S F p r z → LiveAt S G p r z
-    more-at p r (Switches t) h = inl h
+    more-at p r (Switches t) h = more-there h
     more-at p r (LoopHead s) h = record {
       loop = h.loop;
       switches = h.switches;
@@ -264,19 +363,55 @@ module _ (S : Source) where
 
     more-fine : (f : Fact) → Fine S F f → Fine S G f
     more-fine (On p e) h = λ a l x q. more-at p (region S.checked a) (at (rows S.checked) (region S.checked a).head).node (h a l x q)
-    more-fine (Has p e v) h = λ a l x q. inl (h a l x q)
+    more-fine (Has p e v) h = (λ a l x q. inl (h.0 a l x q), λ x y w s b q. more-there (h.1 x y w s b q))
     more-fine (Shape s) h = tt
     more-fine (Put p) h = tt
-    more-fine (Ask a) h = inl h
+    more-fine (Ask a) h = (inl h.0, h.1)
+
+    goes-at : {fs : List Fact} (m h w l k : ℕ) (c : Truth) (p : Path) → Stands S.checked m (Loop h w l) → GoesOn S m w p k c fs → Every F fs
+        → GoesAt S G (below p (place S.checked m) k) w c
+    goes-at m h w l k c p st o g =
+        record { loop = m; head = h; last = l; stands = st; outer = p; number = k; path = refl; there = more-goes (goes-in m w k c p o g) }
 
     -- a fact of the round is fine in the next
     there : (f : Fact) → F f → Fine S G f
     there f h = more-fine f (fine f h)
 
     -- what Has a value where it is On
-    has-fine : (p : Path) (e : ℕ) → F (On p e) → (a : ℕ) → a < length (rows S.checked) → is_evaluated (at (rows S.checked) a).node ≡ true
-        → place S.checked a ≡ e → G (On p e)
-    has-fine p e h a l x q = inl h
+    has-fine : (p : Path) (m : ℕ) (z : Node) → Stands S.checked m z → is_thing z ≡ true → is_index z ≡ false → F (On p (place S.checked m)) → FineAt S G p (place S.checked m)
+    has-fine p m z st t f h = (λ a l x q. inl h, λ x y w i b q. absurd (no-index m z st t f x y i q))
+
+    -- what Has a value and is no expression
+    bound-fine : (p : Path) (m : ℕ) (z : Node) → Stands S.checked m z → is_thing z ≡ true → is_evaluated z ≡ false → is_index z ≡ false → FineAt S G p (place S.checked m)
+    bound-fine p m z st t f g = (λ a l x q. absurd (none-there m z st t f a l x q), λ x y w i b q. absurd (no-index m z st t g x y i q))
+
+    param-fine : (p : Path) (m : ℕ) → m < length (rows S.checked) → is_param (at (rows S.checked) m).node ≡ true → FineAt S G p (place S.checked m)
+    param-fine p m l h =
+        let z = (at (rows S.checked) m).node in
+        bound-fine p m z (record { within = l; node = refl }) (thing-param z h) (param-none z h) (param-plain z h)
+
+    chosen-fine : (m t a : ℕ) (b : Truth) (p : Path) → Chooses S m t b a → F (On p (place S.checked m)) → FineAt S G p (place S.checked m)
+    chosen-fine m t a b p (then_arm {s = s} {a = x} {b = y} u c) h = has-fine p m (If s x y) u refl refl h
+    chosen-fine m t a b p (else_arm {s = s} {a = x} {b = y} u c) h = has-fine p m (If s x y) u refl refl h
+
+    fetch-fine : (f : Site) → F (On f.path f.place) → IsFetch S f → FineAt S G f.path f.place
+    fetch-fine f h c = (
+      λ a l x q. inl h,
+      λ x y w i b q. absurd (no-index c.row (Fetch c.target c.index) c.stands refl refl x y i (q ∙ sym c.here)),
+    )
+
+    -- an index Has a value where its loop goes on
+    index-fine : {fs : List Fact} (m w x a b l k : ℕ) (p : Path) → ForStands S.checked m w x a b l → GoesOn S m w p k true fs → Every F fs
+        → FineAt S G (below p (place S.checked m) k) (place S.checked x)
+    index-fine m w x a b l k p s o g = (
+      λ c d y q. absurd (none-there x (Index s.name) s.index refl refl c d y q),
+      λ y z u i e q.
+          let same : y ≡ x = (apart_of S.checked).apart y x i.within s.index.within (ap is_thing i.node) (ap is_thing s.index.node) q in
+          let f : u + 3 ≡ w + 3 = sym e ∙ same ∙ s.behind in
+          let r : w ≡ u = omega (arith, f) in
+          let A : ℕ → Type 0 = λ j. GoesAt S G (below p (place S.checked m) k) j true in
+          subst A r (goes-at m s.head w l k true p s.loop o g),
+    )
 
     on-part : (m a : ℕ) (p : Path) (z : Node) → Stands S.checked m z → is_evaluated z ≡ true → HasOperand z a → HasNear z a → F (On p (place S.checked m))
         → Fine S G (On p (place S.checked a))
@@ -316,6 +451,13 @@ module _ (S : Source) where
         live-with G p m v (itself m (Call e c) st refl) (part a v (Arg e i v) t refl)
         (near a v (Arg e i v) t (inr refl) ∙ sym (near a e (Arg e i v) t (inl refl)) ∙ near m e (Call e c) st refl) (there (On p (place S.checked m)) g)
 
+    -- the bounds of an index
+    on-bound : (m w x a b l c : ℕ) (p : Path) (s : ForStands S.checked m w x a b l) → HasPart (Bounds a b) c → F (On p (place S.checked m))
+        → Fine S G (On p (place S.checked c))
+    on-bound m w x a b l c p s h g =
+        live-with G p m c (itself m (Loop s.head w l) s.loop refl) (part (bounds_row s.head) c (Bounds a b) s.bounds h)
+        (near (bounds_row s.head) c (Bounds a b) s.bounds h ∙ bounds-region S.checked m w x a b l s) (there (On p (place S.checked m)) g)
+
     -- a loop's predicate
     on-loop_test : (m h w t l k : ℕ) (p : Path) → LoopStands S.checked m h w t l → F (On p (place S.checked m))
         → ((j : ℕ) → k ≡ suc j → F (Has (below p (place S.checked m) j) (place S.checked t) (Bool true))) → Fine S G
@@ -324,7 +466,7 @@ module _ (S : Source) where
         let i : Iterates S G (below p (place S.checked m) k) h =
         record { loop = m; switches = w; test = t; last = l; stands = s; outer = p; number = k; path = refl; on = inl g; before = λ j e. inl (b j e) } in
         live-by G (below p (place S.checked m) k) t (top h) (LoopHead (h - 1)) (test-part m h w t l s) (test-region m h w t l s)
-        (loop-rows m h w t l s).before_test.head i
+        (loop-rows S.checked m h w l s.loop).before_test.head i
 
     before-same : (m t k j : ℕ) (p : Path) → F (Has (below p (place S.checked m) k) (place S.checked t) (Bool true)) → suc k ≡ suc j
         → F (Has (below p (place S.checked m) j) (place S.checked t) (Bool true))
@@ -334,10 +476,11 @@ module _ (S : Source) where
         subst H q g
 
     -- a row in a side of its switches
-    on-side : (w t a : ℕ) (b : Truth) (q : Path) → Stands S.checked w (Switches t) → IsExpression a → region S.checked a ≡ arm_at w b
-        → F (Has q (place S.checked t) (Bool b))
-        → Fine S G (On q (place S.checked a))
-    on-side w t a b q st x e g = live-by G q a (arm_at w b) (Switches t) x e st.node (inl g)
+    on-side : {fs : List Fact} (m h w l k a : ℕ) (b : Truth) (p : Path) → Stands S.checked m (Loop h w l) → GoesOn S m w p k b fs → Every F fs
+        → IsExpression a → region S.checked a ≡ arm_at w b → Fine S G (On (below p (place S.checked m) k) (place S.checked a))
+    on-side m h w l k a b p st o g x e =
+        let r = (loop-rows S.checked m h w l st).test in
+        live-by G (below p (place S.checked m) k) a (arm_at w b) (Switches r.test) x e r.node (goes-at m h w l k b p st o g)
 
     -- the parts of a store's address stand where the store does
     on-address : (m t i x a : ℕ) (p : Path) (s : StoreStands S.checked m t i x) → HasPart (Address t i) a → F (On p (place S.checked m))
@@ -349,71 +492,69 @@ module _ (S : Source) where
 
     follows : {fs : List Fact} {f : Fact} → Rule S fs f → Every F fs → Fine S G f
     follows main_on h = main-fine (at (rows S.checked) S.checked.main).node refl S.checked.is_main.node _
-    follows (param_has i) h = λ a l x q. (let b = input_param i in absurd (none-param a l x _ b.0 b.1 q))
-      where
-        none-param : (a : ℕ) → a < length (rows S.checked) → is_evaluated (at (rows S.checked) a).node ≡ true → (b : ℕ) → b < length (rows S.checked)
-            → is_param (at (rows S.checked) b).node ≡ true → place S.checked a ≡ place S.checked b → ⊥
-        none-param a l x b m y q = none-there b (at (rows S.checked) b).node (record { within = m; node = refl }) (thing-param (at (rows S.checked) b).node y)
-            (param-none (at (rows S.checked) b).node y) a l x q
-    follows (literal_has {n = m} {p = p} st) h = has-fine p (place S.checked m) h.0
+    follows (param_has {b = b} i) h = let q = input_param i in param-fine _ b q.0 q.1
+    follows (literal_has {n = m} {c = c} {p = p} st) h = has-fine p m (Literal c) st refl refl h.0
     follows (operand_on {n = m} {a = a} {o = o} {p = p} st) h = on-part m a p (Unary o a) st refl refl refl h.0
     follows (left_on {n = m} {a = a} {b = b} {o = o} {p = p} st) h = on-part m a p (Binary o a b) st refl (inl refl) (inl refl) h.0
     follows (right_on {n = m} {a = a} {b = b} {o = o} {p = p} st) h = on-part m b p (Binary o a b) st refl (inr refl) (inr refl) h.0
-    follows (unary_has {n = m} {p = p} c st e) h = has-fine p (place S.checked m) h.0
-    follows (binary_has {n = m} {p = p} c d st e) h = has-fine p (place S.checked m) h.0
-    follows (name_has {n = m} {p = p} st e) h = has-fine p (place S.checked m) h.0
+    follows (unary_has {n = m} {a = a} {o = o} {p = p} c st e) h = has-fine p m (Unary o a) st refl refl h.0
+    follows (binary_has {n = m} {a = a} {b = b} {o = o} {p = p} c d st e) h = has-fine p m (Binary o a b) st refl refl h.0
+    follows (name_has {n = m} {x = x} {p = p} st e) h = has-fine p m (Name x) st refl refl h.0
     follows (test_on {n = m} {t = t} {a = a} {b = b} {p = p} c) h = on-test m t a b p c h.0
     follows (arm_on {n = m} {t = t} {a = a} {b = b} {p = p} c) h = on-arm m t a b p c
-    follows (conditional_has {n = m} {p = p} c) h = has-fine p (place S.checked m) h.0
+    follows (conditional_has {n = m} {t = t} {a = a} {b = b} {p = p} c) h = chosen-fine m t a b p c h.0
     follows (argument_on {n = m} {e = e} {c = c} {m = a} {k = i} {v = v} {p = p} st t) h = on-argument m e c a i v p st t h.0
     follows (callee_on {d = d} {x = x} {h = g} {b = b} {k = k} st is def) h = on-body d x g b k _ def
-    follows (argument_has {h = g} {i = i} {q = r} st t is def there) h = λ a l x q.
+    follows (argument_has {h = g} {i = i} {q = r} st t is def there) h =
         let R = rows S.checked in
         let w = params-among R g (length R) r (Among-from_at r (params_at R g) i there) in
-        absurd (none-there r (at R r).node (record { within = w.0; node = refl }) (thing-param (at R r).node w.1) (param-none (at R r).node w.1) a l x q)
-    follows (call_has {n = m} {p = p} st is def) h = has-fine p (place S.checked m) h.0
+        param-fine _ r w.0 w.1
+    follows (call_has {n = m} {e = e} {c = c} {p = p} st is def) h = has-fine p m (Call e c) st refl refl h.0
     follows (loop_test_on {n = m} {h = g} {w = w} {t = t} {l = l} {p = p} s) h =
         on-loop_test m g w t l 0 p s h.0 (λ j e. (let d : 0 ≡ suc j = e in absurd (omega arith)))
-    follows (first_has {m = m} {o = o} {v = v} s y e) h = λ a l x q. absurd (none-there m (Next y.name y.index o v) y.next refl refl a l x q)
+    follows (first_has {m = m} {o = o} {v = v} s y e) h = bound-fine _ m (Next y.name y.index o v) y.next refl refl refl
+    follows (lower_on {n = m} {w = w} {x = x} {a = a} {b = b} {l = l} {p = p} s) h = on-bound m w x a b l a p s (inl refl) h.0
+    follows (upper_on {n = m} {w = w} {x = x} {a = a} {b = b} {l = l} {p = p} s) h = on-bound m w x a b l b p s (inr refl) h.0
+    follows (index_begins {n = m} {w = w} {x = x} {a = a} {b = b} {l = l} {p = p} s e) h = index-fine m w x a b l 0 p s (by_bounds s e) h
+    follows (index_counts {n = m} {w = w} {x = x} {a = a} {b = b} {l = l} p k s e) h = index-fine m w x a b l (suc k) p s (by_index k s e) h
     follows (turn_on {n = m} {h = g} {w = w} {t = t} {l = l} p k s) h =
         on-loop_test m g w t l (suc k) p s (loop-on m g w t l k p (Bool true) s h.0) (λ j e. before-same m t k j p h.0 e)
-    follows (loop_statement_on {n = m} {w = w} {t = t} {m = c} {a = a} p k s b) h =
+    follows (loop_statement_on {n = m} {h = g} {w = w} {l = l} {m = c} {a = a} p k s o b) h =
         let T = table_of S.checked in
         let r : region S.checked c ≡ region S.checked b.body = (T.statement_stands b.body c b.ends.within b.statement).1 in
-        on-side w t a true (below p (place S.checked m) k) s.switches (part c a (Binding b.name a) b.binding refl)
-        (near c a (Binding b.name a) b.binding refl ∙ r ∙ b.side) h.0
-    follows (next_on {n = m} {h = g} {w = w} {t = t} {l = l} {m = c} {o = o} {v = v} p k s y) h =
-        on-side w t v true (below p (place S.checked m) k) s.switches (part c v (Next y.name y.index o v) y.next refl)
-        (near c v (Next y.name y.index o v) y.next (inr refl) ∙ next-region S.checked m g w t l c o v s y) h.0
-    follows (next_has {m = m} {o = o} {v = v} p k s y) h = λ a l x q. absurd (none-there m (Next y.name y.index o v) y.next refl refl a l x q)
-    follows (last_on {n = m} {h = g} {w = w} {t = t} {l = l} p k s) h =
-        on-side w t l false (below p (place S.checked m) k) s.switches (last-part m g w t l s) (loop-rows m g w t l s).last_is.region h.0
-    follows (loop_has {n = m} {h = g} {w = w} {t = t} {l = l} {u = u} p k s) h =
-        has-fine p (place S.checked m) (loop-on m g w t l k p (Bool false) s (false-there m g w t l k p u s h.0))
+        on-side m g w l k a true p s o h (part c a (Binding b.name a) b.binding refl) (near c a (Binding b.name a) b.binding refl ∙ r ∙ b.side)
+    follows (next_on {n = m} {h = g} {w = w} {l = l} {m = c} {o = u} {v = v} p k s o y) h =
+        on-side m g w l k v true p s o h (part c v (Next y.name y.index u v) y.next refl)
+        (near c v (Next y.name y.index u v) y.next (inr refl) ∙ next-region S.checked m g w l c u v s y)
+    follows (next_has {m = m} {o = o} {v = v} p k s y) h = bound-fine _ m (Next y.name y.index o v) y.next refl refl refl
+    follows (last_on {n = m} {h = g} {w = w} {l = l} p k s o) h =
+        on-side m g w l k l false p s o h (last-part m g w l s) (loop-rows S.checked m g w l s).last_is.region
+    follows (loop_has {n = m} {h = g} {w = w} {l = l} {u = u} p k s) h =
+        has-fine p m (Loop g w l) s refl refl (false-there m g w l k p u s h.0).on
     follows (statement_on {n = m} {m = c} {x = x} {a = a} {b = b} {p = p} st i t) h =
         live-with G p m a (itself m (Block b) st refl) (part c a (Binding x a) t refl)
         (near c a (Binding x a) t refl ∙ ((table_of S.checked).statement_stands m c st.within i).1) (there (On p (place S.checked m)) h.0)
     follows (store_on {n = m} {m = c} {a = a} {x = x} {b = b} {p = p} st i t) h =
         live-with G p m c (itself m (Block b) st refl) (itself c (Store a x) t refl) ((table_of S.checked).statement_stands m c st.within i).1
         (there (On p (place S.checked m)) h.0)
-    follows (loop_store_on {w = w} {t = t} {m = c} p k s b) h =
+    follows (loop_store_on {n = m} {h = g} {w = w} {l = l} {m = c} p k s o b) h =
         let r : region S.checked c ≡ region S.checked b.body = ((table_of S.checked).statement_stands b.body c b.ends.within b.statement).1 in
-        on-side w t c true (below p _ k) s.switches (itself c (Store b.address b.value) b.store refl) (r ∙ b.side) h.0
+        on-side m g w l k c true p s o h (itself c (Store b.address b.value) b.store refl) (r ∙ b.side)
     follows (bounds_low_on {n = m} {a = a} {b = b} {p = p} st) h = on-part m a p (Array a b) st refl (inl refl) (inl refl) h.0
     follows (bounds_high_on {n = m} {a = a} {b = b} {p = p} st) h = on-part m b p (Array a b) st refl (inr refl) (inr refl) h.0
     follows (shape_made st e) h = tt
-    follows (array_has {n = m} {p = p} st e) h = has-fine p (place S.checked m) h.0
+    follows (array_has {n = m} {a = a} {b = b} {p = p} st e) h = has-fine p m (Array a b) st refl refl h.0
     follows (fetch_target_on {n = m} {t = t} {i = i} {p = p} st) h = on-part m t p (Fetch t i) st refl (inl refl) (inl refl) h.0
     follows (fetch_index_on {n = m} {t = t} {i = i} {p = p} st) h = on-part m i p (Fetch t i) st refl (inr refl) (inr refl) h.0
-    follows (asks st e) h = inl h.0
-    follows (fetch_has {f = f} {s = s} {j = j}) h = λ a l x q. inl (fine (ask f s j) h.0)
+    follows (asks {n = m} {t = t} {i = i} st e) h = (inl h.0, record { row = m; target = t; index = i; stands = st; here = refl })
+    follows (fetch_has {f = f} {s = s} {j = j}) h = let q = fine (ask f s j) h.0 in fetch-fine f q.0 q.1
     follows (store_target_on {m = m} {t = t} {i = i} {x = x} {p = p} s) h = on-address m t i x t p s (inl refl) h.0
     follows (store_index_on {m = m} {t = t} {i = i} {x = x} {p = p} s) h = on-address m t i x i p s (inr refl) h.0
     follows (store_value_on {m = m} {x = x} {p = p} s) h = on-part m x p (Store s.address x) s.store refl refl (inr refl) h.0
     follows (puts s e) h = tt
     follows (body_on {n = m} {b = b} {p = p} st) h = on-part m b p (Block b) st refl refl refl h.0
-    follows (block_has {n = m} {p = p} st) h = has-fine p (place S.checked m) h.0
-    follows (binding_has {n = m} {x = x} {a = a} st) h = λ b l y q. absurd (none-there m (Binding x a) st refl refl b l y q)
+    follows (block_has {n = m} {b = b} {p = p} st) h = has-fine p m (Block b) st refl refl h.0
+    follows (binding_has {n = m} {x = x} {a = a} st) h = bound-fine _ m (Binding x a) st refl refl refl
 
   pub all-fine : (n : ℕ) → AllFine n
   all-fine zero f h = absurd h

@@ -1,13 +1,14 @@
 -- Facts of a source stand at paths and places of its program.
-use Rattle.std.proofs.Common.{inl, inr, ℕ, zero, suc, List, [], ◌∷◌, ◌++◌, length, refl}
+use Rattle.std.proofs.Common.{Bool as Truth, true, false, inl, inr, ℕ, zero, suc, List, [], ◌∷◌, ◌++◌, length, refl}
 use Rattle.std.specs.Prelude.{All}
 use Rattle.std.proofs.lemmas.List.Elements.{All-append, All-cons, All-head, All-nil, All-tail}
 use Rattle.id_list.proofs.AmongLemmas.{Among-from_at}
 use Rattle.id_tree.specs.Distinct.{HasPlace}
 use Rattle.id_table.specs.Rows.{at}
 use Rattle.id_table.specs.Turns.{params_at}
-use Rattle.id_table.specs.declared.row.Node.TheVariants.{Unary, Binary, Split, If, Arg, Block, Binding, Def, Switches, Next, Loop}
-use Rattle.id_table.specs.declared.row.Node.TheVariants.{Array, Fetch, Address, Store}
+use Rattle.id_table.specs.declared.row.Node.TheVariants.{Unary, Binary, Split, If, Arg, Block, Binding, Def, Next, Loop}
+use Rattle.id_table.specs.declared.row.Node.TheVariants.{Array, Fetch, Address, Store, Bounds, Index}
+use Rattle.id_table.specs.Loops.{bounds_row}
 use Rattle.id_check.specs.declared.checked.Checked.{Checked}
 use Rattle.id_check.specs.Programs.{place, rows, tree}
 use Rattle.id_source.specs.declared.Path.{Path}
@@ -22,6 +23,7 @@ use Rattle.id_value.specs.declared.Constant.TheVariants as constant
 use Rattle.id_source.specs.declared.SourceFault.{SourceFault}
 use Rattle.id_source.specs.declared.SourceFault.TheVariants.{Operator, SecondStore}
 use Rattle.id_source.specs.Sources.{Source, value_of}
+use Rattle.id_source.specs.Facts.{GoesOn, by_predicate, by_bounds, by_index, lower_on, upper_on, index_begins, index_counts}
 use Rattle.id_source.specs.Facts.{loop_test_on, first_has, turn_on, loop_statement_on, next_on, next_has, last_on, loop_has, below, outermost, Rule, main_on}
 use Rattle.id_source.specs.Facts.{literal_has, operand_on, left_on, right_on, unary_has, binary_has, name_has, test_on, arm_on, conditional_has, argument_on}
 use Rattle.id_source.specs.Facts.{callee_on, argument_has, call_has, statement_on, body_on, block_has, binding_has, param_has, FaultRule, unary_fails}
@@ -33,7 +35,7 @@ use Rattle.id_source.specs.Things.{IsThing}
 use Rattle.id_source.proofs.CheckedLemmas.{placed_of, thing-param}
 use Rattle.id_source.proofs.ParamsLemmas.{input_param, params-among}
 use Rattle.id_source.proofs.Coherence.{arm-among, choice}
-use Rattle.id_source.proofs.ThingsLemmas.{main-thing, node-thing, part-thing}
+use Rattle.id_source.proofs.ThingsLemmas.{main-thing, node-thing, part-thing, test-thing}
 
 -- the places of the path's steps are those of the program, and so is the place
 pub record IsPoint (P : Checked) (p : Path) (e : ℕ) : Type 0 where
@@ -96,6 +98,16 @@ iteration_placed S p n f a k j t u h =
     let q = front_placed S p (place S.checked n) k f h in
     record { path = below_steps S p (place S.checked n) j (record { path = q; place = thing-place S n t }); place = thing-place S a u }
 
+-- where placed facts say that a loop goes on or not, its iteration is placed
+goes_placed : (S : Source) (n w : ℕ) (p : Path) (k : ℕ) (c : Truth) {fs : List Fact} → GoesOn S n w p k c fs → Every (Placed S.checked) fs
+    → All (λ s. HasPlace (tree S.checked) s.place) (below p (place S.checked n) k).steps
+goes_placed S n w p k c (by_predicate j s) h = let q = h.0.0 in q.path
+goes_placed S n w p k c (by_bounds s e) h = below_steps S p (place S.checked n) 0 h.0
+goes_placed S n w p k c (by_index {x = x} {l = l} j s e) h =
+    let q = iteration_placed S p n (place S.checked x) x j (suc j) (node-thing S n (Loop s.head w l) s.loop refl) (node-thing S x (Index s.name) s.index refl)
+    h.0.0 in
+    q.path
+
 -- what follows from placed facts is placed
 rule_placed : {S : Source} {fs : List Fact} {f : Fact} → Rule S fs f → Every (Placed S.checked) fs → Placed S.checked f
 rule_placed {S} main_on h = record { path = no_steps S; place = thing-place S _ (main-thing S) }
@@ -134,27 +146,37 @@ rule_placed {S} (argument_has {n = n} {h = g} {i = i} {q = q} {p = p} s t is def
       h.1.0.1,
     )
 rule_placed {S} (call_has s is def) h = (h.0, h.1.0.1)
-rule_placed {S} (loop_test_on {n = n} {w = w} {t = t} {p = p} s) h =
-    record { path = below_steps S p (place S.checked n) 0 h.0; place = thing-place S t (part-thing S w t (Switches t) s.switches refl) }
+rule_placed {S} (loop_test_on {n = n} {h = g} {w = w} {t = t} {l = l} {p = p} s) h =
+    record { path = below_steps S p (place S.checked n) 0 h.0; place = thing-place S t (test-thing S n g w t l s) }
 rule_placed {S} (first_has {n = n} {m = m} {o = o} {v = v} {p = p} s x e) h =
     (record { path = below_steps S p (place S.checked n) 0 h.0; place = thing-place S m (node-thing S m (Next x.name x.index o v) x.next refl) }, h.1.0.1)
 rule_placed {S} (turn_on {n = n} {h = g} {w = w} {t = t} {l = l} p k s) h =
-    iteration_placed S p n (place S.checked t) t k (suc k) (node-thing S n (Loop g w l) s.loop refl) (part-thing S w t (Switches t) s.switches refl) h.0.0
-rule_placed {S} (loop_store_on {m = m} p k s b) h =
-    let q = h.0.0 in record { path = q.path; place = thing-place S m (node-thing S m (Store b.address b.value) b.store refl) }
-rule_placed {S} (loop_statement_on {m = m} {a = a} p k s b) h = let q = h.0.0 in
-    record { path = q.path; place = thing-place S a (part-thing S m a (Binding b.name a) b.binding refl) }
-rule_placed {S} (next_on {m = m} {o = o} {v = v} p k s x) h = let q = h.0.0 in
-    record { path = q.path; place = thing-place S v (part-thing S m v (Next x.name x.index o v) x.next refl) }
+    iteration_placed S p n (place S.checked t) t k (suc k) (node-thing S n (Loop g w l) s.loop refl) (test-thing S n g w t l s) h.0.0
+rule_placed {S} (lower_on {a = a} {b = b} s) h = let p = h.0 in
+    record { path = p.path; place = thing-place S a (part-thing S (bounds_row s.head) a (Bounds a b) s.bounds (inl refl)) }
+rule_placed {S} (upper_on {a = a} {b = b} s) h = let p = h.0 in
+    record { path = p.path; place = thing-place S b (part-thing S (bounds_row s.head) b (Bounds a b) s.bounds (inr refl)) }
+rule_placed {S} (index_begins {n = n} {x = x} {p = p} s e) h =
+    (record { path = below_steps S p (place S.checked n) 0 h.0; place = thing-place S x (node-thing S x (Index s.name) s.index refl) }, tt)
+rule_placed {S} (index_counts {n = n} {w = w} {x = x} {l = l} p k s e) h = (
+  iteration_placed S p n (place S.checked x) x k (suc k) (node-thing S n (Loop s.head w l) s.loop refl) (node-thing S x (Index s.name) s.index refl) h.0.0,
+  tt,
+)
+rule_placed {S} (loop_store_on {n = n} {w = w} {m = m} p k s o b) h =
+    record { path = goes_placed S n w p k true o h; place = thing-place S m (node-thing S m (Store b.address b.value) b.store refl) }
+rule_placed {S} (loop_statement_on {n = n} {w = w} {m = m} {a = a} p k s o b) h =
+    record { path = goes_placed S n w p k true o h; place = thing-place S a (part-thing S m a (Binding b.name a) b.binding refl) }
+rule_placed {S} (next_on {n = n} {w = w} {m = m} {o = u} {v = v} p k s o x) h =
+    record { path = goes_placed S n w p k true o h; place = thing-place S v (part-thing S m v (Next x.name x.index u v) x.next refl) }
 rule_placed {S} (next_has {n = n} {h = g} {w = w} {l = l} {m = m} {o = o} {v = v} p k s x) h = (
-  iteration_placed S p n (place S.checked v) m k (suc k) (node-thing S n (Loop g w l) s.loop refl) (node-thing S m (Next x.name x.index o v) x.next refl)
+  iteration_placed S p n (place S.checked v) m k (suc k) (node-thing S n (Loop g w l) s refl) (node-thing S m (Next x.name x.index o v) x.next refl)
       h.0.0,
   h.0.1,
 )
-rule_placed {S} (last_on {n = n} {h = g} {w = w} {l = l} p k s) h = let q = h.0.0 in
-    record { path = q.path; place = thing-place S l (part-thing S n l (Loop g w l) s.loop refl) }
+rule_placed {S} (last_on {n = n} {h = g} {w = w} {l = l} p k s o) h =
+    record { path = goes_placed S n w p k false o h; place = thing-place S l (part-thing S n l (Loop g w l) s refl) }
 rule_placed {S} (loop_has {n = n} {h = g} {w = w} {l = l} p k s) h = (
-  record { path = front_placed S p (place S.checked n) k (place S.checked l) h.0.0; place = thing-place S n (node-thing S n (Loop g w l) s.loop refl) },
+  record { path = front_placed S p (place S.checked n) k (place S.checked l) h.0.0; place = thing-place S n (node-thing S n (Loop g w l) s refl) },
   h.0.1,
 )
 rule_placed {S} (statement_on {m = m} {x = x} {a = a} s i t) h = let p = h.0 in

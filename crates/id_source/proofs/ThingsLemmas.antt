@@ -10,13 +10,20 @@ use Rattle.id_check.specs.Programs.{Stands, rows}
 use Rattle.id_check.proofs.ProgramsLemmas.{part_row}
 use Rattle.id_source.specs.Sources.{Source, body_of, main_body}
 use Rattle.id_source.specs.Things.{IsThing}
-use Rattle.id_source.proofs.CheckedLemmas.{thing-expression}
+use Rattle.id_source.specs.Facts.{LoopStands}
+use Rattle.id_source.proofs.CheckedLemmas.{test-row, thing-expression}
 
 -- an operand of a row is a thing
 pub part-thing : (S : Source) (n a : ℕ) (z : Node) → Stands S.checked n z → HasOperand z a → IsThing S a
 part-thing S n a z s h =
     let w = part_row S.checked n a z s h in
     record { within = w.0; thing = thing-expression (at (rows S.checked) a).node w.1 }
+
+-- and so is the predicate of a loop
+pub test-thing : (S : Source) (n h w t l : ℕ) → LoopStands S.checked n h w t l → IsThing S t
+test-thing S n h w t l s =
+    let q = test-row S.checked n h w t l s in
+    record { within = q.0; thing = thing-expression (at (rows S.checked) t).node q.1 }
 
 -- what stands at a node that is a thing is one
 pub node-thing : (S : Source) (n : ℕ) (z : Node) → Stands S.checked n z → is_thing z ≡ true → IsThing S n

@@ -1,5 +1,6 @@
 -- The facts of a source, and the rules that give them (docs/MEANING.md, "Facts", "Rules").
-use Rattle.std.specs.Prelude.{◌≡◌, ℕ, ℤ, suc, ◌-◌, ◌++◌, Bool as Truth, true, false, List, [], ◌∷◌, length, take}
+use Rattle.std.specs.Prelude.{◌≡◌, ℕ, ℤ, pos, suc, ◌-◌, ◌+ℤ◌, ◌++◌, int_le, int_lt, Bool as Truth, true, false}
+use Rattle.std.specs.Prelude.{List, [], ◌∷◌, length, take}
 use Rattle.std.specs.Prelude.{Some, slice_get}
 use Rattle.id_value.specs.Bounds.{are_good, is_inside}
 use Rattle.id_value.specs.declared.Constant.{Constant}
@@ -13,8 +14,10 @@ use Rattle.id_value.specs.declared.Outcome.TheVariants.{Gives, Fails}
 use Rattle.id_value.specs.Results.{result_of_unary, result_of_binary}
 use Rattle.id_table.specs.declared.row.Node.TheVariants.{Literal, Name, Unary, Binary, Split, If, Arg, Call}
 use Rattle.id_table.specs.declared.row.Node.TheVariants.{Switches, Next, Body, Loop, Block, Binding, Def}
-use Rattle.id_table.specs.declared.row.Node.TheVariants.{Array, Fetch, Address, Store}
+use Rattle.id_table.specs.declared.row.Node.TheVariants.{Array, Fetch, Address, Store, Bounds, Index}
+use Rattle.id_table.specs.Loops.{bounds_row, index_row}
 use Rattle.id_table.specs.Rows.{arm_at, at}
+use Rattle.id_table.specs.Tables.{is_within}
 use Rattle.id_table.specs.Turns.{IsStatement, params_at}
 use Rattle.id_check.specs.declared.checked.Checked.{Checked}
 use Rattle.id_scope.specs.Scopes.{loops_between}
@@ -68,11 +71,22 @@ pub data Chooses (S : Source) (n t : ℕ) : Truth → ℕ → Type 0 where
   then_arm : {s a b : ℕ} → Stands S.checked n (If s a b) → Stands S.checked s (Split t) → Chooses S n t true a
   else_arm : {s a b : ℕ} → Stands S.checked n (If s a b) → Stands S.checked s (Split t) → Chooses S n t false b
 
--- a loop stands at the row n, with its head at the row h, its switches at w, its predicate at t and its last expression
--- at l
+-- a loop with a predicate stands at the row n, with its head at the row h, its switches at w, its predicate at t and
+-- its last expression at l
 pub record LoopStands (P : Checked) (n h w t l : ℕ) : Type 0 where
   pub loop : Stands P n (Loop h w l)
   pub switches : Stands P w (Switches t)
+  pub predicate : is_within (at (rows P) t).node ≡ false
+
+-- a `for` stands at the row n, with its switches at w, its index at x, its bounds at a and b and its last expression
+-- at l
+pub record ForStands (P : Checked) (n w x a b l : ℕ) : Type 0 where
+  pub head : ℕ
+  pub name : ℕ
+  pub loop : Stands P n (Loop head w l)
+  pub bounds : Stands P (bounds_row head) (Bounds a b)
+  pub index : Stands P x (Index name)
+  pub behind : x ≡ index_row w
 
 -- a `next` statement of the loop with the head h stands at the row m, with the use of its name outside at the row o
 -- and its expression at v
@@ -106,6 +120,19 @@ pub record StoreStands (P : Checked) (m t i x : ℕ) : Type 0 where
   pub address : ℕ
   pub store : Stands P m (Store address x)
   pub parts : Stands P address (Address t i)
+
+-- by these facts the loop at the row n, with its switches at w, at the path p goes on or not in iteration k: its
+-- predicate Has that truth value there; or in iteration 0 its lower bound is at most the upper one or not, and in the
+-- one behind k its index was below the upper bound or not
+pub data GoesOn (S : Source) (n w : ℕ) (p : Path) : ℕ → Truth → List Fact → Type 0 where
+  by_predicate : {h t l : ℕ} {b : Truth} (k : ℕ) → LoopStands S.checked n h w t l
+      → GoesOn S n w p k b (Has (below p (place S.checked n) k) (place S.checked t) (value_of (constant.Bool b)) ∷ [])
+  by_bounds : {x a b l : ℕ} {lo hi : ℤ} {c : Truth} → ForStands S.checked n w x a b l → int_le lo hi ≡ c
+      → GoesOn S n w p 0 c (On p (place S.checked n) ∷ Has p (place S.checked a) (value.Int lo)
+      ∷ Has p (place S.checked b) (value.Int hi) ∷ [])
+  by_index : {x a b l : ℕ} {i hi : ℤ} {c : Truth} (k : ℕ) → ForStands S.checked n w x a b l → int_lt i hi ≡ c
+      → GoesOn S n w p (suc k) c (Has (below p (place S.checked n) k) (place S.checked x) (value.Int i)
+      ∷ Has p (place S.checked b) (value.Int hi) ∷ [])
 
 -- from these facts of a source this one follows
 pub data Rule (S : Source) : List Fact → Fact → Type 0 where
@@ -165,36 +192,48 @@ pub data Rule (S : Source) : List Fact → Fact → Type 0 where
   -- an On loop turns its predicate On in iteration 0, where a variable Has what its name means outside
   loop_test_on : {n h w t l : ℕ} {p : Path} → LoopStands S.checked n h w t l
       → Rule S (On p (place S.checked n) ∷ []) (On (below p (place S.checked n) 0) (place S.checked t))
-  first_has : {n h w t l m o v c : ℕ} {p : Path} {u : SourceValue} → LoopStands S.checked n h w t l
+  first_has : {n h w l m o v c : ℕ} {p : Path} {u : SourceValue} → Stands S.checked n (Loop h w l)
       → NextStands S.checked m h o v → binder S.checked o ≡ Some c
       → Rule S (On p (place S.checked n) ∷ Has (without (between S n c) p) (place S.checked c) u ∷ [])
       (Has (below p (place S.checked n) 0) (place S.checked m) u)
-  -- a predicate that Has true in an iteration turns the expressions and stores of the body On in it, and itself in the
-  -- next one, where a variable Has what its `next` expression Has in this one
+  -- an On `for` turns its bounds On; where the lower one is at most the upper one, the index Has it in iteration 0, and
+  -- one more than in an iteration where it is below the upper one in the next
+  lower_on : {n w x a b l : ℕ} {p : Path} → ForStands S.checked n w x a b l
+      → Rule S (On p (place S.checked n) ∷ []) (On p (place S.checked a))
+  upper_on : {n w x a b l : ℕ} {p : Path} → ForStands S.checked n w x a b l
+      → Rule S (On p (place S.checked n) ∷ []) (On p (place S.checked b))
+  index_begins : {n w x a b l : ℕ} {p : Path} {lo hi : ℤ} → ForStands S.checked n w x a b l → int_le lo hi ≡ true
+      → Rule S (On p (place S.checked n) ∷ Has p (place S.checked a) (value.Int lo)
+      ∷ Has p (place S.checked b) (value.Int hi) ∷ [])
+      (Has (below p (place S.checked n) 0) (place S.checked x) (value.Int lo))
+  index_counts : {n w x a b l : ℕ} {i hi : ℤ} (p : Path) (k : ℕ) → ForStands S.checked n w x a b l
+      → int_lt i hi ≡ true
+      → Rule S (Has (below p (place S.checked n) k) (place S.checked x) (value.Int i)
+      ∷ Has p (place S.checked b) (value.Int hi) ∷ [])
+      (Has (below p (place S.checked n) (suc k)) (place S.checked x) (value.Int (i +ℤ pos 1)))
+  -- a predicate that Has true in an iteration turns itself On in the next one; a loop that goes on in an iteration turns
+  -- the expressions and stores of the body On in it; in the next one a variable Has what its `next` expression Has in it
   turn_on : {n h w t l : ℕ} (p : Path) (k : ℕ) → LoopStands S.checked n h w t l
       → Rule S (Has (below p (place S.checked n) k) (place S.checked t) (value_of (constant.Bool true)) ∷ [])
       (On (below p (place S.checked n) (suc k)) (place S.checked t))
-  loop_statement_on : {n h w t l m a : ℕ} (p : Path) (k : ℕ) → LoopStands S.checked n h w t l
-      → BodyBinds S.checked w m a
-      → Rule S (Has (below p (place S.checked n) k) (place S.checked t) (value_of (constant.Bool true)) ∷ [])
-      (On (below p (place S.checked n) k) (place S.checked a))
-  loop_store_on : {n h w t l m : ℕ} (p : Path) (k : ℕ) → LoopStands S.checked n h w t l
-      → BodyStores S.checked w m
-      → Rule S (Has (below p (place S.checked n) k) (place S.checked t) (value_of (constant.Bool true)) ∷ [])
-      (On (below p (place S.checked n) k) (place S.checked m))
-  next_on : {n h w t l m o v : ℕ} (p : Path) (k : ℕ) → LoopStands S.checked n h w t l
-      → NextStands S.checked m h o v
-      → Rule S (Has (below p (place S.checked n) k) (place S.checked t) (value_of (constant.Bool true)) ∷ [])
-      (On (below p (place S.checked n) k) (place S.checked v))
-  next_has : {n h w t l m o v : ℕ} {u : SourceValue} (p : Path) (k : ℕ) → LoopStands S.checked n h w t l
+  loop_statement_on : {n h w l m a : ℕ} {fs : List Fact} (p : Path) (k : ℕ) → Stands S.checked n (Loop h w l)
+      → GoesOn S n w p k true fs → BodyBinds S.checked w m a
+      → Rule S fs (On (below p (place S.checked n) k) (place S.checked a))
+  loop_store_on : {n h w l m : ℕ} {fs : List Fact} (p : Path) (k : ℕ) → Stands S.checked n (Loop h w l)
+      → GoesOn S n w p k true fs → BodyStores S.checked w m
+      → Rule S fs (On (below p (place S.checked n) k) (place S.checked m))
+  next_on : {n h w l m o v : ℕ} {fs : List Fact} (p : Path) (k : ℕ) → Stands S.checked n (Loop h w l)
+      → GoesOn S n w p k true fs → NextStands S.checked m h o v
+      → Rule S fs (On (below p (place S.checked n) k) (place S.checked v))
+  next_has : {n h w l m o v : ℕ} {u : SourceValue} (p : Path) (k : ℕ) → Stands S.checked n (Loop h w l)
       → NextStands S.checked m h o v
       → Rule S (Has (below p (place S.checked n) k) (place S.checked v) u ∷ [])
       (Has (below p (place S.checked n) (suc k)) (place S.checked m) u)
-  -- one that Has false turns the last expression On, whose value the loop Has
-  last_on : {n h w t l : ℕ} (p : Path) (k : ℕ) → LoopStands S.checked n h w t l
-      → Rule S (Has (below p (place S.checked n) k) (place S.checked t) (value_of (constant.Bool false)) ∷ [])
-      (On (below p (place S.checked n) k) (place S.checked l))
-  loop_has : {n h w t l : ℕ} {u : SourceValue} (p : Path) (k : ℕ) → LoopStands S.checked n h w t l
+  -- one that does not go on turns the last expression On, whose value the loop Has
+  last_on : {n h w l : ℕ} {fs : List Fact} (p : Path) (k : ℕ) → Stands S.checked n (Loop h w l)
+      → GoesOn S n w p k false fs
+      → Rule S fs (On (below p (place S.checked n) k) (place S.checked l))
+  loop_has : {n h w l : ℕ} {u : SourceValue} (p : Path) (k : ℕ) → Stands S.checked n (Loop h w l)
       → Rule S (Has (below p (place S.checked n) k) (place S.checked l) u ∷ []) (Has p (place S.checked n) u)
   -- an On block turns the expressions of its bindings, its stores and its body On, and Has its body's value
   statement_on : {n m x a b : ℕ} {p : Path} → Stands S.checked n (Block b)

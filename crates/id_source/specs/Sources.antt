@@ -1,9 +1,10 @@
 -- Sources: checked programs with their inputs (docs/MEANING.md, "Sources").
-use Rattle.std.specs.Prelude.{◌≡◌, ℕ, List, [], ◌∷◌, Some, slice_get}
+use Rattle.std.specs.Prelude.{◌≡◌, ℕ, true, List, [], ◌∷◌, Some, slice_get}
 use Rattle.id_value.specs.declared.Kind.{Kind}
 use Rattle.id_value.specs.declared.Kind.TheVariants as kind
 use Rattle.id_value.specs.declared.Constant.{Constant}
 use Rattle.id_value.specs.declared.Constant.TheVariants as constant
+use Rattle.id_value.specs.Results.{is_whole}
 use Rattle.id_table.specs.declared.row.Node.{Node}
 use Rattle.id_table.specs.declared.row.Node.TheVariants.{Param, Def}
 use Rattle.id_table.specs.Rows.{at}
@@ -38,9 +39,14 @@ abbrev pub value_of : Constant → SourceValue
 value_of (constant.Int n) = Int n
 value_of (constant.Bool b) = Bool b
 
--- the parameter at a row of this node has the kind of the value
+-- the constant is no number, or one of the language
+abbrev pub IsWhole : Constant → Type 0
+IsWhole (constant.Int n) = is_whole n ≡ true
+IsWhole (constant.Bool b) = Unit {0}
+
+-- the parameter at a row of this node has the kind of the value, which is one of the language
 abbrev pub SuitsParam : Node → Constant → Type 0
-SuitsParam (Param x k) c = constant_kind c ≡ k
+SuitsParam (Param x k) c = (constant_kind c ≡ k) × IsWhole c
 SuitsParam _ c = ⊥
 
 -- there is one value for each of the parameters at these rows, of its kind

@@ -16,7 +16,7 @@ use Rattle.id_runner.specs.Runs.{HasRun}
 abbrev pub HasFault : Source → Type 0
 HasFault S = (f : SourceFault) × Faulty S f
 
--- something is On at so few paths of the source that no run of the graph needs more messages than these
+-- so few paths of the source are active that no run of the graph needs more messages than these
 pub record AreEnough (S : Source) (g : Parts) (steps : ℕ) : Type 0 where
   pub paths : List Path
   pub active : AreActive S paths

@@ -11,7 +11,7 @@ use Rattle.id_sink.specs.Told.{Told}
 use Rattle.id_runner.specs.Alike.{IsPrinted}
 use Rattle.id_runner.specs.Runs.{HasRun}
 
--- something is On at so many different paths of the source that a run of the graph may need more messages than these
+-- so many different paths of the source are active that a run of the graph may need more messages than these
 pub record NeedsMore (S : Source) (g : Parts) (steps : ℕ) : Type 0 where
   pub paths : List Path
   pub differ : AllDiffer paths

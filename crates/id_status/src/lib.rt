@@ -10,7 +10,7 @@ ghost use Rattle.id_status.specs.Status.{StatusTold};
 ghost use Rattle.id_status.specs.Stopped.{StoppedShort};
 
 /// *Stopped short*, a law: a run that stops because no element may handle more messages shows that its source
-/// needs more: something is On at so many different paths that the graph may need more messages than these
+/// needs more: so many different paths are active that the graph may need more messages than these
 /// (docs/PROMISES.md, "The run"). Takes no memory.
 pub fn stopped_short()
     ensures { StoppedShort }
@@ -18,7 +18,7 @@ pub fn stopped_short()
     id_bounds::bounded();
 }
 
-/// *Status told*, a law: where something is On at finitely many paths, and each element may handle as many
+/// *Status told*, a law: where finitely many paths are active, and each element may handle as many
 /// messages as the graph may need for them, a run ends with status 0 exactly where its source has no fault, and
 /// with status 1 exactly where it has one (docs/PROMISES.md, "The run"). Takes no memory.
 pub fn status_told()

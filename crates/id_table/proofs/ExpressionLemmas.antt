@@ -8,7 +8,7 @@ use Rattle.id_table.specs.declared.row.Row.{Row}
 use Rattle.id_table.specs.declared.row.Stand.{Stand}
 use Rattle.id_table.specs.declared.row.Node.{Node}
 use Rattle.id_table.specs.declared.row.Node.TheVariants.{Head, Param, Unary, Binary, Block, Binding, Def, LoopHead, Variable, Entries, Switches}
-use Rattle.id_table.specs.declared.row.Node.TheVariants.{Array, Body, Fetch, Store}
+use Rattle.id_table.specs.declared.row.Node.TheVariants.{Array, Body, Carried, Fetch, Store, Within}
 use Rattle.id_table.specs.Rows.{at, top}
 use Rattle.id_table.specs.Tables.{HasPart, can_be_on, has_statements, is_expression, is_param, is_statement, is_top}
 use Rattle.id_table.specs.Turns.{in_block, IsStatement, Root, TurnedIn, Turns}
@@ -29,8 +29,10 @@ no_top Head e = absurd (false≢true e)
 no_top (Param x k) e = absurd (false≢true e)
 no_top (Def x h k b) e = absurd (false≢true e)
 no_top (LoopHead t) e = absurd (false≢true e)
+no_top (Carried k) e = absurd (false≢true e)
 no_top Variable e = absurd (false≢true e)
 no_top Entries e = absurd (false≢true e)
+no_top (Within f) e = absurd (false≢true e)
 no_top (Switches t) e = absurd (false≢true e)
 no_top _ e = refl
 

@@ -13,6 +13,7 @@ mod CallLemmas
 mod ConditionalLemmas
 mod ExpressionLemmas
 mod HasLemmas
+mod IndexLemmas
 mod LoopLemmas
 mod NextLemmas
 mod ParamsLemmas

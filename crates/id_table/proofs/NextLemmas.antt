@@ -168,7 +168,7 @@ module _ (F : List Row) (s : Stand) where
       }
 
   -- what stands in a row that begins behind the head stands behind it
-  behind-head : (mid k : ℕ) → s.block ≤ mid → RowIs F s mid k (at F k) → RowIs F s s.block k (at F k)
+  pub behind-head : (mid k : ℕ) → s.block ≤ mid → RowIs F s mid k (at F k) → RowIs F s s.block k (at F k)
   behind-head mid k l r = RowIs-within F s s s.block mid k (at F k) l (inl refl) Lies.here (λ e. inl e) r
 
   -- no part of the loop stands in an expression

@@ -5,17 +5,21 @@ use Rattle.std.proofs.lemmas.Slice.Eq.{bytes_eq-Decides}
 use Rattle.std.specs.Prelude.{if◌then◌else◌}
 use Rattle.std.specs.Str.{bytes_eq}
 use Rattle.id_list.specs.List.{AllDiffer, Among}
-use Rattle.id_grammar.specs.Tree.{Tree, literal, unary, binary, name, conditional, call, block, loop, array, fetch, binding, next, store, param}
+use Rattle.id_grammar.specs.Tree.{Tree, literal, unary, binary, name, conditional, call, block, loop, for_loop, array, fetch, binding, next, store, param}
 use Rattle.id_grammar.specs.Tree.{define, none, more}
 use Rattle.id_table.specs.declared.row.Row.{Row}
 use Rattle.id_table.specs.declared.row.Stand.{Stand}
-use Rattle.id_table.specs.declared.row.Node.TheVariants.{Head, Split, Start, Variable}
+use Rattle.id_table.specs.declared.row.Node.TheVariants.{Carried, Count, Head, Split, Start, Turn, Variable}
+use Rattle.id_value.specs.declared.Kind.TheVariants as kind
 use Rattle.id_table.specs.Names.{first_names, number_of, with_name}
-use Rattle.id_table.specs.Rows.{Parts, add, add_arguments, add_nexts, add_variables, arm, at, begin_loop, in_top, last, parts_of, rows_of, size, with_row}
+use Rattle.id_table.specs.Rows.{Parts, add, add_arguments, add_entries, add_nexts, add_variables, arm, at, begin_counting, begin_for, begin_loop}
+use Rattle.id_table.specs.Rows.{carry, end_loop, enter_loop, in_top, last, parts_of, rows_of, size, with_row}
 use Rattle.id_table.specs.Tables.{AreNamed, name_of}
 use Rattle.id_table.proofs.HasLemmas.{Has, Has-add, Has-arguments, Has-itself, Has-nexts}
 use Rattle.id_table.proofs.HasLemmas.{Has-push, Has-variables, addressed, argued, at-push, entered, push-size}
-use Rattle.id_table.proofs.HasLemmas.{closed, headed, in_loop, in_side, left_by, nexted, opened, reset, stated, switched, tested, used}
+use Rattle.id_table.proofs.HasLemmas.{Has-carry, Has-counting, Has-end, Has-entries, Has-for, all_entries, bounded, carrying, closed, for_closed}
+use Rattle.id_table.proofs.HasLemmas.{for_left_by, for_side, for_stated, in_loop, in_side, indexed, left_by, nexted, opened, reset, spanned, stated}
+use Rattle.id_table.proofs.HasLemmas.{switched, tested, used, within_for}
 
 Among-with_name : (xs : List (List ℕ)) (x y : List ℕ) → Among y (with_name xs x) → Among y xs ⊎ (y ≡ x)
 Among-with_name [] x y (inl e) = inr e
@@ -70,8 +74,15 @@ mutual
   AllDiffer-add (call x a p) s T d = AllDiffer-arguments a s p (size T) 0 (entered s T x p) (AllDiffer-with_name T.names x d)
   AllDiffer-add (block a b p) s T d = AllDiffer-add b s (add s T a) (AllDiffer-add a s T d)
   AllDiffer-add (loop t a l p) s T d =
-      let u = AllDiffer-add t (in_loop T) (begin_loop s T a p) (AllDiffer-variables a (in_loop T) (headed s T p) d) in
+      let u = AllDiffer-add t (in_loop T) (begin_loop s T a p) (AllDiffer-variables a (in_loop T) (enter_loop s T p) d) in
       AllDiffer-add l (in_side s T t a p false) (closed s T t a p) (AllDiffer-nexts a (in_side s T t a p true) 0 (opened s T t a p) u)
+  AllDiffer-add (for_loop x q a b ss l p) s T d =
+      let A = bounded s T a b p in
+      let u = AllDiffer-add b s (add s T a) (AllDiffer-add a s T d) in
+      let v = AllDiffer-variables ss (in_loop A) (carrying s A q p) u in
+      let w = AllDiffer-with_name (begin_for s A ss q p).names x v in
+      let k = AllDiffer-nexts ss (for_side s A ss q p true) 3 (indexed s A x q ss p) w in
+      AllDiffer-add l (for_side s A ss q p false) (for_closed s A x q ss p) k
   AllDiffer-add (array a b p) s T d = AllDiffer-add b s (add s T a) (AllDiffer-add a s T d)
   AllDiffer-add (fetch a b p) s T d = AllDiffer-add b s (add s T a) (AllDiffer-add a s T d)
   AllDiffer-add (store t i a p) s T d = AllDiffer-add a s (addressed s T t i p) (AllDiffer-add i s (add s T t) (AllDiffer-add t s T d))
@@ -150,10 +161,19 @@ mutual
       omega arith
   names-longer (block a b p) s T = let l = names-longer a s T in let m = names-longer b s (add s T a) in omega arith
   names-longer (loop t a l p) s T =
-      let k = variables-longer a (in_loop T) (headed s T p) in
+      let k = variables-longer a (in_loop T) (enter_loop s T p) in
       let m = names-longer t (in_loop T) (begin_loop s T a p) in
       let n = nexts-longer a (in_side s T t a p true) 0 (opened s T t a p) in
       let o = names-longer l (in_side s T t a p false) (closed s T t a p) in
+      omega arith
+  names-longer (for_loop x q a b ss l p) s T =
+      let A = bounded s T a b p in
+      let i = names-longer a s T in
+      let j = names-longer b s (add s T a) in
+      let k = variables-longer ss (in_loop A) (carrying s A q p) in
+      let m = with_name-longer (begin_for s A ss q p).names x in
+      let n = nexts-longer ss (for_side s A ss q p true) 3 (indexed s A x q ss p) in
+      let o = names-longer l (for_side s A ss q p false) (for_closed s A x q ss p) in
       omega arith
   names-longer (array a b p) s T = let l = names-longer a s T in let m = names-longer b s (add s T a) in omega arith
   names-longer (fetch a b p) s T = let l = names-longer a s T in let m = names-longer b s (add s T a) in omega arith
@@ -204,19 +224,68 @@ module _ (F : List Row) (n : ℕ) where
   named_variables (more a b) s T h l = named_variables b s T h l
   named_variables _ s T h l = below-none F n (size T)
 
+  named_enter : (s : Stand) (T : Parts) (p : ℕ) → Has F (enter_loop s T p).rows → Below F n (size T) (size (enter_loop s T p))
+  named_enter s T p h =
+      let S = with_row T s p (size T) Start in
+      below-push F n (size T) S.rows _ h (below-push F n (size T) T.rows _ (Has-push F S.rows _ h) (below-none F n (size T)) (no_name n)) (no_name n)
+
+  named_entries : (s : Stand) (T : Parts) (ss : Tree) (p : ℕ) → Has F (add_entries s T ss p).rows → length (add_entries s T ss p).names ≤ n
+      → Below F n (size T) (size (add_entries s T ss p))
+  named_entries s T ss p h l =
+      let V = add_variables s T ss in
+      below-push F n (size T) V.rows _ h (named_variables ss s T (Has-push F V.rows _ h) l) (no_name n)
+
+  named_carry : (s : Stand) (T : Parts) (q p : ℕ) → Has F (carry s T q p).rows → Below F n (size T) (size (carry s T q p))
+  named_carry s T q p h =
+      let I = with_row T s q (size T) (Carried kind.Int) in
+      let B = with_row I s p (size I) (Carried kind.Int) in
+      let b = Has-push F B.rows _ h in
+      let i = Has-push F I.rows _ b in
+      below-push F n (size T) B.rows _ h
+      (below-push F n (size T) I.rows _ b (below-push F n (size T) T.rows _ i (below-none F n (size T)) (no_name n)) (no_name n)) (no_name n)
+
   named_begin : (s : Stand) (T : Parts) (ss : Tree) (p : ℕ) → Has F (begin_loop s T ss p).rows → length (begin_loop s T ss p).names ≤ n
       → Below F n (size T) (size (begin_loop s T ss p))
   named_begin s T ss p h l =
-      let S = with_row T s p (size T) Start in
-      let H = headed s T p in
-      let V = add_variables (in_loop T) H ss in
-      let v = Has-push F V.rows _ h in
-      let k = Has-variables F ss (in_loop T) H v in
-      below-push F n (size T) V.rows _ h
-      (below-both F n (size T) (size H) (size V)
-      (below-push F n (size T) S.rows _ k (below-push F n (size T) T.rows _ (Has-push F S.rows _ k) (below-none F n (size T)) (no_name n)) (no_name n))
-      (named_variables ss (in_loop T) H v l))
-      (no_name n)
+      let H = enter_loop s T p in
+      below-both F n (size T) (size H) (size (begin_loop s T ss p)) (named_enter s T p (Has-entries F (in_loop T) H ss p h))
+      (named_entries (in_loop T) H ss p h l)
+
+  named_for : (s : Stand) (T : Parts) (ss : Tree) (q p : ℕ) → Has F (begin_for s T ss q p).rows → length (begin_for s T ss q p).names ≤ n
+      → Below F n (size T) (size (begin_for s T ss q p))
+  named_for s T ss q p h l =
+      let H = enter_loop s T p in
+      let K = carrying s T q p in
+      let E = all_entries s T ss q p in
+      let W = within_for s T ss q p in
+      let w = Has-push F W.rows _ h in
+      let e = Has-push F E.rows _ w in
+      let k = Has-entries F (in_loop T) K ss p e in
+      let entries = below-both F n (size T) (size H) (size E) (named_enter s T p (Has-carry F (in_loop T) H q p k))
+      (below-both F n (size H) (size K) (size E) (named_carry (in_loop T) H q p k) (named_entries (in_loop T) K ss p e l)) in
+      below-push F n (size T) W.rows _ h (below-push F n (size T) E.rows _ w entries (no_name n)) (no_name n)
+
+  -- the rows that begin the body of a `for`, of which the last has the name of its index
+  named_counting : (s : Stand) (T : Parts) (x : List ℕ) (q p : ℕ) → Has F (begin_counting s T x q p).rows
+      → length (begin_counting s T x q p).names ≤ n → Below F n (size T) (size (begin_counting s T x q p))
+  named_counting s T x q p h l =
+      let C = with_row T s p (size T) Count in
+      let B = with_row C s p (size C) Turn in
+      let b = Has-push F B.rows _ h in
+      let c = Has-push F C.rows _ b in
+      let w = number_of-within T.names x in
+      below-push F n (size T) B.rows _ h
+      (below-push F n (size T) C.rows _ b (below-push F n (size T) T.rows _ c (below-none F n (size T)) (no_name n)) (no_name n))
+      (λ y. one_name n (number_of T.names x) y (omega arith))
+
+  named_end : (lo : ℕ) (s o : Stand) (L : Parts) (p f g r : ℕ) → Has F (end_loop s o p f g r (last L) L).rows → Below F n lo (size L)
+      → Below F n lo (size (end_loop s o p f g r (last L) L))
+  named_end lo s o L p f g r h m =
+      let Z = spanned s o L p r g in
+      let R = reset o L p r in
+      let z = Has-push F Z.rows _ h in
+      let y = Has-push F R.rows _ z in
+      below-push F n lo Z.rows _ h (below-push F n lo R.rows _ z (below-push F n lo L.rows _ y m (no_name n)) (no_name n)) (no_name n)
 
   mutual
     named : (t : Tree) (s : Stand) (T : Parts) → Has F (add s T t).rows → length (add s T t).names ≤ n → Below F n (size T) (size (add s T t))
@@ -315,25 +384,52 @@ module _ (F : List Row) (n : ℕ) where
         let N = stated s T t ss p in
         let C = closed s T t ss p in
         let L = left_by s T t ss l p in
-        let Z = reset s T t ss l p in
-        let y = Has-push F Z.rows _ h in
-        let m = Has-push F L.rows _ y in
-        let c = Has-add F l (in_side s T t ss p false) C m in
+        let y = in_side s T t ss p false in
+        let m = Has-end F s y L p (size T) (size T) (size C) h in
+        let c = Has-add F l y C m in
         let v = Has-push F N.rows _ c in
         let o = Has-nexts F ss (in_side s T t ss p true) 0 B v in
         let w = Has-push F W.rows _ o in
         let u = Has-push F U.rows _ w in
         let a = names-longer t (in_loop T) E in
         let b = nexts-longer ss (in_side s T t ss p true) 0 B in
-        let d = names-longer l (in_side s T t ss p false) C in
+        let d = names-longer l y C in
         let front = below-both F n (size T) (size E) (size U) (named_begin s T ss p (Has-add F t (in_loop T) E u) (omega arith))
         (named t (in_loop T) E u (omega arith)) in
         let middle = below-both F n (size T) (size B) (size N)
         (below-push F n (size T) W.rows _ o (below-push F n (size T) U.rows _ w front (no_name n)) (no_name n))
         (named_nexts ss (in_side s T t ss p true) 0 B v (omega arith)) in
-        let all = below-both F n (size T) (size C) (size L) (below-push F n (size T) N.rows _ c middle (no_name n))
-        (named l (in_side s T t ss p false) C m z) in
-        below-push F n (size T) Z.rows _ h (below-push F n (size T) L.rows _ y all (no_name n)) (no_name n)
+        let all = below-both F n (size T) (size C) (size L) (below-push F n (size T) N.rows _ c middle (no_name n)) (named l y C m z) in
+        named_end (size T) s y L p (size T) (size T) (size C) h all
+    named (for_loop x q a b ss l p) s T h z =
+        let U = add s T a in
+        let V = add s U b in
+        let A = bounded s T a b p in
+        let W = begin_for s A ss q p in
+        let I = indexed s A x q ss p in
+        let N = for_stated s A x q ss p in
+        let C = for_closed s A x q ss p in
+        let L = for_left_by s A x q ss l p in
+        let y = for_side s A ss q p true in
+        let o = for_side s A ss q p false in
+        let m = Has-end F s o L p (size T) (size A) (size C) h in
+        let c = Has-add F l o C m in
+        let v = Has-push F N.rows _ c in
+        let i = Has-nexts F ss y 3 I v in
+        let w = Has-counting F y W x q p i in
+        let k = Has-for F s A ss q p w in
+        let u = Has-push F V.rows _ k in
+        let e = names-longer b s U in
+        let f = variables-longer ss (in_loop A) (carrying s A q p) in
+        let g = with_name-longer W.names x in
+        let j = nexts-longer ss y 3 I in
+        let d = names-longer l o C in
+        let bounds = below-push F n (size T) V.rows _ k
+        (below-both F n (size T) (size U) (size V) (named a s T (Has-add F b s U u) (omega arith)) (named b s U u (omega arith))) (no_name n) in
+        let front = below-both F n (size T) (size W) (size I)
+        (below-both F n (size T) (size A) (size W) bounds (named_for s A ss q p w (omega arith))) (named_counting y W x q p i (omega arith)) in
+        let middle = below-push F n (size T) N.rows _ c (below-both F n (size T) (size I) (size N) front (named_nexts ss y 3 I v (omega arith))) (no_name n) in
+        named_end (size T) s o L p (size T) (size A) (size C) h (below-both F n (size T) (size C) (size L) middle (named l o C m z))
     named (next x a p) s T h l =
         let U = add s T a in
         let w = number_of-within U.names x in

@@ -4,14 +4,18 @@ use Rattle.std.proofs.lemmas.Bool.{cases_lt}
 use Rattle.id_grammar.specs.Tree.{Tree, more, binding, next, store}
 use Rattle.id_table.specs.declared.row.Row.{Row}
 use Rattle.id_table.specs.declared.row.Stand.{Stand}
-use Rattle.id_table.specs.declared.row.Node.TheVariants.{Split, Start, Variable}
-use Rattle.id_table.specs.Rows.{Parts, add, add_arguments, add_nexts, add_variables, arm, at, begin_loop, last, size, with_row}
+use Rattle.id_table.specs.declared.row.Node.TheVariants.{Carried, Count, Split, Start, Turn, Variable}
+use Rattle.id_value.specs.declared.Kind.TheVariants as kind
+use Rattle.id_table.specs.Rows.{Parts, add, add_arguments, add_entries, add_nexts, add_variables, arm, at, begin_counting, begin_for, begin_loop}
+use Rattle.id_table.specs.Rows.{carry, end_loop, enter_loop, last, size, with_row}
 use Rattle.id_table.specs.Tables.{is_param}
 use Rattle.id_table.specs.Trees.{IsTree, Expression, Arguments, Statements, by_literal, by_unary, by_binary, by_name, by_conditional}
-use Rattle.id_table.specs.Trees.{by_call, by_block, by_loop, by_array, by_fetch, next_statement, store_statement}
+use Rattle.id_table.specs.Trees.{by_call, by_block, by_loop, by_for, by_array, by_fetch, next_statement, store_statement}
 use Rattle.id_table.specs.Trees.{no_arguments, more_arguments, no_statements, more_statements}
 use Rattle.id_table.proofs.HasLemmas.{Has, Has-add, Has-arguments, Has-nexts, Has-push, Has-variables, addressed, argued, at-push, entered, push-size}
-use Rattle.id_table.proofs.HasLemmas.{closed, headed, in_loop, in_side, left_by, nexted, opened, reset, stated, switched, tested, used}
+use Rattle.id_table.proofs.HasLemmas.{Has-carry, Has-counting, Has-end, Has-entries, Has-for, all_entries, bounded, carrying, closed, for_closed}
+use Rattle.id_table.proofs.HasLemmas.{for_left_by, for_side, for_stated, in_loop, in_side, indexed, left_by, nexted, opened, reset, spanned, stated}
+use Rattle.id_table.proofs.HasLemmas.{switched, tested, used, within_for}
 
 module _ (F : List Row) where
   -- none of the rows from lo up to hi is a parameter
@@ -39,18 +43,63 @@ module _ (F : List Row) where
   NoParams-variables (more a b) s T h = NoParams-variables b s T h
   NoParams-variables _ s T h = free-none (size T)
 
+  NoParams-enter : (s : Stand) (T : Parts) (p : ℕ) → Has F (enter_loop s T p).rows → NoParams (size T) (size (enter_loop s T p))
+  NoParams-enter s T p h =
+      let S = with_row T s p (size T) Start in
+      free-push (size T) S.rows _ h refl (free-push (size T) T.rows _ (Has-push F S.rows _ h) refl (free-none (size T)))
+
+  NoParams-entries : (s : Stand) (T : Parts) (ss : Tree) (p : ℕ) → Has F (add_entries s T ss p).rows → NoParams (size T) (size (add_entries s T ss p))
+  NoParams-entries s T ss p h =
+      let V = add_variables s T ss in
+      free-push (size T) V.rows _ h refl (NoParams-variables ss s T (Has-push F V.rows _ h))
+
+  NoParams-carry : (s : Stand) (T : Parts) (q p : ℕ) → Has F (carry s T q p).rows → NoParams (size T) (size (carry s T q p))
+  NoParams-carry s T q p h =
+      let I = with_row T s q (size T) (Carried kind.Int) in
+      let B = with_row I s p (size I) (Carried kind.Int) in
+      let b = Has-push F B.rows _ h in
+      free-push (size T) B.rows _ h refl
+      (free-push (size T) I.rows _ b refl (free-push (size T) T.rows _ (Has-push F I.rows _ b) refl (free-none (size T))))
+
   -- the rows before a loop's predicate
   NoParams-begin : (s : Stand) (T : Parts) (ss : Tree) (p : ℕ) → Has F (begin_loop s T ss p).rows → NoParams (size T) (size (begin_loop s T ss p))
   NoParams-begin s T ss p h =
-      let S = with_row T s p (size T) Start in
-      let H = headed s T p in
-      let V = add_variables (in_loop T) H ss in
-      let v = Has-push F V.rows _ h in
-      let k = Has-variables F ss (in_loop T) H v in
-      free-push (size T) V.rows _ h refl
-      (free-both (size T) (size H) (size V)
-      (free-push (size T) S.rows _ k refl (free-push (size T) T.rows _ (Has-push F S.rows _ k) refl (free-none (size T))))
-      (NoParams-variables ss (in_loop T) H v))
+      let H = enter_loop s T p in
+      free-both (size T) (size H) (size (begin_loop s T ss p)) (NoParams-enter s T p (Has-entries F (in_loop T) H ss p h))
+      (NoParams-entries (in_loop T) H ss p h)
+
+  -- those of a `for` from its `Start` up to its switches
+  NoParams-for : (s : Stand) (T : Parts) (ss : Tree) (q p : ℕ) → Has F (begin_for s T ss q p).rows → NoParams (size T) (size (begin_for s T ss q p))
+  NoParams-for s T ss q p h =
+      let H = enter_loop s T p in
+      let K = carrying s T q p in
+      let E = all_entries s T ss q p in
+      let W = within_for s T ss q p in
+      let w = Has-push F W.rows _ h in
+      let e = Has-push F E.rows _ w in
+      let k = Has-entries F (in_loop T) K ss p e in
+      free-push (size T) W.rows _ h refl
+      (free-push (size T) E.rows _ w refl
+      (free-both (size T) (size H) (size E) (NoParams-enter s T p (Has-carry F (in_loop T) H q p k))
+      (free-both (size H) (size K) (size E) (NoParams-carry (in_loop T) H q p k) (NoParams-entries (in_loop T) K ss p e))))
+
+  NoParams-counting : (s : Stand) (T : Parts) (x : List ℕ) (q p : ℕ) → Has F (begin_counting s T x q p).rows
+      → NoParams (size T) (size (begin_counting s T x q p))
+  NoParams-counting s T x q p h =
+      let C = with_row T s p (size T) Count in
+      let B = with_row C s p (size C) Turn in
+      let b = Has-push F B.rows _ h in
+      free-push (size T) B.rows _ h refl
+      (free-push (size T) C.rows _ b refl (free-push (size T) T.rows _ (Has-push F C.rows _ b) refl (free-none (size T))))
+
+  -- those behind the last expression of a loop
+  NoParams-end : (lo : ℕ) (s o : Stand) (L : Parts) (p f g r : ℕ) → Has F (end_loop s o p f g r (last L) L).rows → NoParams lo (size L)
+      → NoParams lo (size (end_loop s o p f g r (last L) L))
+  NoParams-end lo s o L p f g r h n =
+      let Z = spanned s o L p r g in
+      let R = reset o L p r in
+      let z = Has-push F Z.rows _ h in
+      free-push lo Z.rows _ h refl (free-push lo R.rows _ z refl (free-push lo L.rows _ (Has-push F R.rows _ z) refl n))
 
   -- the rows of a store
   free-store : (s : Stand) (T : Parts) (t i e : Tree) (p : ℕ) → Has F (add s T (store t i e p)).rows → NoParams (size T) (size (add s T t))
@@ -127,19 +176,43 @@ module _ (F : List Row) where
         let N = stated s T t ss p in
         let C = closed s T t ss p in
         let L = left_by s T t ss l p in
-        let Z = reset s T t ss l p in
-        let z = Has-push F Z.rows _ h in
-        let m = Has-push F L.rows _ z in
-        let c = Has-add F l (in_side s T t ss p false) C m in
+        let o = in_side s T t ss p false in
+        let m = Has-end F s o L p (size T) (size T) (size C) h in
+        let c = Has-add F l o C m in
         let n = Has-push F N.rows _ c in
-        let o = Has-nexts F ss (in_side s T t ss p true) 0 B n in
-        let w = Has-push F W.rows _ o in
+        let k = Has-nexts F ss (in_side s T t ss p true) 0 B n in
+        let w = Has-push F W.rows _ k in
         let u = Has-push F U.rows _ w in
         let front = free-both (size T) (size E) (size U) (NoParams-begin s T ss p (Has-add F t (in_loop T) E u)) (NoParams-expression (in_loop T) E d u) in
         let middle = free-both (size T) (size B) (size N)
-        (free-push (size T) W.rows _ o refl (free-push (size T) U.rows _ w refl front)) (NoParams-nexts (in_side s T t ss p true) 0 B e n) in
-        let all = free-both (size T) (size C) (size L) (free-push (size T) N.rows _ c refl middle) (NoParams-expression (in_side s T t ss p false) C f m) in
-        free-push (size T) Z.rows _ h refl (free-push (size T) L.rows _ z refl all)
+        (free-push (size T) W.rows _ k refl (free-push (size T) U.rows _ w refl front)) (NoParams-nexts (in_side s T t ss p true) 0 B e n) in
+        let all = free-both (size T) (size C) (size L) (free-push (size T) N.rows _ c refl middle) (NoParams-expression o C f m) in
+        NoParams-end (size T) s o L p (size T) (size T) (size C) h all
+    NoParams-expression s T (by_for {x} {a} {b} {ss} {l} {q} {p} d e f g) h =
+        let U = add s T a in
+        let V = add s U b in
+        let A = bounded s T a b p in
+        let W = begin_for s A ss q p in
+        let I = indexed s A x q ss p in
+        let N = for_stated s A x q ss p in
+        let C = for_closed s A x q ss p in
+        let L = for_left_by s A x q ss l p in
+        let y = for_side s A ss q p true in
+        let o = for_side s A ss q p false in
+        let m = Has-end F s o L p (size T) (size A) (size C) h in
+        let c = Has-add F l o C m in
+        let n = Has-push F N.rows _ c in
+        let i = Has-nexts F ss y 3 I n in
+        let w = Has-counting F y W x q p i in
+        let v = Has-for F s A ss q p w in
+        let u = Has-push F V.rows _ v in
+        let bounds = free-push (size T) V.rows _ v refl
+        (free-both (size T) (size U) (size V) (NoParams-expression s T d (Has-add F b s U u)) (NoParams-expression s U e u)) in
+        let front = free-both (size T) (size W) (size I) (free-both (size T) (size A) (size W) bounds (NoParams-for s A ss q p w))
+        (NoParams-counting y W x q p i) in
+        let middle = free-push (size T) N.rows _ c refl (free-both (size T) (size I) (size N) front (NoParams-nexts y 3 I f n)) in
+        NoParams-end (size T) s o L p (size T) (size A) (size C) h
+        (free-both (size T) (size C) (size L) middle (NoParams-expression o C g m))
 
     NoParams-arguments : {t : Tree} (s : Stand) (p e i : ℕ) (T : Parts) → IsTree Arguments t → Has F (add_arguments s p e i T t).rows
         → NoParams (size T) (size (add_arguments s p e i T t))

@@ -1,18 +1,22 @@
 -- The places of the things of a table are those of its tree, and they differ.
 use Rattle.std.proofs.Common.{◌≡◌, ◌⊎◌, inl, inr, ◌<◌, ◌≤◌, ℕ, suc, true, false, List, [], ◌∷◌, ◌++◌, length, refl, sym, ap, ◌∙◌, subst, arith}
 use Rattle.std.proofs.lemmas.Bool.{cases_lt, false≢true}
-use Rattle.id_grammar.specs.Tree.{Tree, literal, unary, binary, name, conditional, call, block, loop, array, fetch, binding, next, store, param}
+use Rattle.id_grammar.specs.Tree.{Tree, literal, unary, binary, name, conditional, call, block, loop, for_loop, array, fetch, binding, next, store, param}
 use Rattle.id_grammar.specs.Tree.{define, none, more}
 use Rattle.id_tree.specs.Distinct.{Apart, Distinct, HasPlace}
 use Rattle.id_table.specs.declared.row.Row.{Row}
 use Rattle.id_table.specs.declared.row.Stand.{Stand}
-use Rattle.id_table.specs.declared.row.Node.TheVariants.{Head, Split, Enter, NextUse, Program, Start, Variable}
+use Rattle.id_table.specs.declared.row.Node.TheVariants.{Carried, Count, Head, Split, Enter, NextUse, Program, Start, Turn, Variable}
+use Rattle.id_value.specs.declared.Kind.TheVariants as kind
 use Rattle.id_table.specs.Names.{first_names, number_of}
-use Rattle.id_table.specs.Rows.{Parts, add, add_arguments, add_nexts, add_variables, arm, at, begin_loop, in_top, last, rows_of, size, with_row}
+use Rattle.id_table.specs.Rows.{Parts, add, add_arguments, add_entries, add_nexts, add_variables, arm, at, begin_for, begin_loop, carry, enter_loop}
+use Rattle.id_table.specs.Rows.{in_top, last, rows_of, size, with_row}
 use Rattle.id_table.specs.Tables.{AreApart, is_thing}
 use Rattle.id_table.proofs.HasLemmas.{Has, Has-add, Has-arguments, Has-itself, Has-nexts}
 use Rattle.id_table.proofs.HasLemmas.{Has-push, Has-variables, addressed, argued, at-push, entered, push-size, row_for}
-use Rattle.id_table.proofs.HasLemmas.{closed, headed, in_loop, in_side, left_by, nexted, opened, reset, stated, switched, tested, used}
+use Rattle.id_table.proofs.HasLemmas.{Has-carry, Has-end, Has-entries, Has-for, all_entries, bounded, carrying, closed, for_closed, for_left_by}
+use Rattle.id_table.proofs.HasLemmas.{for_side, for_stated, in_loop, in_side, indexed, left_by, nexted, opened, reset, spanned, stated, switched, tested}
+use Rattle.id_table.proofs.HasLemmas.{used, within_for}
 
 pub add-longer : (t : Tree) (s : Stand) (T : Parts) → size T ≤ size (add s T t)
 add-longer t s T = (Has-add (add s T t).rows t s T (Has-itself (add s T t).rows)).within
@@ -86,21 +90,98 @@ module _ (F : List Row) where
   bare-variables (more a b) s T h = bare-variables b s T h
   bare-variables _ s T h = bare-none (size T)
 
+  bare-enter : (s : Stand) (T : Parts) (p : ℕ) → Has F (enter_loop s T p).rows → Bare (size T) (size (enter_loop s T p))
+  bare-enter s T p h =
+      let S = with_row T s p (size T) Start in
+      bare-push (size T) S.rows _ h refl (bare-push (size T) T.rows _ (Has-push F S.rows _ h) refl (bare-none (size T)))
+
+  bare-entries : (s : Stand) (T : Parts) (ss : Tree) (p : ℕ) → Has F (add_entries s T ss p).rows → Bare (size T) (size (add_entries s T ss p))
+  bare-entries s T ss p h =
+      let V = add_variables s T ss in
+      bare-push (size T) V.rows _ h refl (bare-variables ss s T (Has-push F V.rows _ h))
+
+  bare-carry : (s : Stand) (T : Parts) (q p : ℕ) → Has F (carry s T q p).rows → Bare (size T) (size (carry s T q p))
+  bare-carry s T q p h =
+      let I = with_row T s q (size T) (Carried kind.Int) in
+      let B = with_row I s p (size I) (Carried kind.Int) in
+      let b = Has-push F B.rows _ h in
+      bare-push (size T) B.rows _ h refl
+      (bare-push (size T) I.rows _ b refl (bare-push (size T) T.rows _ (Has-push F I.rows _ b) refl (bare-none (size T))))
+
   bare-begin : (s : Stand) (T : Parts) (ss : Tree) (p : ℕ) → Has F (begin_loop s T ss p).rows → Bare (size T) (size (begin_loop s T ss p))
   bare-begin s T ss p h =
-      let S = with_row T s p (size T) Start in
-      let H = headed s T p in
-      let V = add_variables (in_loop T) H ss in
-      let v = Has-push F V.rows _ h in
-      let k = Has-variables F ss (in_loop T) H v in
-      bare-push (size T) V.rows _ h refl
-      (bare-both (size T) (size H) (size V)
-      (bare-push (size T) S.rows _ k refl (bare-push (size T) T.rows _ (Has-push F S.rows _ k) refl (bare-none (size T))))
-      (bare-variables ss (in_loop T) H v))
+      let H = enter_loop s T p in
+      bare-both (size T) (size H) (size (begin_loop s T ss p)) (bare-enter s T p (Has-entries F (in_loop T) H ss p h))
+      (bare-entries (in_loop T) H ss p h)
+
+  bare-for : (s : Stand) (T : Parts) (ss : Tree) (q p : ℕ) → Has F (begin_for s T ss q p).rows → Bare (size T) (size (begin_for s T ss q p))
+  bare-for s T ss q p h =
+      let H = enter_loop s T p in
+      let K = carrying s T q p in
+      let E = all_entries s T ss q p in
+      let W = within_for s T ss q p in
+      let w = Has-push F W.rows _ h in
+      let e = Has-push F E.rows _ w in
+      let k = Has-entries F (in_loop T) K ss p e in
+      bare-push (size T) W.rows _ h refl
+      (bare-push (size T) E.rows _ w refl
+      (bare-both (size T) (size H) (size E) (bare-enter s T p (Has-carry F (in_loop T) H q p k))
+      (bare-both (size H) (size K) (size E) (bare-carry (in_loop T) H q p k) (bare-entries (in_loop T) K ss p e))))
 
   -- behind rows where none stands
   placed-bare : (lo mid hi : ℕ) (P : ℕ → Type 0) → Bare lo mid → Placed mid hi P → Placed lo hi P
   placed-bare lo mid hi P f g i b c t = elim (cases_lt i mid) [ inl l ↦ absurd (f i b l t) | inr l ↦ g i l c t ]
+
+  -- and before them
+  placed-front : (lo mid hi : ℕ) (P : ℕ → Type 0) → Placed lo mid P → Bare mid hi → Placed lo hi P
+  placed-front lo mid hi P g f i b c t = elim (cases_lt i mid) [ inl l ↦ g i b l t | inr l ↦ absurd (f i l c t) ]
+
+  -- the markers behind a loop's last expression
+  placed-end : (lo : ℕ) (P : ℕ → Type 0) (s o : Stand) (L : Parts) (p r g : ℕ) → Has F (spanned s o L p r g).rows → Placed lo (size L) P
+      → Placed lo (size (spanned s o L p r g)) P
+  placed-end lo P s o L p r g h f =
+      let R = reset o L p r in
+      let y = Has-push F R.rows _ h in
+      placed-mark lo P R.rows _ h refl (placed-mark lo P L.rows _ y refl f)
+
+  -- the places of the things in a `for` before its statements: those of its index and its bounds
+  abbrev FrontPlace : ℕ → Tree → Tree → ℕ → Type 0
+  FrontPlace q a b r = (q ≡ r) ⊎ (HasPlace a r ⊎ HasPlace b r)
+
+  -- the rows of a `for` that count
+  abbrev counted : Stand → Parts → ℕ → Tree → ℕ → Parts
+  counted s A q ss p = let W = begin_for s A ss q p in with_row W (for_side s A ss q p true) p (size W) Count
+
+  abbrev turned_for : Stand → Parts → ℕ → Tree → ℕ → Parts
+  turned_for s A q ss p = let C = counted s A q ss p in with_row C (for_side s A ss q p true) p (size C) Turn
+
+  bare-turned : (s : Stand) (A : Parts) (q : ℕ) (ss : Tree) (p : ℕ) → Has F (turned_for s A q ss p).rows
+      → (Has F A.rows) × Bare (size A) (size (turned_for s A q ss p))
+  bare-turned s A q ss p h =
+      let C = counted s A q ss p in
+      let W = begin_for s A ss q p in
+      let c = Has-push F C.rows _ h in
+      let w = Has-push F W.rows _ c in
+      (Has-for F s A ss q p w, bare-push (size A) C.rows _ h refl (bare-push (size A) W.rows _ c refl (bare-for s A ss q p w)))
+
+  placed-bounds : (s : Stand) (T : Parts) (a b : Tree) (q : ℕ) (ss : Tree) (p : ℕ) → Has F (turned_for s (bounded s T a b p) q ss p).rows
+      → Placed (size T) (size (add s T a)) (HasPlace a) → Placed (size (add s T a)) (size (add s (add s T a) b)) (HasPlace b)
+      → Placed (size T) (size (turned_for s (bounded s T a b p) q ss p)) (λ r. HasPlace a r ⊎ HasPlace b r)
+  placed-bounds s T a b q ss p h f g =
+      let U = add s T a in
+      let V = add s U b in
+      let A = bounded s T a b p in
+      let z = bare-turned s A q ss p h in
+      placed-front (size T) (size A) (size (turned_for s A q ss p)) (λ r. HasPlace a r ⊎ HasPlace b r)
+      (placed-mark (size T) (λ r. HasPlace a r ⊎ HasPlace b r) V.rows _ z.0 refl
+      (placed-both (size T) (size U) (size V) (HasPlace a) (HasPlace b) f g)) z.1
+
+  placed-indexed : (s : Stand) (T : Parts) (a b : Tree) (x : List ℕ) (q : ℕ) (ss : Tree) (p : ℕ) → Has F (indexed s (bounded s T a b p) x q ss p).rows
+      → Placed (size T) (size (add s T a)) (HasPlace a) → Placed (size (add s T a)) (size (add s (add s T a) b)) (HasPlace b)
+      → Placed (size T) (size (indexed s (bounded s T a b p) x q ss p)) (FrontPlace q a b)
+  placed-indexed s T a b x q ss p h f g =
+      let B = turned_for s (bounded s T a b p) q ss p in
+      placed-push (size T) (λ r. HasPlace a r ⊎ HasPlace b r) B.rows _ h (placed-bounds s T a b q ss p (Has-push F B.rows _ h) f g)
 
   mutual
     placed : (t : Tree) (s : Stand) (T : Parts) → Has F (add s T t).rows → Placed (size T) (size (add s T t)) (HasPlace t)
@@ -174,10 +255,11 @@ module _ (F : List Row) where
         let N = stated s T t a p in
         let C = closed s T t a p in
         let L = left_by s T t a l p in
-        let Z = reset s T t a l p in
+        let y = in_side s T t a p false in
+        let Z = spanned s y L p (size C) (size T) in
         let z = Has-push F Z.rows _ h in
-        let m = Has-push F L.rows _ z in
-        let c = Has-add F l (in_side s T t a p false) C m in
+        let m = Has-end F s y L p (size T) (size T) (size C) h in
+        let c = Has-add F l y C m in
         let n = Has-push F N.rows _ c in
         let o = Has-nexts F a (in_side s T t a p true) 0 B n in
         let w = Has-push F W.rows _ o in
@@ -185,10 +267,42 @@ module _ (F : List Row) where
         let test = placed-bare (size T) (size E) (size U) (HasPlace t) (bare-begin s T a p (Has-add F t (in_loop T) E u)) (placed t (in_loop T) E u) in
         let front = placed-mark (size T) (HasPlace t) W.rows _ o refl (placed-mark (size T) (HasPlace t) U.rows _ w refl test) in
         let middle = placed-mark (size B) (HasPlace a) N.rows _ c refl (placed_nexts a (in_side s T t a p true) 0 B n) in
-        let end = placed-mark (size C) (HasPlace l) L.rows _ z refl (placed l (in_side s T t a p false) C m) in
+        let end = placed-end (size C) (HasPlace l) s y L p (size C) (size T) z (placed l y C m) in
         placed-push (size T) (λ q. HasPlace t q ⊎ (HasPlace a q ⊎ HasPlace l q)) Z.rows _ h
         (placed-both (size T) (size B) (size Z) (HasPlace t) (λ q. HasPlace a q ⊎ HasPlace l q) front
         (placed-both (size B) (size C) (size Z) (HasPlace a) (HasPlace l) middle end))
+    placed (for_loop x q a b ss l p) s T h =
+        let U = add s T a in
+        let V = add s U b in
+        let A = bounded s T a b p in
+        let W = begin_for s A ss q p in
+        let B = turned_for s A q ss p in
+        let I = indexed s A x q ss p in
+        let N = for_stated s A x q ss p in
+        let C = for_closed s A x q ss p in
+        let L = for_left_by s A x q ss l p in
+        let y = for_side s A ss q p true in
+        let o = for_side s A ss q p false in
+        let Z = spanned s o L p (size C) (size A) in
+        let z = Has-push F Z.rows _ h in
+        let m = Has-end F s o L p (size T) (size A) (size C) h in
+        let c = Has-add F l o C m in
+        let n = Has-push F N.rows _ c in
+        let i = Has-nexts F ss y 3 I n in
+        let k = Has-push F V.rows _ (bare-turned s A q ss p (Has-push F B.rows _ i)).0 in
+        let front = placed-indexed s T a b x q ss p i (placed a s T (Has-add F b s U k)) (placed b s U k) in
+        let middle = placed-mark (size I) (HasPlace ss) N.rows _ c refl (placed_nexts ss y 3 I n) in
+        let end = placed-end (size C) (HasPlace l) s o L p (size C) (size A) z (placed l o C m) in
+        let all = placed-push (size T) (λ r. FrontPlace q a b r ⊎ (HasPlace ss r ⊎ HasPlace l r)) Z.rows _ h
+        (placed-both (size T) (size I) (size Z) (FrontPlace q a b) (λ r. HasPlace ss r ⊎ HasPlace l r) front
+        (placed-both (size I) (size C) (size Z) (HasPlace ss) (HasPlace l) middle end)) in
+        λ j e f t. elim (all j e f t) [
+          | inl v ↦ inl v
+          | inr v ↦ elim v [
+            | inl v' ↦ elim v' [ inl g ↦ inr (inl g) | inr g ↦ elim g [ inl g' ↦ inr (inr (inl g')) | inr g' ↦ inr (inr (inr (inl g'))) ] ]
+            | inr v' ↦ elim v' [ inl g ↦ inr (inr (inr (inr (inl g)))) | inr g ↦ inr (inr (inr (inr (inr g)))) ]
+          ]
+        ]
     placed (next x a p) s T h = let U = add s T a in placed-push (size T) (HasPlace a) U.rows _ h (placed a s T (Has-push F U.rows _ h))
     placed (define x a k b p) s T h =
         let n = size T in
@@ -298,6 +412,20 @@ module _ (F : List Row) where
     | inr l ↦ elim (cases_lt j mid) [ inl m ↦ absurd (f j d m u) | inr m ↦ g i j l c m e t u w ]
   ]
 
+  -- and before them
+  differ-front : (lo mid hi : ℕ) → Differ lo mid → Bare mid hi → Differ lo hi
+  differ-front lo mid hi g f i j b c d e t u w = elim (cases_lt i mid) [
+    | inl l ↦ elim (cases_lt j mid) [ inl m ↦ g i j b l d m t u w | inr m ↦ absurd (f j m e u) ]
+    | inr l ↦ absurd (f i l c t)
+  ]
+
+  differ-end : (lo : ℕ) (s o : Stand) (L : Parts) (p r g : ℕ) → Has F (spanned s o L p r g).rows → Differ lo (size L)
+      → Differ lo (size (spanned s o L p r g))
+  differ-end lo s o L p r g h f =
+      let R = reset o L p r in
+      let y = Has-push F R.rows _ h in
+      differ-mark lo R.rows _ h refl (differ-mark lo L.rows _ y refl f)
+
   mutual
     differ : (t : Tree) (s : Stand) (T : Parts) → Has F (add s T t).rows → Distinct t → Differ (size T) (size (add s T t))
     differ (literal v p) s T h d = differ-leaf T.rows _
@@ -390,10 +518,11 @@ module _ (F : List Row) where
         let N = stated s T t a p in
         let C = closed s T t a p in
         let L = left_by s T t a l p in
-        let Z = reset s T t a l p in
+        let y = in_side s T t a p false in
+        let Z = spanned s y L p (size C) (size T) in
         let z = Has-push F Z.rows _ h in
-        let m = Has-push F L.rows _ z in
-        let c = Has-add F l (in_side s T t a p false) C m in
+        let m = Has-end F s y L p (size T) (size T) (size C) h in
+        let c = Has-add F l y C m in
         let n = Has-push F N.rows _ c in
         let o = Has-nexts F a (in_side s T t a p true) 0 B n in
         let w = Has-push F W.rows _ o in
@@ -402,18 +531,67 @@ module _ (F : List Row) where
         let test = placed-bare (size T) (size E) (size U) (HasPlace t) bare (placed t (in_loop T) E u) in
         let front = placed-mark (size T) (HasPlace t) W.rows _ o refl (placed-mark (size T) (HasPlace t) U.rows _ w refl test) in
         let middle = placed-mark (size B) (HasPlace a) N.rows _ c refl (placed_nexts a (in_side s T t a p true) 0 B n) in
-        let end = placed-mark (size C) (HasPlace l) L.rows _ z refl (placed l (in_side s T t a p false) C m) in
+        let end = placed-end (size C) (HasPlace l) s y L p (size C) (size T) z (placed l y C m) in
         let both = placed-both (size B) (size C) (size Z) (HasPlace a) (HasPlace l) middle end in
         let one = differ-mark (size T) W.rows _ o refl
         (differ-mark (size T) U.rows _ w refl (differ-bare (size T) (size E) (size U) bare (differ t (in_loop T) E u d.6))) in
         let two = differ-mark (size B) N.rows _ c refl (differ_nexts a (in_side s T t a p true) 0 B n d.7) in
-        let three = differ-mark (size C) L.rows _ z refl (differ l (in_side s T t a p false) C m d.8) in
+        let three = differ-end (size C) s y L p (size C) (size T) z (differ l y C m d.8) in
         differ-push (size T) (λ q. HasPlace t q ⊎ (HasPlace a q ⊎ HasPlace l q)) Z.rows _ h
         (placed-both (size T) (size B) (size Z) (HasPlace t) (λ q. HasPlace a q ⊎ HasPlace l q) front both)
-        (λ y. elim y [ inl i ↦ d.0 i | inr y' ↦ elim y' [ inl i ↦ d.1 i | inr i ↦ d.2 i ] ])
+        (λ v. elim v [ inl i ↦ d.0 i | inr v' ↦ elim v' [ inl i ↦ d.1 i | inr i ↦ d.2 i ] ])
         (differ-both (size T) (size B) (size Z) (HasPlace t) (λ q. HasPlace a q ⊎ HasPlace l q) front both
-        (λ q i y. elim y [ inl j ↦ d.3 q i j | inr j ↦ d.4 q i j ]) one
+        (λ q i v. elim v [ inl j ↦ d.3 q i j | inr j ↦ d.4 q i j ]) one
         (differ-both (size B) (size C) (size Z) (HasPlace a) (HasPlace l) middle end d.5 two three))
+    differ (for_loop x q a b ss l p) s T h d =
+        let U = add s T a in
+        let V = add s U b in
+        let A = bounded s T a b p in
+        let W = begin_for s A ss q p in
+        let B = turned_for s A q ss p in
+        let I = indexed s A x q ss p in
+        let N = for_stated s A x q ss p in
+        let C = for_closed s A x q ss p in
+        let L = for_left_by s A x q ss l p in
+        let y = for_side s A ss q p true in
+        let o = for_side s A ss q p false in
+        let Z = spanned s o L p (size C) (size A) in
+        let z = Has-push F Z.rows _ h in
+        let m = Has-end F s o L p (size T) (size A) (size C) h in
+        let c = Has-add F l o C m in
+        let n = Has-push F N.rows _ c in
+        let i = Has-nexts F ss y 3 I n in
+        let w = Has-push F B.rows _ i in
+        let bare = bare-turned s A q ss p w in
+        let k = Has-push F V.rows _ bare.0 in
+        let low = placed a s T (Has-add F b s U k) in
+        let high = placed b s U k in
+        let front = placed-indexed s T a b x q ss p i low high in
+        let middle = placed-mark (size I) (HasPlace ss) N.rows _ c refl (placed_nexts ss y 3 I n) in
+        let end = placed-end (size C) (HasPlace l) s o L p (size C) (size A) z (placed l o C m) in
+        let both = placed-both (size I) (size C) (size Z) (HasPlace ss) (HasPlace l) middle end in
+        let bounds = differ-front (size T) (size A) (size B) (differ-mark (size T) V.rows _ bare.0 refl
+        (differ-both (size T) (size U) (size V) (HasPlace a) (HasPlace b) low high d.5 (differ a s T (Has-add F b s U k) d.11) (differ b s U k d.12)))
+        bare.1 in
+        let one = differ-push (size T) (λ r. HasPlace a r ⊎ HasPlace b r) B.rows _ i (placed-bounds s T a b q ss p w low high)
+        (λ v. elim v [ inl j ↦ d.1.1 j | inr j ↦ d.2.1 j ]) bounds in
+        let two = differ-mark (size I) N.rows _ c refl (differ_nexts ss y 3 I n d.13) in
+        let three = differ-end (size C) s o L p (size C) (size A) z (differ l o C m d.14) in
+        differ-push (size T) (λ r. FrontPlace q a b r ⊎ (HasPlace ss r ⊎ HasPlace l r)) Z.rows _ h
+        (placed-both (size T) (size I) (size Z) (FrontPlace q a b) (λ r. HasPlace ss r ⊎ HasPlace l r) front both)
+        (λ v. elim v [
+          | inl v' ↦ elim v' [ inl e ↦ d.0 (sym e) | inr e ↦ elim e [ inl j ↦ d.1.0 j | inr j ↦ d.2.0 j ] ]
+          | inr v' ↦ elim v' [ inl j ↦ d.3.0 j | inr j ↦ d.4.0 j ]
+        ])
+        (differ-both (size T) (size I) (size Z) (FrontPlace q a b) (λ r. HasPlace ss r ⊎ HasPlace l r) front both
+        (λ r v v'. elim v [
+          | inl e ↦ elim v' [ inl j ↦ d.3.1 (subst (HasPlace ss) (sym e) j) | inr j ↦ d.4.1 (subst (HasPlace l) (sym e) j) ]
+          | inr e ↦ elim e [
+            | inl g ↦ elim v' [ inl j ↦ d.6 r g j | inr j ↦ d.7 r g j ]
+            | inr g ↦ elim v' [ inl j ↦ d.8 r g j | inr j ↦ d.9 r g j ]
+          ]
+        ]) one
+        (differ-both (size I) (size C) (size Z) (HasPlace ss) (HasPlace l) middle end d.10 two three))
     differ (next x a p) s T h d =
         let U = add s T a in
         let g = Has-push F U.rows _ h in

@@ -4,17 +4,17 @@ use Rattle.std.proofs.lemmas.Bool.{cases_lt, false≢true}
 use Rattle.id_table.specs.declared.row.Region.{Region}
 use Rattle.id_table.specs.declared.row.Row.{Row}
 use Rattle.id_table.specs.declared.row.Node.{Node}
-use Rattle.id_table.specs.declared.row.Node.TheVariants.{Split, If, LoopHead, Store, Switches}
+use Rattle.id_table.specs.declared.row.Node.TheVariants.{Bounds, Loop, Split, Start, If, LoopHead, Store, Switches}
 use Rattle.id_table.specs.Rows.{arm_at, at, top}
 use Rattle.id_table.specs.Tables.{HasNear, HasOperand, HasPart, begins_block, is_if, is_loop, is_split, is_switches, is_top}
-use Rattle.id_table.specs.Loops.{InSide, IsLoopOf, StandsInSide}
+use Rattle.id_table.specs.Loops.{AreBounds, Begins, InSide, IsLoopOf, StandsInSide, bounds_row, plainly, with_bounds}
 use Rattle.id_table.specs.Regions.{InArm, IsIfOf, Lies, here, in_arm, in_loop, in_side}
 use Rattle.id_table.specs.Turns.{IsTable, Root, TurnedIn, Turns, argument, body, left, of_otherwise, of_procedure, of_then}
 use Rattle.id_table.specs.Turns.{operand, part, right, root, statement, test, of_last, of_next, of_statement, of_store, of_test}
-use Rattle.id_table.specs.Turns.{address_index, address_target, fetch_index, fetched, high, low, stored, stored_value}
+use Rattle.id_table.specs.Turns.{address_index, address_target, fetch_index, fetched, high, index_high, index_low, low, stored, stored_value}
 use Rattle.id_table.proofs.BlockLemmas.{around-within}
 use Rattle.id_table.proofs.BlocksLemmas.{not_last}
-use Rattle.id_table.proofs.RowLemmas.{Lies-both, near_part, operand_part}
+use Rattle.id_table.proofs.RowLemmas.{Lies-both, body_low, near_part, operand_part}
 
 -- what lies in a region that lies in another lies in that
 pub Lies-trans : (R : List Row) {p q r : Region} → Lies R p q → Lies R q r → Lies R p r
@@ -49,6 +49,15 @@ HasPart-operand = operand_part
 pub HasPart-near : (n : Node) (a : ℕ) → HasNear n a → HasPart n a
 HasPart-near = near_part
 
+abbrev is_start : Node → Bool
+is_start Start = true
+is_start _ = false
+
+-- a loop with an index begins with its bounds
+Begins-bounds : {R : List Row} {s n c : ℕ} → Begins R s n c → c ≡ 3 → (k : ℕ) × (k + 1 ≡ s) × AreBounds R k n
+Begins-bounds (plainly e) z = absurd (omega arith)
+Begins-bounds (with_bounds {c = k} e b) z = (k, e, b)
+
 abbrev then_or : ℕ → Node → ℕ
 then_or d (If s x y) = x
 then_or d _ = d
@@ -64,7 +73,7 @@ switches_node (Switches t) e = (t, refl)
 switches_node _ e = absurd (false≢true e)
 
 -- a side of the switches of a loop begins behind them
-side_low : (w b n i : ℕ) (side : Bool) → w + 1 < b → InSide w b n side i → w < i
+side_low : (w b n i : ℕ) (side : Bool) → w < b → InSide w b n side i → w < i
 side_low w b n i true l h = h.0
 side_low w b n i false l h = omega (arith, h.0)
 
@@ -159,7 +168,7 @@ module _ (R : List Row) (t : IsTable R) where
         let same : (at R i).block ≡ (at R u).block = sym x.test.block ∙ ap (λ j. (at R j).block) z in
         let y = t.in_loop i ((at R i).block - 1) l x.before_test.head in
         let one = t.one_loop y.0 m (at R u).block (subst (IsLoopOf R y.0) same y.1) d in
-        (omega (arith, z, side_low k.loop.switches k.body k.row i k.side k.body_is.low k.among), omega (arith, y.2, one))
+        (omega (arith, z, side_low k.loop.switches k.body k.row i k.side (body_low k.body_is) k.among), omega (arith, y.2, one))
   ]
 
   module _ (n s : ℕ) (b : Bool) (c : IsIfOf R n s) where
@@ -180,7 +189,7 @@ module _ (R : List Row) (t : IsTable R) where
           let from = lies-row m u (omega (arith, same, low.0, l)) refl in
           let x = t.loop_is d.0 h d.1 in
           let start : x.start ≡ u = omega (arith, same, x.begins) in
-          let to = lies-row m d.0 (loop_not_last d.0 h d.1) (sym x.start_of.region ∙ ap (λ k. (at R k).region) start) in
+          let to = lies-row m d.0 (loop_not_last d.0 h d.1) (sym x.start_of.beside.region ∙ ap (λ k. (at R k).region) start) in
           InArm-between s c.then n u i d.0 b from to (omega (arith, same, low.0)) (omega (arith, low.1))
       lies-row (in_side {w = u} {b = a} w is m) i l e =
           let z = switches_node (at R u).node is in
@@ -208,7 +217,7 @@ module _ (R : List Row) (t : IsTable R) where
           let x = t.loop_is m h d in
           let same = start_at m h y d (ap (λ j. (at R j).node) (sym z) ∙ is) in
           let start : x.start ≡ y = omega (arith, same, x.begins) in
-          lies-row l m (loop_not_last m h d) (sym x.start_of.region ∙ ap (λ k. (at R k).region) start)
+          lies-row l m (loop_not_last m h d) (sym x.start_of.beside.region ∙ ap (λ k. (at R k).region) start)
 
     -- a row that stands in an arm's region or further in is one of the arm
     pub InArm-lies : (i : ℕ) → i + 1 < length R → Lies R (arm_at s b) (at R i).region → InArm s c.then n b i
@@ -246,6 +255,30 @@ module _ (R : List Row) (t : IsTable R) where
       let p = (t.formed.each n l).parts b (subst (λ m. HasPart m b) (sym e) h) in
       (t.part_stands b a (omega (arith, p.1, l)) f).1 ∙ (t.part_stands n b l (subst (λ m. HasNear m b) (sym e) h)).1
 
+  -- the bounds of an index stand where the loop does
+  bounds_stand : (n h w l a b c : ℕ) → n < length R → (at R n).node ≡ Loop h w l → (at R (bounds_row h)).node ≡ Bounds a b → HasNear (Bounds a b) c
+      → (at R c).region ≡ (at R n).region
+  bounds_stand n h w l a b c m e f p =
+      let d : IsLoopOf R n h = record { switches = w; last = l; within = m; node = e } in
+      let x = t.loop_is n h d in
+      let head = (t.formed.each n m).parts h (subst (λ k. HasPart k h) (sym e) (inl refl)) in
+      let two : bounds_row h + 2 ≡ h = elim (cases_lt h 2) [
+        | inr g ↦ omega arith
+        | inl g ↦ let z : x.start ≡ bounds_row h = omega (arith, x.begins) in
+            absurd (false≢true (sym (ap is_start f) ∙ ap (λ k. is_start (at R k).node) (sym z) ∙ ap is_start x.start_of.node))
+      ] in
+      let inside : bounds_row h < length R = omega (arith, head.1, m) in
+      let own = t.bounds_of (bounds_row h) a b inside f in
+      let same : own.0 ≡ n = t.one_loop own.0 n h (subst (IsLoopOf R own.0) two own.1) d in
+      let y = t.loop_is own.0 (bounds_row h + 2) own.1 in
+      let k = Begins-bounds y.from own.2 in
+      let at_bounds : k.0 ≡ bounds_row h = omega (arith, k.1, y.begins) in
+      let near : (at R c).region ≡ (at R (bounds_row h)).region = (t.part_stands (bounds_row h) c inside (subst (λ q. HasNear q c) (sym f) p)).1 in
+      let row : (at R k.0).region ≡ (at R own.0).region = k.2.beside.region in
+      let here : (at R (bounds_row h)).region ≡ (at R k.0).region = ap (λ q. (at R q).region) (sym at_bounds) in
+      let there : (at R own.0).region ≡ (at R n).region = ap (λ q. (at R q).region) same in
+      near ∙ here ∙ row ∙ there
+
   -- what another expression or store turns on stands where that does
   pub Turns-stands : (n a : ℕ) → n < length R → Turns R n a → (at R a).region ≡ (at R n).region
   Turns-stands n a l (operand e) = (t.part_stands n a l (subst (λ m. HasNear m a) (sym e) refl)).1
@@ -263,6 +296,8 @@ module _ (R : List Row) (t : IsTable R) where
   Turns-stands n a l (statement {m} is s e) =
       let w = around-within R n m s.inside in
       (t.part_stands m a (omega (arith, w.1, l)) (subst (λ m. HasNear m a) (sym e) refl)).1 ∙ (t.statement_stands n m l s).1
+  Turns-stands n a l (index_low {h} {w} {l = v} {b = c} e f) = bounds_stand n h w v a c a l e f (inl refl)
+  Turns-stands n a l (index_high {h} {w} {l = v} {a = c} e f) = bounds_stand n h w v c a a l e f (inr refl)
   Turns-stands n a l (low e) = (t.part_stands n a l (subst (λ m. HasNear m a) (sym e) (inl refl))).1
   Turns-stands n a l (high e) = (t.part_stands n a l (subst (λ m. HasNear m a) (sym e) (inr refl))).1
   Turns-stands n a l (fetched e) = (t.part_stands n a l (subst (λ m. HasNear m a) (sym e) (inl refl))).1
@@ -283,7 +318,7 @@ module _ (R : List Row) (t : IsTable R) where
       body ∙ sym own ∙ t.at_top h within (ap is_top head) ∙ ap top (t.head_block h within (ap begins_block head))
   Root-stands r e (of_then {n} {s} {x} {y} l d) = (t.arms n s (record { then = x; otherwise = y; within = l; node = d })).then_stands
   Root-stands r e (of_otherwise {n} {s} {x} {y} l d) = (t.arms n s (record { then = x; otherwise = y; within = l; node = d })).otherwise_stands
-  Root-stands r e (of_test {w} l d) = (t.part_stands w e l (subst (λ m. HasNear m e) (sym d) refl)).1
+  Root-stands r e (of_test {w} l d _) = (t.part_stands w e l (subst (λ m. HasNear m e) (sym d) refl)).1
   Root-stands r e (of_statement {n} {m} l is s d) =
       let w = around-within R n m s.inside in
       (t.part_stands m e (omega (arith, w.1, l)) (subst (λ m. HasNear m e) (sym d) refl)).1 ∙ (t.statement_stands n m l s).1

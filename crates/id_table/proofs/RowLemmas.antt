@@ -1,19 +1,20 @@
 -- What is true of each row that a form adds.
-use Rattle.std.proofs.Common.{◌≡◌, ◌⊎◌, inl, inr, ◌<◌, ◌≤◌, ◌+◌, ℕ, suc, Bool, true, false, ◌&&◌, not, List, length, refl, sym, ap, ◌∙◌, subst, arith}
+use Rattle.std.proofs.Common.{◌≡◌, ◌⊎◌, inl, inr, ◌<◌, ◌≤◌, ◌+◌, ℕ, suc, Bool, true, false, ◌&&◌, not, List, refl, sym, ap, ◌∙◌, subst, arith}
 use Rattle.std.proofs.lemmas.Bool.{cases_lt, false≢true}
 use Rattle.id_table.specs.declared.row.Row.{Row}
 use Rattle.id_table.specs.declared.row.Stand.{Stand}
 use Rattle.id_table.specs.declared.row.Node.{Node}
 use Rattle.id_table.specs.declared.row.Node.TheVariants.{Head, Literal, Name, Unary, Binary, Split, If, Enter, Arg, Call, Block, Def, Program}
 use Rattle.id_table.specs.declared.row.Node.TheVariants.{Start, LoopHead, Variable, Switches, NextUse, Next, Body, Loop}
+use Rattle.id_table.specs.declared.row.Node.TheVariants.{Bounds, Carried, Within, Count, Turn, Index, Span}
 use Rattle.id_table.specs.declared.row.Node.TheVariants.{Array, Fetch, Address, Store}
 use Rattle.id_table.proofs.BlockLemmas.{and_both}
-use Rattle.id_table.specs.Rows.{at, top, value_of}
-use Rattle.id_table.specs.Tables.{HasNear, HasOperand, HasPart, begins_block, has_statements, is_block, is_expression, is_in_loop}
-use Rattle.id_table.specs.Tables.{is_statement, is_top}
+use Rattle.id_table.specs.Rows.{at, top}
+use Rattle.id_table.specs.Tables.{HasNear, HasOperand, HasPart, begins_block, can_be_on, has_statements, is_block, is_expression, is_in_loop}
+use Rattle.id_table.specs.Tables.{is_next, is_statement, is_top}
 use Rattle.id_table.specs.Calls.{AreArgs, IsArgIn, IsCallOf, IsEnterOf}
 use Rattle.id_table.specs.Stores.{IsAddressOf, IsStoreOf}
-use Rattle.id_table.specs.Loops.{IsLoop, IsLoopOf, IsNextIn, IsNextOf, StandsInSide}
+use Rattle.id_table.specs.Loops.{IsBody, IsLoop, IsLoopOf, IsNextIn, IsNextOf, IsTurn, StandsInSide, behind_count, right}
 use Rattle.id_table.specs.Regions.{AreArms, IsIfOf, IsSplitOf, Lies, StandsInArm, here, in_arm, in_loop, in_side}
 use Rattle.id_table.specs.Turns.{in_block}
 use Rattle.id_table.proofs.HasLemmas.{row_in}
@@ -38,17 +39,36 @@ is_simple (Enter x) = false
 is_simple (Arg e i v) = false
 is_simple (Call e c) = false
 is_simple (Block b) = false
+is_simple (Bounds a b) = false
 is_simple Start = false
 is_simple (LoopHead t) = false
 is_simple Variable = false
+is_simple (Within f) = false
 is_simple (Switches t) = false
+is_simple (Index x) = false
 is_simple (NextUse x) = false
 is_simple (Next x k o v) = false
 is_simple Body = false
+is_simple Span = false
 is_simple (Loop h w l) = false
 is_simple (Address t i) = false
 is_simple (Store a v) = false
 is_simple n = is_inner n
+
+-- whether the value of a row of this node is its own
+abbrev pub gives_itself : Node → Bool
+gives_itself (Block b) = false
+gives_itself (Within f) = false
+gives_itself n = true
+
+-- whether a row of this node is such a marker of a loop's block: one that only a `for` has, or a `Turn`
+abbrev pub is_mark : Node → Bool
+is_mark (Carried k) = true
+is_mark (Within f) = true
+is_mark Count = true
+is_mark Turn = true
+is_mark (Index x) = true
+is_mark n = false
 
 -- the value v of the row i is given right in this stand
 pub record GivesValue (F : List Row) (s : Stand) (i v : ℕ) : Type 0 where
@@ -69,6 +89,14 @@ StandsWithin F s a = Lies F s.region (at F a).region
 -- where a row is
 abbrev pub stand_of : Row → Stand
 stand_of r = record { block = r.block; region = r.region }
+
+-- the body of a loop ends behind its switches
+pub turn_low : {R : List Row} {w t c : ℕ} → IsTurn R w t c → w < t
+turn_low (right e) = omega arith
+turn_low (behind_count e f g) = omega arith
+
+pub body_low : {R : List Row} {h w t b c : ℕ} → IsBody R h w t b c → w < b
+body_low z = let l = turn_low z.turns in omega (arith, z.low)
 
 -- the `next` statement at the row i belongs to a loop
 pub record IsNextOfLoop (F : List Row) (i k x o : ℕ) : Type 0 where
@@ -104,12 +132,16 @@ Belongs F i (If u x y) = IsSplitOf F u i × AreArms F u x y i
 Belongs F i (Enter x) = (n : ℕ) × IsCallOf F n i
 Belongs F i (Arg e k v) = IsArgIn F i e k v
 Belongs F i (Call e c) = IsEnterOf F e i × AreArgs F e i c
+Belongs F i (Bounds a b) = (n : ℕ) × IsLoopOf F n (i + 2) × ((at F n).first ≤ i)
 Belongs F i Start = (n : ℕ) × IsLoopOf F n (i + 1)
 Belongs F i (LoopHead t) = (n : ℕ) × IsLoopOf F n i
 Belongs F i Variable = IsVariableOf F i
+Belongs F i (Within f) = (at F i).value ≡ f
 Belongs F i (Switches t) = AreSwitchesOf F i
+Belongs F i (Index x) = (j : ℕ) × ((at F j).node ≡ Count) × (j + 2 ≡ i)
 Belongs F i (NextUse x) = IsUseOf F i x
 Belongs F i (Next x k o v) = IsNextOfLoop F i k x o
+Belongs F i Span = (n h : ℕ) × IsLoopOf F n h × (i + 1 ≡ n)
 Belongs F i (Loop h w l) = IsLoop F i h w l
 Belongs F i (Address t j) = (n : ℕ) × IsStoreOf F n i
 Belongs F i (Store a v) = IsAddressOf F a i v
@@ -121,7 +153,7 @@ pub record Fits (F : List Row) (s : Stand) (lo i v : ℕ) (n : Node) : Type 0 wh
   pub part_stands : (a : ℕ) → HasNear n a → StandsHere F s a
   pub operand_is : (a : ℕ) → HasOperand n a → is_expression (at F a).node ≡ true
   pub value_block : (b : ℕ) → n ≡ Block b → v ≡ (at F b).value
-  pub value_self : is_block n ≡ false → v ≡ i
+  pub value_self : gives_itself n ≡ true → v ≡ i
   pub value : is_expression n ≡ true → GivesValue F s i v
   pub statements : has_statements n ≡ true → (b : ℕ) → lo ≤ b → b < i → is_statement (at F b).node ≡ true → in_block F b i ≡ false → StandsHere F s b
   pub at_top : is_top n ≡ true → s.region ≡ top s.block
@@ -169,10 +201,6 @@ pub record PartIs (F : List Row) (s : Stand) (lo hi a : ℕ) : Type 0 where
   pub expression : is_expression (at F a).node ≡ true
   pub stands : StandsHere F s a
 
-pub value_of-self : (R : List Row) (n : Node) → is_block n ≡ false → value_of R n ≡ length R
-value_of-self R (Block b) e = absurd (false≢true (sym e))
-value_of-self R _ e = refl
-
 -- two nodes are not one, where a test is true of the one alone
 pub differs : (f : Node → Bool) (n m : Node) → f n ≡ true → f m ≡ false → n ≡ m → ⊥
 differs f n m e g h = false≢true (sym g ∙ sym (ap f h) ∙ e)
@@ -199,11 +227,45 @@ pub operand_part : (n : Node) (a : ℕ) → HasOperand n a → HasPart n a
 operand_part (If s x y) a h = inr h
 operand_part (Arg e i v) a h = inr h
 operand_part (Call e c) a h = absurd h
+operand_part (Switches t) a h = absurd h
 operand_part (Next x k o v) a h = inr h
 operand_part (Loop u w l) a h = inr (inr h)
 operand_part (Store b v) a h = inr h
 operand_part (Def x h k b) a e = inr e
 operand_part _ a h = h
+
+-- a marker is none of these
+pub mark_inner : (n : Node) → is_mark n ≡ true → is_inner n ≡ true
+mark_inner (Carried k) e = refl
+mark_inner (Within f) e = refl
+mark_inner Count e = refl
+mark_inner Turn e = refl
+mark_inner (Index x) e = refl
+mark_inner _ e = absurd (false≢true e)
+
+pub mark_off : (n : Node) → is_mark n ≡ true → can_be_on n ≡ false
+mark_off (Carried k) e = refl
+mark_off (Within f) e = refl
+mark_off Count e = refl
+mark_off Turn e = refl
+mark_off (Index x) e = refl
+mark_off _ e = absurd (false≢true e)
+
+pub mark_no_statement : (n : Node) → is_mark n ≡ true → is_statement n ≡ false
+mark_no_statement (Carried k) e = refl
+mark_no_statement (Within f) e = refl
+mark_no_statement Count e = refl
+mark_no_statement Turn e = refl
+mark_no_statement (Index x) e = refl
+mark_no_statement _ e = absurd (false≢true e)
+
+pub mark_no_next : (n : Node) → is_mark n ≡ true → is_next n ≡ false
+mark_no_next (Carried k) e = refl
+mark_no_next (Within f) e = refl
+mark_no_next Count e = refl
+mark_no_next Turn e = refl
+mark_no_next (Index x) e = refl
+mark_no_next _ e = absurd (false≢true e)
 
 not_false : (b : Bool) → not b ≡ true → b ≡ false
 not_false true e = absurd (false≢true e)
@@ -249,13 +311,17 @@ belongs_none F i (If u x y) e = absurd (false≢true e)
 belongs_none F i (Enter x) e = absurd (false≢true e)
 belongs_none F i (Arg s k v) e = absurd (false≢true e)
 belongs_none F i (Call s c) e = absurd (false≢true e)
+belongs_none F i (Bounds a b) e = absurd (false≢true e)
 belongs_none F i Start e = absurd (false≢true e)
 belongs_none F i (LoopHead t) e = absurd (false≢true e)
 belongs_none F i Variable e = absurd (false≢true e)
+belongs_none F i (Within f) e = absurd (false≢true e)
 belongs_none F i (Switches t) e = absurd (false≢true e)
+belongs_none F i (Index x) e = absurd (false≢true e)
 belongs_none F i (NextUse x) e = absurd (false≢true e)
 belongs_none F i (Next x k o v) e = absurd (false≢true e)
 belongs_none F i Body e = absurd (false≢true e)
+belongs_none F i Span e = absurd (false≢true e)
 belongs_none F i (Loop h w l) e = absurd (false≢true e)
 belongs_none F i (Address t j) e = absurd (false≢true e)
 belongs_none F i (Store a v) e = absurd (false≢true e)
@@ -375,7 +441,7 @@ module _ (F : List Row) where
     part_stands = λ a h. subst (StandsHere F s) (sym h) part.stands;
     operand_is = λ a h. subst (λ k. is_expression (at F k).node ≡ true) (sym h) part.expression;
     value_block = λ a h. same ∙ ap (λ k. (at F k).value) (body_of b a h);
-    value_self = λ h. absurd (false≢true (sym h));
+    value_self = λ h. absurd (false≢true h);
     value = λ h. subst (GivesValue F s i) (sym same) (gives_body s lo i b part body);
     statements = λ h. statements;
     at_top = λ h. absurd (false≢true h);

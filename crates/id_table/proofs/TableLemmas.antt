@@ -8,35 +8,40 @@ use Rattle.id_table.specs.declared.row.Row.{Row}
 use Rattle.id_table.specs.declared.row.Stand.{Stand}
 use Rattle.id_table.specs.declared.row.Region.{Region}
 use Rattle.id_table.specs.declared.row.Node.{Node}
-use Rattle.id_table.specs.declared.row.Node.TheVariants.{Head, Literal, Name, Split, If, Enter, Arg}
+use Rattle.id_table.specs.declared.row.Node.TheVariants.{Head, Literal, Name, Split, If, Enter, Arg, Block}
 use Rattle.id_table.specs.declared.row.Node.TheVariants.{Call, Def, Program, Start, LoopHead, Variable, Entries, Switches, Turn, NextUse, Next, Body, Reset}
-use Rattle.id_table.specs.declared.row.Node.TheVariants.{Loop, Address, Store}
+use Rattle.id_table.specs.declared.row.Node.TheVariants.{Loop, Address, Store, Bounds, Carried, Within, Count, Index, Span}
+use Rattle.id_value.specs.declared.Kind.TheVariants as kind
 use Rattle.id_table.specs.Names.{number_of, first_names}
-use Rattle.id_table.specs.Rows.{Parts, add, add_arguments, add_nexts, add_variables, arm, arm_at, begin_loop, count_of, at, in_top}
-use Rattle.id_table.specs.Rows.{last, rows_of, size, top, with_row}
+use Rattle.id_table.specs.Rows.{Parts, add, add_arguments, add_entries, add_nexts, add_variables, arm, arm_at, begin_for, begin_loop, count_of, at}
+use Rattle.id_table.specs.Rows.{end_loop, enter_loop, in_top, last, rows_of, size, top, with_row}
 use Rattle.id_table.specs.Tables.{Formed, HasNear, HasOperand, HasPart, IsFormed, IsNested}
-use Rattle.id_table.specs.Tables.{begins_block, can_be_on, has_statements, is_address, is_in_loop, is_loop, is_next, is_statement, is_store}
-use Rattle.id_table.specs.Loops.{InSide, IsLoop, IsLoopOf, IsNextIn, IsNextOf, StandsAt}
+use Rattle.id_table.specs.Tables.{begins_block, can_be_on, has_statements, is_address, is_carried, is_in_loop, is_loop, is_next, is_statement, is_store}
+use Rattle.id_table.specs.Loops.{AreCarried, Begins, InSide, IsLoop, IsLoopOf, IsNextIn, IsNextOf, IsTest, IsTurn, StandsAt, an_index, behind_count}
+use Rattle.id_table.specs.Loops.{flag, nothing, plainly, predicate, right, with_bounds}
 use Rattle.id_table.specs.Tables.{is_arg, is_block, is_call, is_def, is_enter, is_expression, is_head, is_if, is_split, is_switches, is_top}
-use Rattle.id_table.specs.Tables.{is_variable}
+use Rattle.id_table.specs.Tables.{is_variable, is_within}
 use Rattle.id_table.specs.Stores.{IsAddressOf, IsStoreOf}
 use Rattle.id_table.specs.Calls.{AreArgs, IsArgIn, IsArgOf, IsCallOf, IsEnterOf}
 use Rattle.id_table.specs.Regions.{AreArms, InArm, IsIfOf, IsSplitOf, Lies, here, in_arm, in_loop, in_side}
 use Rattle.id_table.specs.Trees.{IsTree, IsProgramTree, Sort, Expression, Arguments, Statements}
 use Rattle.id_table.specs.Trees.{Params, Defs, by_literal, by_unary, by_binary, by_name, by_conditional}
-use Rattle.id_table.specs.Trees.{by_call, by_loop, by_array, by_fetch, next_statement, store_statement, no_arguments, more_arguments, by_block}
+use Rattle.id_table.specs.Trees.{by_call, by_loop, by_for, by_array, by_fetch, next_statement, store_statement, no_arguments, more_arguments, by_block}
 use Rattle.id_table.specs.Trees.{no_statements, more_statements, no_params, more_params, no_defs, more_defs}
 use Rattle.id_table.specs.Turns.{AreParamsOf, IsDefOf, IsTable}
 use Rattle.id_table.proofs.BlockLemmas.{around-within}
 use Rattle.id_table.proofs.HasLemmas.{Has, Has-add, Has-arguments, Has-itself, Has-push, addressed, argued, at-push, entered, push-size, push-within}
 use Rattle.id_table.proofs.HasLemmas.{row_for, row_in}
-use Rattle.id_table.proofs.HasLemmas.{Has-nexts, Has-variables, closed, headed, left_by, nexted, opened, reset, stated, switched, tested, used}
-use Rattle.id_table.proofs.RowLemmas.{Belongs, RowsAre-none}
+use Rattle.id_table.proofs.HasLemmas.{Has-end, Has-enter, Has-entries, Has-nexts, all_entries, bounded, carrying, closed}
+use Rattle.id_table.proofs.HasLemmas.{for_closed, for_left_by, for_side, for_stated, indexed, left_by, nexted, opened, reset, spanned}
+use Rattle.id_table.proofs.HasLemmas.{stated, switched, tested, used, within_for}
+use Rattle.id_table.proofs.RowLemmas.{Belongs, RowsAre-none, body_low, gives_itself}
 use Rattle.id_table.proofs.ExpressionLemmas.{AreExpression, AreStatement, AreStatements, AreParams, are-array, are-binary, are-binding, are-block}
 use Rattle.id_table.proofs.ExpressionLemmas.{are-fetch, are-leaf, are-param, are-unary, statement-before}
 use Rattle.id_table.proofs.CallLemmas.{Called, are-call, called-argument, called-enter}
 use Rattle.id_table.proofs.ConditionalLemmas.{are-conditional}
-use Rattle.id_table.proofs.LoopLemmas.{are-loop}
+use Rattle.id_table.proofs.LoopLemmas.{LoopRows, are-loop, while-own}
+use Rattle.id_table.proofs.IndexLemmas.{for-own}
 use Rattle.id_table.proofs.NextLemmas.{AreNexts, IsRound, Variables, nexts-both, nexts-none, nexts_in, one-next, one-statement, size-variables}
 use Rattle.id_table.proofs.NextLemmas.{variables-added, variables-each}
 use Rattle.id_table.proofs.StoreLemmas.{are-store}
@@ -92,6 +97,88 @@ module _ (F : List Row) where
         value_ends = last_of s (size A) (size W) value;
         row = at-push F W.rows _ h;
       })
+
+  moved : (q : Stand) (p f f' i i' j j' : ℕ) → at F i ≡ row_in q p f i (Switches j) → f ≡ f' → i ≡ i' → j ≡ j'
+      → at F i' ≡ row_in q p f' i' (Switches j')
+  moved q p f f' i i' j j' h a b c =
+      subst (λ k. at F i' ≡ row_in q p f' i' (Switches k)) c
+      (subst (λ k. at F i' ≡ row_in q p k i' (Switches j)) a (subst (λ k. at F k ≡ row_in q p f k (Switches j)) b h))
+
+  -- the rows of a loop, of which those before its variables, its switches at the row w, and the first of its body, up to
+  -- the row m, are known: T are the parts before its `Start`, K those before its variables, and I those before its statements
+  looped : (s : Stand) (from : ℕ) (T K I : Parts) (c t w u m r : ℕ) (ss l : Tree) (p : ℕ) →
+      let lo = size T in
+      let h = suc lo in
+      let V = add_variables (in_top h) K ss in
+      let y = arm (in_top h) w true in
+      let o = arm (in_top h) w false in
+      let N = add_nexts y c I ss in
+      let C = with_row N y p r Body in
+      let L = add o C l in
+      let n = size (spanned s o L p (size C) lo) in
+      Has F (end_loop s o p from lo (size C) (last L) L).rows → Has F (enter_loop s T p).rows → size K ≡ h + 1 + c
+      → Has F (add_entries (in_top h) K ss p).rows → suc t ≡ w → size V < t → at F w ≡ row_in (in_top h) p (suc (size V)) w (Switches t) → w < u → u < m
+      → size I ≡ m → r ≡ suc u
+      → (IsRound F lo h w (last L) n → Variables F h c ss → size N ≤ n → AreNexts F y c (c + nexts_in ss) (size I) (size N))
+      → AreExpression F o (size C) (size L)
+      → LoopRows F s p from lo c (size V) t w u m (size N) (last L) n
+  looped s from T K I c t w u m r ss l p has started many entered test_ends test_low switches turn_low begins to_body to_turn statements last_rows =
+      let lo = size T in
+      let h = suc lo in
+      let S = with_row T s p lo Start in
+      let V = add_variables (in_top h) K ss in
+      let y = arm (in_top h) w true in
+      let o = arm (in_top h) w false in
+      let N = add_nexts y c I ss in
+      let C = with_row N y p r Body in
+      let L = add o C l in
+      let R = reset o L p (size C) in
+      let Z = spanned s o L p (size C) lo in
+      let n = size Z in
+      let has_span = Has-push F Z.rows _ has in
+      let has_reset = Has-push F R.rows _ has_span in
+      let has_last = Has-push F L.rows _ has_reset in
+      let has_body = Has-add F l o C has_last in
+      let has_variables = Has-push F V.rows _ entered in
+      let to_head : size S ≡ h = push-size T.rows _ in
+      let to_last : size C ≡ suc (size N) = push-size N.rows _ in
+      let to_span : size R ≡ suc (size L) = push-size L.rows _ in
+      let to_loop : n ≡ suc (size R) = push-size R.rows _ in
+      let variables = variables-added F h c ss K many has_variables in
+      let last_last : suc (last L) ≡ size L = last_of o (size C) (size L) last_rows in
+      let spanning : size R ≡ suc (suc (last L)) = omega arith in
+      let head_row = subst (λ k. at F k ≡ row_in (in_top h) p h k (LoopHead lo)) to_head (at-push F S.rows _ started) in
+      let loop_row : at F n ≡ row_in s p from n (Loop h w (last L)) = at-push F Z.rows _ has in
+      let long = size-variables (in_top h) ss K in
+      let round : IsRound F lo h w (last L) n = record {
+        within = push-within F Z.rows _ has;
+        low = omega (arith, long);
+        head = ap (λ (r : Row). r.node) head_row;
+        node = ap (λ (r : Row). r.node) loop_row;
+      } in
+      let body = statements round variables (omega (arith, last_rows.low, last_rows.ends)) in
+      record {
+        within = push-within F Z.rows _ has;
+        ends = omega arith;
+        start = at-push F T.rows _ (Has-push F S.rows _ started);
+        head = head_row;
+        count = nexts_in ss;
+        many = omega (arith, long);
+        variable = λ k f g. variables-each F h c ss variables k f g;
+        entries = at-push F V.rows _ entered;
+        test_ends = test_ends;
+        test_low = test_low;
+        switches = switches;
+        turn_low = turn_low;
+        begins = begins;
+        body = subst (λ k. AreNexts F y c (c + nexts_in ss) k (size N)) to_body body;
+        body_end = subst (λ k. at F (size N) ≡ row_in y p k (size N) Body) to_turn (at-push F N.rows _ has_body);
+        last = subst (λ k. AreExpression F o k (suc (last L))) to_last (subst (AreExpression F o (size C)) (sym last_last) last_rows);
+        reset = subst (λ k. at F k ≡ row_in o p (suc (size N)) k (Reset (last L))) (sym last_last)
+            (subst (λ k. at F (size L) ≡ row_in o p k (size L) (Reset (last L))) to_last (at-push F L.rows _ has_reset));
+        span = subst (λ k. at F k ≡ row_in s p lo k Span) spanning (at-push F R.rows _ has_span);
+        row = loop_row;
+      }
 
   mutual
     pub Are-add : {k : Sort} {t : Tree} (s : Stand) (T : Parts) → IsTree k t → Has F (add s T t).rows → Are k s (size T) (size (add s T t))
@@ -213,8 +300,7 @@ module _ (F : List Row) where
     Are-add s T (by_loop {t} {ss} {l} {p} d e f) h =
         let lo = size T in
         let head = suc lo in
-        let S = with_row T s p lo Start in
-        let H = headed s T p in
+        let H = enter_loop s T p in
         let V = add_variables (in_top head) H ss in
         let E = begin_loop s T ss p in
         let U = tested s T t ss p in
@@ -223,65 +309,121 @@ module _ (F : List Row) where
         let N = stated s T t ss p in
         let C = closed s T t ss p in
         let L = left_by s T t ss l p in
-        let Z = reset s T t ss l p in
         let w = size U in
-        let n = size Z in
         let body = arm (in_top head) w true in
         let behind = arm (in_top head) w false in
-        let has_reset = Has-push F Z.rows _ h in
-        let has_last = Has-push F L.rows _ has_reset in
+        let Z = spanned s behind L p (size C) lo in
+        let n = size Z in
+        let has_last = Has-end F s behind L p lo lo (size C) h in
         let has_body = Has-add F l behind C has_last in
         let has_statements = Has-push F N.rows _ has_body in
         let has_turn = Has-nexts F ss body 0 B has_statements in
         let has_switches = Has-push F W.rows _ has_turn in
         let has_test = Has-push F U.rows _ has_switches in
         let has_entries = Has-add F t (in_top head) E has_test in
-        let has_variables = Has-push F V.rows _ has_entries in
-        let has_head = Has-variables F ss (in_top head) H has_variables in
-        let has_start = Has-push F S.rows _ has_head in
-        let to_head : size S ≡ head = push-size T.rows _ in
-        let to_variables : size H ≡ suc (size S) = push-size S.rows _ in
+        let has_head = Has-entries F (in_top head) H ss p has_entries in
+        let to_head : size (with_row T s p lo Start) ≡ head = push-size T.rows _ in
+        let to_variables : size H ≡ suc (size (with_row T s p lo Start)) = push-size (with_row T s p lo Start).rows _ in
         let to_test : size E ≡ suc (size V) = push-size V.rows _ in
         let to_turn : size W ≡ suc w = push-size U.rows _ in
         let to_body : size B ≡ suc (size W) = push-size W.rows _ in
-        let to_last : size C ≡ suc (size N) = push-size N.rows _ in
-        let to_loop : n ≡ suc (size L) = push-size L.rows _ in
-        let many = size-variables (in_top head) ss H in
-        let variables = variables-added F head 0 ss H (omega arith) has_variables in
         let test = Are-add (in_top head) E d has_test in
-        let last_rows = Are-add behind C f has_last in
         let test_last : suc (last U) ≡ w = last_of (in_top head) (size E) w test in
-        let last_last : suc (last L) ≡ size L = last_of behind (size C) (size L) last_rows in
-        let head_row = subst (λ k. at F k ≡ row_in (in_top head) p head k (LoopHead lo)) to_head (at-push F S.rows _ has_head) in
-        let loop_row : at F n ≡ row_in s p lo n (Loop head w (last L)) = at-push F Z.rows _ h in
-        let round : IsRound F lo head w (last L) n = record {
-          within = push-within F Z.rows _ h;
-          low = omega (arith, test.low, test.ends);
-          head = ap (λ (r : Row). r.node) head_row;
-          node = ap (λ (r : Row). r.node) loop_row;
-        } in
-        let statements = Are-nexts lo head w (last L) n 0 B e round has_statements variables (omega arith) (omega (arith, last_rows.low, last_rows.ends)) in
-        let begun : size B ≡ suc (suc w) = omega arith in
-        grown s lo Z.rows _ (are-loop F s p lo (size V) (last U) w (size N) (last L) n (record {
-          within = push-within F Z.rows _ h;
-          ends = omega arith;
-          start = at-push F T.rows _ has_start;
-          head = head_row;
-          count = 0 + nexts_in ss;
-          many = omega arith;
-          variable = λ k g. variables-each F head 0 ss variables k (omega arith) (omega arith);
-          entries = at-push F V.rows _ has_entries;
-          test = subst (λ k. AreExpression F (in_top head) k w) to_test test;
-          test_ends = test_last;
-          switches = subst (λ k. at F w ≡ row_in (in_top head) p k w (Switches (last U))) to_test (at-push F U.rows _ has_switches);
-          turn = subst (λ k. at F k ≡ row_in body p k k Turn) to_turn (at-push F W.rows _ has_turn);
-          body = subst (λ k. AreNexts F body 0 (0 + nexts_in ss) k (size N)) begun statements;
-          body_end = subst (λ k. at F (size N) ≡ row_in body p k (size N) Body) begun (at-push F N.rows _ has_body);
-          last = subst (λ k. AreExpression F behind k (suc (last L))) to_last (subst (AreExpression F behind (size C)) (sym last_last) last_rows);
-          reset = subst (λ k. at F k ≡ row_in behind p (suc (size N)) k (Reset (last L))) (sym last_last)
-              (subst (λ k. at F (size L) ≡ row_in behind p k (size L) (Reset (last L))) to_last (at-push F L.rows _ has_reset));
-          row = loop_row;
-        }))
+        let switches = moved (in_top head) p (size E) (suc (size V)) w w (last U) (last U) (at-push F U.rows _ has_switches) to_test refl refl in
+        let turn = subst (λ k. at F k ≡ row_in body p k k Turn) to_turn (at-push F W.rows _ has_turn) in
+        let rows = looped s lo T H B 0 (last U) w (suc w) (suc (suc w)) (size B) ss l p h has_head (omega arith) has_entries test_last
+        (omega (arith, test.low, test.ends)) switches (omega arith) (omega arith) (omega arith) (omega arith)
+        (λ round variables within. Are-nexts lo head w (last L) n 0 B e round has_statements variables (omega arith) within) (Are-add behind C f has_last) in
+        let test_rows = subst (λ k. AreExpression F (in_top head) k w) to_test test in
+        grown s lo Z.rows _ (are-loop F s p lo lo 0 (size V) (last U) w (suc w) (suc (suc w)) (size N) (last L) n rows
+        (while-own F s p lo (size V) (last U) w (size N) (last L) n rows test_rows turn))
+    Are-add s T (by_for {x} {a} {b} {ss} {l} {q} {p} d e f g) h =
+        let from = size T in
+        let U = add s T a in
+        let Y = add s U b in
+        let A = bounded s T a b p in
+        let lo = size A in
+        let head = suc lo in
+        let S = with_row A s p lo Start in
+        let H = enter_loop s A p in
+        let one = with_row H (in_top head) q (size H) (Carried kind.Int) in
+        let two = with_row one (in_top head) p (size one) (Carried kind.Int) in
+        let K = carrying s A q p in
+        let V = add_variables (in_top head) K ss in
+        let E = all_entries s A ss q p in
+        let D = within_for s A ss q p in
+        let W = begin_for s A ss q p in
+        let w = last W in
+        let body = for_side s A ss q p true in
+        let behind = for_side s A ss q p false in
+        let O = with_row W body p (size W) Count in
+        let B = with_row O body p (size O) Turn in
+        let I = indexed s A x q ss p in
+        let N = for_stated s A x q ss p in
+        let C = for_closed s A x q ss p in
+        let L = for_left_by s A x q ss l p in
+        let Z = spanned s behind L p (size C) lo in
+        let n = size Z in
+        let has_last = Has-end F s behind L p from lo (size C) h in
+        let has_body = Has-add F l behind C has_last in
+        let has_statements = Has-push F N.rows _ has_body in
+        let has_index = Has-nexts F ss body 3 I has_statements in
+        let has_turn = Has-push F B.rows _ has_index in
+        let has_count = Has-push F O.rows _ has_turn in
+        let has_switches = Has-push F W.rows _ has_count in
+        let has_within = Has-push F D.rows _ has_switches in
+        let has_entries = Has-push F E.rows _ has_within in
+        let has_carried = Has-entries F (in_top head) K ss p has_entries in
+        let has_bound = Has-push F two.rows _ has_carried in
+        let has_entry = Has-push F one.rows _ has_bound in
+        let has_head = Has-push F H.rows _ has_entry in
+        let has_bounds = Has-enter F s A p has_head in
+        let has_high = Has-push F Y.rows _ has_bounds in
+        let has_low = Has-add F b s U has_high in
+        let low = Are-add s T d has_low in
+        let high = Are-add s U e has_high in
+        let to_start : lo ≡ suc (size Y) = push-size Y.rows _ in
+        let to_head : size S ≡ head = push-size A.rows _ in
+        let to_entry : size H ≡ suc (size S) = push-size S.rows _ in
+        let to_bound : size one ≡ suc (size H) = push-size H.rows _ in
+        let to_flag : size two ≡ suc (size one) = push-size one.rows _ in
+        let to_variables : size K ≡ suc (size two) = push-size two.rows _ in
+        let to_within : size E ≡ suc (size V) = push-size V.rows _ in
+        let to_switches : size D ≡ suc (size E) = push-size E.rows _ in
+        let to_count : size W ≡ suc (size D) = push-size D.rows _ in
+        let to_turn : size O ≡ suc (size W) = push-size W.rows _ in
+        let to_index : size B ≡ suc (size O) = push-size O.rows _ in
+        let to_body : size I ≡ suc (size B) = push-size B.rows _ in
+        let entry : size H ≡ suc (suc lo) = omega arith in
+        let bound : size one ≡ suc (suc (suc lo)) = omega arith in
+        let flag_at : size two ≡ suc (suc (suc (suc lo))) = omega arith in
+        let test_at : last D ≡ suc (size V) = omega arith in
+        let switches_at : size D ≡ w = omega arith in
+        let count_at : size W ≡ suc w = omega arith in
+        let turn_at : size O ≡ suc (suc w) = omega arith in
+        let index_at : size B ≡ suc (suc (suc w)) = omega arith in
+        let switches = moved (in_top head) p (size E) (suc (size V)) (size D) w (last D) (suc (size V)) (at-push F D.rows _ has_switches) to_within switches_at
+        test_at in
+        let rows = looped s from A K I 3 (suc (size V)) w (suc (suc w)) (suc (suc (suc (suc w)))) (last I) ss l p h has_head (omega arith) has_entries
+        (omega arith) (omega arith) switches (omega arith) (omega arith) (omega arith) (omega arith)
+        (λ round variables within. Are-nexts lo head w (last L) n 3 I f round has_statements variables (omega arith) within) (Are-add behind C g has_last) in
+        grown s from Z.rows _ (are-loop F s p from lo 3 (size V) (suc (size V)) w (suc (suc w)) (suc (suc (suc (suc w)))) (size N) (last L) n rows
+        (for-own F s p q (number_of B.names x) from (size U) (size Y) lo (last U) (last Y) (size V) w (size N) (last L) n (record {
+          low = low;
+          low_ends = last_of s from (size U) low;
+          high = high;
+          high_ends = last_of s (size U) (size Y) high;
+          bounds = at-push F Y.rows _ has_bounds;
+          behind = sym to_start;
+          entry = subst (λ k. at F k ≡ row_in (in_top head) q k k (Carried kind.Int)) entry (at-push F H.rows _ has_entry);
+          bound = subst (λ k. at F k ≡ row_in (in_top head) p k k (Carried kind.Int)) bound (at-push F one.rows _ has_bound);
+          flag_row = subst (λ k. at F k ≡ row_in (in_top head) p k k (Carried kind.Bool)) flag_at (at-push F two.rows _ has_carried);
+          within = subst (λ k. at F k ≡ row_in (in_top head) p k (head + 3) (Within (head + 3))) to_within (at-push F E.rows _ has_within);
+          before_body = omega arith;
+          count = subst (λ k. at F k ≡ row_in body p k k Count) count_at (at-push F W.rows _ has_count);
+          turn = subst (λ k. at F k ≡ row_in body p k k Turn) turn_at (at-push F O.rows _ has_turn);
+          index = subst (λ k. at F k ≡ row_in body q k k (Index (number_of B.names x))) index_at (at-push F B.rows _ has_index);
+        }) rows))
     Are-add s T no_params h = λ high. record {
       low = omega arith;
       rows = RowsAre-none F s (size T);
@@ -391,12 +533,42 @@ abbrev reset_or : ℕ → Node → ℕ
 reset_or d (Reset v) = v
 reset_or d _ = d
 
+abbrev test_or : ℕ → Node → ℕ
+test_or d (Switches t) = t
+test_or d _ = d
+
+abbrev is_turn : Node → Bool
+is_turn Turn = true
+is_turn _ = false
+
+abbrev is_bounds : Node → Bool
+is_bounds (Bounds a b) = true
+is_bounds _ = false
+
+abbrev is_span : Node → Bool
+is_span Span = true
+is_span _ = false
+
+carried_node : (n : Node) → is_carried n ≡ true → (k : Kind) × (n ≡ Carried k)
+carried_node (Carried k) e = (k, refl)
+carried_node _ e = absurd (false≢true e)
+
+carried_no_variable : (n : Node) → is_carried n ≡ true → is_variable n ≡ true → ⊥
+carried_no_variable (Carried k) e f = false≢true f
+carried_no_variable _ e f = false≢true e
+
+-- what gives the value of a row that is no block, and not in the place of a predicate
+itself : (n : Node) → is_block n ≡ false → is_within n ≡ false → gives_itself n ≡ true
+itself (Block b) e f = absurd (false≢true (sym e))
+itself (Within g) e f = absurd (false≢true (sym f))
+itself _ e f = refl
+
 variable_node : (n : Node) → is_variable n ≡ true → n ≡ Variable
 variable_node Variable e = refl
 variable_node _ e = absurd (false≢true e)
 
 -- a side of the switches of a loop begins behind them
-InSide-low : (w b n i : ℕ) (side : Bool) → w + 1 < b → InSide w b n side i → w < i
+InSide-low : (w b n i : ℕ) (side : Bool) → w < b → InSide w b n side i → w < i
 InSide-low w b n i true l h = h.0
 InSide-low w b n i false l h = omega (arith, h.0)
 
@@ -512,7 +684,7 @@ module _ (F : List Row) (n : ℕ) (h : Ends F n) where
             let b = InArm-low k.split k.conditional.then k.row u k.side a.low k.among in
             omega (arith, b, ap (λ (z : Region). z.head) k.region)
         | inr (inr k) ↦
-            let b = InSide-low k.loop.switches k.body k.row u k.side k.body_is.low k.among in
+            let b = InSide-low k.loop.switches k.body k.row u k.side (body_low k.body_is) k.among in
             omega (arith, b, ap (λ (z : Region). z.head) k.region)
       ]
 
@@ -520,23 +692,105 @@ module _ (F : List Row) (n : ℕ) (h : Ends F n) where
   loop_rows i u c = belongs i (Loop u c.switches c.last) c.within c.node (λ p. false≢true (sym (ap is_loop p)))
 
   loop_low : (i u : ℕ) → IsLoopOf F i u → u < i
-  loop_low i u c = let z = loop_rows i u c in omega (arith, z.before_test.low, z.test.low, z.test.behind, z.body_is.low, z.last_is.low, z.last_is.ends)
+  loop_low i u c = let z = loop_rows i u c in omega (arith, z.before_test.low, z.test.low, z.test.behind, body_low z.body_is, z.last_is.low, z.last_is.ends)
 
   -- a part of a loop stands where it ought to
   part_of_loop : (i : ℕ) (m : Node) → i < length F → (at F i).node ≡ m → is_in_loop m ≡ true
-      → (n : ℕ) × (c : IsLoopOf F n (at F i).block) × (let z = loop_rows n (at F i).block c in StandsAt (at F i).block z.entries c.switches z.body n m i)
+      → (n : ℕ) × (c : IsLoopOf F n (at F i).block)
+      × (let z = loop_rows n (at F i).block c in StandsAt (at F i).block z.entries c.switches z.turn z.body n m i)
   part_of_loop i m l e is =
       let q = in_procedure i l (not_end is_in_loop refl i (ap is_in_loop e ∙ is)) in
       let w = q.loop_of (ap is_in_loop e ∙ is) in
       let z = loop_rows w.0 (at F i).block w.1 in
-      (w.0, w.1, subst (λ k. StandsAt (at F i).block z.entries w.1.switches z.body w.0 k i) e (z.stands i q.block.0 w.2 refl))
+      let before : i + 1 < w.0 = elim (cases_lt (i + 1) w.0) [
+        | inl f ↦ f
+        | inr f ↦ let same : w.1.last + 2 ≡ i = omega (arith, w.2, z.last_is.ends) in
+            absurd (false≢true (sym (ap is_in_loop z.last_is.span) ∙ ap (λ k. is_in_loop (at F k).node) same ∙ ap is_in_loop e ∙ is))
+      ] in
+      (w.0, w.1, subst (λ k. StandsAt (at F i).block z.entries w.1.switches z.turn z.body w.0 k i) e (z.stands i q.block.0 before refl))
 
-  -- a `Reset` right before a loop names its last expression
-  reset_last : (i v m u : ℕ) (c : IsLoopOf F m u) → (at F i).node ≡ Reset v → i + 1 ≡ m → c.last ≡ v
+  -- a `Reset` before the `Span` of a loop names its last expression
+  reset_last : (i v m u : ℕ) (c : IsLoopOf F m u) → (at F i).node ≡ Reset v → i + 2 ≡ m → c.last ≡ v
   reset_last i v m u c e q =
       let z = (loop_rows m u c).last_is in
       let same : c.last + 1 ≡ i = omega (arith, z.ends, q) in
       ap (reset_or 0) (sym z.node ∙ ap (λ k. (at F k).node) same ∙ e)
+
+  -- the entry of what is carried on is in a loop with an index, and one of the three behind its head
+  carried_three : (u e c i : ℕ) → AreCarried F u c → ((j : ℕ) → u + c < j → j < e → is_variable (at F j).node ≡ true) → u < i → i < e
+      → is_carried (at F i).node ≡ true → (c ≡ 3) × (i ≤ u + 3)
+  carried_three u e c i nothing each low high is = absurd (carried_no_variable (at F i).node is (each i (omega arith) high))
+  carried_three u e c i (an_index a b d) each low high is = elim (cases_lt (u + 3) i) [
+    | inl l ↦ absurd (carried_no_variable (at F i).node is (each i l high))
+    | inr l ↦ (refl, l)
+  ]
+
+  carried_at : (i : ℕ) → i < length F → is_carried (at F i).node ≡ true
+      → (m : ℕ) × (c : IsLoopOf F m (at F i).block) × ((loop_rows m (at F i).block c).carried ≡ 3) × (i ≤ (at F i).block + 3)
+  carried_at i l is =
+      let k = carried_node (at F i).node is in
+      let w = part_of_loop i (Carried k.0) l k.1 refl in
+      let z = loop_rows w.0 (at F i).block w.1 in
+      let y = carried_three (at F i).block z.entries z.carried i z.before_test.carried z.before_test.variable w.2.0 w.2.1 is in
+      (w.0, w.1, y.0, y.1)
+
+  within_three : (u t c f : ℕ) → IsTest F u t c → (at F t).node ≡ Within f → c ≡ 3
+  within_three u t c f (predicate is) e = absurd (false≢true (sym (ap is_expression e) ∙ is))
+  within_three u t c f (flag is) e = refl
+
+  within_at : (i f : ℕ) → i < length F → (at F i).node ≡ Within f
+      → (m : ℕ) × (c : IsLoopOf F m (at F i).block) × ((loop_rows m (at F i).block c).carried ≡ 3) × (i + 1 ≡ c.switches)
+  within_at i f l e =
+      let w = part_of_loop i (Within f) l e refl in
+      let z = loop_rows w.0 (at F i).block w.1 in
+      let same : i ≡ z.test.test = omega (arith, w.2, z.test.behind) in
+      (w.0, w.1, within_three (at F i).block z.test.test z.carried f z.test.test_is (sym (ap (λ k. (at F k).node) same) ∙ e), w.2)
+
+  count_three : (w t c : ℕ) → IsTurn F w t c → (at F t).node ≡ Turn → (at F (w + 1)).node ≡ Count → c ≡ 3
+  count_three w t c (right s) e f = absurd (false≢true (sym (ap is_turn f) ∙ ap (λ k. is_turn (at F k).node) (sym s) ∙ ap is_turn e))
+  count_three w t c (behind_count s a b) e f = refl
+
+  count_at : (i : ℕ) → i < length F → (at F i).node ≡ Count
+      → (m : ℕ) × (c : IsLoopOf F m (at F i).block) × ((loop_rows m (at F i).block c).carried ≡ 3) × (c.switches + 1 ≡ i)
+  count_at i l e =
+      let w = part_of_loop i Count l e refl in
+      let z = loop_rows w.0 (at F i).block w.1 in
+      let three = count_three w.1.switches z.turn z.carried z.body_is.turns z.body_is.turn (ap (λ k. (at F k).node) (sym w.2) ∙ e) in
+      (w.0, w.1, three, sym w.2)
+
+  index_at : (i x : ℕ) → i < length F → (at F i).node ≡ Index x
+      → (m : ℕ) × (c : IsLoopOf F m (at F i).block) × ((loop_rows m (at F i).block c).carried ≡ 3) × (c.switches + 3 ≡ i)
+  index_at i x l e =
+      let w = part_of_loop i (Index x) l e refl in
+      let z = loop_rows w.0 (at F i).block w.1 in
+      let y = belongs i (Index x) l e (λ p. false≢true (sym (ap is_in_loop p))) in
+      let same : w.1.switches + 1 ≡ y.0 = omega (arith, w.2, y.2) in
+      let three = count_three w.1.switches z.turn z.carried z.body_is.turns z.body_is.turn (ap (λ k. (at F k).node) same ∙ y.1) in
+      (w.0, w.1, three, sym w.2)
+
+  bounds_three : (u m c i : ℕ) → Begins F u m c → i + 1 ≡ u → (at F m).first ≤ i → c ≡ 3
+  bounds_three u m c i (plainly e) q l = absurd (omega (arith, e))
+  bounds_three u m c i (with_bounds e b) q l = refl
+
+  bounds_at : (i a b : ℕ) → i < length F → (at F i).node ≡ Bounds a b
+      → (m : ℕ) × (c : IsLoopOf F m (i + 2)) × ((loop_rows m (i + 2) c).carried ≡ 3)
+  bounds_at i a b l e =
+      let w = belongs i (Bounds a b) l e (λ p. false≢true (sym (ap is_bounds p))) in
+      let z = loop_rows w.0 (i + 2) w.1 in
+      (w.0, w.1, bounds_three z.start w.0 z.carried i z.from (omega (arith, z.begins)) w.2)
+
+  -- the predicate of a `while` is an expression
+  test_expression : (u t c : ℕ) → IsTest F u t c → is_within (at F t).node ≡ false → is_expression (at F t).node ≡ true
+  test_expression u t c (predicate is) e = is
+  test_expression u t c (flag is) e = absurd (false≢true (sym e ∙ ap is_within is))
+
+  test_at : (w t : ℕ) → w < length F → (at F w).node ≡ Switches t → is_within (at F t).node ≡ false → is_expression (at F t).node ≡ true
+  test_at w t l e off =
+      let c = belongs w (Switches t) l e (λ p. false≢true (sym (ap is_switches p))) in
+      let z = (loop_rows c.loop (at F w).block c.of).test in
+      let same : z.test ≡ t = ap (test_or 0) (sym z.node ∙ ap (λ k. (at F k).node) c.own ∙ e) in
+      test_expression (at F w).block t (loop_rows c.loop (at F w).block c.of).carried
+      (subst (λ k. IsTest F (at F w).block k (loop_rows c.loop (at F w).block c.of).carried) same z.test_is) off
 
   loop_at : (u t : ℕ) → u < length F → (at F u).node ≡ LoopHead t → (n : ℕ) × IsLoopOf F n u
   loop_at u t l e = belongs u (LoopHead t) l e (λ p. false≢true (sym (ap begins_block p)))
@@ -672,6 +926,7 @@ module _ (F : List Row) (n : ℕ) (h : Ends F n) where
         let q = in_procedure s l (not_end has_statements refl s e.block) in
         q.fits.statements e.block b w.0 w.1 e.statement e.right;
     operand_is = λ i a l e. (in_procedure i l (λ p. subst (λ m. HasOperand m a) p e)).fits.operand_is a e;
+    test_is = λ w t l e off. test_at w t l e off;
     head_place = λ i g d. (in_procedure i d.within (not_end is_def refl i (ap is_def d.node))).head_place d.name g d.body d.result d.node;
     head_is = λ i x g b k l e. head_at i x g b k l e;
     params = λ i g d. params_at_def i g d;
@@ -704,11 +959,17 @@ module _ (F : List Row) (n : ℕ) (h : Ends F n) where
     switches_of = λ u t l e. let c = belongs u (Switches t) l e (λ p. false≢true (sym (ap is_switches p))) in (c.loop, c.of, c.own);
     entries_of = λ i l e. let w = part_of_loop i Entries l e refl in (w.0, w.1, sym w.2);
     turn_of = λ i l e. let w = part_of_loop i Turn l e refl in (w.0, w.1, sym w.2);
+    bounds_of = λ i a b l e. bounds_at i a b l e;
+    carried_of = λ i l e. carried_at i l e;
+    within_of = λ i f l e. within_at i f l e;
+    count_of = λ i l e. count_at i l e;
+    index_of = λ i x l e. index_at i x l e;
     body_of = λ i l e. let w = part_of_loop i Body l e refl in (w.0, w.1, sym w.2);
     reset_of = λ i v l e. let w = part_of_loop i (Reset v) l e refl in (w.0, w.1, reset_last i v w.0 (at F i).block w.1 e w.2, w.2);
     one_loop = λ m k u d e. loop_once m k u d e;
     loop_is = λ i u c. loop_rows i u c;
     start_of_loop = λ u l e. belongs u Start l e (λ p. false≢true (sym (ap is_start p)));
+    span_of_loop = λ i l e. belongs i Span l e (λ p. false≢true (sym (ap is_span p)));
     loop_of = λ i l e. (in_procedure i l (not_end is_in_loop refl i e)).loop_of e;
     use_of = λ o x l e. let v = belongs o (NextUse x) l e (λ p. false≢true (sym (ap is_in_loop p))) in (v.row, v.index, v.next, v.own);
     next_in = λ m u k x s. next_inside m u k x s;
@@ -717,7 +978,9 @@ module _ (F : List Row) (n : ℕ) (h : Ends F n) where
         (v.row, v.index, v.name, v.next, v.own);
     one_next = λ m l u k x y a b. next_once m l u k x y a b;
     value_block = λ i b l e. (in_procedure i l (not_end is_block refl i (ap is_block e))).fits.value_block b e;
-    value_self = by_row (λ i r. is_block r.node ≡ false → r.value ≡ i) (λ i s. s.fits.value_self) (λ _. ap (λ (r : Row). r.value) h.last);
+    value_within = λ i f l e. belongs i (Within f) l e (λ p. false≢true (sym (ap is_in_loop p)));
+    value_self = by_row (λ i r. is_block r.node ≡ false → is_within r.node ≡ false → r.value ≡ i)
+        (λ i s alone out. s.fits.value_self (itself (at F i).node alone out)) (λ _ _. ap (λ (r : Row). r.value) h.last);
     value_stands = λ i l e.
         let v = (in_procedure i l (not_end is_expression refl i e)).fits.value e in
         (v.within, v.expression, v.no_block, v.region, v.block);

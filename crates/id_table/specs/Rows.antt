@@ -1,5 +1,5 @@
 -- The table of parts of a tree: one clause for each form (docs/GRAPH.md, "Parts").
-use Rattle.std.specs.Prelude.{ℕ, suc, ◌-◌, Bool, List, [], ◌∷◌, ◌++◌, length, get_or, true, false}
+use Rattle.std.specs.Prelude.{ℕ, suc, ◌+◌, ◌-◌, Bool, List, [], ◌∷◌, ◌++◌, length, get_or, true, false}
 use Rattle.id_table.specs.declared.row.Region.{Region}
 use Rattle.id_table.specs.declared.row.Stand.{Stand}
 use Rattle.id_table.specs.declared.row.Row.{Row}
@@ -8,8 +8,10 @@ use Rattle.id_table.specs.declared.row.Node.TheVariants.{Head, Param, Literal, N
 use Rattle.id_table.specs.declared.row.Node.TheVariants.{Split, If, Enter, Arg, Call, Block, Binding, Def, Program}
 use Rattle.id_table.specs.declared.row.Node.TheVariants.{Start, LoopHead, Variable, Entries, Switches, Turn, NextUse}
 use Rattle.id_table.specs.declared.row.Node.TheVariants.{Next, Body, Reset, Loop, Array, Fetch, Address, Store}
+use Rattle.id_table.specs.declared.row.Node.TheVariants.{Bounds, Carried, Within, Count, Index, Span}
+use Rattle.id_value.specs.declared.Kind.TheVariants as kind
 use Rattle.id_grammar.specs.Tree.{Tree, literal, unary, binary, name, conditional, call, block, binding, param, define}
-use Rattle.id_grammar.specs.Tree.{none, more, loop, next, array, fetch, store}
+use Rattle.id_grammar.specs.Tree.{none, more, loop, next, array, fetch, store, for_loop}
 use Rattle.id_table.specs.Names.{number_of, with_name, first_names}
 
 -- rows, and the names in them by their numbers
@@ -52,6 +54,7 @@ last T = size T - 1
 -- the row that gives the value of the next row, which has this node
 abbrev pub value_of : List Row → Node → ℕ
 value_of R (Block b) = (at R b).value
+value_of R (Within f) = f
 value_of R n = length R
 
 -- the table with one more row, of this place and node; its own parts are the rows from the number f on
@@ -76,13 +79,49 @@ add_variables s T (more (next x a p) b) = add_variables s (with_row T s p (size 
 add_variables s T (more a b) = add_variables s T b
 add_variables s T t = T
 
--- with the rows of a loop of these statements that stand before its predicate; its head is behind its `Start`
-abbrev pub begin_loop : Stand → Parts → Tree → ℕ → Parts
-begin_loop s T ss p =
+-- with the `Start` and the head of a loop, which is behind it
+abbrev pub enter_loop : Stand → Parts → ℕ → Parts
+enter_loop s T p =
     let h = suc (size T) in
-    let H = with_row (with_row T s p (size T) Start) (in_top h) p h (LoopHead (size T)) in
-    let V = add_variables (in_top h) H ss in
-    with_row V (in_top h) p (size V) Entries
+    with_row (with_row T s p (size T) Start) (in_top h) p h (LoopHead (size T))
+
+-- with the entries of the variables of a loop of these statements, and of its imports
+abbrev pub add_entries : Stand → Parts → Tree → ℕ → Parts
+add_entries s T ss p = let V = add_variables s T ss in with_row V s p (size V) Entries
+
+-- with the rows of a loop of these statements that stand before its predicate
+abbrev pub begin_loop : Stand → Parts → Tree → ℕ → Parts
+begin_loop s T ss p = add_entries (in_top (suc (size T))) (enter_loop s T p) ss p
+
+-- with the entries of what a `for` carries on, whose index is at the place q
+abbrev pub carry : Stand → Parts → ℕ → ℕ → Parts
+carry s T q p =
+    let I = with_row T s q (size T) (Carried kind.Int) in
+    let B = with_row I s p (size I) (Carried kind.Int) in
+    with_row B s p (size B) (Carried kind.Bool)
+
+-- with the rows of a `for` of these statements from its `Start` up to its switches
+abbrev pub begin_for : Stand → Parts → Tree → ℕ → ℕ → Parts
+begin_for s T ss q p =
+    let h = suc (size T) in
+    let E = add_entries (in_top h) (carry (in_top h) (enter_loop s T p) q p) ss p in
+    let W = with_row E (in_top h) p (size E) (Within (h + 3)) in
+    with_row W (in_top h) p (size E) (Switches (last W))
+
+-- with the first rows of the body of a `for` in s, whose index has this name at the place q: its body's statements
+-- begin behind its `Turn`
+abbrev pub begin_counting : Stand → Parts → List ℕ → ℕ → ℕ → Parts
+begin_counting s T x q p =
+    let C = with_row T s p (size T) Count in
+    let B = with_row C s p (size C) Turn in
+    with_row (naming B x) s q (size B) (Index (number_of B.names x))
+
+-- with the rows of a loop in s behind its last expression, which stands in o, has its rows from r on, and gives its
+-- value at the row i: its variables are seen from the row g on, and its own rows begin at f
+abbrev pub end_loop : Stand → Stand → ℕ → ℕ → ℕ → ℕ → ℕ → Parts → Parts
+end_loop s o p f g r i T =
+    let R = with_row (with_row T o p r (Reset i)) s p g Span in
+    with_row R s p f (Loop o.block o.region.head i)
 
 abbrev mutual
   -- the table with the rows of a tree, each behind those of its parts; a `next` in a block, which no text has, counts
@@ -117,7 +156,18 @@ abbrev mutual
       let B = with_row W b p (size W) Turn in
       let D = with_row (add_nexts b 0 B ss) b p (size B) Body in
       let L = add o D l in
-      with_row (with_row L o p (size D) (Reset (last L))) s p (size T) (Loop h w (last L))
+      end_loop s o p (size T) (size T) (size D) (last L) L
+  add s T (for_loop x q a b ss l p) =
+      let U = add s T a in
+      let V = add s U b in
+      let A = with_row V s p (size T) (Bounds (last U) (last V)) in
+      let W = begin_for s A ss q p in
+      let y = arm (in_top (suc (size A))) (last W) true in
+      let o = arm (in_top (suc (size A))) (last W) false in
+      let I = begin_counting y W x q p in
+      let D = with_row (add_nexts y 3 I ss) y p (last I) Body in
+      let L = add o D l in
+      end_loop s o p (size T) (size A) (size D) (last L) L
   add s T (array a b p) =
       let U = add s T a in
       let V = add s U b in
@@ -154,7 +204,8 @@ abbrev mutual
       add_arguments s p e (suc i) (with_row U s p e (Arg e i (last U))) b
   add_arguments s p e i T t = T
 
-  -- with those of the statements of a loop, from the `next` of index i on: each begins with its use of the outer name
+  -- with those of the statements of a loop, from the `next` on before whose variable i entries stand: each begins with
+  -- its use of the outer name
   pub add_nexts : Stand → ℕ → Parts → Tree → Parts
   add_nexts s i T (more (next x a p) b) =
       let n = number_of T.names x in

@@ -7,6 +7,7 @@ use Rattle.id_table.specs.declared.row.Node.TheVariants.{Head, Param, Literal, N
 use Rattle.id_table.specs.declared.row.Node.TheVariants.{Split, If, Enter, Arg, Call, Block, Binding, Def, Program}
 use Rattle.id_table.specs.declared.row.Node.TheVariants.{Start, LoopHead, Variable, Entries, Switches, Turn, NextUse}
 use Rattle.id_table.specs.declared.row.Node.TheVariants.{Next, Body, Reset, Loop, Array, Fetch, Address, Store}
+use Rattle.id_table.specs.declared.row.Node.TheVariants.{Bounds, Carried, Within, Count, Index, Span}
 use Rattle.id_table.specs.Rows.{at}
 
 -- the node names the row a as its part
@@ -17,6 +18,7 @@ HasPart (Split t) a = a ≡ t
 HasPart (If s x y) a = (a ≡ s) ⊎ ((a ≡ x) ⊎ (a ≡ y))
 HasPart (Arg e i v) a = (a ≡ e) ⊎ (a ≡ v)
 HasPart (Call e c) a = a ≡ e
+HasPart (Bounds b c) a = (a ≡ b) ⊎ (a ≡ c)
 HasPart (Switches t) a = a ≡ t
 HasPart (Next x k o v) a = (a ≡ o) ⊎ (a ≡ v)
 HasPart (Reset v) a = a ≡ v
@@ -31,12 +33,13 @@ HasPart (Def x h k b) a = (a ≡ h) ⊎ (a ≡ b)
 HasPart _ a = ⊥
 
 -- such a part that is an expression: any but the head of a definition, the split of a conditional, the `Enter` of a
--- call, the use of a `next`, the head and the switches of a loop, and the `Address` of a store
+-- call, the use of a `next`, what a loop's switches follow, its head and its switches, and the `Address` of a store
 abbrev pub HasOperand : Node → ℕ → Type 0
 HasOperand (Def x h k b) a = a ≡ b
 HasOperand (If s x y) a = (a ≡ x) ⊎ (a ≡ y)
 HasOperand (Arg e i v) a = a ≡ v
 HasOperand (Call e c) a = ⊥
+HasOperand (Switches t) a = ⊥
 HasOperand (Next x k o v) a = a ≡ v
 HasOperand (Loop h w l) a = a ≡ l
 HasOperand (Store b v) a = a ≡ v
@@ -68,15 +71,20 @@ is_thing (Split t) = false
 is_thing (Enter x) = false
 is_thing (Arg e i v) = false
 is_thing Program = false
+is_thing (Bounds b c) = false
 is_thing Start = false
 is_thing (LoopHead t) = false
+is_thing (Carried k) = false
 is_thing Variable = false
 is_thing Entries = false
+is_thing (Within f) = false
 is_thing (Switches t) = false
+is_thing Count = false
 is_thing Turn = false
 is_thing (NextUse x) = false
 is_thing Body = false
 is_thing (Reset v) = false
+is_thing Span = false
 is_thing (Address t i) = false
 is_thing _ = true
 
@@ -94,6 +102,7 @@ name_of (Binding x a) = Some x
 name_of (Def x h k b) = Some x
 name_of (NextUse x) = Some x
 name_of (Next x k o v) = Some x
+name_of (Index x) = Some x
 name_of _ = None
 
 -- the number of each row's name is that of one of the names
@@ -124,7 +133,22 @@ abbrev pub is_binder : Node → Bool
 is_binder (Param x k) = true
 is_binder (Binding x a) = true
 is_binder (Next x k o v) = true
+is_binder (Index x) = true
 is_binder _ = false
+
+abbrev pub is_index : Node → Bool
+is_index (Index x) = true
+is_index _ = false
+
+-- whether the entry of something that a `for` carries on stands at a row of this node
+abbrev pub is_carried : Node → Bool
+is_carried (Carried k) = true
+is_carried _ = false
+
+-- whether a row of this node is what a `for` has in the place of a predicate
+abbrev pub is_within : Node → Bool
+is_within (Within f) = true
+is_within _ = false
 
 abbrev pub is_binding : Node → Bool
 is_binding (Binding x a) = true
@@ -211,10 +235,14 @@ is_switches _ = false
 -- whether a row of this node is a part of a loop that stands in the loop's block
 abbrev pub is_in_loop : Node → Bool
 is_in_loop (LoopHead t) = true
+is_in_loop (Carried k) = true
 is_in_loop Variable = true
 is_in_loop Entries = true
+is_in_loop (Within f) = true
 is_in_loop (Switches t) = true
+is_in_loop Count = true
 is_in_loop Turn = true
+is_in_loop (Index x) = true
 is_in_loop (NextUse x) = true
 is_in_loop (Next x k o v) = true
 is_in_loop Body = true
@@ -227,8 +255,10 @@ is_top Head = true
 is_top (Param x k) = true
 is_top (Def x h k b) = true
 is_top (LoopHead t) = true
+is_top (Carried k) = true
 is_top Variable = true
 is_top Entries = true
+is_top (Within f) = true
 is_top (Switches t) = true
 is_top _ = false
 

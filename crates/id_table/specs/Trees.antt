@@ -5,7 +5,7 @@ use Rattle.id_value.specs.declared.Constant.{Constant}
 use Rattle.id_value.specs.declared.UnaryOp.{UnaryOp}
 use Rattle.id_value.specs.declared.BinaryOp.{BinaryOp}
 use Rattle.id_grammar.specs.Tree.{Tree, literal, unary, binary, name, conditional, call, block, binding, param, define}
-use Rattle.id_grammar.specs.Tree.{none, more, loop, next, array, fetch, store}
+use Rattle.id_grammar.specs.Tree.{none, more, loop, next, array, fetch, store, for_loop}
 
 -- what a tree can be the tree of
 pub data Sort : Type 0 where
@@ -27,6 +27,9 @@ pub data IsTree : Sort → Tree → Type 0 where
   by_call : {x : List ℕ} {a : Tree} {p : ℕ} → IsTree Arguments a → IsTree Expression (call x a p)
   by_loop : {t ss l : Tree} {p : ℕ} → IsTree Expression t → IsTree Statements ss → IsTree Expression l
       → IsTree Expression (loop t ss l p)
+  by_for : {x : List ℕ} {a b ss l : Tree} {q p : ℕ} → IsTree Expression a → IsTree Expression b → IsTree Statements ss
+      → IsTree Expression l
+      → IsTree Expression (for_loop x q a b ss l p)
   by_array : {a b : Tree} {p : ℕ} → IsTree Expression a → IsTree Expression b → IsTree Expression (array a b p)
   by_fetch : {t i : Tree} {p : ℕ} → IsTree Expression t → IsTree Expression i → IsTree Expression (fetch t i p)
   by_block : {ss b : Tree} {p : ℕ} → IsTree Statements ss → IsTree Expression b → IsTree Expression (block ss b p)

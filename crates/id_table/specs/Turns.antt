@@ -10,12 +10,13 @@ use Rattle.id_table.specs.declared.row.Node.TheVariants.{Enter, Arg, Call, Block
 use Rattle.id_table.specs.declared.row.Node.TheVariants.{Def, Program, Start, LoopHead, Entries, Switches, Turn}
 use Rattle.id_table.specs.declared.row.Node.TheVariants.{NextUse, Next, Body, Reset, Loop}
 use Rattle.id_table.specs.declared.row.Node.TheVariants.{Array, Fetch, Address, Store}
+use Rattle.id_table.specs.declared.row.Node.TheVariants.{Bounds, Within, Count, Index, Span}
 use Rattle.id_table.specs.Rows.{arm_at, at, top}
 use Rattle.id_table.specs.Tables.{HasOperand, HasNear, IsFormed, IsNested, around}
 use Rattle.id_table.specs.Tables.{begins_block, has_statements, is_block, is_expression, is_head, is_in_loop}
-use Rattle.id_table.specs.Tables.{is_param, is_statement, is_store, is_top, is_variable}
+use Rattle.id_table.specs.Tables.{is_carried, is_param, is_statement, is_store, is_top, is_variable, is_within}
 use Rattle.id_table.specs.Calls.{AreArgs, IsArgIn, IsArgOf, IsCallOf, IsEnterOf}
-use Rattle.id_table.specs.Loops.{IsLoop, IsLoopOf, IsNextIn, IsNextOf, StandsInSide}
+use Rattle.id_table.specs.Loops.{IsLoop, IsLoopOf, IsNextIn, IsNextOf, StandsInSide, bounds_row, index_row}
 use Rattle.id_table.specs.Stores.{IsAddressOf, IsStoreOf}
 use Rattle.id_table.specs.Regions.{AreArms, IsIfOf, IsSplitOf, StandsInArm, StandsInside, StandsWith}
 
@@ -38,6 +39,8 @@ pub data Turns (R : List Row) (n : ℕ) : ℕ → Type 0 where
   right : {a b : ℕ} {o : _} → (at R n).node ≡ Binary o a b → Turns R n b
   test : {s x y t : ℕ} → (at R n).node ≡ If s x y → (at R s).node ≡ Split t → Turns R n t
   argument : {e c m k v : ℕ} → (at R n).node ≡ Call e c → m < length R → (at R m).node ≡ Arg e k v → Turns R n v
+  index_low : {h w l a b : ℕ} → (at R n).node ≡ Loop h w l → (at R (bounds_row h)).node ≡ Bounds a b → Turns R n a
+  index_high : {h w l a b : ℕ} → (at R n).node ≡ Loop h w l → (at R (bounds_row h)).node ≡ Bounds a b → Turns R n b
   low : {a b : ℕ} → (at R n).node ≡ Array a b → Turns R n a
   high : {a b : ℕ} → (at R n).node ≡ Array a b → Turns R n b
   fetched : {t i : ℕ} → (at R n).node ≡ Fetch t i → Turns R n t
@@ -54,7 +57,8 @@ pub data Root (R : List Row) : Region → ℕ → Type 0 where
   of_procedure : {n x h b : ℕ} {k : Kind} → n < length R → (at R n).node ≡ Def x h k b → Root R (top h) b
   of_then : {n s x y : ℕ} → n < length R → (at R n).node ≡ If s x y → Root R (arm_at s true) x
   of_otherwise : {n s x y : ℕ} → n < length R → (at R n).node ≡ If s x y → Root R (arm_at s false) y
-  of_test : {w t : ℕ} → w < length R → (at R w).node ≡ Switches t → Root R (at R w).region t
+  of_test : {w t : ℕ} → w < length R → (at R w).node ≡ Switches t → is_within (at R t).node ≡ false
+      → Root R (at R w).region t
   of_statement : {n m x a : ℕ} → n < length R → (at R n).node ≡ Body → IsStatement R n m → (at R m).node ≡ Binding x a
       → Root R (at R n).region a
   of_store : {n m a v : ℕ} → n < length R → (at R n).node ≡ Body → IsStatement R n m → (at R m).node ≡ Store a v
@@ -140,6 +144,8 @@ pub record IsTable (R : List Row) : Type 0 where
   pub inside : (n i : ℕ) → n + 1 < length R → around R n i ≡ true → StandsInside R n i
   -- the parts that a row names are expressions, save the head of a definition and the split of a conditional
   pub operand_is : (n a : ℕ) → n < length R → HasOperand (at R n).node a → is_expression (at R a).node ≡ true
+  pub test_is : (w t : ℕ) → w < length R → (at R w).node ≡ Switches t → is_within (at R t).node ≡ false
+      → is_expression (at R t).node ≡ true
   pub head_is : (n x h b : ℕ) (k : Kind) → n < length R → (at R n).node ≡ Def x h k b
       → ((at R h).node ≡ Head) × ((at R n).first ≡ h) × (is_expression (at R b).node ≡ true)
   -- each head has one definition, whose place it has
@@ -173,6 +179,8 @@ pub record IsTable (R : List Row) : Type 0 where
   -- each `Start`, each head, each pair of switches and each other part of a loop has one loop, whose rows stand as they
   -- ought to
   pub start_of_loop : (s : ℕ) → s < length R → (at R s).node ≡ Start → (n : ℕ) × IsLoopOf R n (s + 1)
+  pub span_of_loop : (i : ℕ) → i < length R → (at R i).node ≡ Span
+      → (n h : ℕ) × IsLoopOf R n h × (i + 1 ≡ n)
   pub loop_of : (i : ℕ) → i < length R → is_in_loop (at R i).node ≡ true
       → (n : ℕ) × IsLoopOf R n (at R i).block × (i < n)
   pub has_loop : (h s : ℕ) → h < length R → (at R h).node ≡ LoopHead s → (n : ℕ) × IsLoopOf R n h
@@ -183,11 +191,26 @@ pub record IsTable (R : List Row) : Type 0 where
   pub entries_of : (e : ℕ) → e < length R → (at R e).node ≡ Entries
       → (n : ℕ) × (c : IsLoopOf R n (at R e).block) × ((loop_is n (at R e).block c).entries ≡ e)
   pub turn_of : (i : ℕ) → i < length R → (at R i).node ≡ Turn
-      → (n : ℕ) × (c : IsLoopOf R n (at R i).block) × (c.switches + 1 ≡ i)
+      → (n : ℕ) × (c : IsLoopOf R n (at R i).block) × ((loop_is n (at R i).block c).turn ≡ i)
+  -- the bounds of an index, what is carried on, what counts and the index are those of a loop that has one
+  pub bounds_of : (i a b : ℕ) → i < length R → (at R i).node ≡ Bounds a b
+      → (n : ℕ) × (c : IsLoopOf R n (i + 2)) × ((loop_is n (i + 2) c).carried ≡ 3)
+  pub carried_of : (i : ℕ) → i < length R → is_carried (at R i).node ≡ true
+      → (n : ℕ) × (c : IsLoopOf R n (at R i).block) × ((loop_is n (at R i).block c).carried ≡ 3)
+      × (i ≤ (at R i).block + 3)
+  pub within_of : (i f : ℕ) → i < length R → (at R i).node ≡ Within f
+      → (n : ℕ) × (c : IsLoopOf R n (at R i).block) × ((loop_is n (at R i).block c).carried ≡ 3)
+      × (i + 1 ≡ c.switches)
+  pub count_of : (i : ℕ) → i < length R → (at R i).node ≡ Count
+      → (n : ℕ) × (c : IsLoopOf R n (at R i).block) × ((loop_is n (at R i).block c).carried ≡ 3)
+      × (c.switches + 1 ≡ i)
+  pub index_of : (i x : ℕ) → i < length R → (at R i).node ≡ Index x
+      → (n : ℕ) × (c : IsLoopOf R n (at R i).block) × ((loop_is n (at R i).block c).carried ≡ 3)
+      × (index_row c.switches ≡ i)
   pub body_of : (b : ℕ) → b < length R → (at R b).node ≡ Body
       → (n : ℕ) × (c : IsLoopOf R n (at R b).block) × ((loop_is n (at R b).block c).body ≡ b)
   pub reset_of : (i v : ℕ) → i < length R → (at R i).node ≡ Reset v
-      → (n : ℕ) × (c : IsLoopOf R n (at R i).block) × (c.last ≡ v) × (i + 1 ≡ n)
+      → (n : ℕ) × (c : IsLoopOf R n (at R i).block) × (c.last ≡ v) × (i + 2 ≡ n)
   -- each `next` statement stands right in the body of a loop, and each variable has exactly one; each use of an outer
   -- name has its own
   pub next_in : (m h k x : ℕ) (s : IsNextOf R m h k x)
@@ -197,10 +220,12 @@ pub record IsTable (R : List Row) : Type 0 where
   pub use_of : (o x : ℕ) → o < length R → (at R o).node ≡ NextUse x
       → (m : ℕ) × (k : ℕ) × (s : IsNextOf R m (at R o).block k x) × (s.outer ≡ o)
   pub one_next : (m l h k x y : ℕ) → IsNextOf R m h k x → IsNextOf R l h k y → m ≡ l
-  -- a block's value is its body's, any other row's is itself; what gives a value is an expression that is no block,
-  -- and stands where the row does
+  -- a block's value is its body's, that of what a `for` has in the place of a predicate its flag's, any other row's is
+  -- itself; what gives a value is an expression that is no block, and stands where the row does
   pub value_block : (n b : ℕ) → n < length R → (at R n).node ≡ Block b → (at R n).value ≡ (at R b).value
-  pub value_self : (n : ℕ) → n < length R → is_block (at R n).node ≡ false → (at R n).value ≡ n
+  pub value_within : (n f : ℕ) → n < length R → (at R n).node ≡ Within f → (at R n).value ≡ f
+  pub value_self : (n : ℕ) → n < length R → is_block (at R n).node ≡ false → is_within (at R n).node ≡ false
+      → (at R n).value ≡ n
   pub value_stands : (n : ℕ) → n < length R → is_expression (at R n).node ≡ true
       → ((at R n).value ≤ n) × (is_expression (at R (at R n).value).node ≡ true)
       × (is_block (at R (at R n).value).node ≡ false)

@@ -22,7 +22,9 @@
 //! | fetch | target, index, `Fetch` |
 //! | store | target, index, `Address`, value, `Store` |
 //! | loop, to its body | `Start`, `LoopHead`, a `Variable` each, `Entries`, the predicate's rows, `Switches`, `Turn` |
-//! | loop, from there on | each statement's rows, `Body`, the last expression's rows, `Reset`, `Loop` |
+//! | loop, from there on | each statement's rows, `Body`, the last expression's rows, `Reset`, `Span`, `Loop` |
+//! | `for`, to its variables | lo, hi, `Bounds`, `Start`, `LoopHead`, three `Carried` |
+//! | `for`, to its body | a `Variable` each, `Entries`, `Within`, `Switches`, `Count`, `Turn`, `Index` |
 //! | `next` | `NextUse`, its expression's rows, `Next` |
 //! | program | the definitions' rows, then `Program` |
 #![tactic(auto)]

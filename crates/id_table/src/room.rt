@@ -53,6 +53,7 @@ fn own_place(expr: &Expr) -> usize {
         | Expr::Call { place, .. }
         | Expr::Block { place, .. }
         | Expr::Loop { place, .. }
+        | Expr::For { place, .. }
         | Expr::Array { place, .. }
         | Expr::Fetch { place, .. } => *place as usize,
     }

@@ -89,29 +89,52 @@ pub enum Node {
         enter: usize,
         count: usize,
     },
+    /// The bounds of an index, behind them, outside of the loop and right before its `Start`: whether the lower one is
+    /// at most the upper one, and the first index where it is.
+    Bounds {
+        low: usize,
+        high: usize,
+    },
     /// The beginning of a loop, outside of it: the context that it makes for the loop, and what is sent into it.
     Start,
     /// The head of a loop's block: its trigger and its way back. The row before it is the `Start`.
     LoopHead {
         start: usize,
     },
-    /// The entry of a variable of the loop, at the word of its `Next`, which has its name; they stand right behind the
-    /// `LoopHead`, in the order of their `Next`s.
+    /// The entry of what a `for` carries on beside its variables, right behind the `LoopHead`: first the index, at its
+    /// name, then the upper bound, then the flag, whether there is an index in the iteration.
+    Carried {
+        kind: Kind,
+    },
+    /// The entry of a variable of the loop, at the word of its `Next`, which has its name; they stand behind the
+    /// `LoopHead` and what a `for` carries on, in the order of their `Next`s.
     Variable,
     /// The entries of the names that the loop imports.
     Entries,
+    /// What a `for` has in the place of a predicate: the row of the entry of its flag, which gives its value; it makes
+    /// nothing.
+    Within {
+        flag: usize,
+    },
     /// The switches of a loop, behind the predicate and before the body.
     Switches {
         test: usize,
     },
-    /// What hands the trigger and the imported names on to the next iteration, at the beginning of the body.
+    /// The next index and the next flag of a `for`, right behind its switches.
+    Count,
+    /// What hands the trigger, what a `for` carries on, and the imported names on to the next iteration, at the
+    /// beginning of the body.
     Turn,
+    /// The index of a `for`, at its name, behind the `Turn`; it makes nothing, since its value comes to its entry.
+    Index {
+        name: usize,
+    },
     /// The use that a `next` statement makes of the name outside of the loop, for the first value; it makes nothing.
     NextUse {
         name: usize,
     },
-    /// A `next` statement behind its expression: the index of its variable, from 0, the row of its `NextUse`, and
-    /// what gives the value.
+    /// A `next` statement behind its expression: how many entries stand before that of its variable, the row of its
+    /// `NextUse`, and what gives the value.
     Next {
         name: u32,
         index: u32,
@@ -124,8 +147,11 @@ pub enum Node {
     Reset {
         value: usize,
     },
-    /// A loop behind its last expression, outside of it: the rows of its `LoopHead` and its `Switches`, and what
-    /// gives the value where the predicate is not true.
+    /// The end of the rows in which a loop's variables are seen, outside of it and behind its `Reset`; it makes
+    /// nothing.
+    Span,
+    /// A loop behind its `Span`, outside of it: the rows of its `LoopHead` and its `Switches`, and what gives the
+    /// value where the predicate is not true, or there is no index.
     Loop {
         head: u32,
         switches: u32,

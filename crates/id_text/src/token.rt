@@ -32,7 +32,7 @@ pub enum Keyword {
     To,
 }
 
-/// A sign. `<-` is one that no rule uses yet.
+/// A sign.
 #[derive(Clone, Copy, PartialEq, Eq)]
 pub enum Symbol {
     LeftParen,

@@ -180,8 +180,8 @@ Follows-bars (given {s = i} {f = g} {us = xs} {ts = ts} x f) s0 w us b q = rw (a
 Follows-bars (taken i f) s0 w us b q = rw i b
 Follows-bars (named i f) s0 w us b q = absurd b
 Follows-bars (kinded i f) s0 w us b q = absurd b
-Follows-bars (chosen i f) s0 w us b q = absurd b
-Follows-bars (left_out f) s0 w us b q = absurd b
+Follows-bars (chosen i f) s0 w us b q = rw i b.0
+Follows-bars (left_out f) s0 w us b q = Follows-bars f s0 w us b.1 q
 
 -- what a production begins has no level
 Stops-opens : (s : Phrase) {k : TokenKind} {p : ℕ} {r : Rest} → Opens s k p r → (us : List Token) → StopsInside s us → Stops s us

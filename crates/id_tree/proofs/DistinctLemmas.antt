@@ -4,15 +4,15 @@ use Rattle.id_text.specs.declared.token.Token.{Token}
 use Rattle.id_text.specs.declared.token.TokenKind.{TokenKind}
 use Rattle.id_value.specs.declared.Kind.{Kind}
 use Rattle.id_grammar.specs.Tree as tree
-use Rattle.id_grammar.specs.Tree.{Tree, literal, unary, binary, conditional, call, block, loop, array, fetch, binding, store, param, define, none, more}
+use Rattle.id_grammar.specs.Tree.{Tree, literal, unary, binary, conditional, call, block, loop, for_loop, array, fetch, binding, store, param, define, none, more}
 use Rattle.id_grammar.specs.Grammar.{Phrase, Rest, done, word, either, name, of_kind, part, with_statement, with_tail}
-use Rattle.id_grammar.specs.Grammar.{loop_with_tail, Opens, definition, no_parameters, first_parameter, last_parameter}
+use Rattle.id_grammar.specs.Grammar.{loop_with_tail, for_with_tail, Opens, definition, no_parameters, first_parameter, last_parameter}
 use Rattle.id_grammar.specs.Grammar.{next_parameter, by_conditional, denied, negated, number, by_true, by_false, parens}
 use Rattle.id_grammar.specs.Grammar.{by_name, by_array, by_braces, no_arguments, last_argument, next_argument}
 use Rattle.id_grammar.specs.Grammar.{by_statement, by_next, by_body, by_last, Derives, opened, unconditional, single}
 use Rattle.id_grammar.specs.Grammar.{grouped, plain, bare, atomic, fetched, some_arguments, Follows, ended, taken}
 use Rattle.id_grammar.specs.Grammar.{chosen, left_out, named, kinded, given, Program, empty, defined}
-use Rattle.id_tree.specs.Distinct.{HasPlace, Apart, Distinct}
+use Rattle.id_tree.specs.Distinct.{HasPlace, Apart, Spares, Distinct}
 use Rattle.id_tree.proofs.FinishLemmas.{Laid}
 
 -- the places rise in the order of the text, from the first number on and below the second
@@ -25,6 +25,8 @@ Spans low (conditional t x y p) high = (low ≤ p) × ((mid : ℕ) × (next : �
 Spans low (call x a p) high = (low ≤ p) × Spans (p + 1) a high
 Spans low (block a b p) high = (low ≤ p) × ((mid : ℕ) × Spans (p + 1) a mid × Spans mid b high)
 Spans low (loop t x y p) high = (low ≤ p) × ((mid : ℕ) × (next : ℕ) × Spans (p + 1) t mid × Spans mid x next × Spans next y high)
+Spans low (for_loop x i a b c d p) high =
+    (low ≤ p) × (p + 1 ≤ i) × ((m : ℕ) × (n : ℕ) × (o : ℕ) × Spans (i + 1) a m × Spans m b n × Spans n c o × Spans o d high)
 Spans low (array a b p) high = (low ≤ p) × ((mid : ℕ) × Spans (p + 1) a mid × Spans mid b high)
 Spans low (fetch t i p) high = Spans low t p × Spans (p + 1) i high
 Spans low (binding x a p) high = (low ≤ p) × Spans (p + 1) a high
@@ -47,6 +49,8 @@ Spans-order (call x a p) low high q = omega (arith, q.0, Spans-order a (p + 1) h
 Spans-order (block a b p) low high (u, (mid, v, w)) = omega (arith, u, Spans-order a (p + 1) mid v, Spans-order b mid high w)
 Spans-order (loop t x y p) low high (u, (mid, next, v, w, z)) =
     omega (arith, u, Spans-order t (p + 1) mid v, Spans-order x mid next w, Spans-order y next high z)
+Spans-order (for_loop x i a b c d p) low high (u, v, (m, n, o, w, y, z, t)) =
+    omega (arith, u, v, Spans-order a (i + 1) m w, Spans-order b m n y, Spans-order c n o z, Spans-order d o high t)
 Spans-order (array a b p) low high (u, (mid, v, w)) = omega (arith, u, Spans-order a (p + 1) mid v, Spans-order b mid high w)
 Spans-order (fetch t i p) low high q = omega (arith, Spans-order t low p q.0, Spans-order i (p + 1) high q.1)
 Spans-order (binding x a p) low high q = omega (arith, q.0, Spans-order a (p + 1) high q.1)
@@ -70,6 +74,8 @@ Spans-wider (call x a p) low high below above u v q = (omega (arith, q.0), Spans
 Spans-wider (block a b p) low high below above u v (o, (mid, s, t)) = (omega (arith, o), (mid, s, Spans-wider b mid high mid above (omega arith) v t))
 Spans-wider (loop t x y p) low high below above u v (o, (mid, next, w, s, z)) =
     (omega (arith, o), (mid, next, w, s, Spans-wider y next high next above (omega arith) v z))
+Spans-wider (for_loop x i a b c d p) low high below above u v (k, l, (m, n, o, w, y, z, t)) =
+    (omega (arith, k), l, (m, n, o, w, y, z, Spans-wider d o high o above (omega arith) v t))
 Spans-wider (array a b p) low high below above u v (o, (mid, s, t)) = (omega (arith, o), (mid, s, Spans-wider b mid high mid above (omega arith) v t))
 Spans-wider (fetch t i p) low high below above u v q =
     (Spans-wider t low p below p u (omega arith) q.0, Spans-wider i (p + 1) high (p + 1) above (omega arith) v q.1)
@@ -118,6 +124,22 @@ Spans-place (loop t x y p) low high q (o, (mid, next, u, v, w)) (inr (inr (inl h
     let r = Spans-place x mid next q v h in (omega (arith, o, r.0, Spans-order t (p + 1) mid u), omega (arith, r.1, Spans-order y next high w))
 Spans-place (loop t x y p) low high q (o, (mid, next, u, v, w)) (inr (inr (inr h))) =
     let r = Spans-place y next high q w h in (omega (arith, o, r.0, Spans-order t (p + 1) mid u, Spans-order x mid next v), r.1)
+Spans-place (for_loop x i a b c d p) low high q (u, v, (m, n, o, w, y, z, t)) (inl h) =
+    (omega (arith, u, h), omega (arith, v, Spans-order a (i + 1) m w, Spans-order b m n y, Spans-order c n o z, Spans-order d o high t, h))
+Spans-place (for_loop x i a b c d p) low high q (u, v, (m, n, o, w, y, z, t)) (inr (inl h)) =
+    (omega (arith, u, v, h), omega (arith, Spans-order a (i + 1) m w, Spans-order b m n y, Spans-order c n o z, Spans-order d o high t, h))
+Spans-place (for_loop x i a b c d p) low high q (u, v, (m, n, o, w, y, z, t)) (inr (inr (inl h))) =
+    let r = Spans-place a (i + 1) m q w h in
+    (omega (arith, u, v, r.0), omega (arith, r.1, Spans-order b m n y, Spans-order c n o z, Spans-order d o high t))
+Spans-place (for_loop x i a b c d p) low high q (u, v, (m, n, o, w, y, z, t)) (inr (inr (inr (inl h)))) =
+    let r = Spans-place b m n q y h in
+    (omega (arith, u, v, r.0, Spans-order a (i + 1) m w), omega (arith, r.1, Spans-order c n o z, Spans-order d o high t))
+Spans-place (for_loop x i a b c d p) low high q (u, v, (m, n, o, w, y, z, t)) (inr (inr (inr (inr (inl h))))) =
+    let r = Spans-place c n o q z h in
+    (omega (arith, u, v, r.0, Spans-order a (i + 1) m w, Spans-order b m n y), omega (arith, r.1, Spans-order d o high t))
+Spans-place (for_loop x i a b c d p) low high q (u, v, (m, n, o, w, y, z, t)) (inr (inr (inr (inr (inr h))))) =
+    let r = Spans-place d o high q t h in
+    (omega (arith, u, v, r.0, Spans-order a (i + 1) m w, Spans-order b m n y, Spans-order c n o z), r.1)
 Spans-place (array a b p) low high q (o, (mid, s, t)) (inl h) = (omega (arith, o, h), omega (arith, Spans-order a (p + 1) mid s, Spans-order b mid high t, h))
 Spans-place (array a b p) low high q (o, (mid, s, t)) (inr (inl h)) =
     let r = Spans-place a (p + 1) mid q s h in (omega (arith, o, r.0), omega (arith, r.1, Spans-order b mid high t))
@@ -152,6 +174,10 @@ Spans-place (more a b) low high q s (inr h) = let r = Spans-place b s.0 high q s
 -- of two trees one behind the other no two things have one place
 Spans-apart : (a b : Tree) (low mid next high : ℕ) → mid ≤ next → Spans low a mid → Spans next b high → Apart a b
 Spans-apart a b low mid next high w s t = λ q g h. omega (arith, (Spans-place a low mid q s g).1, (Spans-place b next high q t h).0)
+
+-- a tree behind two places has neither
+Spares-before : (a : Tree) (p i low high : ℕ) → p < low → i < low → Spans low a high → Spares p i a
+Spares-before a p i low high u v s = (λ h. omega (arith, (Spans-place a low high p s h).0), λ h. omega (arith, (Spans-place a low high i s h).0))
 
 -- what spans has different places
 pub Distinct-spans : (e : Tree) (low high : ℕ) → Spans low e high → Distinct e
@@ -195,6 +221,26 @@ Distinct-spans (loop t x y p) low high (o, (mid, next, u, v, w)) = (
   Distinct-spans x mid next v,
   Distinct-spans y next high w,
 )
+Distinct-spans (for_loop x i a b c d p) low high (u, v, (m, n, o, w, y, z, t)) =
+    let k = Spans-order a (i + 1) m w in
+    let l = Spans-order b m n y in
+    let j = Spans-order c n o z in (
+      λ e. omega (arith, v, e),
+      Spares-before a p i (i + 1) m (omega (arith, v)) (omega arith) w,
+      Spares-before b p i m n (omega (arith, v, k)) (omega (arith, k)) y,
+      Spares-before c p i n o (omega (arith, v, k, l)) (omega (arith, k, l)) z,
+      Spares-before d p i o high (omega (arith, v, k, l, j)) (omega (arith, k, l, j)) t,
+      Spans-apart a b (i + 1) m m n (omega arith) w y,
+      Spans-apart a c (i + 1) m n o l w z,
+      Spans-apart a d (i + 1) m o high (omega (arith, l, j)) w t,
+      Spans-apart b c m n n o (omega arith) y z,
+      Spans-apart b d m n o high j y t,
+      Spans-apart c d n o o high (omega arith) z t,
+      Distinct-spans a (i + 1) m w,
+      Distinct-spans b m n y,
+      Distinct-spans c n o z,
+      Distinct-spans d o high t,
+    )
 Distinct-spans (array a b p) low high (o, (mid, s, t)) = (
   λ h. omega (arith, (Spans-place a (p + 1) mid p s h).0),
   λ h. omega (arith, (Spans-place b mid high p t h).0, Spans-order a (p + 1) mid s),
@@ -252,6 +298,12 @@ Spans-loop_with_tail : (t a : Tree) (p low mid high : ℕ) → mid ≤ high → 
 Spans-loop_with_tail t (more a e) p low mid high w u (i, s, v) = (omega arith, (low, i, u, s, Spans-wider e i mid i high (omega arith) w v))
 Spans-loop_with_tail t a p low mid high w u s = omega (arith, Spans-order t (p + 1) low u, Spans-order a low mid s)
 
+-- a `for` spans what its brace, its index, its bounds and its tail do
+Spans-for_with_tail : (x : List ℕ) (i : ℕ) (a b t : Tree) (p m n mid high : ℕ) → mid ≤ high → p + 1 ≤ i → Spans (i + 1) a m → Spans m b n → Spans n t mid →
+    Spans p (for_with_tail x i a b t p) high
+Spans-for_with_tail x i a b (more c d) p m n mid high w l u v (o, s, t) = (omega arith, l, (m, n, o, u, v, s, Spans-wider d o mid o high (omega arith) w t))
+Spans-for_with_tail x i a b t p m n mid high w l u v s = omega (arith, l, Spans-order a (i + 1) m u, Spans-order b m n v, Spans-order t n mid s)
+
 -- a tail spans what its first statement and the tail behind it do
 Spans-with_statement : (b a : Tree) (from low mid high : ℕ) → mid ≤ high → Spans from b low → Spans low a mid → Spans from (with_statement b a) high
 Spans-with_statement b (more a e) from low mid high w u (i, s, t) = (i, (low, u, s), Spans-wider e i mid i high (omega arith) w t)
@@ -297,7 +349,11 @@ Opens-keeps (last_argument {p = p}) = λ high w. omega arith
 Opens-keeps (next_argument {p = p}) = λ e mid s a next t high w.
     (mid, Spans-wider e (p + 1) mid p mid (omega arith) (omega arith) s, Spans-wider a mid next mid high (omega arith) w t)
 Opens-keeps (by_braces {p = p}) = (
-  λ a mid s high w. Spans-with_tail a p mid high w s,
+  (
+    λ a mid s high w. Spans-with_tail a p mid high w s,
+    λ q1 u1 x i u2 q2 u3 a m1 s1 m2 u4 b m3 s2 m4 u5 t mid s3 high w. Spans-for_with_tail x i a b t p m2 m4 mid high w (omega arith)
+        (Spans-wider a q2 m1 (i + 1) m2 u3 u4 s1) (Spans-wider b m2 m3 m2 m4 (omega arith) u5 s2) s3,
+  ),
   λ q1 u1 e q2 v q3 u2 a mid s high w. Spans-loop_with_tail e a p q3 mid high w (Spans-wider e (q1 + 1) q2 (p + 1) q3 (omega arith) u2 v) s,
 )
 Opens-keeps (by_statement {x = x} {p = p}) = (

@@ -8,7 +8,7 @@ use Rattle.id_value.specs.declared.Kind.{Kind}
 use Rattle.id_grammar.specs.Tree as tree
 use Rattle.id_grammar.specs.Tree.{Tree, binding, next, store, param, none, more}
 use Rattle.id_grammar.specs.Grammar.{Phrase, Rest, done, word, either, name, of_kind, part, with_statement, with_tail}
-use Rattle.id_grammar.specs.Grammar.{loop_with_tail, Opens, definition, no_parameters, first_parameter, last_parameter}
+use Rattle.id_grammar.specs.Grammar.{loop_with_tail, for_with_tail, Opens, definition, no_parameters, first_parameter, last_parameter}
 use Rattle.id_grammar.specs.Grammar.{next_parameter, by_conditional, denied, negated, number, by_true, by_false, parens}
 use Rattle.id_grammar.specs.Grammar.{by_name, by_array, by_braces, no_arguments, last_argument, next_argument}
 use Rattle.id_grammar.specs.Grammar.{by_statement, by_next, by_body, by_last, Derives, opened, unconditional, single}
@@ -64,6 +64,16 @@ module _ (P : ℕ → Type 0) where
   of_loop t (more a e) g h i q j = of_three t a e g h (λ r k. i r (inl k)) (λ r k. i r (inr k)) q j
   of_loop t a g h i q j = absurd j
 
+  of_for : (x : List ℕ) {i p : ℕ} (low high a : Tree) → P p → P i → AllPlaced P low → AllPlaced P high → AllPlaced P a →
+      AllPlaced P (for_with_tail x i low high a p)
+  of_for x low high (more a e) g h l u k q (inl j) = at_own j g
+  of_for x low high (more a e) g h l u k q (inr (inl j)) = at_own j h
+  of_for x low high (more a e) g h l u k q (inr (inr (inl j))) = l q j
+  of_for x low high (more a e) g h l u k q (inr (inr (inr (inl j)))) = u q j
+  of_for x low high (more a e) g h l u k q (inr (inr (inr (inr (inl j))))) = k q (inl j)
+  of_for x low high (more a e) g h l u k q (inr (inr (inr (inr (inr j))))) = k q (inr j)
+  of_for x low high a g h l u k q j = absurd j
+
   of_block : {p : ℕ} (a : Tree) → P p → AllPlaced P a → AllPlaced P (with_tail a p)
   of_block (more a e) g h q (inl i) = at_own i g
   of_block (more a e) g h q (inr i) = h q i
@@ -93,7 +103,10 @@ module _ (P : ℕ → Type 0) where
   Opens-fills no_arguments g = λ q h. absurd h
   Opens-fills last_argument g = λ q h. absurd h
   Opens-fills next_argument g = λ e h a i. of_both e a h i
-  Opens-fills by_braces g = (λ a h. of_block a g h, λ p j t h a i. of_loop t a g h i)
+  Opens-fills by_braces g = (
+    (λ a h. of_block a g h, λ q i x p j low h high k a l. of_for x low high a g j h k l),
+    λ p j t h a i. of_loop t a g h i,
+  )
   Opens-fills (by_statement {x = x} {p = p}) g = (
     λ e i a h. of_statement (binding x e p) a (of_part e g i) h,
     λ q j i h e k a l. of_statement (store (tree.name x p) i e q) a (of_three (tree.name x p) i e j (λ r n. at_own n g) h k) l,

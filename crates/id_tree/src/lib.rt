@@ -23,7 +23,7 @@ mod heads;
 mod program;
 
 pub use id_grammar::{
-    Block, Call, Def, Expr, Loop, MAX_NESTING, Pair, Param, Program, Stmt, TreeError, Triple,
+    Block, Call, Def, Expr, For, Loop, MAX_NESTING, Pair, Param, Program, Stmt, TreeError, Triple,
 };
 pub use id_value::{BinaryOp, Constant, Kind, UnaryOp};
 pub use program::parse;

@@ -2,7 +2,7 @@
 use Rattle.std.proofs.Common.{◌≡◌, false, refl}
 use Rattle.id_table.specs.declared.row.Node.{Node}
 use Rattle.id_table.specs.declared.row.Node.TheVariants.{Param, Literal, Name, Unary, Binary, If, Call, Next, Loop, Array, Fetch}
-use Rattle.id_table.specs.declared.row.Node.TheVariants.{Store, Block, Binding, Def}
+use Rattle.id_table.specs.declared.row.Node.TheVariants.{Store, Block, Binding, Def, Index}
 use Rattle.id_table.specs.Tables.{is_thing}
 use Rattle.id_arcs.proofs.feeds.push_feeds.Goals as goal
 use Rattle.id_arcs.proofs.feeds.push_feeds.Goals.{In_default}
@@ -20,6 +20,7 @@ no_thing c (Loop h w l) e = absurd (c.in_default.not-Loop h w l e)
 no_thing c (Array a b) e = absurd (c.in_default.not-Array a b e)
 no_thing c (Fetch t i) e = absurd (c.in_default.not-Fetch t i e)
 no_thing c (Store a v) e = absurd (c.in_default.not-Store a v e)
+no_thing c (Index x) e = absurd (c.in_default.not-Index x e)
 no_thing c (Block b) e = absurd (c.in_default.not-Block b e)
 no_thing c (Binding x a) e = absurd (c.in_default.not-Binding x a e)
 no_thing c (Def x h k b) e = absurd (c.in_default.not-Def x h k b e)

@@ -7,8 +7,8 @@ use Rattle.id_arcs.proofs.feeds.push_firsts.Given as goal
 abbrev pub invariant-loop-next : goal.invariant-loop-next
 invariant-loop-next l = record {
   list : l.arcs.list.items ++ map (arc_of l.fn.arcs.firsts.items l.n)
-      (import_feeds l.checked (output l.n) l.region (1 + l.next-index) (map (first_binder l.checked) (drop l.next-index l.nexts)))
-      ≡ l.fn.arcs.list.items ++ map (arc_of l.fn.arcs.firsts.items l.n) (import_feeds l.checked (output l.n) l.region 1 (map (first_binder l.checked) l.nexts));
+      (import_feeds l.checked (output l.n) l.region (l.first + l.next-index) (map (first_binder l.checked) (drop l.next-index l.nexts)))
+      ≡ l.fn.arcs.list.items ++ map (arc_of l.fn.arcs.firsts.items l.n) (import_feeds l.checked (output l.n) l.region l.first (map (first_binder l.checked) l.nexts));
   firsts : l.arcs.firsts.items ≡ l.fn.arcs.firsts.items;
-  to : l.to ≡ number_by l.fn.arcs.firsts.items l.n 0 + 1 + l.next-index;
+  to : l.to ≡ number_by l.fn.arcs.firsts.items l.n 0 + l.first + l.next-index;
 }

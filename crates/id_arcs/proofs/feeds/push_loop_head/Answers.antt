@@ -26,11 +26,11 @@ returns c =
     let firsts = c.in_ok-push.ensures.firsts in
     let second : c.number_by-first.result + 1 ≡ number_by F n 1 = omega (arith, first) in
     let turn = c.output.ensures ∙ ap output c.turn_row-turn.ensures in
-    let back : c.saturating_sub-reset.result ≡ end_of P n - 1 = omega (arith, c.saturating_sub-reset.ensures, c.end.ensures) in
+    let back : c.saturating_sub-reset.result ≡ end_of P n - 2 = omega (arith, c.saturating_sub-reset.ensures, c.end.ensures) in
     let reset = c.output-2.ensures ∙ ap output back in
     record {
       list = on_ok_weaker c.push-2.result
-          (two_arcs F F _ n 0 1 _ _ (output (turn_row P n)) (output (end_of P n - 1)) _ _ Zero One c.args.arcs.now.list.items _ _ refl firsts first second turn
+          (two_arcs F F _ n 0 1 _ _ (output (turn_row P n)) (output (end_of P n - 2)) _ _ Zero One c.args.arcs.now.list.items _ _ refl firsts first second turn
           reset c.in_ok-push.ensures.list) c.push-2.ensures.list;
       firsts = c.push-2.ensures.firsts ∙ firsts;
       memory = c.push-2.ensures.memory;

@@ -8,7 +8,7 @@ use Rattle.id_table.specs.Turns.{heads_below}
 use Rattle.id_pieces.specs.Made.{number_by}
 use Rattle.id_pieces.specs.Rows.{node}
 use Rattle.id_pieces.specs.Schemas.{block_of}
-use Rattle.id_build.proofs.BlocksLemmas.{blocks_push, head_no_loop, heads_next, loop_heads_same}
+use Rattle.id_build.proofs.BlocksLemmas.{blocks_push, heads_next}
 use Rattle.id_build.proofs.program.add_head.Goals as goal
 
 pub returns-then-is_head-clause-blocks : goal.returns-then-is_head-clause-blocks
@@ -17,15 +17,7 @@ returns-then-is_head-clause-blocks c =
     let F = c.args.firsts.now in
     let h = c.args.head in
     let test : is_head (node P h) ≡ true =
-    ap (λ (r : Row). is_head r.node) (sym c.row_at-node.ensures) ∙ sym c.is_head.ensures ∙ c.if-is_head.true in
+    ap (λ (r : Row). is_head r.node) (sym c.row_at.ensures) ∙ sym c.is_head.ensures ∙ c.if-is_head.true in
     on_ok_weaker c.add_procedure.result (λ new.
     blocks_push P F (heads_below (rows P) h) c.args.blocks.now.items c.add_procedure.new.blocks.items h c.requires.blocks new
     ∙ ap (map (block_of P (number_by F))) (sym (heads_next P h test))) c.add_procedure.ensures.blocks
-
-pub returns-then-is_head-clause-loops : goal.returns-then-is_head-clause-loops
-returns-then-is_head-clause-loops c =
-    let P = c.args.checked.now in
-    let h = c.args.head in
-    let test : is_head (node P h) ≡ true =
-    ap (λ (r : Row). is_head r.node) (sym c.row_at-node.ensures) ∙ sym c.is_head.ensures ∙ c.if-is_head.true in
-    on_ok_weaker c.add_procedure.result (λ new. c.requires.loops ∙ sym (loop_heads_same P h (head_no_loop (node P h) test))) c.add_procedure.ensures.blocks

@@ -4,7 +4,8 @@ use Rattle.std.proofs.lemmas.List.{map-append}
 use Rattle.id_check.specs.Programs.{rows}
 use Rattle.id_table.specs.Turns.{heads_below}
 use Rattle.id_pieces.specs.Made.{number_by}
-use Rattle.id_pieces.specs.Schemas.{block_of, loop_heads_below}
+use Rattle.id_desugar.specs.Regions.{loop_heads}
+use Rattle.id_pieces.specs.Schemas.{block_of}
 use Rattle.id_pieces.proofs.ResultLemmas.{if_err, if_ok}
 use Rattle.id_build.proofs.program.blocks.Goals as goal
 
@@ -15,10 +16,10 @@ returns-clause-blocks c =
     let n = c.loop-head.head in
     let end : n ≡ length (rows P) = omega (arith, c.loop-head.auto.head-end, c.loop-head-test.false, c.len-head-end.ensures) in
     c.in_ok-push_loops.ensures.blocks
-    ∙ ap (λ l. l ++ map f c.as_slice.result.now) c.loop-head.invariant.blocks
-    ∙ ap (λ l. map f (heads_below (rows P) n) ++ map f l) (c.as_slice.ensures.value ∙ c.loop-head.invariant.loops)
-    ∙ sym (map-append f (heads_below (rows P) n) (loop_heads_below P n))
-    ∙ ap (λ k. map f (heads_below (rows P) k ++ loop_heads_below P k)) end
+    ∙ ap (λ l. l ++ map f c.args.loops.now) c.loop-head.invariant
+    ∙ ap (λ l. map f (heads_below (rows P) n) ++ map f l) c.requires.loops
+    ∙ sym (map-append f (heads_below (rows P) n) (loop_heads P))
+    ∙ ap (λ k. map f (heads_below (rows P) k ++ loop_heads P)) end
 
 pub returns-in_err-add_head : goal.returns-in_err-add_head
 returns-in_err-add_head c = record {

@@ -1,9 +1,9 @@
--- The entries of a loop are its variables, and then its imports.
+-- The entries of a loop are those of what it carries on beside its variables, these, and then its imports.
 use Rattle.std.proofs.Common.{◌∙◌, ◌+◌, ◌^◌, ◌≤◌, ◌++◌, List, ℕ, ap, length, map, sym, subst}
-use Rattle.std.proofs.lemmas.List.{map-append}
-use Rattle.id_desugar.specs.Regions.{imports_of, nexts_of}
+use Rattle.std.proofs.lemmas.List.{append_assoc, map-append}
+use Rattle.id_desugar.specs.Regions.{carried, first_variable, imports_of, nexts_of}
 use Rattle.id_pieces.specs.Made.{number_by}
-use Rattle.id_pieces.specs.Rows.{Entry, entries_by, entries_row, import_entries, node, variable_entries}
+use Rattle.id_pieces.specs.Rows.{Entry, entries_by, entries_row, import_entries, node, param_entry, variable_entries}
 use Rattle.id_pieces.proofs.LoopsLemmas.{loop_head_is}
 use Rattle.id_pieces.proofs.ResultLemmas.{if_err, if_ok}
 use Rattle.id_build.proofs.program.loop_entries.Goals as goal
@@ -21,14 +21,16 @@ returns-clause-entries c =
     let P = c.args.checked.now in
     let h = c.args.head in
     let f : Entry → ℕ = λ q. number_by c.args.firsts.now q.row q.part in
-    let vs = variable_entries (h + 1) (nexts_of P h) in
+    let cs = map param_entry (carried P h) in
+    let bs = variable_entries (first_variable P h) (nexts_of P h) in
+    let vs = cs ++ bs in
     let ws : ℕ → List Entry = λ e. import_entries e 0 (imports_of P h) in
     let e = c.entries_row-imported.result in
     let z = loop_head_is (node P h) c.requires.head in
     c.in_ok-push_imported.ensures.entries
     ∙ ap (λ xs. xs ++ map f (ws e)) (c.in_ok-push_variables.ensures.entries ∙ ap (λ (xs : List ℕ). xs ++ map f vs) c.new-entries.ensures.items)
     ∙ ap (λ k. map f vs ++ map f (ws k)) c.entries_row-imported.ensures ∙ sym (map-append f vs (ws (entries_row P h)))
-    ∙ ap (λ n. map f (entries_by P h n)) (sym z.1)
+    ∙ ap (map f) (append_assoc cs bs (ws (entries_row P h))) ∙ ap (λ n. map f (entries_by P h n)) (sym z.1)
 
 pub returns-in_err-push_variables : goal.returns-in_err-push_variables
 returns-in_err-push_variables c = record {

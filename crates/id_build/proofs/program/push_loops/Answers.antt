@@ -1,23 +1,22 @@
 -- Each of the heads is one of a loop.
-use Rattle.std.proofs.Common.{◌∙◌, ◌++◌, ◌∷◌, [], List, ap, get_or, length, map, sym, take}
+use Rattle.std.proofs.Common.{◌∙◌, ◌++◌, ◌∷◌, [], List, ap, get_or, map, sym, take}
 use Rattle.std.proofs.lemmas.List.{append_assoc, map-append, take_more}
 use Rattle.id_instr.specs.declared.instr.Block.{Block}
 use Rattle.id_pieces.specs.Made.{number_by}
 use Rattle.id_pieces.specs.Schemas.{block_of}
 use Rattle.id_pieces.proofs.ResultLemmas.{if_err, if_ok}
-use Rattle.id_check.specs.Programs.{rows}
 use Rattle.id_build.proofs.BlocksLemmas.{loop_head_at}
 use Rattle.id_build.proofs.program.push_loops.Goals as goal
 
 pub add_loop-requires-clause-within : goal.add_loop-requires-clause-within
 add_loop-requires-clause-within c =
     let P = c.args.checked.now in
-    (loop_head_at P c.args.heads.now (length (rows P)) c.loop-head.head-index c.requires.heads c.loop-head-test.true).0
+    (loop_head_at P c.args.heads.now c.loop-head.head-index c.requires.heads c.loop-head-test.true).0
 
 pub add_loop-requires-clause-head : goal.add_loop-requires-clause-head
 add_loop-requires-clause-head c =
     let P = c.args.checked.now in
-    (loop_head_at P c.args.heads.now (length (rows P)) c.loop-head.head-index c.requires.heads c.loop-head-test.true).1
+    (loop_head_at P c.args.heads.now c.loop-head.head-index c.requires.heads c.loop-head-test.true).1
 
 pub loop-head-preserved : goal.loop-head-preserved
 loop-head-preserved c =

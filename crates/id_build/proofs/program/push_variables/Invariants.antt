@@ -1,6 +1,6 @@
 -- The numbers of the entries so far, and of those that are left.
 use Rattle.std.proofs.Common.{◌≡◌, ◌++◌, ◌+◌, ◌-◌, drop, map}
-use Rattle.id_desugar.specs.Regions.{nexts_of}
+use Rattle.id_desugar.specs.Regions.{carried, nexts_of}
 use Rattle.id_pieces.specs.Made.{number_by}
 use Rattle.id_pieces.specs.Rows.{Entry, variable_entries}
 use Rattle.id_build.proofs.program.push_variables.Given as goal
@@ -8,5 +8,5 @@ use Rattle.id_build.proofs.program.push_variables.Given as goal
 abbrev pub invariant-loop-variable : goal.invariant-loop-variable
 invariant-loop-variable l =
     l.entries.items ++ map (λ (q : Entry). number_by l.firsts q.row q.part)
-    (variable_entries (l.head + 1 + (l.variable - (l.head + 1))) (drop (l.variable - (l.head + 1)) (nexts_of l.checked l.head)))
-    ≡ l.fn.entries.items ++ map (λ (q : Entry). number_by l.firsts q.row q.part) (variable_entries (l.head + 1) (nexts_of l.checked l.head))
+    (variable_entries (l.head + 1 + (l.variable - (l.head + 1))) (drop (l.variable - (l.head + 1)) (carried l.checked l.head ++ nexts_of l.checked l.head)))
+    ≡ l.fn.entries.items ++ map (λ (q : Entry). number_by l.firsts q.row q.part) (variable_entries (l.head + 1) (carried l.checked l.head ++ nexts_of l.checked l.head))

@@ -3,11 +3,24 @@ use Rattle.std.proofs.Common.{◌≡◌, ◌∙◌, ap, sym, arith, length}
 use Rattle.id_check.specs.Programs.{place}
 use Rattle.id_table.specs.declared.row.Row.{Row}
 use Rattle.id_table.specs.declared.row.Node.TheVariants.{Entries, Split, Start, Switches, Turn}
-use Rattle.id_desugar.specs.Regions.{imports_of, is_loop_head}
+use Rattle.id_desugar.specs.Regions.{carried, imports_of, is_loop_head}
 use Rattle.id_pieces.specs.Rows.{made_of, node}
 use Rattle.id_pieces.proofs.LoopsLemmas.{start_head}
+use Rattle.id_arcs.proofs.BuildableLemmas.{turn_head}
 use Rattle.id_build.proofs.SizeLemmas.{length-entries, length-split, length-start, length-switches, length-turn}
 use Rattle.id_build.proofs.size.made_count.Goals as goal
+
+pub carried_count-carried-requires : goal.carried_count-carried-requires
+carried_count-carried-requires c =
+    let P = c.args.checked.now in
+    let is : node P c.args.n ≡ Start = ap (λ r. r.node) (sym c.row_at-row.ensures) ∙ c.in-Start.is in
+    (start_head P c.args.n c.requires.within is).0
+
+pub carried_count-requires : goal.carried_count-requires
+carried_count-requires c =
+    let P = c.args.checked.now in
+    let is : node P c.args.n ≡ Turn = ap (λ r. r.node) (sym c.row_at-row.ensures) ∙ c.in-Turn.is in
+    omega (arith, turn_head P c.args.n c.requires.within is, ap (λ (r : Row). r.block) c.row_at-row.ensures)
 
 pub nexts_at-nexts-requires-clause-head : goal.nexts_at-nexts-requires-clause-head
 nexts_at-nexts-requires-clause-head c =
@@ -66,4 +79,5 @@ returns-in-Turn-clause-count c =
       length-turn P n (place P n),
       ap (λ m. length (made_of P n (place P n) m)) is,
       ap (λ (r : Row). length (imports_of P r.block)) c.row_at-row.ensures,
+      ap (λ (r : Row). length (carried P r.block)) c.row_at-row.ensures,
     )

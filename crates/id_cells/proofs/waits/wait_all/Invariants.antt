@@ -1,4 +1,4 @@
--- All waits where the facts so far turn rows On.
+-- All waits by the facts so far.
 use Rattle.std.proofs.Common.{drop}
 use Rattle.id_cells.specs.Cells.{items}
 use Rattle.id_cells.proofs.WaitsLemmas.{WaitsSo}

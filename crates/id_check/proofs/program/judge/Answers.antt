@@ -3,7 +3,7 @@ use Rattle.std.specs.Prelude.{IfOk, None, IfErr}
 use Rattle.id_table.specs.Tables.{IsFormed, name_of}
 use Rattle.id_table.specs.Turns.{IsTable}
 use Rattle.id_table.specs.declared.row.Node.{Node}
-use Rattle.id_table.specs.declared.row.Node.TheVariants.{Param, Name, Enter, Binding, Def, NextUse, Next}
+use Rattle.id_table.specs.declared.row.Node.TheVariants.{Param, Name, Enter, Binding, Def, Index, NextUse, Next}
 use Rattle.id_table.specs.Rows.{at}
 use Rattle.id_check.specs.Judged.{IsJudged}
 use Rattle.id_scope.specs.Causes.{IsRefusedFor}
@@ -15,6 +15,7 @@ bound_one : (n : Node) (x : ℕ) → bound_name n ≡ Some x → name_of n ≡ S
 bound_one (Param y k) x e = e
 bound_one (Binding y a) x e = e
 bound_one (Next y k o v) x e = e
+bound_one (Index y) x e = e
 bound_one (Def y h k b) x e = e
 bound_one _ x e = let d : None ≡ Some x = e in cc
 

@@ -1,3 +1,5 @@
+use Rattle.std.proofs.Common.{length, subst}
+use Rattle.id_check.specs.Literals.{AreLiterals}
 use Rattle.id_check.proofs.program.with_columns.Goals as goal
 
 pub invariant_of-result : goal.invariant_of-result
@@ -13,4 +15,5 @@ invariant_of-result c =
       kinded = j.kinded;
       deep = j.deep.each;
       accepted = j.accepted;
+      literals = subst (λ rs. AreLiterals rs (length rs)) c.as_slice.ensures.value c.see_literals.ensures;
     }

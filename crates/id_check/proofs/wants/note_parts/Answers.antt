@@ -5,7 +5,7 @@ use Rattle.id_value.specs.declared.Kind.{Kind}
 use Rattle.id_value.specs.declared.UnaryOp.{UnaryOp}
 use Rattle.id_table.specs.declared.row.Row.{Row}
 use Rattle.id_table.specs.declared.row.Node.{Node}
-use Rattle.id_table.specs.declared.row.Node.TheVariants.{Unary, Binary, Split, If, Switches, Next, Fetch, Address}
+use Rattle.id_table.specs.declared.row.Node.TheVariants.{Unary, Binary, Split, If, Bounds, Switches, Next, Fetch, Address}
 use Rattle.id_table.specs.declared.row.Node.TheVariants.{Store}
 use Rattle.id_table.specs.declared.row.Node.TheVariants as node
 use Rattle.id_table.specs.Tables.{HasPart}
@@ -45,10 +45,16 @@ pub note_next-requires-clause-value : goal.note_next-requires-clause-value
 note_next-requires-clause-value c = in_part c.args.node _ c.in-Next.value (length c.args.rows.now) c.requires.parts c.in-Next.is (inr refl)
 
 pub note_both-requires-clause-left : goal.note_both-requires-clause-left
-note_both-requires-clause-left c = in_part c.args.node _ c.in-Array.low (length c.args.rows.now) c.requires.parts c.in-Array.is (inl refl)
+note_both-requires-clause-left c = elim c.in-Array.is [
+  | inl e ↦ in_part c.args.node _ c.in-Array.low (length c.args.rows.now) c.requires.parts e (inl refl)
+  | inr e ↦ in_part c.args.node _ c.in-Array.low (length c.args.rows.now) c.requires.parts e (inl refl)
+]
 
 pub note_both-requires-clause-right : goal.note_both-requires-clause-right
-note_both-requires-clause-right c = in_part c.args.node _ c.in-Array.high (length c.args.rows.now) c.requires.parts c.in-Array.is (inr refl)
+note_both-requires-clause-right c = elim c.in-Array.is [
+  | inl e ↦ in_part c.args.node _ c.in-Array.high (length c.args.rows.now) c.requires.parts e (inr refl)
+  | inr e ↦ in_part c.args.node _ c.in-Array.high (length c.args.rows.now) c.requires.parts e (inr refl)
+]
 
 pub note_cell-requires-clause-target : goal.note_cell-requires-clause-target
 note_cell-requires-clause-target c = in_part c.args.node _ c.in-Fetch.target (length c.args.rows.now) c.requires.parts c.in-Fetch.is (inl refl)
@@ -98,9 +104,10 @@ returns-in-Switches c =
     c.note_wrong-in-Switches.ensures
 
 pub returns-in-Array : goal.returns-in-Array
-returns-in-Array c =
-    subst (Noted c.args.rows.now c.args.kinds.now c.args.first.now c.note_both.new.first) (sym c.in-Array.is)
-    c.note_both.ensures
+returns-in-Array c = elim c.in-Array.is [
+  | inl e ↦ subst (Noted c.args.rows.now c.args.kinds.now c.args.first.now c.note_both.new.first) (sym e) c.note_both.ensures
+  | inr e ↦ subst (Noted c.args.rows.now c.args.kinds.now c.args.first.now c.note_both.new.first) (sym e) c.note_both.ensures
+]
 
 pub returns-in-Fetch : goal.returns-in-Fetch
 returns-in-Fetch c =
@@ -157,18 +164,20 @@ none_in : (R : List Row) (κ : ℕ → Option Kind) (n : Node)
     → ((p : UnaryOp) (a : ℕ) → n ≡ Unary p a → ⊥) → ((p : BinaryOp) (a b : ℕ) → n ≡ Binary p a b → ⊥) → ((t : ℕ) → n ≡ Split t → ⊥)
     → ((s x y : ℕ) → n ≡ If s x y → ⊥) → ((t : ℕ) → n ≡ Switches t → ⊥) → ((x k u v : ℕ) → n ≡ Next x k u v → ⊥)
     → ((a b : ℕ) → n ≡ node.Array a b → ⊥) → ((t i : ℕ) → n ≡ Fetch t i → ⊥) → ((t i : ℕ) → n ≡ Address t i → ⊥) → ((a v : ℕ) → n ≡ Store a v → ⊥)
+    → ((a b : ℕ) → n ≡ Bounds a b → ⊥)
     → wrong_parts R κ n ≡ []
-none_in R κ (Unary p a) h1 h2 h3 h4 h5 h6 h7 h8 h9 h10 = absurd (h1 p a refl)
-none_in R κ (Binary p a b) h1 h2 h3 h4 h5 h6 h7 h8 h9 h10 = absurd (h2 p a b refl)
-none_in R κ (Split t) h1 h2 h3 h4 h5 h6 h7 h8 h9 h10 = absurd (h3 t refl)
-none_in R κ (If s x y) h1 h2 h3 h4 h5 h6 h7 h8 h9 h10 = absurd (h4 s x y refl)
-none_in R κ (Switches t) h1 h2 h3 h4 h5 h6 h7 h8 h9 h10 = absurd (h5 t refl)
-none_in R κ (Next x k u v) h1 h2 h3 h4 h5 h6 h7 h8 h9 h10 = absurd (h6 x k u v refl)
-none_in R κ (node.Array a b) h1 h2 h3 h4 h5 h6 h7 h8 h9 h10 = absurd (h7 a b refl)
-none_in R κ (Fetch t i) h1 h2 h3 h4 h5 h6 h7 h8 h9 h10 = absurd (h8 t i refl)
-none_in R κ (Address t i) h1 h2 h3 h4 h5 h6 h7 h8 h9 h10 = absurd (h9 t i refl)
-none_in R κ (Store a v) h1 h2 h3 h4 h5 h6 h7 h8 h9 h10 = absurd (h10 a v refl)
-none_in R κ _ h1 h2 h3 h4 h5 h6 h7 h8 h9 h10 = refl
+none_in R κ (Unary p a) h1 h2 h3 h4 h5 h6 h7 h8 h9 h10 h11 = absurd (h1 p a refl)
+none_in R κ (Binary p a b) h1 h2 h3 h4 h5 h6 h7 h8 h9 h10 h11 = absurd (h2 p a b refl)
+none_in R κ (Split t) h1 h2 h3 h4 h5 h6 h7 h8 h9 h10 h11 = absurd (h3 t refl)
+none_in R κ (If s x y) h1 h2 h3 h4 h5 h6 h7 h8 h9 h10 h11 = absurd (h4 s x y refl)
+none_in R κ (Switches t) h1 h2 h3 h4 h5 h6 h7 h8 h9 h10 h11 = absurd (h5 t refl)
+none_in R κ (Next x k u v) h1 h2 h3 h4 h5 h6 h7 h8 h9 h10 h11 = absurd (h6 x k u v refl)
+none_in R κ (node.Array a b) h1 h2 h3 h4 h5 h6 h7 h8 h9 h10 h11 = absurd (h7 a b refl)
+none_in R κ (Fetch t i) h1 h2 h3 h4 h5 h6 h7 h8 h9 h10 h11 = absurd (h8 t i refl)
+none_in R κ (Address t i) h1 h2 h3 h4 h5 h6 h7 h8 h9 h10 h11 = absurd (h9 t i refl)
+none_in R κ (Store a v) h1 h2 h3 h4 h5 h6 h7 h8 h9 h10 h11 = absurd (h10 a v refl)
+none_in R κ (Bounds a b) h1 h2 h3 h4 h5 h6 h7 h8 h9 h10 h11 = absurd (h11 a b refl)
+none_in R κ _ h1 h2 h3 h4 h5 h6 h7 h8 h9 h10 h11 = refl
 
 pub returns-in_default : goal.returns-in_default
 returns-in_default c =
@@ -176,4 +185,4 @@ returns-in_default c =
     let w = c.in_default in
     subst (λ cs. Notes f cs f)
     (sym (none_in c.args.rows.now (λ k. get_or c.args.kinds.now k None) c.args.node w.not-Unary w.not-Binary w.not-Split w.not-If w.not-Switches
-    w.not-Next w.not-Array w.not-Fetch w.not-Address w.not-Store)) (Notes-none f)
+    w.not-Next w.not-Array w.not-Fetch w.not-Address w.not-Store w.not-Bounds)) (Notes-none f)

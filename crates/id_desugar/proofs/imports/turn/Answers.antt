@@ -32,6 +32,7 @@ handed_on-requires c =
       node = ap is_switches node;
       head = block;
       low = omega (arith, w.0, block);
+      few = c.requires.few;
     }
 
 pub index_mut-requires : goal.index_mut-requires

@@ -5,5 +5,5 @@ use Rattle.id_effects.proofs.effects.add_all_woken.Given as goal
 
 abbrev pub invariant-loop-wait : goal.invariant-loop-wait
 invariant-loop-wait l =
-    l.found.items ++ all_woken l.checked l.cells l.path l.row l.value (drop l.wait-index l.waits) ≡ l.initial.found.items ++
-    all_woken l.checked l.cells l.path l.row l.value l.waits
+    l.found.items ++ all_woken l.checked l.links l.cells l.path l.row l.value (drop l.wait-index l.waits) ≡ l.initial.found.items ++
+    all_woken l.checked l.links l.cells l.path l.row l.value l.waits

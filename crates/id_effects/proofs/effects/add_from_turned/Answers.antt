@@ -13,5 +13,8 @@ returns-in_err-add_given c = on_ok _ c.from_residual-in_err-add_given.result c.f
 pub returns-in_err-add_call : goal.returns-in_err-add_call
 returns-in_err-add_call c = on_ok _ c.from_residual-in_err-add_call.result c.from_residual-in_err-add_call.ensures.0
 
+pub returns-in_err-add_start : goal.returns-in_err-add_start
+returns-in_err-add_start c = on_ok _ c.from_residual-in_err-add_start.result c.from_residual-in_err-add_start.ensures.0
+
 pub returns : goal.returns
 returns c = grind (arith, common_steps)

@@ -4,7 +4,7 @@ use Rattle.std.proofs.lemmas.Grind.{common_steps}
 use Rattle.std.proofs.lemmas.Result.{MatchResult-weaker}
 use Rattle.id_text.specs.declared.token.TokenKind.TheVariants.{Name, Key, Sign}
 use Rattle.id_text.specs.declared.token.Symbol.TheVariants.{Minus, LeftParen, RightParen, LeftBracket, Comma}
-use Rattle.id_text.specs.declared.token.Keyword.TheVariants.{If, While, Next, Not}
+use Rattle.id_text.specs.declared.token.Keyword.TheVariants.{If, While, For, Next, Not}
 use Rattle.id_grammar.specs.declared.phrase.Scope.TheVariants as scope
 use Rattle.id_grammar.specs.Readers.{first_kind, second_kind, truth_in}
 use Rattle.id_grammar.specs.Readers.{may_deny, IsBracket}
@@ -26,9 +26,11 @@ use Rattle.id_parser.proofs.ArrayLemmas.{Adds-assigned, Fails-assigned}
 use Rattle.id_parser.proofs.CallLemmas.{IsRead-named, Leads-named, Fails-named, Applies-name, Applies-call}
 use Rattle.id_parser.proofs.CallLemmas.{Misapplies-call, Leads-unpassed, Hands-first, Fails-argument, Hands-add}
 use Rattle.id_parser.proofs.CallLemmas.{Fails-added, Leads-passed, Fails-passed, IsRead-add, Fails-full}
-use Rattle.id_parser.proofs.BlockLemmas.{opens_braces, At-block, At-loop, Encloses-tail, Exposes-tail, At-binding}
-use Rattle.id_parser.proofs.BlockLemmas.{At-next, Fails-tail, Adds-done, IsGathered-add, Gathers-none, Gathers-add}
+use Rattle.id_parser.proofs.BlockLemmas.{opens_braces, At-block, At-loop, At-for, Encloses-tail, Exposes-tail}
+use Rattle.id_parser.proofs.BlockLemmas.{At-binding, At-next, Fails-tail, Adds-done, IsGathered-add, Gathers-none, Gathers-add}
 use Rattle.id_parser.proofs.BlockLemmas.{Fails-gathered, Leads-gathered, Leads-last, Fails-last}
+use Rattle.id_parser.proofs.ForLemmas.{Misranges-name, Misranges-arrow, Misranges-low, Misranges-high}
+use Rattle.id_parser.proofs.ForLemmas.{Ranges-done, At-ranged, Fails-ranged}
 use Rattle.id_parser.proofs.WholeLemmas.{MatchResult-whole}
 use Rattle.id_parser.proofs.ReadLemmas.{EndsOnce-behind, IsRead-token, IsRead-next, IsRead-both, IsRead-inside, IsRead-beside, IsRead-closed}
 use Rattle.id_parser.proofs.ReadLemmas.{IsGathered-then, IsRead-gathered, IsGathered-call}
@@ -428,12 +430,12 @@ parse_block-returns-in-Err t c =
 
 pub parse_block-returns-in-Err-parse_statements : goal.parse_block-returns-in-Err-parse_statements
 parse_block-returns-in-Err-parse_statements t c =
-    Fails-part (At-block c.in-Ok.ensures.whole c.requires.begins c.in-Ok.ensures.fits c.requires.no_while)
+    Fails-part (At-block c.in-Ok.ensures.whole c.requires.begins c.in-Ok.ensures.fits c.requires.no_while c.requires.no_for)
     c.in-Err-parse_statements.ensures
 
 pub parse_block-returns-in-Err-parse_enclosed : goal.parse_block-returns-in-Err-parse_enclosed
 parse_block-returns-in-Err-parse_enclosed t c =
-    Fails-part (At-block c.in-Ok.ensures.whole c.requires.begins c.in-Ok.ensures.fits c.requires.no_while)
+    Fails-part (At-block c.in-Ok.ensures.whole c.requires.begins c.in-Ok.ensures.fits c.requires.no_while c.requires.no_for)
     (Fails-gathered c.in-Ok-parse_statements.ensures.2
     (Fails-last scope.Block c.split.ensures.whole c.in-Ok-parse_statements.ensures.1 c.in-Ok.ensures.fits c.in-Err-parse_enclosed.ensures))
 
@@ -442,7 +444,7 @@ parse_block-returns t c =
     MatchResult-whole c.block.result c.with_rest.result _ _ _ _ c.with_rest.ensures c.block.ensures (λ x p s. rw s (
       IsRead-inside c.in-Ok.ensures.whole
           (IsRead-gathered c.in-Ok-parse_statements.ensures.0 c.split.ensures.whole c.in-Ok-parse_enclosed.ensures.0) p.0,
-      Leads-at p.1 (omega (arith, p.0)) (Leads-done (At-part (At-block c.in-Ok.ensures.whole c.requires.begins c.in-Ok.ensures.fits c.requires.no_while)
+      Leads-at p.1 (omega (arith, p.0)) (Leads-done (At-part (At-block c.in-Ok.ensures.whole c.requires.begins c.in-Ok.ensures.fits c.requires.no_while c.requires.no_for)
           (Leads-gathered c.in-Ok-parse_statements.ensures.2
           (Leads-last scope.Block c.split.ensures.whole c.in-Ok-parse_statements.ensures.1 c.in-Ok.ensures.fits c.in-Ok-parse_enclosed.ensures.1)))),
     ))
@@ -453,10 +455,17 @@ parse_braces-parse_loop-requires t c =
     let is : first_kind c.split.result.1.now ≡ Key While = search rules in
     (grind (arith, common_steps), (c.requires.ends, (c.requires.begins, (ap second_kind c.split.ensures.whole ∙ is, c.requires.room))))
 
+pub parse_braces-parse_for-requires : goal.parse_braces-parse_for-requires
+parse_braces-parse_for-requires t c =
+    let is : first_kind c.split.result.1.now ≡ Key For = search rules in
+    (grind (arith, common_steps), (c.requires.ends, (c.requires.begins, (ap second_kind c.split.ensures.whole ∙ is, c.requires.room))))
+
 pub parse_braces-parse_block-requires : goal.parse_braces-parse_block-requires
 parse_braces-parse_block-requires t c =
-    let is_not : first_kind c.split.result.1.now ≡ Key While → ⊥ = search rules in
-    (grind (arith, common_steps), (c.requires.ends, (c.requires.begins, (λ q. is_not (ap second_kind (sym c.split.ensures.whole) ∙ q), c.requires.room))))
+    let no_while : first_kind c.split.result.1.now ≡ Key While → ⊥ = search rules in
+    let no_for : first_kind c.split.result.1.now ≡ Key For → ⊥ = search rules in
+    let at = ap second_kind (sym c.split.ensures.whole) in
+    (grind (arith, common_steps), (c.requires.ends, (c.requires.begins, (λ q. no_while (at ∙ q), (λ q. no_for (at ∙ q), c.requires.room)))))
 
 pub parse_loop-split-requires : goal.parse_loop-split-requires
 parse_loop-split-requires t c =
@@ -531,6 +540,112 @@ parse_loop-returns t c =
           (Leads-last scope.Loop c.split-2.ensures.whole c.in-Ok-parse_statements.ensures.1 c.in-Ok.ensures.fits c.in-Ok-parse_enclosed-2.ensures.1)))),
     ))
     (record { fails = λ K. tt })
+
+pub parse_for-split-requires : goal.parse_for-split-requires
+parse_for-split-requires t c =
+    EndsOnce-behind c.in-Ok.ensures.whole c.requires.begins (λ q. cc) c.in-Ok.ensures.ends
+
+pub parse_for-parse_index-requires : goal.parse_for-parse_index-requires
+parse_for-parse_index-requires t c = (
+  grind (arith, common_steps),
+  (
+    EndsOnce-behind c.split.ensures.whole (sym (ap second_kind c.in-Ok.ensures.whole) ∙ c.requires.counts) (λ q. cc) c.split.ensures.ends,
+    omega (arith, c.in-Ok.ensures.fits),
+  ),
+)
+
+pub parse_for-parse_statements-requires : goal.parse_for-parse_statements-requires
+parse_for-parse_statements-requires t c =
+    (grind (arith, common_steps), (c.in-Ok-parse_index.ensures.0.behind.ends, omega (arith, c.in-Ok.ensures.fits)))
+
+pub parse_for-split-requires-2 : goal.parse_for-split-requires-2
+parse_for-split-requires-2 t c =
+    c.in-Ok-parse_statements.ensures.0.ends
+
+pub parse_for-parse_enclosed-requires : goal.parse_for-parse_enclosed-requires
+parse_for-parse_enclosed-requires t c = (
+  grind (arith, common_steps),
+  (
+    EndsOnce-behind c.split-2.ensures.whole c.in-Ok-parse_statements.ensures.1 (λ q. cc) c.split-2.ensures.ends,
+    omega (arith, c.in-Ok.ensures.fits),
+  ),
+)
+
+pub parse_for-overflow_add-inner : goal.parse_for-overflow_add-inner
+parse_for-overflow_add-inner t c =
+    omega (arith, c.requires.room)
+
+pub parse_for-overflow_add-inner-2 : goal.parse_for-overflow_add-inner-2
+parse_for-overflow_add-inner-2 t c =
+    omega (arith, c.requires.room)
+
+pub parse_for-returns-in-Err : goal.parse_for-returns-in-Err
+parse_for-returns-in-Err t c =
+    Fails-deep c.requires.ends (opens_braces c.requires.begins) _ _ c.in-Err.ensures.err c.in-Err.ensures.deep
+
+pub parse_for-returns-in-Err-parse_index : goal.parse_for-returns-in-Err-parse_index
+parse_for-returns-in-Err-parse_index t c =
+    Fails-ranged (At-for c.in-Ok.ensures.whole c.requires.begins c.in-Ok.ensures.fits c.split.ensures.whole c.requires.counts) c.in-Err-parse_index.ensures
+
+pub parse_for-returns-in-Err-parse_statements : goal.parse_for-returns-in-Err-parse_statements
+parse_for-returns-in-Err-parse_statements t c =
+    Fails-part (At-ranged (At-for c.in-Ok.ensures.whole c.requires.begins c.in-Ok.ensures.fits c.split.ensures.whole c.requires.counts)
+    c.in-Ok-parse_index.ensures.1) c.in-Err-parse_statements.ensures
+
+pub parse_for-returns-in-Err-parse_enclosed : goal.parse_for-returns-in-Err-parse_enclosed
+parse_for-returns-in-Err-parse_enclosed t c =
+    Fails-part (At-ranged (At-for c.in-Ok.ensures.whole c.requires.begins c.in-Ok.ensures.fits c.split.ensures.whole c.requires.counts)
+    c.in-Ok-parse_index.ensures.1)
+    (Fails-gathered c.in-Ok-parse_statements.ensures.2
+    (Fails-last scope.Loop c.split-2.ensures.whole c.in-Ok-parse_statements.ensures.1 c.in-Ok.ensures.fits c.in-Err-parse_enclosed.ensures))
+
+pub parse_for-returns : goal.parse_for-returns
+parse_for-returns t c =
+    MatchResult-whole c.whole_for.result c.with_rest.result _ _ _ _ c.with_rest.ensures c.whole_for.ensures (λ x p s. rw s (
+      IsRead-inside c.in-Ok.ensures.whole
+          (IsRead-gathered (IsGathered-then (IsRead-next c.split.ensures.whole c.in-Ok-parse_index.ensures.0) c.in-Ok-parse_statements.ensures.0)
+          c.split-2.ensures.whole c.in-Ok-parse_enclosed.ensures.0) p.0,
+      Leads-at p.1 (omega (arith, p.0))
+          (Leads-done (At-part (At-ranged (At-for c.in-Ok.ensures.whole c.requires.begins c.in-Ok.ensures.fits c.split.ensures.whole c.requires.counts)
+          c.in-Ok-parse_index.ensures.1)
+          (Leads-gathered c.in-Ok-parse_statements.ensures.2
+          (Leads-last scope.Loop c.split-2.ensures.whole c.in-Ok-parse_statements.ensures.1 c.in-Ok.ensures.fits c.in-Ok-parse_enclosed.ensures.1)))),
+    ))
+    (record { fails = λ K. tt })
+
+pub parse_index-parse_enclosed-requires : goal.parse_index-parse_enclosed-requires
+parse_index-parse_enclosed-requires t c =
+    (grind (arith, common_steps), (c.in-Ok-expect_word.ensures.behind.ends, c.requires.room))
+
+pub parse_index-parse_enclosed-requires-2 : goal.parse_index-parse_enclosed-requires-2
+parse_index-parse_enclosed-requires-2 t c =
+    (grind (arith, common_steps), (c.in-Ok-parse_enclosed.ensures.0.behind.ends, c.requires.room))
+
+pub parse_index-returns-in-Err : goal.parse_index-returns-in-Err
+parse_index-returns-in-Err t c =
+    Misranges-name c.args.depth c.in-Err.ensures.err
+
+pub parse_index-returns-in-Err-expect_word : goal.parse_index-returns-in-Err-expect_word
+parse_index-returns-in-Err-expect_word t c =
+    Misranges-arrow c.args.depth c.in-Ok.ensures.ok c.in-Err-expect_word.ensures.err
+
+pub parse_index-returns-in-Err-parse_enclosed : goal.parse_index-returns-in-Err-parse_enclosed
+parse_index-returns-in-Err-parse_enclosed t c =
+    Misranges-low c.args.depth c.in-Ok.ensures.ok c.in-Ok-expect_word.ensures.ok c.in-Err-parse_enclosed.ensures
+
+pub parse_index-returns-in-Err-parse_enclosed-2 : goal.parse_index-returns-in-Err-parse_enclosed-2
+parse_index-returns-in-Err-parse_enclosed-2 t c =
+    Misranges-high c.args.depth c.in-Ok.ensures.ok c.in-Ok-expect_word.ensures.ok c.in-Ok-parse_enclosed.ensures.1
+    c.in-Err-parse_enclosed-2.ensures
+
+pub parse_index-returns : goal.parse_index-returns
+parse_index-returns t c =
+    let e = c.indexed.ensures in (
+      rw e.height (IsRead-behind c.in-Ok.ensures.behind
+          (IsRead-behind c.in-Ok-expect_word.ensures.behind (IsRead-both c.in-Ok-parse_enclosed.ensures.0 c.in-Ok-parse_enclosed-2.ensures.0))),
+      rw (e.name, e.place, e.low, e.high, e.height) (Ranges-done c.args.depth c.in-Ok.ensures.ok c.in-Ok-expect_word.ensures.ok
+          c.in-Ok-parse_enclosed.ensures.1 c.in-Ok-parse_enclosed-2.ensures.1),
+    )
 
 pub parse_statements-stmts-init : goal.parse_statements-stmts-init
 parse_statements-stmts-init t c = (

@@ -20,6 +20,12 @@ decreases-parse_block l = (200 - l.depth) * 32
 abbrev pub decreases-parse_loop : goal.decreases-parse_loop
 decreases-parse_loop l = (200 - l.depth) * 32
 
+abbrev pub decreases-parse_for : goal.decreases-parse_for
+decreases-parse_for l = (200 - l.depth) * 32
+
+abbrev pub decreases-parse_index : goal.decreases-parse_index
+decreases-parse_index l = (200 - l.depth) * 32 + 19
+
 abbrev pub decreases-parse_braces : goal.decreases-parse_braces
 decreases-parse_braces l = (200 - l.depth) * 32 + 1
 

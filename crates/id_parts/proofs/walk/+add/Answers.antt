@@ -1,13 +1,16 @@
 use Rattle.std.proofs.Common.{◌+◌, sym, ap, ◌∙◌, drop, length, arith}
 use Rattle.std.proofs.lemmas.List.{drop_all}
+use Rattle.std.proofs.lemmas.Result.{on_ok_weaker}
 use Rattle.id_grammar.specs.declared.tree.Expr.TheFolds.{the_lemmas}
 use Rattle.id_grammar.specs.Tree.{tree_of, stmt_tree}
-use Rattle.id_table.specs.Rows.{add, add_arguments, add_nexts, begin_loop}
-use Rattle.id_maker.specs.Making.{add_body, exprs_tree, parts, stmts_tree}
+use Rattle.id_table.specs.declared.row.Node.TheVariants.{Body}
+use Rattle.id_table.specs.Rows.{add, add_arguments, add_nexts, begin_for, begin_loop, with_row}
+use Rattle.id_maker.specs.Making.{add_body, add_counting, exprs_tree, parts, stmts_tree}
 use Rattle.id_parts.proofs.MakingLemmas.{added_as, done_as, unary_row, pair_row, conditional_row, call_row, argument_row, block_row, binding_row, store_row}
-use Rattle.id_parts.proofs.MakingLemmas.{next_row, body_row, loop_row, statement_step, other_step, next_step}
-use Rattle.id_parts.proofs.MakingLemmas.{call_tree, block_tree, loop_tree, unary_tree, binary_tree, array_tree, fetch_tree, conditional_tree, store_tree}
-use Rattle.id_parts.proofs.walk.+add.Goals.{add_body-in-Next+in_ok-add_next-in-Next, add_body-in_default+in_ok-add_statement-in_default}
+use Rattle.id_parts.proofs.MakingLemmas.{next_row, body_row, counting_row, loop_row, for_row, statement_step, other_step, next_step}
+use Rattle.id_parts.proofs.MakingLemmas.{call_tree, block_tree, loop_tree, counted_tree, unary_tree, binary_tree, array_tree, fetch_tree, conditional_tree, store_tree}
+use Rattle.id_parts.proofs.walk.+add.Goals.{add_loop_statements-in-Next+in_ok-add_next-in-Next}
+use Rattle.id_parts.proofs.walk.+add.Goals.{add_loop_statements-in_default+in_ok-add_statement-in_default}
 use Rattle.id_parts.proofs.walk.+add.Goals as goal
 
 pub add_expr-returns-in-Unary : goal.add_expr-returns-in-Unary
@@ -57,6 +60,14 @@ add_expr-returns-in-Loop t c =
     added_as c.add_loop.result (parts c.add_loop.new.maker) _ _
     (ap (add c.args.stand (parts c.args.maker.now)) (loop_tree c.args.expr.now a.place a.inside d.result.now d.ensures a.is))
     c.add_loop.ensures
+
+pub add_expr-returns-in-For : goal.add_expr-returns-in-For
+add_expr-returns-in-For t c =
+    let a = c.in-For in
+    let d = c.deref-in-For in
+    added_as c.add_for.result (parts c.add_for.new.maker) _ _
+    (ap (add c.args.stand (parts c.args.maker.now)) (counted_tree c.args.expr.now a.place a.inside d.result.now d.ensures a.is))
+    c.add_for.ensures
 
 pub add_expr-returns-in-Array : goal.add_expr-returns-in-Array
 add_expr-returns-in-Array t c =
@@ -166,23 +177,23 @@ add_next-returns t c =
     c.in_ok-number.ensures.added c.in_ok-number.ensures.number c.in_ok-value.ensures)
     c.push_next.ensures
 
-pub add_body-loop-statement-preserved : goal.add_body-loop-statement-preserved
-add_body-loop-statement-preserved t c =
+pub add_loop_statements-loop-statement-preserved : goal.add_loop_statements-loop-statement-preserved
+add_loop_statements-loop-statement-preserved t c =
     let s = c.args.stand in
     let T = parts c.loop-statement.maker in
-    let V = add_nexts s 0 (parts c.push_turn.new.self) (stmts_tree c.args.statements.now) in
+    let V = add_nexts s c.args.carried (parts c.args.maker.now) (stmts_tree c.args.statements.now) in
     let xs = c.args.statements.now in
     let k = c.loop-statement.index in
     let i = c.loop-statement.statement-index in
     let d = c.statement-item.result in
     elim c.match-statement.branch [
-      | add_body-in-Next+in_ok-add_next-in-Next w ↦ record {
+      | add_loop_statements-in-Next+in_ok-add_next-in-Next w ↦ record {
         counted = omega (arith, c.loop-statement.invariant.counted, w.index-is);
         rest = ap (λ n. add_nexts s n (parts c.match-statement.maker) (stmts_tree (drop (i + 1) xs))) w.index-is
             ∙ next_step s k i T (parts c.match-statement.maker) V xs w.in-Next.name w.in-Next.value w.in-Next.place d c.loop-statement-test.true
             (sym c.statement-item.is ∙ w.in-Next.is) (ap parts w.maker-is ∙ w.in_ok-add_next-in-Next.ensures) c.loop-statement.invariant.rest;
       }
-      | add_body-in_default+in_ok-add_statement-in_default w ↦ record {
+      | add_loop_statements-in_default+in_ok-add_statement-in_default w ↦ record {
         counted = omega (arith, c.loop-statement.invariant.counted, w.index-is);
         rest = ap (λ n. add_nexts s n (parts c.match-statement.maker) (stmts_tree (drop (i + 1) xs))) w.index-is
             ∙ other_step s k i T (parts c.match-statement.maker) V xs d c.loop-statement-test.true c.statement-item.is w.in_default.not-Next
@@ -190,19 +201,31 @@ add_body-loop-statement-preserved t c =
       }
     ]
 
-pub add_body-returns : goal.add_body-returns
-add_body-returns t c =
+pub add_loop_statements-returns : goal.add_loop_statements-returns
+add_loop_statements-returns t c =
     let s = c.args.stand in
-    let B = parts c.push_turn.new.self in
     let N = parts c.loop-statement.maker in
-    let xs = c.args.statements.now in
     let k = c.loop-statement.index in
-    let begun = c.in_ok-begun.ensures in
-    let none = drop_all c.loop-statement.statement-index xs c.loop-statement-test.false in
+    let none = drop_all c.loop-statement.statement-index c.args.statements.now c.loop-statement-test.false in
     done_as c.put.result (parts c.put.new.self) _ _
-    (body_row s (parts c.args.maker.now) B N (stmts_tree xs) c.args.place c.in_ok-begun.begun begun.0 begun.1
+    (ap (λ U. with_row U s c.args.place c.args.begun Body)
     (ap (λ ys. add_nexts s k N (stmts_tree ys)) (sym none) ∙ c.loop-statement.invariant.rest))
     c.put.ensures
+
+pub add_body-returns : goal.add_body-returns
+add_body-returns t c =
+    let begun = c.in_ok-begun.ensures in
+    on_ok_weaker c.add_loop_statements.result
+    (body_row c.args.stand (parts c.args.maker.now) (parts c.push_turn.new.self) (parts c.add_loop_statements.new.maker)
+    (stmts_tree c.args.statements.now) c.args.place c.in_ok-begun.begun begun.0 begun.1)
+    c.add_loop_statements.ensures
+
+pub add_counting-returns : goal.add_counting-returns
+add_counting-returns t c =
+    on_ok_weaker c.add_loop_statements.result
+    (counting_row c.args.stand (parts c.args.maker.now) (parts c.begin_counting.new.self) (parts c.add_loop_statements.new.maker)
+    c.args.name.now c.args.index (stmts_tree c.args.statements.now) c.args.place c.in_ok-begun.begun c.in_ok-begun.ensures)
+    c.add_loop_statements.ensures
 
 pub add_loop-returns : goal.add_loop-returns
 add_loop-returns t c =
@@ -219,6 +242,24 @@ add_loop-returns t c =
     (c.in_ok-inside.ensures.added ∙ ap (λ ss. begin_loop c.args.stand T (stmts_tree ss) p) s) c.in_ok-inside.ensures.inside (omega arith)
     c.in_ok-test.ensures c.in_ok-body.ensures.added c.in_ok-body.ensures.side
     (c.in_ok-add_body.ensures ∙ ap (λ ss. add_body b W (stmts_tree ss) p) s) c.other_side-behind.ensures (omega arith)
+    c.in_ok-last.ensures)
+    c.end_loop.ensures
+
+pub add_for-returns : goal.add_for-returns
+add_for-returns t c =
+    let A = parts c.put.new.self in
+    let W = parts c.begin_for.new.self in
+    let v = c.args.round.now in
+    let p = c.args.place in
+    let s = c.as_slice-statements.ensures.value in
+    let b = c.in_ok-body.body in
+    added_as c.end_loop.result (parts c.end_loop.new.self) _ _
+    (for_row c.args.stand b c.other_side-behind.result (parts c.args.maker.now) (parts c.add_expr.new.maker) (parts c.add_expr-2.new.maker) A W
+    (parts c.add_counting.new.maker) (parts c.add_expr-3.new.maker) v.name v.index (tree_of v.low) (tree_of v.high) (stmts_tree v.statements.items)
+    (tree_of v.last) p c.len-first.result c.len-start.result c.in_ok-low.low c.in_ok-high.high c.len-closed.result c.in_ok-last.last (omega arith)
+    c.in_ok-low.ensures c.in_ok-high.ensures c.in_ok-put.ensures (omega arith)
+    (c.in_ok-body.ensures.added ∙ ap (λ ss. begin_for c.args.stand A (stmts_tree ss) v.index p) s) c.in_ok-body.ensures.side
+    (c.in_ok-add_counting.ensures ∙ ap (λ ss. add_counting b W v.name v.index (stmts_tree ss) p) s) c.other_side-behind.ensures (omega arith)
     c.in_ok-last.ensures)
     c.end_loop.ensures
 
@@ -276,6 +317,9 @@ add_expr-add_block-requires t c = grind (the_lemmas, arith)
 pub add_expr-add_loop-requires : goal.add_expr-add_loop-requires
 add_expr-add_loop-requires t c = grind (the_lemmas, arith)
 
+pub add_expr-add_for-requires : goal.add_expr-add_for-requires
+add_expr-add_for-requires t c = grind (the_lemmas, arith)
+
 pub add_pair-add_expr-requires : goal.add_pair-add_expr-requires
 add_pair-add_expr-requires t c = grind (the_lemmas, arith)
 
@@ -324,11 +368,23 @@ add_loop-add_expr-requires-2 t c = grind (the_lemmas, arith)
 pub add_loop-add_body-requires : goal.add_loop-add_body-requires
 add_loop-add_body-requires t c = grind (the_lemmas, arith)
 
-pub add_body-add_next-requires : goal.add_body-add_next-requires
-add_body-add_next-requires t c = grind (the_lemmas, arith)
+pub add_for-add_expr-requires : goal.add_for-add_expr-requires
+add_for-add_expr-requires t c = grind (the_lemmas, arith)
 
-pub add_body-add_statement-requires : goal.add_body-add_statement-requires
-add_body-add_statement-requires t c = grind (the_lemmas, arith)
+pub add_for-add_expr-requires-2 : goal.add_for-add_expr-requires-2
+add_for-add_expr-requires-2 t c = grind (the_lemmas, arith)
+
+pub add_for-add_expr-requires-3 : goal.add_for-add_expr-requires-3
+add_for-add_expr-requires-3 t c = grind (the_lemmas, arith)
+
+pub add_for-add_counting-requires : goal.add_for-add_counting-requires
+add_for-add_counting-requires t c = grind (the_lemmas, arith)
+
+pub add_loop_statements-add_next-requires : goal.add_loop_statements-add_next-requires
+add_loop_statements-add_next-requires t c = grind (the_lemmas, arith)
+
+pub add_loop_statements-add_statement-requires : goal.add_loop_statements-add_statement-requires
+add_loop_statements-add_statement-requires t c = grind (the_lemmas, arith)
 
 pub add_store-add_expr-requires : goal.add_store-add_expr-requires
 add_store-add_expr-requires t c = grind (the_lemmas, arith)

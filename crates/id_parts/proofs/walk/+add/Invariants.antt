@@ -54,14 +54,23 @@ abbrev pub decreases-add_loop : goal.decreases-add_loop
 decreases-add_loop l = 4 * goal.size-add_loop l + 3
 
 abbrev pub decreases-add_body : goal.decreases-add_body
-decreases-add_body l = 4 * goal.size-add_body l + 2
+decreases-add_body l = 4 * goal.size-add_body l + 3
+
+abbrev pub decreases-add_for : goal.decreases-add_for
+decreases-add_for l = 4 * goal.size-add_for l + 3
+
+abbrev pub decreases-add_counting : goal.decreases-add_counting
+decreases-add_counting l = 4 * goal.size-add_counting l + 3
+
+abbrev pub decreases-add_loop_statements : goal.decreases-add_loop_statements
+decreases-add_loop_statements l = 4 * goal.size-add_loop_statements l + 2
 
 abbrev pub decreases-add_next : goal.decreases-add_next
 decreases-add_next l = 4 * goal.size-add_next l + 1
 
-abbrev pub invariant-add_body-loop-statement : goal.invariant-add_body-loop-statement
-invariant-add_body-loop-statement l = record {
-  counted : l.index ≤ l.statement-index;
+abbrev pub invariant-add_loop_statements-loop-statement : goal.invariant-add_loop_statements-loop-statement
+invariant-add_loop_statements-loop-statement l = record {
+  counted : l.index ≤ l.carried + l.statement-index;
   rest : add_nexts l.stand l.index (parts l.maker) (stmts_tree (drop l.statement-index l.statements))
-      ≡ add_nexts l.stand 0 (parts l.initial.maker) (stmts_tree l.statements);
+      ≡ add_nexts l.stand l.carried (parts l.initial.maker) (stmts_tree l.statements);
 }

@@ -1,17 +1,22 @@
 -- The entries of a loop's imports are a row.
-use Rattle.std.proofs.Common.{◌+◌, List, ℕ, ap, arith, length}
-use Rattle.id_pieces.proofs.LoopsLemmas.{head_inside, rows_few}
+use Rattle.std.proofs.Common.{◌+◌, List, ℕ, ap, arith, length, ◌∙◌}
+use Rattle.id_desugar.specs.Regions.{first_variable}
+use Rattle.id_pieces.proofs.LoopsLemmas.{carried_few, head_inside, rows_few}
 use Rattle.id_pieces.proofs.loops.entries_row.Goals as goal
 
 pub overflow_add-result : goal.overflow_add-result
-overflow_add-result c = omega (arith, head_inside c.args.checked.now c.args.head c.requires.head, rows_few c.args.checked.now)
+overflow_add-result c =
+    let P = c.args.checked.now in
+    let h = c.args.head in
+    omega (arith, head_inside P h c.requires.head, rows_few P, carried_few P h, c.first_variable.ensures, c.nexts_at.ensures.few)
 
 pub returns : goal.returns
-returns c = ap (λ (l : List ℕ). c.args.head + 1 + length l) c.nexts_at.ensures.nexts
-
-pub overflow_add-result-2 : goal.overflow_add-result-2
-overflow_add-result-2 c =
-    omega (arith, head_inside c.args.checked.now c.args.head c.requires.head, rows_few c.args.checked.now, c.nexts_at.ensures.few)
+returns c =
+    ap (λ v. v + length c.nexts_at.result.now) c.first_variable.ensures
+    ∙ ap (λ (l : List ℕ). first_variable c.args.checked.now c.args.head + length l) c.nexts_at.ensures.nexts
 
 pub nexts_at-requires : goal.nexts_at-requires
 nexts_at-requires c = record { columns = c.requires.columns; head = c.requires.head }
+
+pub first_variable-requires : goal.first_variable-requires
+first_variable-requires c = head_inside c.args.checked.now c.args.head c.requires.head

@@ -1,24 +1,53 @@
--- The switches of a loop hand on its variables first.
-use Rattle.std.proofs.Common.{◌≡◌, ◌∙◌, ◌-◌, ap, arith, length, length-append, take}
-use Rattle.id_desugar.specs.Regions.{imports_of, nexts_of}
-use Rattle.id_pieces.proofs.LoopsLemmas.{head_inside, nexts_first, take_front}
+-- The switches of a loop hand on its variables, behind the bound of its index.
+use Rattle.std.proofs.Common.{◌≡◌, ◌∙◌, true, false, ap, sym, length}
+use Rattle.id_desugar.specs.Regions.{bound_of, imports_of, nexts_of}
+use Rattle.id_pieces.proofs.LoopsLemmas.{bound_count, head_inside, middle_is, nexts_first}
+use Rattle.id_pieces.proofs.loops.nexts_at.Goals.{then-has_index, else-has_index}
 use Rattle.id_pieces.proofs.loops.nexts_at.Goals as goal
+
+pub overflow_sub-result : goal.overflow_sub-result
+overflow_sub-result c =
+    let P = c.args.checked.now in
+    let h = c.args.head in
+    let all = c.imports-handed.ensures ∙ ap (imports_of P) c.switches_row.ensures.switches ∙ nexts_first P h c.requires.head in
+    let first : c.if-has_index.first ≡ length (bound_of P h) = elim c.if-has_index.branch [
+      | then-has_index w ↦ w.first-is ∙ sym (bound_count P h true (sym c.has_index.ensures ∙ w.if-has_index.true))
+      | else-has_index w ↦ w.first-is ∙ sym (bound_count P h false (sym c.has_index.ensures ∙ w.if-has_index.false))
+    ] in
+    (middle_is c.if-has_index.first (bound_of P h) (nexts_of P h) (imports_of P h) _ _ all c.imports-inner.ensures first).0
+
+pub slice_bounds-result-start : goal.slice_bounds-result-start
+slice_bounds-result-start c =
+    let P = c.args.checked.now in
+    let h = c.args.head in
+    let all = c.imports-handed.ensures ∙ ap (imports_of P) c.switches_row.ensures.switches ∙ nexts_first P h c.requires.head in
+    let first : c.if-has_index.first ≡ length (bound_of P h) = elim c.if-has_index.branch [
+      | then-has_index w ↦ w.first-is ∙ sym (bound_count P h true (sym c.has_index.ensures ∙ w.if-has_index.true))
+      | else-has_index w ↦ w.first-is ∙ sym (bound_count P h false (sym c.has_index.ensures ∙ w.if-has_index.false))
+    ] in
+    (middle_is c.if-has_index.first (bound_of P h) (nexts_of P h) (imports_of P h) _ _ all c.imports-inner.ensures first).1
 
 pub slice_bounds-result-count : goal.slice_bounds-result-count
 slice_bounds-result-count c =
     let P = c.args.checked.now in
     let h = c.args.head in
     let all = c.imports-handed.ensures ∙ ap (imports_of P) c.switches_row.ensures.switches ∙ nexts_first P h c.requires.head in
-    omega (arith, ap length all, length-append (nexts_of P h) (imports_of P h), ap length c.imports-inner.ensures)
+    let first : c.if-has_index.first ≡ length (bound_of P h) = elim c.if-has_index.branch [
+      | then-has_index w ↦ w.first-is ∙ sym (bound_count P h true (sym c.has_index.ensures ∙ w.if-has_index.true))
+      | else-has_index w ↦ w.first-is ∙ sym (bound_count P h false (sym c.has_index.ensures ∙ w.if-has_index.false))
+    ] in
+    (middle_is c.if-has_index.first (bound_of P h) (nexts_of P h) (imports_of P h) _ _ all c.imports-inner.ensures first).1
 
 pub returns-clause-nexts : goal.returns-clause-nexts
 returns-clause-nexts c =
     let P = c.args.checked.now in
     let h = c.args.head in
     let all = c.imports-handed.ensures ∙ ap (imports_of P) c.switches_row.ensures.switches ∙ nexts_first P h c.requires.head in
-    let count : length c.imports-handed.result.now - length c.imports-inner.result.now ≡ length (nexts_of P h) =
-    omega (arith, ap length all, length-append (nexts_of P h) (imports_of P h), ap length c.imports-inner.ensures) in
-    ap (take (length c.imports-handed.result.now - length c.imports-inner.result.now)) all ∙ take_front (nexts_of P h) (imports_of P h) _ count
+    let first : c.if-has_index.first ≡ length (bound_of P h) = elim c.if-has_index.branch [
+      | then-has_index w ↦ w.first-is ∙ sym (bound_count P h true (sym c.has_index.ensures ∙ w.if-has_index.true))
+      | else-has_index w ↦ w.first-is ∙ sym (bound_count P h false (sym c.has_index.ensures ∙ w.if-has_index.false))
+    ] in
+    (middle_is c.if-has_index.first (bound_of P h) (nexts_of P h) (imports_of P h) _ _ all c.imports-inner.ensures first).2
 
 pub switches_row-requires : goal.switches_row-requires
 switches_row-requires c = record {
@@ -31,3 +60,6 @@ imports-inner-requires c = c.requires.columns
 
 pub imports-handed-requires : goal.imports-handed-requires
 imports-handed-requires c = c.requires.columns
+
+pub has_index-requires : goal.has_index-requires
+has_index-requires c = head_inside c.args.checked.now c.args.head c.requires.head

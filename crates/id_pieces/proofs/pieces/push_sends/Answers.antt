@@ -1,9 +1,20 @@
--- The variables of a loop stand behind its head.
+-- The variables of a loop are rows.
 use Rattle.std.proofs.Common.{arith}
-use Rattle.id_pieces.proofs.LoopsLemmas.{head_inside}
+use Rattle.id_pieces.specs.Rows.{node}
+use Rattle.id_pieces.proofs.LoopsLemmas.{entries_within, head_inside, loop_head_is}
 use Rattle.id_pieces.proofs.pieces.push_sends.Goals as goal
+
+pub push_carried_sends-requires : goal.push_carried_sends-requires
+push_carried_sends-requires c = record { head = head_inside c.args.checked.now c.args.head c.requires.head }
+
+pub first_variable-first-requires : goal.first_variable-first-requires
+first_variable-first-requires c = head_inside c.args.checked.now c.args.head c.requires.head
 
 pub push_variable_sends-requires : goal.push_variable_sends-requires
 push_variable_sends-requires c =
-    let rows = c.args.checked.now.table.rows in
-    record { few = omega (arith, head_inside c.args.checked.now c.args.head c.requires.head, rows.ok.0, rows.ok.1, rows.small) }
+    let P = c.args.checked.now in
+    let h = c.args.head in
+    let rows = P.table.rows in
+    let z = loop_head_is (node P h) c.requires.head in
+    let low = entries_within P h z.0 (head_inside P h c.requires.head) z.1 in
+    record { few = omega (arith, low, rows.ok.0, rows.ok.1, rows.small, c.first_variable-first.ensures) }

@@ -1,8 +1,0 @@
--- The `next`s so far.
-use Rattle.std.proofs.Common.{◌≡◌, ◌+◌, ◌-◌, ◌++◌, length}
-use Rattle.id_check.specs.Programs.{rows}
-use Rattle.id_desugar.specs.Regions.{nexts_from, nexts_of}
-use Rattle.id_desugar.proofs.imports.next_rows.Given as goal
-
-abbrev pub invariant-loop-row : goal.invariant-loop-row
-invariant-loop-row l = l.list.items ++ nexts_from l.checked l.row (l.head + 1 + length (rows l.checked) - l.row) ≡ nexts_of l.checked l.head
