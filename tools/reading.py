@@ -161,7 +161,8 @@ class Parser:
             self.take(")")
             return Node("array", head.at, "array", [low, high])
         if head.kind == "{":
-            return self.loop(head) if self.kind == "while" else self.block(head)
+            inside = {"while": self.loop, "for": self.count}.get(self.kind, self.block)
+            return inside(head)
         if self.kind != "(":
             return Node("name", head.at, head.text)
         self.take("(")
@@ -185,14 +186,30 @@ class Parser:
 
     def loop(self, head):
         self.take("while")
-        predicate, statements = self.expr(), []
+        predicate = self.expr()
+        statements, last = self.turns()
+        return Node("loop", head.at, "{", [predicate, last], statements)
+
+    def count(self, head):
+        self.take("for")
+        name = self.take("name")
+        self.take("<-")
+        low = self.expr()
+        self.take("to")
+        high = self.expr()
+        statements, last = self.turns()
+        return Node("for", head.at, "{", [low, high, last], statements, [Node("index", name.at, name.text)])
+
+    def turns(self):
+        """What a loop has behind its predicate or its bounds: its statements, and its last expression."""
+        statements = []
         self.take("do")
         while self.kind in ("name", "next"):
             statements.append(self.next() if self.kind == "next" else self.statement())
         self.take("finally")
         last = self.expr()
         self.take("}")
-        return Node("loop", head.at, "{", [predicate, last], statements)
+        return statements, last
 
     def next(self):
         head = self.take("next")
@@ -223,7 +240,7 @@ def tree_of(text):
     return Parser(tokens_of(text)).program()
 
 
-EACH = sorted(RESERVED - {"for", "to"}) + "( ) { } [ ] , ; : = == <> < <= > >= + - *".split() + ["name", "number", END]
+EACH = sorted(RESERVED) + "( ) { } [ ] , ; : = == <> < <= > >= <- + - *".split() + ["name", "number", END]
 
 
 def expected(tokens, number):
@@ -248,15 +265,24 @@ def walk(node, above=()):
         yield from walk(part, above + (node,))
 
 
+# What binds the name of a value.
+BINDERS = ("binding", "next", "parameter", "index")
+
+
+def bounds_of(node):
+    """The parts of a loop that stand outside of it: the bounds of an index."""
+    return node.parts[:2] if node.form == "for" else []
+
+
 def scopes_of(node, above):
     """The scopes of a use, innermost first: lists of the binders that are seen there."""
     found, below = [], node
     for outer in reversed(above):
         if outer.form == "block":
             found.append([s for s in outer.statements if s.form == "binding"])
-        elif outer.form == "loop":
+        elif outer.form in ("loop", "for") and below not in bounds_of(outer):
             if below in outer.statements and not (node.form == "next" and node is below):
-                found.append([s for s in outer.statements if s.form != "store"])
+                found.append(outer.params + [s for s in outer.statements if s.form != "store"])
             elif not (node.form == "next" and node is below):
                 found.append([s for s in outer.statements if s.form == "next"])
         elif outer.form == "definition":

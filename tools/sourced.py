@@ -12,7 +12,6 @@ ON = re.compile(rf"on {SITE}$")
 HAS = re.compile(rf"has {SITE} = (.+)$")
 SHAPE = re.compile(r"shape (\S+) (-?\d+)\.\.(-?\d+)$")
 PUT = re.compile(rf"put (\S+)\[(-?\d+)\] = (\S+) by {SITE}$")
-BINDERS = ("binding", "next", "parameter")
 
 
 def path_of(text):
@@ -75,12 +74,18 @@ class Source:
         return (thing[1], self.place(thing[0])) in self.on
 
     def loops(self, node):
-        return [it for it in self.above[node] if it.form == "loop"]
+        """The loops round a thing."""
+        above = self.above[node]
+        return [
+            outer
+            for outer, below in zip(above, above[1:] + (node,))
+            if outer.form in ("loop", "for") and below not in reading.bounds_of(outer)
+        ]
 
     def bound(self, node, above, path):
         """What a use means, at the path without the loops between."""
         binder = reading.binder_of(node, above)
-        between = len([it for it in above if it.form == "loop"]) - len(self.loops(binder))
+        between = len(self.loops(node)) - len(self.loops(binder))
         return binder, path[: len(path) - between]
 
     def step(self, node, number=None):
@@ -117,6 +122,12 @@ class Source:
             return [predicate] + ([(node.parts[1 if value == "true" else 2], path)] if value else [])
         if node.form == "call":
             return [(self.procedures[node.name].parts[0], path + (self.step(node),))]
+        if node.form == "index":
+            number, loop = int(path[-1].split("#")[1]), self.above[node][-1]
+            before = (node, path[:-1] + (self.step(loop, number - 1),)) if number else (loop.parts[0], path[:-1])
+            return [before, (loop.parts[1], path[:-1])]
+        if node.form == "for":
+            return self.come_from_for(node, path)
         if node.form == "loop":
             turns = self.iterations(node, path)
             if not turns:
@@ -127,6 +138,16 @@ class Source:
         if node.form == "fetch":
             found += [(self.nodes[at], by) for by, at, _ in self.puts.get(self.cell(thing), [])[:1]]
         return found
+
+    def come_from_for(self, node, path):
+        """The things of which the value of a `for` comes: its bounds, and its last expression where that is on."""
+        low, high, last = node.parts
+        bounds = [(low, path), (high, path)]
+        number, ends = 0, path + (self.step(node, 0),)
+        while self.value((node.params[0], ends)) is not None:
+            number += 1
+            ends = path + (self.step(node, number),)
+        return bounds + ([(last, ends)] if self.is_on((last, ends)) else [])
 
     def cell(self, thing):
         """The cell that a fetch or a store names, where its target and index have values."""
@@ -141,7 +162,7 @@ class Source:
             come = self.come_from(thing)
             if node.form in ("name", "block", "call") and come:
                 thing = come[-1]
-            elif node.form in ("conditional", "loop") and len(come) == 2:
+            elif node.form in ("conditional", "loop") and len(come) == 2 or node.form == "for" and len(come) == 3:
                 thing = come[-1]
             else:
                 break
@@ -159,5 +180,5 @@ class Source:
             target = node.parts[0].name if node.parts[0].form == "name" else "(..)"
             index = self.value((node.parts[1], path)) or ".."
             return f"{target}[{index}] ({where})"
-        names = {"conditional": "if", "loop": "the loop", "block": "the block", "call": node.name, "array": "array"}
+        names = {"conditional": "if", "loop": "the loop", "for": "the loop", "block": "the block", "array": "array"}
         return f"{names.get(node.form, node.name)} ({where})"

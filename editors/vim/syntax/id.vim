@@ -7,19 +7,16 @@ syntax case match
 
 syntax match   idComment     "%.*$" contains=@Spell
 syntax match   idNumber      "\<\d\+\>"
-syntax match   idOperator    "[-+*=:]\|==\|<>\|<=\|>=\|<\|>"
-syntax match   idUnused      "<-"
+syntax match   idOperator    "[-+*=:]\|==\|<>\|<-\|<=\|>=\|<\|>"
 syntax match   idDelimiter   "[(){}\[\],;]"
 syntax keyword idDefinition  def
 syntax keyword idConditional if then else
-syntax keyword idRepeat      while do next finally
+syntax keyword idRepeat      while for to do next finally
 syntax keyword idStatement   in
 syntax keyword idBoolean     true false
 syntax keyword idType        int bool
 syntax keyword idArray       array
 syntax keyword idWord        div rem and or not
-" These are reserved, and no rule takes them.
-syntax keyword idUnused      for to
 syntax match   idProcedure   "\<[A-Za-z_][A-Za-z_0-9]*\>\ze\_s*(" contains=idArray,idWord,idStatement,idConditional,idRepeat
 
 highlight default link idComment     Comment
@@ -34,7 +31,6 @@ highlight default link idBoolean     Boolean
 highlight default link idType        Type
 highlight default link idArray       Type
 highlight default link idWord        Operator
-highlight default link idUnused      Error
 highlight default link idProcedure   Function
 
 let b:current_syntax = "id"
