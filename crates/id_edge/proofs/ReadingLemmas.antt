@@ -1,6 +1,6 @@
 -- Lemmas on specs/Reading.antt: what comes of bytes as a text.
-use Rattle.std.proofs.Common.{◌≡◌, ℕ, ◌+◌, ◌<◌, ◌≤◌, List, take, length, true, false, Option, Some, None, Result, Ok, Err, inl, refl, sym, ap, subst, ◌∙◌, arith}
-use Rattle.std.specs.Prelude.{String, Vec, string_bytes, nat_le}
+use Rattle.std.proofs.Common.{◌≡◌, ℕ, ◌<◌, ◌≤◌, List, take, length, true, false, Option, Some, None, IfSome, Result, Ok, Err, inl, refl, sym, subst, ◌∙◌, arith}
+use Rattle.std.specs.Prelude.{String, Vec, nat_le}
 use Rattle.std.specs.Str.{IsUtf8}
 use Rattle.std.proofs.lemmas.Bool.{cond-true, cond-false, false_from_ne_true}
 use Rattle.std.proofs.lemmas.Bool.Decides.{nat_tests}
@@ -9,7 +9,7 @@ use Rattle.std.proofs.lemmas.Str.{IsUtf8-from_is_utf8, is_utf8-from_IsUtf8, IsUt
 use Rattle.id_edge.specs.declared.source.ReadFault.{ReadFault}
 use Rattle.id_edge.specs.declared.source.SourceFault.{SourceFault}
 use Rattle.id_edge.specs.declared.source.SourceFault.TheVariants.{TooLong, File, Memory}
-use Rattle.id_edge.specs.Reading.{IsFrontOf, IsRead, IsTextOf, text_in, told_text}
+use Rattle.id_edge.specs.Reading.{IsFrontOf, IsRead, IsReadOf, IsTextOf, text_in, told_text}
 
 -- bytes above the limit are too long, whatever they are
 text_in-long : (bytes : List ℕ) → 1048576 < length bytes → text_in bytes ≡ Err TooLong
@@ -56,3 +56,17 @@ module _ {A : Type 0} where
   of_front None v (Err e) f h = tt
   of_front (Some (Ok bytes)) v r f h = of_all bytes r (subst (λ xs. IsTextOf xs r) f h)
   of_front (Some (Err e)) v r f h = absurd f
+
+  -- what comes of a front of one byte more than the limit comes of all that is known
+  known_of_all : (bytes : List ℕ) (r : Result (String A) SourceFault) → IsTextOf (take 1048577 bytes) r → IsReadOf bytes r
+  known_of_all bytes (Ok s) h =
+      let all = whole bytes h.0 in
+      (subst (λ xs. length xs ≤ 1048576) all h.0, h.1 ∙ all)
+  known_of_all bytes (Err TooLong) h = omega (arith, h, length-take 1048577 bytes)
+  known_of_all bytes (Err File) h = tt
+  known_of_all bytes (Err Memory) h = tt
+
+  pub of_known : (known : Option (List ℕ)) (items : List ℕ) (r : Result (String A) SourceFault) → IfSome known (λ bytes. items ≡ take 1048577 bytes) →
+      IsTextOf items r → IfSome known (λ bytes. IsReadOf bytes r)
+  of_known None items r e h = tt
+  of_known (Some bytes) items r e h = known_of_all bytes r (subst (λ xs. IsTextOf xs r) e h)

@@ -31,6 +31,13 @@ IsTextOf bytes (Err TooLong) = 1048576 < length bytes
 IsTextOf bytes (Err File) = (length bytes ≤ 1048576) × ¬ IsUtf8 bytes
 IsTextOf bytes (Err Memory) = ⊥
 
+-- known bytes are read as their text, or refused for them, where no read failed
+abbrev pub IsReadOf : {A : Type 0} → List ℕ → Result (String A) SourceFault → Type 0
+IsReadOf bytes (Ok s) = (length bytes ≤ 1048576) × (string_bytes s ≡ bytes)
+IsReadOf bytes (Err TooLong) = 1048576 < length bytes
+IsReadOf bytes (Err File) = Unit {0}
+IsReadOf bytes (Err Memory) = Unit {0}
+
 -- what these bytes are as a text
 abbrev pub text_in : List ℕ → Result (List ℕ) SourceFault
 text_in bytes = if nat_le (length bytes) 1048576 then (if is_utf8 bytes then Ok bytes else Err File) else Err TooLong

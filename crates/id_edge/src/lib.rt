@@ -9,5 +9,5 @@
 mod source;
 mod stream;
 
-pub use source::{Disk, Folder, ReadFault, Source, SourceFault, SystemFolder, read_text};
+pub use source::{Disk, Folder, Opened, ReadFault, Source, SourceFault, SystemFolder, read_text};
 pub use stream::{Device, Stream, write_some};

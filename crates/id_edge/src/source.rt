@@ -2,7 +2,7 @@
 
 ghost use Rattle.std.specs.Prelude.{◌≡◌, ◌↔◌, take, IfOk, IfSome, List, Option, Result, ℕ};
 ghost use Rattle.std.specs.IoError.{error_kind};
-ghost use Rattle.id_edge.specs.Reading.{IsFrontOf, IsRead, IsTextOf, fault_for, told_text};
+ghost use Rattle.id_edge.specs.Reading.{IsFrontOf, IsRead, IsReadOf, IsTextOf, fault_for, told_text};
 
 use id_text::MAX_BYTES;
 use std::alloc::Global;
@@ -45,14 +45,19 @@ pub enum ReadFault {
 
 /// Something that has bytes under names.
 pub trait Folder {
+    ghost use Rattle.std.specs.Prelude.{None};
     ghost use Rattle.id_edge.specs.declared.source.ReadFault.{ReadFault};
 
     /// The bytes of this name, or why they can't be read, where it tells that.
     ghost told: { Self → List ℕ → Option (Result (List ℕ) ReadFault) };
 
+    /// The bytes of this name, where they are known, though a read of them may fail.
+    ghost known: { Self → List ℕ → Option (List ℕ) } = { λ _ _. None };
+
     /// At most so many bytes of this name, from the front. Want of memory can stand in the place of any answer.
     fn front(&mut self, alloc: Global, name: &str, most: usize) -> Result<Vec<u8>, ReadFault>
-        ensures { IsFrontOf (told self.old name.now) most result };
+        ensures told { IsFrontOf (told self.old name.now) most result }
+        ensures known { IfOk result (λ v. IfSome (known self.old name.now) (λ bytes. v.items ≡ take most bytes)) };
 }
 
 /// The files of the system, which tell nothing beforehand.
@@ -68,9 +73,27 @@ impl<R: Files> Folder for SystemFolder<'_, R> {
 
     fn front(&mut self, alloc: Global, name: &str, most: usize) -> Result<Vec<u8>, ReadFault> {
         match File::open(self.rt, name) {
-            Ok(file) => first_bytes(alloc, file, most),
+            Ok(file) => Opened { reader: file }.front(alloc, name, most),
             Err(error) => Err(fault_of(&error)),
         }
+    }
+}
+
+/// A reader as a folder, which has the reader's bytes under each name.
+#[derive(Drop)]
+pub struct Opened<R: Read + Drop> {
+    pub reader: R,
+}
+
+impl<R: Read + Drop> Folder for Opened<R> {
+    ghost use Rattle.std.specs.Prelude.{None};
+
+    ghost told = { λ _ _. None };
+
+    ghost known = { λ opened _. R.remaining opened.reader };
+
+    fn front(&mut self, alloc: Global, _: &str, most: usize) -> Result<Vec<u8>, ReadFault> {
+        first_bytes(alloc, &mut self.reader, most)
     }
 }
 
@@ -95,7 +118,8 @@ pub fn read_text<F: Folder>(
     folder: &mut F,
     name: &str,
 ) -> Result<String, SourceFault>
-    ensures { IsRead (told_text (F.told folder.old name.now)) result }
+    ensures told { IsRead (told_text (F.told folder.old name.now)) result }
+    ensures known { IfSome (F.known folder.old name.now) (λ bytes. IsReadOf bytes result) }
 {
     match folder.front(alloc, name, MAX_BYTES + 1) {
         Ok(bytes) => text_of(bytes),

@@ -13,41 +13,42 @@ use std::io::{BufWriter, ErrorKind, Stderr, Stdout, Write};
 
 /// Something that takes bytes, and may hold them back.
 pub trait Device {
+    ghost use Rattle.std.specs.Prelude.{List, None, Option, ℕ};
+
     /// What it told so far, what comes next, and what it holds back, where it tells them.
     ghost view: { Self → DeviceView };
+
+    /// All bytes that were written to it, held back or not, where those are known.
+    ghost contents: { Self → Option (List ℕ) } = { λ _. None };
 
     /// One write: how many bytes it took from the front of these, or that it failed, or nothing where a signal cut it
     /// short.
     fn attempt(&mut self, bytes: &[u8]) -> Option<Result<usize, SinkFault>>
         ensures bound { IfSome result (λ answer. IfOk answer (λ n. n ≤ length bytes.now)) }
-        ensures outlook { IsAttempt (view self.old).outlook (view self.new).outlook bytes.now result };
+        ensures outlook { IsAttempt (view self.old).outlook (view self.new).outlook bytes.now result }
+        ensures bytes { MatchOption result (Keeps (contents self.old) (contents self.new))
+            (λ answer. WriteAppends (contents self.old) (contents self.new) answer bytes.now) };
 
     /// Sends on all that it holds back.
     fn send_on(&mut self) -> Result<(), SinkFault>
-        ensures { IsSentOn (view self.old) (view self.new) result };
+        ensures sent { IsSentOn (view self.old) (view self.new) result }
+        ensures bytes { Keeps (contents self.old) (contents self.new) };
 }
 
-/// The standard output of the process, which tells nothing, and holds nothing back.
-impl Device for Stdout {
+/// A writer of the system that holds nothing back: a standard stream of the process.
+pub trait Unheld: Write {}
+
+impl Unheld for Stdout {}
+
+impl Unheld for Stderr {}
+
+/// It tells nothing of what comes.
+impl<W: Unheld> Device for W {
     ghost use Rattle.std.specs.Prelude.{None, Some, []};
 
     ghost view = { λ _. record { outlook = None; held = Some [] } };
 
-    #[inline(always)]
-    fn attempt(&mut self, bytes: &[u8]) -> Option<Result<usize, SinkFault>> {
-        attempt_on(self, bytes)
-    }
-
-    fn send_on(&mut self) -> Result<(), SinkFault> {
-        Ok(())
-    }
-}
-
-/// The same of the standard error.
-impl Device for Stderr {
-    ghost use Rattle.std.specs.Prelude.{None, Some, []};
-
-    ghost view = { λ _. record { outlook = None; held = Some [] } };
+    ghost contents = { W.contents };
 
     #[inline(always)]
     fn attempt(&mut self, bytes: &[u8]) -> Option<Result<usize, SinkFault>> {
@@ -64,6 +65,8 @@ impl<W: Write + Drop, A: Allocator> Device for BufWriter<W, A> {
     ghost use Rattle.std.specs.Prelude.{None, Some};
 
     ghost view = { λ buffer. record { outlook = None; held = Some (writer_buffer buffer) } };
+
+    ghost contents = { writer_contents W.contents };
 
     #[inline(always)]
     fn attempt(&mut self, bytes: &[u8]) -> Option<Result<usize, SinkFault>>
@@ -112,6 +115,7 @@ const TRIES: u64 = u64::MAX;
 pub fn write_some<D: Device>(device: &mut D, bytes: &[u8]) -> Result<usize, SinkFault>
     ensures bound { IfOk result (λ n. n ≤ length bytes.now) }
     ensures outlook { IsWritten (D.view device.old).outlook (D.view device.new).outlook bytes.now result }
+    ensures bytes { WriteAppends (D.contents device.old) (D.contents device.new) result bytes.now }
 {
     let mut cuts = 0;
     while cuts < TRIES {

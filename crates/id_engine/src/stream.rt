@@ -1,5 +1,6 @@
 //! What a stream still holds back at the end.
 
+ghost use Rattle.std.specs.Io.KnownBytes.{Keeps};
 ghost use Rattle.id_engine.specs.Settled.{Settles};
 
 use id_compile::{Cause, plain, refuse};
@@ -9,7 +10,9 @@ use id_print::Sink;
 /// Sends on what the device of a stream still holds back, and answers the status of the whole: this one, or, where that
 /// fails, the one of a failed write, whose line it prints. After a failed write nothing more is sent on.
 pub fn settle<D: Device + Drop, E: Sink>(out: &mut Stream<D>, err: &mut E, status: u8) -> u8
-    ensures { Settles (D.view out.old.writer) (D.view out.new.writer) (E.told err.old) (E.told err.new) status result }
+    ensures settled { Settles (D.view out.old.writer) (D.view out.new.writer) (E.told err.old) (E.told err.new)
+        status result }
+    ensures bytes { Keeps (D.contents out.old.writer) (D.contents out.new.writer) }
 {
     if status == Cause::Write.status() {
         return status;
