@@ -1,25 +1,23 @@
 -- At the path of a live activation something is On or an index Has a value, or a `for` begins.
-use Rattle.std.proofs.Common.{arith, ◌≡◌, ℕ, zero, suc, ◌<◌, ◌+◌, ◌-◌, Bool as Truth, true, false, ℤ, List, length, refl, sym, ◌∙◌, ap, subst}
-use Rattle.std.specs.Prelude.{◌+ℤ◌, int_le, int_lt, pos}
+use Rattle.std.proofs.Common.{arith, ◌≡◌, ℕ, suc, ◌<◌, ◌+◌, ◌-◌, Bool as Truth, true, false, ℤ, List, length, refl, sym, ◌∙◌, ap, subst}
+use Rattle.std.specs.Prelude.{◌+ℤ◌, int_lt, pos}
 use Rattle.id_table.specs.declared.row.Region.{Region}
-use Rattle.id_table.specs.declared.row.Node.TheVariants.{Index, Program, Start, Switches, Loop}
-use Rattle.id_table.specs.Loops.{IsLoopOf, index_row}
+use Rattle.id_table.specs.declared.row.Node.TheVariants.{Index, Program, Start, Switches}
+use Rattle.id_table.specs.Loops.{IsLoopOf}
 use Rattle.id_table.specs.Rows.{top}
 use Rattle.id_table.specs.Tables.{HasOperand, is_expression, is_top, is_within}
 use Rattle.id_table.specs.Turns.{IsDefOf}
 use Rattle.id_check.specs.declared.checked.Checked.{Checked}
-use Rattle.id_check.specs.Programs.{Stands, place, region, rows}
+use Rattle.id_check.specs.Programs.{place, region, rows}
 use Rattle.id_source.specs.declared.Path.{Path}
 use Rattle.id_source.specs.declared.Fact.{Fact}
 use Rattle.id_source.specs.declared.Fact.TheVariants.{On, Has}
-use Rattle.id_source.specs.declared.SourceValue.{SourceValue}
 use Rattle.id_source.specs.declared.SourceValue.TheVariants as value
 use Rattle.id_source.specs.Sources.{Source}
-use Rattle.id_source.specs.Facts.{ForStands, GoesOn, Rule, below, by_bounds, by_predicate, index_begins, index_counts, last_on, turn_on}
+use Rattle.id_source.specs.Facts.{ForStands, GoesOn, below, by_bounds, by_predicate, index_begins, index_counts, last_on, turn_on}
 use Rattle.id_source.specs.Facts as facts
 use Rattle.id_source.specs.Rounds.{Every, Holds}
 use Rattle.id_desugar.specs.Ends.{end_of}
-use Rattle.id_desugar.specs.Regions.{in_block}
 use Rattle.id_pieces.specs.Rows.{block, node}
 use Rattle.id_pieces.proofs.EndsLemmas.{body_region}
 use Rattle.id_tag.specs.declared.Context.{Context}
@@ -30,9 +28,9 @@ use Rattle.id_laws.proofs.Assumed.{IsKnown}
 use Rattle.id_laws.proofs.Calls.{call_at}
 use Rattle.id_laws.proofs.Conditionals.{test_at}
 use Rattle.id_laws.proofs.HasKinds.{expression_thing}
-use Rattle.id_laws.proofs.Loops.{IsCounted, LoopKind, LoopOf, counted, for_stands, head_block, index_at, kind_is, last_within, loop_by, loop_of_row}
-use Rattle.id_laws.proofs.Loops.{loop_of_start, plain, same_loop, stands_loop, start_place, start_region, switches_node, switches_region, switches_within, test_row}
-use Rattle.id_laws.proofs.Opened.{InLoop, LoopPath, OpenedFor, live_block, live_loop, loop_path, next_path}
+use Rattle.id_laws.proofs.Loops.{LoopKind, LoopOf, counted, for_stands, head_block, index_at, kind_is, last_within, loop_by, loop_of_row}
+use Rattle.id_laws.proofs.Loops.{loop_of_start, plain, same_loop, stands_loop, start_place, start_region, switches_node, switches_region, switches_within}
+use Rattle.id_laws.proofs.Opened.{InLoop, OpenedFor, live_block, live_loop, loop_path, next_path}
 use Rattle.id_laws.proofs.Regions.{region_of}
 use Rattle.id_laws.proofs.Seats.{OneSeat, entered_path, live_path, one_path}
 use Rattle.id_laws.proofs.TurnedOn.{GoesSo, holds_by, loop_goes, turned_on}

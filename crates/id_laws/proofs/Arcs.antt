@@ -20,8 +20,7 @@ use Rattle.id_table.specs.declared.row.Node.TheVariants.{Binding, Def, Program}
 use Rattle.id_table.specs.declared.row.Node.TheVariants.{Start, LoopHead, Variable, Entries, Switches, Turn, NextUse, Next, Body, Reset, Loop}
 use Rattle.id_table.specs.declared.row.Node.TheVariants.{Array, Fetch, Address, Store, Bounds, Carried, Within, Count, Index, Span}
 use Rattle.id_table.specs.Tables.{begins_block, is_carried}
-use Rattle.id_table.specs.Loops.{IsLoop, IsLoopOf, AreCarried, nothing, an_index, upper_of}
-use Rattle.id_table.specs.Turns.{IsTable}
+use Rattle.id_table.specs.Loops.{IsLoop, AreCarried, nothing, an_index, upper_of}
 use Rattle.id_check.proofs.ProgramsLemmas.{table_of}
 use Rattle.id_check.specs.declared.checked.Checked.{Checked}
 use Rattle.id_check.specs.Programs.{place, region, rows}

@@ -1,5 +1,5 @@
 -- What the bounds of an index and what counts tell, where their operands tell what their ports want.
-use Rattle.std.proofs.Common.{inl, inr}
+use Rattle.std.proofs.Common.{inl}
 use Rattle.std.proofs.Common.{◌≡◌, ℕ, suc, ℤ, ◌+◌, ◌-◌, ◌<◌, Bool as Truth, true, false, cond, List, length, unwrap_or, refl, sym, ◌∙◌, ap, subst, arith}
 use Rattle.std.specs.Prelude.{int_le, int_lt, pos, ◌+ℤ◌}
 use Rattle.id_value.specs.Results.{is_whole}
@@ -9,10 +9,10 @@ use Rattle.id_value.specs.declared.Constant.TheVariants as constants
 use Rattle.id_value.specs.declared.FaultKind.TheVariants.{Overflow}
 use Rattle.id_value.specs.declared.Outcome.TheVariants.{Gives, Fails}
 use Rattle.id_table.specs.declared.row.Region.{Region}
-use Rattle.id_table.specs.declared.row.Node.TheVariants.{Bounds, Count, LoopHead, Program}
-use Rattle.id_table.specs.Rows.{arm_at, top}
+use Rattle.id_table.specs.declared.row.Node.TheVariants.{Bounds, Count}
+use Rattle.id_table.specs.Rows.{arm_at}
 use Rattle.id_table.specs.Loops.{bounds_row, index_row, upper_at, upper_of}
-use Rattle.id_table.specs.Tables.{HasNear, begins_block, is_expression}
+use Rattle.id_table.specs.Tables.{HasNear, is_expression}
 use Rattle.id_check.specs.declared.checked.Checked.{Checked}
 use Rattle.id_check.specs.Programs.{place, region, rows}
 use Rattle.id_scope.specs.Scopes.{loops_between}
@@ -29,28 +29,28 @@ use Rattle.id_ops.specs.Operators.{fired_binary, fired_by, fired_const, fired_sw
 use Rattle.id_source.specs.declared.Path.{Path}
 use Rattle.id_source.specs.declared.SourceValue.{SourceValue}
 use Rattle.id_source.specs.declared.SourceValue.TheVariants as source
-use Rattle.id_source.specs.declared.Fact.TheVariants.{On, Has}
+use Rattle.id_source.specs.declared.Fact.TheVariants.{Has}
 use Rattle.id_source.specs.Sources.{Source}
 use Rattle.id_source.specs.Facts.{below, without, by_bounds, by_index, index_begins, index_counts}
 use Rattle.id_source.specs.Rounds.{Holds}
 use Rattle.id_desugar.specs.Ends.{end_of}
 use Rattle.id_pieces.specs.Rows.{block, node, origin, output}
-use Rattle.id_runs.specs.Activations.{Activation, at_iteration}
+use Rattle.id_runs.specs.Activations.{Activation}
 use Rattle.id_runs.specs.Events.{Event, FiresOnce}
 use Rattle.id_runs.proofs.Givings.{gives_once}
 use Rattle.id_laws.specs.Activations as activations
 use Rattle.id_laws.specs.Activations.{Goes, Live, Speaks, PathOf, count_row, switches_of}
-use Rattle.id_laws.specs.Topics.{Topic, AndOne, BoundIn, Counts, FirstIndex, FirstFlag, GoesFurther, LastIndex, NextFlag, SaidFirst, SaidIndex, SaidNext, SaidOf}
-use Rattle.id_laws.specs.Topics.{Shown, ShownNextFlag, StandsFor, number_stands, truth_stands, name_stands, Tells, Turned, ValueOf, entry_of, speaks_of}
+use Rattle.id_laws.specs.Topics.{Topic, AndOne, BoundIn, Counts, GoesFurther, LastIndex, SaidFirst, SaidIndex, SaidNext, SaidOf}
+use Rattle.id_laws.specs.Topics.{Shown, ShownNextFlag, StandsFor, number_stands, truth_stands, name_stands, Tells, Turned, ValueOf, speaks_of}
 use Rattle.id_laws.specs.Topics.{ShownSide, behind, index_place, upper_place}
 use Rattle.id_laws.proofs.Assumed.{IsKnown}
 use Rattle.id_laws.proofs.Counted.{index_block, switches_block}
 use Rattle.id_laws.proofs.FiringMeans.{Means}
 use Rattle.id_laws.proofs.Iterations.{without_below}
-use Rattle.id_laws.proofs.Loops.{IsCounted, LoopOf, bounds_node, bounds_region, count_loop, count_region, counted_of, for_at, for_stands, has_three, head_block, head_place}
-use Rattle.id_laws.proofs.Loops.{last_row, loop_by, loop_row, start_region, switches_row, switches_same}
+use Rattle.id_laws.proofs.Loops.{IsCounted, LoopOf, bounds_node, bounds_region, count_region, counted_of, for_at, for_stands, has_three, head_block, head_place}
+use Rattle.id_laws.proofs.Loops.{loop_by, start_region, switches_same}
 use Rattle.id_laws.proofs.Opened.{InLoop, LoopPath, live_loop, loop_path, next_path}
-use Rattle.id_laws.proofs.Regions.{no_depth, region_of, same_depth}
+use Rattle.id_laws.proofs.Regions.{no_depth, same_depth}
 use Rattle.id_laws.proofs.Seats.{OneSeat, below_is, one_path}
 use Rattle.id_laws.proofs.TurnedOn.{holds_by, turned_on, without_none}
 

@@ -1,6 +1,6 @@
 -- In a quiet run what a loop with an index carries on comes to each of its iterations: the index, its upper bound, and
 -- whether it goes on.
-use Rattle.std.proofs.Common.{◌≡◌, ℕ, zero, suc, ◌+◌, ◌-◌, ◌<◌, ◌≤◌, ℤ, inl, inr, Bool as Truth, true, false, cond, Some, List, [], ◌∷◌, ◌++◌, length, get_or}
+use Rattle.std.proofs.Common.{◌≡◌, ℕ, zero, suc, ◌+◌, ◌-◌, ◌<◌, ◌≤◌, ℤ, inl, inr, Bool as Truth, true, cond, Some, List, [], ◌∷◌, ◌++◌, length, get_or}
 use Rattle.std.proofs.Common.{slice_get, unwrap_or, refl, sym, ◌∙◌, ap, subst, arith, if◌then◌else◌}
 use Rattle.id_list.specs.List.{Among}
 use Rattle.id_list.proofs.AmongLemmas.{Among-left}
@@ -28,18 +28,17 @@ use Rattle.id_ops.specs.declared.Operands.TheVariants.{One as Alone, Two}
 use Rattle.id_ops.specs.declared.Fired.TheVariants.{Side, Nothing}
 use Rattle.id_core.specs.Machines.{World}
 use Rattle.id_source.specs.Sources.{Source}
-use Rattle.id_desugar.specs.Regions.{carried, has_index, imports_of}
+use Rattle.id_desugar.specs.Regions.{imports_of}
 use Rattle.id_pieces.specs.declared.arc.Origin.{Origin}
-use Rattle.id_pieces.specs.declared.arc.Feed.{Feed}
-use Rattle.id_pieces.specs.Rows.{Entry, block, bounds_feeds, carried_feeds, entering, feed, feeds_of, import_feeds, loop_entries, name_in, node}
+use Rattle.id_pieces.specs.Rows.{block, bounds_feeds, carried_feeds, entering, feed, import_feeds, loop_entries, name_in, node}
 use Rattle.id_pieces.specs.Rows.{origin, output, param_entry, part_of, port_at, port_of, turn_feeds, turn_row}
 use Rattle.id_pieces.specs.Schemas.{Feeds, Numbered}
 use Rattle.id_runs.specs.Activations.{Activation, at_iteration, tag_in}
 use Rattle.id_runs.specs.Events.{Event}
 use Rattle.id_runs.specs.Runs.{Reach, handled}
 use Rattle.id_runs.specs.OneMessage.{Exclusive}
-use Rattle.id_laws.specs.Activations.{Begins, of_call, of_loop, Tests, of_arms, of_turns, Opens, Speaks, Decided, at_first, at_next, Chosen, has_said}
-use Rattle.id_laws.specs.Activations.{has_counted, Live, at_start, on_side, entered, again, main_head, count_row}
+use Rattle.id_laws.specs.Activations.{of_call, of_loop, Tests, of_arms, of_turns, Opens, Speaks, Decided, at_first, at_next, Chosen, has_said}
+use Rattle.id_laws.specs.Activations.{has_counted, Live, at_start, on_side, entered, again}
 use Rattle.id_laws.proofs.Arcs.{Does, hands, imports_fed, moves_name, turned, carries_on, carried_at, three_carried, three_turned}
 use Rattle.id_laws.proofs.Assumed.{IsKnown}
 use Rattle.id_laws.proofs.Calls.{called_head}
@@ -49,7 +48,7 @@ use Rattle.id_laws.proofs.Firings.{IsSettled, alone_fired, both_fired, came, spo
 use Rattle.id_laws.proofs.LoopFacts.{switches_of}
 use Rattle.id_laws.proofs.LoopFirings.{merge_out, moved_came, next_moves, sent_in}
 use Rattle.id_laws.proofs.LoopRows.{carried_row}
-use Rattle.id_laws.proofs.Loops.{IsCounted, LoopOf, bounds_before, bounds_node, carried_stands, counted_of, same_loop, start_before, start_node, start_within}
+use Rattle.id_laws.proofs.Loops.{IsCounted, LoopOf, bounds_node, carried_stands, counted_of, same_loop, start_before, start_node, start_within}
 use Rattle.id_laws.proofs.Loops.{switches_node, switches_region, switches_same, switches_within, turn_in, turn_is, turn_node, turn_region, turn_within}
 use Rattle.id_laws.proofs.Opened.{InLoop}
 use Rattle.id_laws.proofs.Speakers.{fed_as}

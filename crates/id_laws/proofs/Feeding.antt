@@ -5,7 +5,7 @@ use Rattle.id_table.specs.declared.row.Region.{Region}
 use Rattle.id_table.specs.declared.row.Node.{Node}
 use Rattle.id_table.specs.declared.row.Node.TheVariants.{Head, Literal, Unary, Binary, Split, If, Enter, Arg, Binding, Program}
 use Rattle.id_table.specs.declared.row.Node.TheVariants.{Start, LoopHead, Entries, Switches, Turn, Next, Reset}
-use Rattle.id_table.specs.declared.row.Node.TheVariants.{Array, Fetch, Address, Store, Bounds, Carried, Count}
+use Rattle.id_table.specs.declared.row.Node.TheVariants.{Array, Fetch, Address, Store, Bounds, Count}
 use Rattle.id_table.specs.Loops.{bounds_row, index_row, upper_at, upper_of}
 use Rattle.id_list.specs.List.{Among}
 use Rattle.id_tag.specs.declared.Value.TheVariants as value

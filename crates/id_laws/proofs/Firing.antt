@@ -30,7 +30,6 @@ use Rattle.id_ops.specs.declared.Fired.{Fired}
 use Rattle.id_ops.specs.declared.Fired.TheVariants.{Out, Side, Sent, Moved, Nothing}
 use Rattle.id_ops.specs.Operators.{fired_switch, fired}
 use Rattle.id_source.specs.declared.Path.{Path}
-use Rattle.id_source.specs.declared.SourceValue.{SourceValue}
 use Rattle.id_source.specs.declared.SourceValue.TheVariants as source
 use Rattle.id_source.specs.declared.Fact.TheVariants.{Has}
 use Rattle.id_source.specs.Sources.{Source}

@@ -1,5 +1,5 @@
 -- What a firing means for the source, what its operands tell, and which constants their values stand for.
-use Rattle.std.proofs.Common.{◌≡◌, ◌⊎◌, inl, inr, ℕ, ℤ, ◌+◌, Bool as Truth, true, List, Some, slice_get, get_or, refl, ap}
+use Rattle.std.proofs.Common.{◌≡◌, ◌⊎◌, inl, inr, ℕ, ℤ, ◌+◌, Bool as Truth, true, List, Some, slice_get, refl, ap}
 use Rattle.id_value.specs.declared.Constant.{Constant}
 use Rattle.id_value.specs.declared.Constant.TheVariants as constants
 use Rattle.id_value.specs.declared.FaultKind.{FaultKind}
@@ -26,12 +26,12 @@ use Rattle.id_source.specs.Facts.{site}
 use Rattle.id_source.specs.declared.Fact.TheVariants.{Has}
 use Rattle.id_source.specs.Rounds.{Faulty, Holds}
 use Rattle.id_value.specs.Results.{is_whole}
-use Rattle.id_pieces.specs.Rows.{Entry, entering, loop_entries, node, param_of}
+use Rattle.id_pieces.specs.Rows.{Entry, loop_entries, node, param_of}
 use Rattle.id_runs.specs.Activations.{Activation, at_iteration, tag_in}
 use Rattle.id_runs.specs.Events.{Event, FiresAs, FiresOnce}
 use Rattle.id_laws.specs.Activations.{Begins, Opens, PathOf, Live, ReturnsTo}
 use Rattle.id_laws.specs.Topics.{sent_to}
-use Rattle.id_laws.specs.Topics.{ValueOf, NameIn, StandsFor, number_stands, truth_stands, ShownResult, Tells, name_stands, ToldRead, ToldWrite}
+use Rattle.id_laws.specs.Topics.{ValueOf, StandsFor, number_stands, truth_stands, ShownResult, Tells, name_stands, ToldRead, ToldWrite}
 use Rattle.id_laws.specs.Topics.{topic_of, topic_at}
 use Rattle.id_laws.proofs.Arcs.{place_shown}
 

@@ -12,11 +12,10 @@ use Rattle.id_table.specs.declared.row.Node.TheVariants.{Head, Param, Name, Next
 use Rattle.id_table.specs.declared.row.Node.TheVariants.{Carried, Index}
 use Rattle.id_table.specs.Rows.{at}
 use Rattle.id_table.specs.Tables.{begins_block, is_binder, is_carried, is_variable}
-use Rattle.id_table.specs.Loops.{IsLoop, IsLoopOf, IsNextOf, index_row}
+use Rattle.id_table.specs.Loops.{IsLoopOf, IsNextOf}
 use Rattle.id_table.specs.Turns.{params_at}
 use Rattle.id_check.specs.declared.checked.Checked.{Checked}
 use Rattle.id_check.specs.Programs.{binder, kind, place, rows}
-use Rattle.id_check.specs.Programs.{Stands}
 use Rattle.id_check.proofs.ProgramsLemmas.{bound_name_row, bound_use_row, kind_fixed, next_row, table_of}
 use Rattle.id_instr.specs.declared.instr.Op.TheVariants as op
 use Rattle.id_desugar.specs.Ends.{next_of, end_of}

@@ -1,5 +1,5 @@
 -- What a loop gives, and what its entries are given, tells what is wanted there.
-use Rattle.std.proofs.Common.{zero, cond, [], ◌∷◌, false, Bool as Truth}
+use Rattle.std.proofs.Common.{zero, cond, [], ◌∷◌}
 use Rattle.std.proofs.Common.{◌≡◌, ℕ, suc, ◌+◌, ◌-◌, ◌<◌, true, List, length, get_or, refl, sym, ◌∙◌, ap, subst, arith}
 use Rattle.id_table.specs.declared.row.Region.{Region}
 use Rattle.id_table.specs.declared.row.Node.TheVariants.{Program, Start, LoopHead, Variable}
@@ -29,13 +29,11 @@ use Rattle.id_laws.specs.Activations.{of_loop, Opens, Live, entered, PathOf, Goe
 use Rattle.id_laws.specs.Topics.{StandsFor, number_stands, bounded_sent, entry_wants, index_place, upper_place}
 use Rattle.id_source.specs.declared.SourceValue.TheVariants as source
 use Rattle.id_source.specs.Facts.{by_bounds}
-use Rattle.id_value.specs.declared.Kind.{Kind}
-use Rattle.id_table.specs.declared.row.Node.TheVariants.{Carried}
 use Rattle.std.specs.Prelude.{int_le}
 use Rattle.id_laws.specs.Topics.{sent_to}
 use Rattle.id_laws.specs.Topics.{IsPart, Shown, Tells, Told, NameIn, topic_at, wants, result_of}
 use Rattle.id_laws.proofs.Assumed.{IsKnown}
-use Rattle.id_laws.proofs.Arcs.{carries, carries_on, none_carried, three_carried, gets_last, part_of, takes_in, varies}
+use Rattle.id_laws.proofs.Arcs.{carries, gets_last, part_of, takes_in, varies}
 use Rattle.id_laws.proofs.FiringMeans.{Given}
 use Rattle.id_laws.proofs.Iterations.{loop_between, without_below}
 use Rattle.id_laws.proofs.LoopEntries.{GivenAs, as_carried, as_first, as_import, given_as}

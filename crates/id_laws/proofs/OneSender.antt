@@ -48,7 +48,7 @@ use Rattle.id_runs.proofs.CellLaws.{one_reply}
 use Rattle.id_runs.specs.Runs.{Reach, Moving, starting}
 use Rattle.id_runs.specs.OneMessage.{Exclusive, Few}
 use Rattle.id_runs.proofs.Messages.{one_firing}
-use Rattle.id_laws.specs.Activations.{Begins, of_call, of_loop, of_arms, main_head, Speaks, Moves, Live, ReturnsTo}
+use Rattle.id_laws.specs.Activations.{Begins, of_call, of_loop, main_head, Speaks, Moves, Live, ReturnsTo}
 use Rattle.id_laws.specs.Activations.{to_answer, to_row, SeatOf, made_seat, Below, path_at}
 use Rattle.id_laws.specs.Topics.{AllTell, AllSpeak, Tells, topic_at, wants}
 use Rattle.id_laws.specs.Ways.{Way, by_arc, by_move, by_back, StartsAt, signal, way_back, input, by_send, by_enter}

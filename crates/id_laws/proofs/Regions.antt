@@ -20,7 +20,7 @@ use Rattle.id_arcs.proofs.NamesSeen.{HasSwitches}
 use Rattle.id_arcs.proofs.NamesSeen as seen
 use Rattle.id_laws.specs.Activations.{Tests, of_arms, of_turns}
 use Rattle.id_laws.proofs.Assumed.{IsKnown}
-use Rattle.id_laws.proofs.Loops.{IsCounted, LoopOf, carried_stands, carried_within, counted_of, has_three, loop_of_row, same_loop}
+use Rattle.id_laws.proofs.Loops.{IsCounted, LoopOf, carried_stands, counted_of, has_three, loop_of_row}
 
 -- as the builder's lemmas say it
 pub as_tests : {P : Checked} {n t : ℕ} → HasSwitches P n t → Tests P n t

@@ -25,7 +25,7 @@ use Rattle.id_laws.specs.Topics.{of_fetch, of_store, IsPart}
 use Rattle.id_laws.proofs.Assumed.{IsKnown, is_handed}
 use Rattle.id_laws.proofs.Counted.{bound_first, bound_side, bound_top, flag_origin}
 use Rattle.id_laws.proofs.Loops.{LoopOf, IsCounted, carried_loop, carried_within, count_loop, count_region, counted_of, loop_of_head, loop_of_row}
-use Rattle.id_laws.proofs.Loops.{own_switches, reset_node, reset_within, switches_node, switches_region, switches_within, turn_at, turn_in, turn_is, turn_node}
+use Rattle.id_laws.proofs.Loops.{own_switches, reset_node, reset_within, switches_node, switches_within, turn_at, turn_in, turn_is, turn_node}
 use Rattle.id_laws.proofs.Loops.{turn_region_at, turn_within, within_counted}
 use Rattle.id_pieces.proofs.LoopsLemmas.{entries_node, entries_stand, entries_within, next_is}
 use Rattle.id_laws.proofs.Arcs.{starts, enters, constant, unary, binary, turns_on, hands, joins, opens, gets, names, part_of, fed}

@@ -31,7 +31,7 @@ use Rattle.id_source.specs.Rounds.{Every, Rounds, Holds}
 use Rattle.id_pieces.specs.Rows.{node}
 use Rattle.id_runs.specs.Activations.{Activation}
 use Rattle.id_runs.specs.Events.{Event}
-use Rattle.id_laws.specs.Activations.{Tests, PathOf, Goes, by_test, by_index, of_arms, of_turns, of_call, of_loop, Live, at_start, on_side, entered, again}
+use Rattle.id_laws.specs.Activations.{PathOf, Goes, by_test, by_index, of_arms, of_turns, of_call, of_loop, Live, at_start, on_side, entered, again}
 use Rattle.id_laws.proofs.Assumed.{IsKnown}
 use Rattle.id_laws.proofs.Loops.{LoopOf, body_at, bounds_mean, counted_of, for_at, loop_by, loop_of_row, loop_of_start, loop_stands, next_at, stands_loop}
 use Rattle.id_laws.proofs.Loops.{same_loop, start_place, start_region, switches_node, test_row}
