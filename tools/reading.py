@@ -95,7 +95,7 @@ class Parser:
                 params.append(self.param())
         self.take(")")
         self.take(":")
-        kind = self.take(*KINDS).text
+        kind = self.kind_word()
         self.take("=")
         body = self.expr()
         self.take(";")
@@ -104,7 +104,12 @@ class Parser:
     def param(self):
         name = self.take("name")
         self.take(":")
-        return Node("parameter", name.at, name.text, kind=self.take(*KINDS).text)
+        return Node("parameter", name.at, name.text, kind=self.kind_word())
+
+    def kind_word(self):
+        """A kind: `array array` is one too."""
+        kind = self.take(*KINDS).text
+        return f"{kind} {self.take('array').text}" if kind == self.kind == "array" else kind
 
     def expr(self):
         if self.kind != "if":
@@ -154,6 +159,8 @@ class Parser:
             self.take(")")
             return found
         if head.kind == "array":
+            if self.kind == "array":
+                self.take("array")
             self.take("(")
             low = self.expr()
             self.take(",")
@@ -220,11 +227,17 @@ class Parser:
     def statement(self):
         name = self.take("name")
         if self.kind == "[":
+            target = Node("name", name.at, name.text)
             head = self.take("[")
             index = self.expr()
             self.take("]")
+            if self.kind == "[":
+                target = Node("fetch", head.at, "[", [target, index])
+                head = self.take("[")
+                index = self.expr()
+                self.take("]")
             self.take("=")
-            return self.ended(Node("store", head.at, "[", [Node("name", name.at, name.text), index, self.expr()]))
+            return self.ended(Node("store", head.at, "[", [target, index, self.expr()]))
         if self.kind != "=":
             raise Refused(self.number)
         self.take("=")

@@ -41,7 +41,7 @@ value_is (BinaryNode o a b) e f = tt
 value_is (If s x y) e f = tt
 value_is (Call s c) e f = tt
 value_is (Loop h w l) e f = tt
-value_is (Array a b) e f = tt
+value_is (Array nested a b) e f = tt
 value_is (Fetch a b) e f = tt
 value_is (Block b) e f = cc
 value_is _ e f = absurd (false≢true e)
@@ -405,7 +405,7 @@ suits P n Turn l e = (
 )
 suits P n (Next x k o v) l e = operand P n v (Next x k o v) l e refl (inr refl)
 suits P n (Reset v) l e = operand P n v (Reset v) l e refl refl
-suits P n (Array a b) l e = (operand P n a (Array a b) l e (inl refl) (inl refl), operand P n b (Array a b) l e (inr refl) (inr refl))
+suits P n (Array nested a b) l e = (operand P n a (Array nested a b) l e (inl refl) (inl refl), operand P n b (Array nested a b) l e (inr refl) (inr refl))
 suits P n (Fetch a b) l e = (
   operand P n a (Fetch a b) l e (inl refl) (inl refl),
   operand P n b (Fetch a b) l e (inr refl) (inr refl),

@@ -220,7 +220,7 @@ IsValue (If s x y) = Unit {0}
 IsValue (Call s c) = Unit {0}
 IsValue (Loop h w l) = Unit {0}
 IsValue (Carried k) = Unit {0}
-IsValue (Array a b) = Unit {0}
+IsValue (Array nested a b) = Unit {0}
 IsValue (Fetch a b) = Unit {0}
 IsValue _ = ⊥
 
@@ -312,7 +312,7 @@ Suits P n r Count =
 Suits P n r Turn = IsTurned P r × AllSeen P r (imports_of P (block P n)) × SuitsCarried P n r (block P n)
 Suits P n r (Next x k o v) = IsPart P r v
 Suits P n r (Reset v) = IsPart P r v
-Suits P n r (Array a b) = IsPart P r a × IsPart P r b
+Suits P n r (Array nested a b) = IsPart P r a × IsPart P r b
 Suits P n r (Fetch a b) = IsPart P r a × IsPart P r b × IsOrigin P (output n)
 Suits P n r (Address a b) = IsPart P r a × IsPart P r b
 Suits P n r (Store a v) = IsOrigin P (output a) × IsPart P r v
@@ -512,13 +512,13 @@ feeds_take P m e r (Reset v) f s (inl i) =
     subst Z (sym i) (record { piece = _; at = refl; takes = λ _. refl })
 feeds_take P m e r (Reset v) f s (inr h) = absurd h
 feeds_take P m e r (Loop g w l) f s h = absurd h
-feeds_take P m e r (Array a b) f s (inl i) =
-    let Z : Feed → Type 0 = λ g. Takes (made_of P m e (Array a b)) g.part g.port in
+feeds_take P m e r (Array nested a b) f s (inl i) =
+    let Z : Feed → Type 0 = λ g. Takes (made_of P m e (Array nested a b)) g.part g.port in
     subst Z (sym i) (record { piece = _; at = refl; takes = λ _. refl })
-feeds_take P m e r (Array a b) f s (inr (inl i)) =
-    let Z : Feed → Type 0 = λ g. Takes (made_of P m e (Array a b)) g.part g.port in
+feeds_take P m e r (Array nested a b) f s (inr (inl i)) =
+    let Z : Feed → Type 0 = λ g. Takes (made_of P m e (Array nested a b)) g.part g.port in
     subst Z (sym i) (record { piece = _; at = refl; takes = λ _. refl })
-feeds_take P m e r (Array a b) f s (inr (inr h)) = absurd h
+feeds_take P m e r (Array nested a b) f s (inr (inr h)) = absurd h
 feeds_take P m e r (Fetch a b) f s (inl i) =
     let Z : Feed → Type 0 = λ g. Takes (made_of P m e (Fetch a b)) g.part g.port in
     subst Z (sym i) (record { piece = _; at = refl; takes = λ _. refl })
@@ -630,7 +630,7 @@ value_origin P v (If s x y) t l e h = own P v (If s x y) l e refl (record { piec
 value_origin P v (Call s c) t l e h = own P v (Call s c) l e refl (record { piece = _; at = refl; gives = λ _. refl })
 value_origin P v (Carried k) t l e h = own P v (Carried k) l e refl (record { piece = _; at = refl; gives = λ _. refl })
 value_origin P v (Loop g w x) t l e h = own P v (Loop g w x) l e refl (record { piece = _; at = refl; gives = λ _. refl })
-value_origin P v (Array a b) t l e h = own P v (Array a b) l e refl (record { piece = _; at = refl; gives = λ _. refl })
+value_origin P v (Array nested a b) t l e h = own P v (Array nested a b) l e refl (record { piece = _; at = refl; gives = λ _. refl })
 value_origin P v (Fetch a b) t l e h =
     let G : Node → Type 0 = λ x. Gives (made_of P v (place P v) x) 2 true in
     record {
@@ -803,9 +803,9 @@ feeds_come P m r Body f t s h = absurd h
 feeds_come P m r (Reset v) f t s (inl i) = from_only P _ _ _ f (part_origin P r v t s).is_origin i
 feeds_come P m r (Reset v) f t s (inr h) = absurd h
 feeds_come P m r (Loop g w l) f t s h = absurd h
-feeds_come P m r (Array a b) f t s (inl i) = from_only P _ _ _ f (part_origin P r a t s.0).is_origin i
-feeds_come P m r (Array a b) f t s (inr (inl i)) = from_only P _ _ _ f (part_origin P r b t s.1).is_origin i
-feeds_come P m r (Array a b) f t s (inr (inr h)) = absurd h
+feeds_come P m r (Array nested a b) f t s (inl i) = from_only P _ _ _ f (part_origin P r a t s.0).is_origin i
+feeds_come P m r (Array nested a b) f t s (inr (inl i)) = from_only P _ _ _ f (part_origin P r b t s.1).is_origin i
+feeds_come P m r (Array nested a b) f t s (inr (inr h)) = absurd h
 feeds_come P m r (Fetch a b) f t s (inl i) = from_only P _ _ _ f (part_origin P r a t s.0).is_origin i
 feeds_come P m r (Fetch a b) f t s (inr (inl i)) = from_only P _ _ _ f (part_origin P r b t s.1).is_origin i
 feeds_come P m r (Fetch a b) f t s (inr (inr (inl i))) = from_only P _ _ _ f s.2 i
@@ -1013,7 +1013,7 @@ feeds_differ P m r (Next x k o v) t s = (λ h. h, tt)
 feeds_differ P m r Body t s = tt
 feeds_differ P m r (Reset v) t s = (λ h. h, tt)
 feeds_differ P m r (Loop g w l) t s = tt
-feeds_differ P m r (Array a b) t s = (λ h. elim h [ inl i ↦ (let e = ap (λ f. f.port) i in cc) | inr i ↦ i ], (λ h. h, tt))
+feeds_differ P m r (Array nested a b) t s = (λ h. elim h [ inl i ↦ (let e = ap (λ f. f.port) i in cc) | inr i ↦ i ], (λ h. h, tt))
 feeds_differ P m r (Fetch a b) t s = (
   λ h. elim h [
     | inl i ↦ (let e = ap (λ f. f.port) i in cc)

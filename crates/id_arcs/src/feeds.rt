@@ -464,8 +464,8 @@ fn push_carried_turns(
     arcs.push(output(count), first + 3, Port::Zero)
 }
 
-/// Adds the arcs to the `send`s of the first values of the variables with these `next` statements, of which the first is
-/// the part `first`, in the loop that begins at the row n in this region.
+/// Adds the arcs to the `send`s of the first values of the variables with these `next` statements, of which the first
+/// is the part `first`, in the loop that begins at the row n in this region.
 fn push_firsts(
     checked: &Checked,
     slots: &Slots<'_>,

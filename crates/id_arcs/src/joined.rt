@@ -45,7 +45,8 @@ fn op_by(firsts: &[u32], form: Form) -> Op
             kind,
             target: (number_by(firsts, row) + part) as u32,
         },
-        Form::FetchAt { row } => Op::Fetch {
+        Form::FetchAt { nested, row } => Op::Fetch {
+            nested,
             reply: (number_by(firsts, row) + 2) as u32,
         },
     }

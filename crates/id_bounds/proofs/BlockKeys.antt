@@ -52,7 +52,7 @@ module _ (number : ℕ → ℕ → ℕ) (a : Activation) where
   form_long m (Plain o) = keys_long a m o
   form_long m (EnterAt h c) = refl
   form_long m (SendTo k n j) = refl
-  form_long m (FetchAt n) = refl
+  form_long m (FetchAt nested n) = refl
 
   -- those of the parts of the row n from the k-th on
   abbrev parts_keys : ℕ → ℕ → List Piece → List Key

@@ -37,10 +37,11 @@ use Rattle.id_laws.specs.Topics.{Tells, of_fetch, of_store, result_at, result_of
 use Rattle.id_laws.specs.Ways.{Way, by_arc, by_move, by_send, by_enter, by_continuation, by_back, by_reply, SendsTo, of_argument, of_entry}
 use Rattle.id_laws.proofs.Arcs.{Does, starts, returns, enters, constant, unary, binary, turns_on, hands, joins, names, answers}
 use Rattle.id_laws.proofs.Arcs.{opens, passes, gets, sends_in, gives_back, varies, takes_in, moves_on, moves_name, advances, resets}
-use Rattle.id_laws.proofs.Arcs.{gets_last, allocates, addresses, fetches, gets_reply, stores, answer_unfed}
+use Rattle.id_laws.proofs.Arcs.{gets_last, allocates, addresses, fetches, gets_reply, stores}
 use Rattle.id_laws.proofs.Arcs.{bounds_meet, begins_index, carries, meets_bound, goes_further, hands_index, has_one, adds_one}
 use Rattle.id_laws.proofs.Assumed.{IsKnown}
 use Rattle.id_laws.proofs.Begun.{begun_at, one_head}
+use Rattle.id_laws.proofs.Feeders.{answer_unfed}
 use Rattle.id_laws.proofs.Blocks.{a_param}
 use Rattle.id_laws.proofs.LoopEntries.{GivenAs, as_carried, as_first, as_import, given_as}
 use Rattle.id_laws.proofs.Loops.{IsCounted, LoopOf, bounds_mean, bounds_region, counted_of as as_counted, head_block as own_block, last_region, loop_by, loop_of_head}

@@ -44,19 +44,19 @@ true_false h = cc
 -- the keys of what an instruction of this number with this operator may have under an activation: of a token for each
 -- port, and of the read that a fetch sends or the write of a store
 abbrev pub keys_for : Activation → ℕ → Op → List Key
-keys_for a n (Fetch r) = AtPort (tag_in a n) Zero ∷ ByFetch (tag_in a r) ∷ []
-keys_for a n Store = AtPort (tag_in a n) Zero ∷ AtPort (tag_in a n) One ∷ ByStore (tag_in a n) ∷ []
+keys_for a n (Fetch nested r) = AtPort (tag_in a n) Zero ∷ ByFetch (tag_in a r) ∷ []
+keys_for a n (Store nested) = AtPort (tag_in a n) Zero ∷ AtPort (tag_in a n) One ∷ ByStore (tag_in a n) ∷ []
 keys_for a n o = if two_ports o then AtPort (tag_in a n) Zero ∷ AtPort (tag_in a n) One ∷ [] else AtPort (tag_in a n) Zero ∷ []
 
 -- they are as many as there may be messages
 pub keys_long : (a : Activation) (n : ℕ) (o : Op) → length (keys_for a n o) ≡ messages_for o
-keys_long a n (Fetch r) = refl
-keys_long a n Store = refl
+keys_long a n (Fetch nested r) = refl
+keys_long a n (Store nested) = refl
 keys_long a n _ = refl
 
 first_key : (a : Activation) (n : ℕ) (o : Op) → Among (AtPort (tag_in a n) Zero) (keys_for a n o)
-first_key a n (Fetch r) = inl refl
-first_key a n Store = inl refl
+first_key a n (Fetch nested r) = inl refl
+first_key a n (Store nested) = inl refl
 first_key a n _ = inl refl
 
 second_key : (a : Activation) (n : ℕ) (o : Op) → two_ports o ≡ true → Among (AtPort (tag_in a n) One) (keys_for a n o)
@@ -64,9 +64,9 @@ second_key a n (Binary f) e = inr (inl refl)
 second_key a n (Switch k) e = inr (inl refl)
 second_key a n (Back k) e = inr (inl refl)
 second_key a n (Send k t) e = inr (inl refl)
-second_key a n Alloc e = inr (inl refl)
-second_key a n Address e = inr (inl refl)
-second_key a n Store e = inr (inl refl)
+second_key a n (Alloc nested) e = inr (inl refl)
+second_key a n (Address nested) e = inr (inl refl)
+second_key a n (Store nested) e = inr (inl refl)
 second_key a n _ e = absurd (true_false (sym e))
 
 -- ---- of a graph

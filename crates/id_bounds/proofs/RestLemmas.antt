@@ -8,7 +8,6 @@ use Rattle.id_instr.specs.Graph.{Parts}
 use Rattle.id_list.specs.List.{Among}
 use Rattle.id_list.proofs.AmongLemmas.{Among-from_at, at-from_Among}
 use Rattle.id_list.proofs.DifferLemmas.{AllDiffer-few}
-use Rattle.id_tag.specs.declared.Payload.{Payload}
 use Rattle.id_tag.specs.declared.Message.{Message}
 use Rattle.id_tag.specs.declared.Structure.{Structure}
 use Rattle.id_tag.specs.declared.Tag.{Tag}

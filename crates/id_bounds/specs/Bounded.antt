@@ -35,8 +35,8 @@ IsActive S p = IsActiveBy S.checked (Holds S) p
 -- how many messages an instruction with this operator may have under one tag: a token for each port, and the read that
 -- a fetch sends or the write of a store
 abbrev pub messages_for : Op → ℕ
-messages_for (Fetch r) = 2
-messages_for Store = 3
+messages_for (Fetch nested r) = 2
+messages_for (Store nested) = 3
 messages_for o = if two_ports o then 2 else 1
 
 -- how many all instructions of a graph may have in one iteration of one context

@@ -26,7 +26,7 @@ abbrev pub messages_of : Form → ℕ
 messages_of (Plain o) = messages_for o
 messages_of (EnterAt h c) = 1
 messages_of (SendTo k n j) = 2
-messages_of (FetchAt n) = 2
+messages_of (FetchAt nested n) = 2
 
 -- how many all instructions of a row may have
 abbrev pub messages_in_row : Checked → ℕ → ℕ

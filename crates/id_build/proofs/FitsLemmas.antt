@@ -33,7 +33,7 @@ use Rattle.id_build.proofs.SizeLemmas.{length-entries}
 -- where the form is a `send`, its entry is a part of a row, or just behind, and so is the reply of a `fetch`
 abbrev Sent : Checked → Form → Type 0
 Sent P (SendTo k n j) = (n < length (rows P)) × (j ≤ length (made P n))
-Sent P (FetchAt n) = (n < length (rows P)) × (2 ≤ length (made P n))
+Sent P (FetchAt nested n) = (n < length (rows P)) × (2 ≤ length (made P n))
 Sent P _ = Unit {0}
 
 -- each of the pieces is so
@@ -145,7 +145,7 @@ each_made P n e (Next x k o v) l is = (tt, tt)
 each_made P n e Body l is = tt
 each_made P n e (Reset v) l is = (tt, tt)
 each_made P n e (Loop h w v) l is = (tt, tt)
-each_made P n e (Array a b) l is = (tt, tt)
+each_made P n e (Array nested a b) l is = (tt, tt)
 each_made P n e (Fetch a b) l is = (tt, ((l, omega (arith, ap (λ x. length (made_of P n (place P n) x)) is)), (tt, tt)))
 each_made P n e (Address a b) l is = (tt, tt)
 each_made P n e (Store a v) l is = (tt, tt)
@@ -173,7 +173,7 @@ module _ (P : Checked) (order F : List ℕ) (o : IsOrder P order) (fs : AreFirst
 
   sent_fits : (f : Form) → Sent P f → Fits F f
   sent_fits (SendTo k n j) s = let z = number_fits n j s.0 s.1 in omega (arith, z)
-  sent_fits (FetchAt n) s = let z = number_fits n 2 s.0 s.1 in omega (arith, z)
+  sent_fits (FetchAt nested n) s = let z = number_fits n 2 s.0 s.1 in omega (arith, z)
   sent_fits (Plain p) s = tt
   sent_fits (EnterAt h c) s = tt
 

@@ -8,7 +8,8 @@ use Rattle.std.proofs.lemmas.Bool.Decides.{Decides-eqb, nat_tests}
 use Rattle.std.proofs.lemmas.List.{get_or_past}
 use Rattle.id_list.specs.List.{Among}
 use Rattle.id_value.specs.declared.Kind.{Kind}
-use Rattle.id_value.specs.declared.Kind.TheVariants.{Int, Bool, Array}
+use Rattle.id_value.specs.declared.Kind.TheVariants.{Int, Bool, Array, Nested}
+use Rattle.id_value.specs.Kinds.{array_kind as array_kind_of, same_kind}
 use Rattle.id_value.specs.declared.UnaryOp.{UnaryOp}
 use Rattle.id_value.specs.declared.BinaryOp.{BinaryOp}
 use Rattle.id_value.specs.declared.BinaryOp.TheVariants as class
@@ -34,15 +35,17 @@ use Rattle.id_scope.specs.declared.cause.CheckCause.TheVariants.{MainKind, TooMa
 use Rattle.id_check.specs.declared.checked.Checked.{Checked}
 use Rattle.id_scope.specs.declared.cause.CheckCause.{CheckCause}
 use Rattle.id_scope.specs.Causes.{array_param, callee, causes_below, causes_in, count_at, count_in, duplicates}
-use Rattle.id_scope.specs.Causes.{head_in, is_count, is_array_param, same_kind, unknown, unless_found, wrong}
-use Rattle.id_scope.specs.Causes.{wrong_argument, wrong_both, wrong_count, wrong_equals, wrong_like, wrong_params}
+use Rattle.id_scope.specs.Causes.{head_in, is_count, is_array_param, unknown, unless_array, unless_found, wrong}
+use Rattle.id_scope.specs.Causes.{wrong_argument, wrong_both, wrong_cell, wrong_count, wrong_equals, wrong_like, wrong_params}
 use Rattle.id_scope.specs.declared.kinds.Link.{Link}
 use Rattle.id_scope.specs.declared.kinds.Link.TheVariants.{Fixed, To, Nowhere}
-use Rattle.id_scope.specs.Kinds.{AreKinds, EndsIn, binary_kind, constant_kind, in_kind, in_nothing, further, link_at, link_of, link_of_name, unary_kind}
+use Rattle.id_scope.specs.declared.kinds.Link.TheVariants as link
+use Rattle.id_scope.specs.Chains.{goes_to}
+use Rattle.id_scope.specs.Kinds.{AreKinds, EndsIn, binary_kind, constant_kind, in_kind, in_nothing, further, within, kind_within, link_at, link_of, link_of_name, unary_kind}
 use Rattle.id_check.specs.Programs.{Calls, Stands, binder, kind, region, rows, tree}
 use Rattle.id_scope.specs.Scopes.{binder_by, binder_in, binder_of, binds, bound_name, first_of, held, is_name}
 use Rattle.id_scope.specs.Scopes.{is_next_use, keeps, looks, sees, sees_own, takes, used_name, user_of, uses_procedure, uses_value}
-use Rattle.id_scope.proofs.ChainsLemmas.{after}
+use Rattle.id_scope.proofs.ChainsLemmas.{after, after_within}
 use Rattle.id_check.proofs.HomesLemmas.{bound_home, home, seen_outside}
 use Rattle.id_scope.proofs.LinksLemmas.{link_below, part_of}
 use Rattle.id_check.proofs.NotedLemmas.{IsProgramTree-tree_in}
@@ -70,6 +73,13 @@ option_kind (Some Bool) (Some Array) h = absurd (h (λ e. cc))
 option_kind (Some Array) (Some Int) h = absurd (h (λ e. cc))
 option_kind (Some Array) (Some Bool) h = absurd (h (λ e. cc))
 option_kind (Some Array) (Some Array) h = refl
+option_kind (Some Int) (Some Nested) h = absurd (h (λ e. cc))
+option_kind (Some Bool) (Some Nested) h = absurd (h (λ e. cc))
+option_kind (Some Array) (Some Nested) h = absurd (h (λ e. cc))
+option_kind (Some Nested) (Some Int) h = absurd (h (λ e. cc))
+option_kind (Some Nested) (Some Bool) h = absurd (h (λ e. cc))
+option_kind (Some Nested) (Some Array) h = absurd (h (λ e. cc))
+option_kind (Some Nested) (Some Nested) h = refl
 
 -- the kinds of rows are the only ones
 pub kind_once : (R : List Row) (β : ℕ → Option ℕ) (κ μ : ℕ → Option Kind) → AreKinds R β κ → AreKinds R β μ → (i : ℕ) → i < length R → κ i ≡ μ i
@@ -83,6 +93,14 @@ kind_to R β κ i j h less low e = option_kind (κ i) (κ j) (λ d.
     let endless : (o : Option Kind) → EndsIn (link_at R β) j o → ⊥ = λ o f. d (h.ends i o less (further j e f) ∙ sym (h.ends j o low f)) in
     d (h.endless i less (λ o f. endless o (after j f e)) ∙ sym (h.endless j low endless)))
 
+-- and that of the elements of an array follows from the array's
+kind_into : (R : List Row) (β : ℕ → Option ℕ) (κ : ℕ → Option Kind) (i j : ℕ) → AreKinds R β κ → i < length R → j < length R → link_at R β i ≡ link.Within j
+    → κ i ≡ Some (kind_within (κ j))
+kind_into R β κ i j h less low e = option_kind (κ i) (Some (kind_within (κ j))) (λ d.
+    let endless : (o : Option Kind) → EndsIn (link_at R β) j o → ⊥ =
+    λ o f. d (h.ends i (Some (kind_within o)) less (within j e f) ∙ ap (λ z. Some (kind_within z)) (sym (h.ends j o low f))) in
+    d (h.endless i less (λ o f. let w = after_within j f e in endless w.0 w.1) ∙ ap (λ z. Some (kind_within z)) (sym (h.endless j low endless))))
+
 -- a row's binder is a row
 pub binder_below : (P : Checked) (i b : ℕ) → i < length (rows P) → binder P i ≡ Some b → b < length (rows P)
 binder_below P i b less e = binder_at-below (rows P) (length (rows P)) i b (sym (P.bound.each i less) ∙ e)
@@ -95,7 +113,14 @@ link_in P i n = link_of (binder P (user_of i n)) n
 pub kind_along : (P : Checked) (i j : ℕ) (n : Node) → Stands P i n → link_in P i n ≡ To j → kind P i ≡ kind P j
 kind_along P i j n h e =
     let link : link_at (rows P) (binder P) i ≡ To j = ap (link_in P i) h.node ∙ e in
-    kind_to (rows P) (binder P) (kind P) i j P.kinded h.within (link_below (rows P) (binder P) P.table.formed (binder_below P) i j h.within link) link
+    kind_to (rows P) (binder P) (kind P) i j P.kinded h.within (link_below (rows P) (binder P) P.table.formed (binder_below P) i j h.within (ap goes_to link)) link
+
+-- and into an array, whose elements' kind the row has
+pub kind_element : (P : Checked) (i j : ℕ) (n : Node) → Stands P i n → link_in P i n ≡ link.Within j → kind P i ≡ Some (kind_within (kind P j))
+kind_element P i j n h e =
+    let on : link_at (rows P) (binder P) i ≡ link.Within j = ap (link_in P i) h.node ∙ e in
+    kind_into (rows P) (binder P) (kind P) i j P.kinded h.within
+    (link_below (rows P) (binder P) P.table.formed (binder_below P) i j h.within (ap goes_to on)) on
 
 -- where it ends in a kind
 pub kind_fixed : (P : Checked) (i : ℕ) (n : Node) (k : Kind) → Stands P i n → link_in P i n ≡ Fixed k → kind P i ≡ Some k
@@ -406,8 +431,8 @@ nowhere P i (Index x) h v e = let d : Fixed Int ≡ Nowhere = e in cc
 nowhere P i Body h v e = false≢true v
 nowhere P i (Reset a) h v e = false≢true v
 nowhere P i Span h v e = false≢true v
-nowhere P i (node.Array a b) h v e = let d : Fixed Array ≡ Nowhere = e in cc
-nowhere P i (Fetch t j) h v e = let d : Fixed Int ≡ Nowhere = e in cc
+nowhere P i (node.Array nested a b) h v e = let d : Fixed (array_kind_of nested) ≡ Nowhere = e in cc
+nowhere P i (Fetch t j) h v e = let d : link.Within t ≡ Nowhere = e in cc
 nowhere P i (Address t j) h v e = false≢true v
 nowhere P i (Store a x) h v e = false≢true v
 
@@ -471,9 +496,9 @@ goes P i j (Index x) h e = let d : Fixed Int ≡ To j = e in cc
 goes P i j Body h e = let d : Nowhere ≡ To j = e in cc
 goes P i j (Reset a) h e = let d : Nowhere ≡ To j = e in cc
 goes P i j Span h e = let d : Nowhere ≡ To j = e in cc
-goes P i j (node.Array a b) h e = let d : Fixed Array ≡ To j = e in cc
-goes P i j (Fetch t k) h e = let d : Fixed Int ≡ To j = e in cc
-goes P i j (Address t k) h e = let d : Nowhere ≡ To j = e in cc
+goes P i j (node.Array nested a b) h e = let d : Fixed (array_kind_of nested) ≡ To j = e in cc
+goes P i j (Fetch t k) h e = let d : link.Within t ≡ To j = e in cc
+goes P i j (Address t k) h e = let d : link.Within t ≡ To j = e in cc
 goes P i j (Store a x) h e = let d : Nowhere ≡ To j = e in cc
 
 -- its chain ends in a kind, if it ends
@@ -484,6 +509,7 @@ no_nothing P i _ (in_nothing e) f less v = nowhere P i (at (rows P) i).node (rec
 no_nothing P i o (further j e g) f less v =
     let w = goes P i j (at (rows P) i).node (record { within = less; node = refl }) e in
     no_nothing P j o g f w.0 w.1
+no_nothing P i _ (within {o = w} j e g) f less v = let d : Some (kind_within w) ≡ None = f in cc
 
 kinded : (P : Checked) (i : ℕ) → i < length (rows P) → IsValued (at (rows P) i).node → (o : Option Kind) → kind P i ≡ o → (k : Kind) × (kind P i ≡ Some k)
 kinded P i less v (Some k) e = (k, e)
@@ -510,6 +536,13 @@ same_is Bool Int e = absurd (false≢true e)
 same_is Bool Array e = absurd (false≢true e)
 same_is Array Int e = absurd (false≢true e)
 same_is Array Bool e = absurd (false≢true e)
+same_is Nested Nested e = refl
+same_is Int Nested e = absurd (false≢true e)
+same_is Bool Nested e = absurd (false≢true e)
+same_is Array Nested e = absurd (false≢true e)
+same_is Nested Int e = absurd (false≢true e)
+same_is Nested Bool e = absurd (false≢true e)
+same_is Nested Array e = absurd (false≢true e)
 
 -- an expression of which a kind is wanted has it, where there is no cause
 wanted_kind : (P : Checked) (k : Kind) (a : ℕ) → a < length (rows P) → is_expression (at (rows P) a).node ≡ true → wrong (rows P) (kind P) k a ≡ []
@@ -572,6 +605,7 @@ equal_kinds P i a b p h e = by v.0 v.1
     by Int f = (inl f, right Int (sym (ap (λ o. wrong_equals (rows P) (kind P) o a b) f) ∙ e) ∙ sym f)
     by Bool f = (inr f, right Bool (sym (ap (λ o. wrong_equals (rows P) (kind P) o a b) f) ∙ e) ∙ sym f)
     by Array f = let d : WrongKind (at (rows P) a).place Int Array ∷ [] ≡ [] = sym (ap (λ o. wrong_equals (rows P) (kind P) o a b) f) ∙ e in cc
+    by Nested f = let d : WrongKind (at (rows P) a).place Int Nested ∷ [] ≡ [] = sym (ap (λ o. wrong_equals (rows P) (kind P) o a b) f) ∙ e in cc
 
 -- those of `==` and `<>` are both numbers or both truth values
 pub equality_row : (P : Checked) (i a b : ℕ) (o : Comparison) → is_equality o ≡ true → Stands P i (Binary (class.Comparison o) a b)
@@ -595,31 +629,55 @@ two_wanted P i a b n j k h f g e =
     (wanted_kind P j a v.0 v.1 z.0, wanted_kind P k b w.0 w.1 z.1)
 
 -- the bounds of an array are numbers
-pub array_row : (P : Checked) (i a b : ℕ) → Stands P i (node.Array a b) → (kind P a ≡ Some Int) × (kind P b ≡ Some Int)
-array_row P i a b h = two_wanted P i a b (node.Array a b) Int Int h (inl refl) (inr refl) (none_in P i (node.Array a b) h)
+pub array_row : {nested : Truth} (P : Checked) (i a b : ℕ) → Stands P i (node.Array nested a b) → (kind P a ≡ Some Int) × (kind P b ≡ Some Int)
+array_row {nested} P i a b h = two_wanted P i a b (node.Array nested a b) Int Int h (inl refl) (inr refl) (none_in P i (node.Array nested a b) h)
 
 -- and so are those of an index
 pub bounds_row : (P : Checked) (i a b : ℕ) → Stands P i (node.Bounds a b) → (kind P a ≡ Some Int) × (kind P b ≡ Some Int)
 bounds_row P i a b h = two_wanted P i a b (node.Bounds a b) Int Int h (inl refl) (inr refl) (none_in P i (node.Bounds a b) h)
 
+-- where an array is wanted and there is no cause, the kind is one of arrays
+array_is : (k : Kind) (e : ℕ) → unless_array (Some k) e ≡ [] → (nested : Truth) × (k ≡ array_kind_of nested)
+array_is Int e f = let d : WrongKind e Array Int ∷ [] ≡ [] = f in cc
+array_is Bool e f = let d : WrongKind e Array Bool ∷ [] ≡ [] = f in cc
+array_is Array e f = (false, refl)
+array_is Nested e f = (true, refl)
+
+cell_wanted : (P : Checked) (i t j : ℕ) (n : Node) → Stands P i n → HasOperand n t → HasOperand n j → wrong_cell (rows P) (kind P) t j ≡ []
+    → (nested : Truth) × (kind P t ≡ Some (array_kind_of nested)) × (kind P j ≡ Some Int)
+cell_wanted P i t j n h f g e =
+    let v = part_row P i t n h f in
+    let w = part_row P i j n h g in
+    let k = has_kind P t v.0 v.1 in
+    let place = (at (rows P) t).place in
+    let z = both_nil (unless_array (kind P t) place) (wrong (rows P) (kind P) Int j) e in
+    let x = array_is k.0 place (sym (ap (λ o. unless_array o place) k.1) ∙ z.0) in
+    (x.0, k.1 ∙ ap (λ o. Some o) x.1, wanted_kind P Int j w.0 w.1 z.1)
+
 -- the target of a fetch is an array, and its index a number
-pub fetch_row : (P : Checked) (i t j : ℕ) → Stands P i (Fetch t j) → (kind P t ≡ Some Array) × (kind P j ≡ Some Int)
-fetch_row P i t j h = two_wanted P i t j (Fetch t j) Array Int h (inl refl) (inr refl) (none_in P i (Fetch t j) h)
+pub fetch_row : (P : Checked) (i t j : ℕ) → Stands P i (Fetch t j) → (nested : Truth) × (kind P t ≡ Some (array_kind_of nested)) × (kind P j ≡ Some Int)
+fetch_row P i t j h = cell_wanted P i t j (Fetch t j) h (inl refl) (inr refl) (none_in P i (Fetch t j) h)
 
 -- and so are those of a store
-pub address_row : (P : Checked) (i t j : ℕ) → Stands P i (Address t j) → (kind P t ≡ Some Array) × (kind P j ≡ Some Int)
-address_row P i t j h = two_wanted P i t j (Address t j) Array Int h (inl refl) (inr refl) (none_in P i (Address t j) h)
+pub address_row : (P : Checked) (i t j : ℕ) → Stands P i (Address t j) → (nested : Truth) × (kind P t ≡ Some (array_kind_of nested)) × (kind P j ≡ Some Int)
+address_row P i t j h = cell_wanted P i t j (Address t j) h (inl refl) (inr refl) (none_in P i (Address t j) h)
 
--- the value of a store is a number
-pub store_row : (P : Checked) (i a v : ℕ) → Stands P i (Store a v) → kind P v ≡ Some Int
-store_row P i a v h = let w = part_row P i v (Store a v) h refl in wanted_kind P Int v w.0 w.1 (none_in P i (Store a v) h)
+-- an array is one, and a fetch and an address have the kind of its elements
+pub array_kind : {nested : Truth} (P : Checked) (i a b : ℕ) → Stands P i (node.Array nested a b) → kind P i ≡ Some (array_kind_of nested)
+array_kind {nested} P i a b h = kind_fixed P i (node.Array nested a b) (array_kind_of nested) h refl
 
--- an array is one, and a fetch gives a number
-pub array_kind : (P : Checked) (i a b : ℕ) → Stands P i (node.Array a b) → kind P i ≡ Some Array
-array_kind P i a b h = kind_fixed P i (node.Array a b) Array h refl
+pub fetch_kind : (P : Checked) (i t j : ℕ) → Stands P i (Fetch t j) → kind P i ≡ Some (kind_within (kind P t))
+fetch_kind P i t j h = kind_element P i t (Fetch t j) h refl
 
-pub fetch_kind : (P : Checked) (i t j : ℕ) → Stands P i (Fetch t j) → kind P i ≡ Some Int
-fetch_kind P i t j h = kind_fixed P i (Fetch t j) Int h refl
+pub address_kind : (P : Checked) (i t j : ℕ) → Stands P i (Address t j) → kind P i ≡ Some (kind_within (kind P t))
+address_kind P i t j h = kind_element P i t (Address t j) h refl
+
+-- the value of a store has the kind of its address
+pub store_row : (P : Checked) (i a v t j : ℕ) → Stands P i (Store a v) → Stands P a (Address t j) → kind P v ≡ kind P a
+store_row P i a v t j h g =
+    let k = address_kind P a t j g in
+    let w = part_row P i v (Store a v) h refl in
+    wanted_kind P (kind_within (kind P t)) v w.0 w.1 (sym (ap (λ o. wrong_like (rows P) (kind P) o v) k) ∙ none_in P i (Store a v) h) ∙ sym k
 
 -- ---- conditionals
 

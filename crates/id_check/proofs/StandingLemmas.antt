@@ -5,7 +5,8 @@ use Rattle.std.specs.Prelude.{◌&&◌, not, nat_eq, nat_lt, if◌then◌else◌
 use Rattle.id_list.specs.List.{Among}
 use Rattle.id_list.proofs.AmongLemmas.{Among-either, Among-one}
 use Rattle.id_value.specs.declared.Kind.{Kind}
-use Rattle.id_value.specs.declared.Kind.TheVariants.{Int, Bool, Array}
+use Rattle.id_value.specs.declared.Kind.TheVariants.{Int, Bool, Array, Nested}
+use Rattle.id_value.specs.Kinds.{is_array, same_kind}
 use Rattle.id_value.specs.declared.BinaryOp.{BinaryOp}
 use Rattle.id_value.specs.declared.BinaryOp.TheVariants as class
 use Rattle.id_value.specs.declared.Comparison.TheVariants.{Lt, Le, Gt, Ge, Eq, Ne}
@@ -27,8 +28,8 @@ use Rattle.id_scope.specs.declared.cause.CheckCause.TheVariants.{NoMain, MainKin
 use Rattle.id_scope.specs.Scopes.{binder_in, binds, bound_name, is_name, keeps, held, user_of}
 use Rattle.id_scope.specs.Kinds.{unary_kind}
 use Rattle.id_scope.specs.Causes.{HasFirst, IsInside, IsRefusedFor, array_param, callee, causes, causes_below}
-use Rattle.id_scope.specs.Causes.{causes_in, count_at, duplicates, is_count, is_array_param, repeated, same_kind}
-use Rattle.id_scope.specs.Causes.{second, seconds, unknown, unless_found, wrong, wrong_argument, wrong_both}
+use Rattle.id_scope.specs.Causes.{causes_in, count_at, duplicates, is_count, is_array_param, repeated}
+use Rattle.id_scope.specs.Causes.{second, seconds, unknown, unless_array, unless_found, wrong, wrong_argument, wrong_both}
 use Rattle.id_scope.specs.Causes.{wrong_cell, wrong_count, wrong_equals, wrong_like, wrong_operands, wrong_params}
 use Rattle.id_scope.proofs.LinksLemmas.{part_of}
 use Rattle.id_scope.proofs.ScopesLemmas.{binder_in-below, first_of-some}
@@ -125,7 +126,7 @@ expression_thing (Binary o a b) e = refl
 expression_thing (If s x y) e = refl
 expression_thing (Call s c) e = refl
 expression_thing (Loop h w l) e = refl
-expression_thing (node.Array a b) e = refl
+expression_thing (node.Array nested a b) e = refl
 expression_thing (Fetch t i) e = refl
 expression_thing (Block b) e = refl
 expression_thing _ e = let d : false ≡ true = e in cc
@@ -178,10 +179,22 @@ both_standing R κ wanted a b c h k g = elim (Among-either c (wrong R κ wanted 
   | inr f ↦ wrong_standing R κ wanted b c k f
 ]
 
+unless_array_standing : (R : List Row) (κ : ℕ → Option Kind) (a : ℕ) (c : CheckCause) → IsThing R a → Among c (unless_array (κ a) (at R a).place)
+    → IsStanding R c
+unless_array_standing R κ a c h g = by (κ a) g
+  where
+    at_kind : (found : Kind) (t : Truth) → Among c (if t then [] else (WrongKind (at R a).place Array found ∷ [])) → IsStanding R c
+    at_kind found true f = absurd f
+    at_kind found false f = one R c (WrongKind (at R a).place Array found) (a, h.0, h.1, refl) f
+
+    by : (o : Option Kind) → Among c (unless_array o (at R a).place) → IsStanding R c
+    by None f = absurd f
+    by (Some found) f = at_kind found (is_array found) f
+
 cell_standing : (R : List Row) (κ : ℕ → Option Kind) (a b : ℕ) (c : CheckCause) → IsThing R a → IsThing R b
     → Among c (wrong_cell R κ a b) → IsStanding R c
-cell_standing R κ a b c h k g = elim (Among-either c (wrong R κ Array a) (wrong R κ Int b) g) [
-  | inl f ↦ wrong_standing R κ Array a c h f
+cell_standing R κ a b c h k g = elim (Among-either c (unless_array (κ a) (at R a).place) (wrong R κ Int b) g) [
+  | inl f ↦ unless_array_standing R κ a c h f
   | inr f ↦ wrong_standing R κ Int b c k f
 ]
 
@@ -191,6 +204,7 @@ equals_standing R κ a b c h k None g = absurd g
 equals_standing R κ a b c h k (Some Int) g = wrong_standing R κ Int b c k g
 equals_standing R κ a b c h k (Some Bool) g = wrong_standing R κ Bool b c k g
 equals_standing R κ a b c h k (Some Array) g = one R c (WrongKind (at R a).place Int Array) (a, h.0, h.1, refl) g
+equals_standing R κ a b c h k (Some Nested) g = one R c (WrongKind (at R a).place Int Nested) (a, h.0, h.1, refl) g
 
 like_standing : (R : List Row) (κ : ℕ → Option Kind) (b : ℕ) (c : CheckCause) → IsThing R b → (o : Option Kind) → Among c (wrong_like R κ o b) → IsStanding R c
 like_standing R κ b c h None g = absurd g
@@ -309,10 +323,11 @@ causes_in_standing R β κ i c t less a = by (at R i).node refl a
     by (Switches k) e b = placed_standing R κ Bool k c (test_placed R i k t less e) b
     by (NextUse x) e b = no_binder (β i) (next_here x e) b
     by (Next x k u v) e b = like_standing R κ v c (thing v (Next x k u v) e refl) (κ u) b
-    by (node.Array x y) e b = both_standing R κ Int x y c (thing x (node.Array x y) e (inl refl)) (thing y (node.Array x y) e (inr refl)) b
+    by (node.Array nested x y) e b =
+        both_standing R κ Int x y c (thing x (node.Array nested x y) e (inl refl)) (thing y (node.Array nested x y) e (inr refl)) b
     by (Fetch x y) e b = cell_standing R κ x y c (thing x (Fetch x y) e (inl refl)) (thing y (Fetch x y) e (inr refl)) b
     by (Address x y) e b = cell_standing R κ x y c (thing x (Address x y) e (inl refl)) (thing y (Address x y) e (inr refl)) b
-    by (Store x y) e b = wrong_standing R κ Int y c (thing y (Store x y) e refl) b
+    by (Store x y) e b = like_standing R κ y c (thing y (Store x y) e refl) (κ x) b
     by (Def x d k y) e b = elim (Among-either c (wrong R κ k y) (wrong_params R x (at R i).place (params_at R d)) b) [
       | inl g ↦ wrong_standing R κ k y c (thing y (Def x d k y) e refl) g
       | inr g ↦ elim (Among-either c (if nat_eq x 0 then array_param R (params_at R d) else [])

@@ -65,7 +65,7 @@ Distinct-prop (for_loop x q a b c d p) = λ v w j. (
   Distinct-prop c v.13 w.13 j,
   Distinct-prop d v.14 w.14 j,
 )
-Distinct-prop (array a b p) = two-prop a b p (Distinct-prop a) (Distinct-prop b)
+Distinct-prop (array nested a b p) = two-prop a b p (Distinct-prop a) (Distinct-prop b)
 Distinct-prop (fetch t i p) = two-prop t i p (Distinct-prop t) (Distinct-prop i)
 Distinct-prop (store t i a p) = three-prop t i a p (Distinct-prop t) (Distinct-prop i) (Distinct-prop a)
 Distinct-prop (next x a p) = ×_prop not-prop (Distinct-prop a)

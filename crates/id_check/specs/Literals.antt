@@ -1,5 +1,5 @@
 -- The numbers of literals.
-use Rattle.std.specs.Prelude.{◌≡◌, ◌<◌, ℕ, ℤ, true, List, length}
+use Rattle.std.specs.Prelude.{◌≡◌, ◌<◌, ℕ, ℤ, true, List}
 use Rattle.id_value.specs.declared.Constant.TheVariants.{Int}
 use Rattle.id_value.specs.Results.{is_whole}
 use Rattle.id_table.specs.declared.row.Row.{Row}

@@ -6,7 +6,6 @@ ghost use Rattle.id_scope.specs.Causes as causes;
 ghost use Rattle.id_check.specs.Params as params;
 
 use id_parts::{Node, Row};
-use id_tree::Kind;
 
 /// The most parameters that a definition may have.
 pub const MAX_PARAMS: usize = 16;
@@ -63,7 +62,7 @@ fn is_array_param(node: Node) -> bool
     ensures { result ≡ causes.is_array_param node }
 {
     match node {
-        Node::Param { kind, .. } => matches!(kind, Kind::Array),
+        Node::Param { kind, .. } => kind.is_array(),
         _ => false,
     }
 }

@@ -1,13 +1,15 @@
 //! What is wrong in each row: names without binder, parts of another kind than is wanted, numbers of arguments, and
 //! parameters.
 
-ghost use Rattle.std.specs.Prelude.{◌≡◌, ◌<◌, ◌+◌, ℕ, get_or, length, None, Some};
+ghost use Rattle.std.specs.Prelude.{◌≡◌, ◌<◌, ◌+◌, ℕ, [], ◌∷◌, get_or, length, None, Some};
 ghost use Rattle.id_table.specs.Rows.{at};
 ghost use Rattle.id_table.specs.Tables.{HasPart, IsFormed};
 ghost use Rattle.id_table.specs.Turns.{IsDefOf, IsTable, params_at};
 ghost use Rattle.id_scope.specs.Causes as causes;
 ghost use Rattle.id_scope.specs.Causes.{causes_below, causes_in, unknown, wrong, wrong_argument, wrong_both};
-ghost use Rattle.id_scope.specs.Causes.{wrong_cell, wrong_count, wrong_like};
+ghost use Rattle.id_scope.specs.Causes.{unless_array, wrong_cell, wrong_count, wrong_like};
+ghost use Rattle.id_scope.specs.declared.cause.CheckCause.TheVariants.{WrongKind};
+ghost use Rattle.id_value.specs.Kinds.{same_kind};
 ghost use Rattle.id_scope.specs.Causes.{wrong_equals, wrong_operands, wrong_params};
 ghost use Rattle.id_value.specs.declared.BinaryOp.TheVariants as class;
 ghost use Rattle.id_check.specs.Counts.{AreCounts};
@@ -119,12 +121,12 @@ fn note_parts(first: &mut Option<CheckCause>, rows: &[Row], kinds: &[Option<Kind
         Node::Split { test } => note_wrong(first, rows, kinds, Kind::Bool, test),
         Node::Switches { test } => note_wrong(first, rows, kinds, Kind::Bool, test),
         Node::Next { outer, value, .. } => note_next(first, rows, kinds, outer, value),
-        Node::Array { low, high } | Node::Bounds { low, high } => {
+        Node::Array { low, high, .. } | Node::Bounds { low, high } => {
             note_both(first, rows, kinds, Kind::Int, low, high)
         }
         Node::Fetch { target, index } => note_cell(first, rows, kinds, target, index),
         Node::Address { target, index } => note_cell(first, rows, kinds, target, index),
-        Node::Store { value, .. } => note_wrong(first, rows, kinds, Kind::Int, value),
+        Node::Store { address, value } => note_store(first, rows, kinds, address, value),
         Node::If {
             then,
             otherwise,
@@ -349,17 +351,8 @@ fn note_equals(
         None => {}
         Some(Kind::Int) => note_wrong(first, rows, kinds, Kind::Int, right),
         Some(Kind::Bool) => note_wrong(first, rows, kinds, Kind::Bool, right),
-        Some(Kind::Array) => {
-            let at = rows[left].place as usize;
-            note(
-                first,
-                CheckCause::WrongKind {
-                    at,
-                    wanted: Kind::Int,
-                    found: Kind::Array,
-                },
-            );
-        }
+        Some(Kind::Array) => note_found(first, rows, Kind::Int, Kind::Array, left),
+        Some(Kind::Nested) => note_found(first, rows, Kind::Int, Kind::Nested, left),
     }
 }
 
@@ -397,6 +390,23 @@ fn note_next(
     note_like(first, rows, kinds, kinds[outer as usize], value as usize);
 }
 
+/// Notes the value of a store, if it is of another kind than the cell holds. Takes no memory.
+fn note_store(
+    first: &mut Option<CheckCause>,
+    rows: &[Row],
+    kinds: &[Option<Kind>],
+    address: usize,
+    value: usize,
+)
+    requires kinds { length kinds.now ≡ length rows.now }
+    requires address { address < length rows.now }
+    requires value { value < length rows.now }
+    ensures { Notes first.old
+        (wrong_like rows.now (λ i. get_or kinds.now i None) (get_or kinds.now address None) value) first.new }
+{
+    note_like(first, rows, kinds, kinds[address], value);
+}
+
 /// Notes the target and the index of a fetch or a store that are wrong. Takes no memory.
 fn note_cell(
     first: &mut Option<CheckCause>,
@@ -410,8 +420,21 @@ fn note_cell(
     requires index { index < length rows.now }
     ensures { Notes first.old (wrong_cell rows.now (λ i. get_or kinds.now i None) target index) first.new }
 {
-    note_wrong(first, rows, kinds, Kind::Array, target);
+    note_target(first, rows, kinds, target);
     note_wrong(first, rows, kinds, Kind::Int, index);
+}
+
+/// Notes the row if it is no array. Takes no memory.
+fn note_target(first: &mut Option<CheckCause>, rows: &[Row], kinds: &[Option<Kind>], i: usize)
+    requires kinds { length kinds.now ≡ length rows.now }
+    requires row { i < length rows.now }
+    ensures { Notes first.old (unless_array (get_or kinds.now i None) (at rows.now i).place) first.new }
+{
+    if let Some(found) = kinds[i] {
+        if !found.is_array() {
+            note_found(first, rows, Kind::Array, found, i);
+        }
+    }
 }
 
 /// Notes the operands that are wrong, where one kind is wanted of both. Takes no memory.
@@ -446,20 +469,29 @@ fn note_wrong(
 {
     if let Some(found) = kinds[i] {
         if !is_same(found, wanted) {
-            let at = rows[i].place as usize;
-            note(first, CheckCause::WrongKind { at, wanted, found });
+            note_found(first, rows, wanted, found, i);
         }
     }
 }
 
+/// Notes that the row is of another kind than is wanted. Takes no memory.
+fn note_found(first: &mut Option<CheckCause>, rows: &[Row], wanted: Kind, found: Kind, i: usize)
+    requires { i < length rows.now }
+    ensures { Notes first.old (WrongKind (at rows.now i).place wanted found ∷ []) first.new }
+{
+    let at = rows[i].place as usize;
+    note(first, CheckCause::WrongKind { at, wanted, found });
+}
+
 /// Whether the two kinds are one.
 fn is_same(found: Kind, wanted: Kind) -> bool
-    ensures { result ≡ causes.same_kind found wanted }
+    ensures { result ≡ same_kind found wanted }
 {
     match (found, wanted) {
         (Kind::Int, Kind::Int) => true,
         (Kind::Bool, Kind::Bool) => true,
         (Kind::Array, Kind::Array) => true,
+        (Kind::Nested, Kind::Nested) => true,
         _ => false,
     }
 }

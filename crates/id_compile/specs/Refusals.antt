@@ -4,7 +4,7 @@ use Rattle.std.specs.Prelude.{Result}
 use Rattle.id_text.specs.declared.token.TextError.{TextError}
 use Rattle.id_text.specs.declared.token.TextError.TheVariants as lexer
 use Rattle.id_value.specs.declared.Kind.{Kind}
-use Rattle.id_value.specs.declared.Kind.TheVariants.{Int, Bool, Array}
+use Rattle.id_value.specs.declared.Kind.TheVariants.{Int, Bool, Array, Nested}
 use Rattle.id_grammar.specs.declared.tree.TreeError.{TreeError}
 use Rattle.id_grammar.specs.declared.tree.TreeError.TheVariants as parser
 use Rattle.id_check.specs.declared.checked.Checked.{Checked}
@@ -166,6 +166,7 @@ abbrev pub kind_text : Kind → List ℕ
 kind_text Int = codes "int"
 kind_text Bool = codes "bool"
 kind_text Array = codes "array"
+kind_text Nested = codes "array array"
 
 -- the kind that is wanted and the one that is found
 abbrev pub kinds_text : Kind → Kind → List ℕ

@@ -351,6 +351,7 @@ fn kind_name(kind: Kind) -> &'static [u8]
         Kind::Int => b"int",
         Kind::Bool => b"bool",
         Kind::Array => b"array",
+        Kind::Nested => b"array array",
     }
 }
 

@@ -1,6 +1,6 @@
 -- Lemmas on specs/Machines.antt.
 use Rattle.std.proofs.Common.{◌≡◌, ℕ, suc, ◌+◌, ◌<◌, Bool, true, false, cond, eqb, eq-eqb, ◌||◌, Option, Some, None, List, [], ◌∷◌, ◌++◌, map, filter}
-use Rattle.std.proofs.Common.{length, get_or, set, take, drop, refl, sym, ap, subst, ◌∙◌, ⊎_elim, inl, inr, arith}
+use Rattle.std.proofs.Common.{length, get_or, set, take, drop, refl, sym, ap, subst, ◌∙◌, ⊎_elim, arith}
 use Rattle.std.specs.Prelude.{All, IfOk, IsTrue, OnErr, OnOk, Result, Ok, Err, slice_index, slice_get, option_map, ◌↔◌, ◌⊎◌, ⊤}
 use Rattle.std.specs.List.{list_any, remove}
 use Rattle.std.specs.List.Sorted.{IsStrictlyIncreasing}
@@ -27,11 +27,8 @@ use Rattle.id_firing.specs.Fits.{IsFor}
 use Rattle.id_firing.specs.Steps.{fresh, outputs_of, event_of, state_after, step_of, is_ended}
 use Rattle.id_firing.specs.declared.step.TakeError.{TakeError}
 use Rattle.id_firing.specs.declared.step.TakeError.TheVariants.{StampEnd}
-use Rattle.id_firing.specs.declared.step.Short.{Short}
-use Rattle.id_firing.specs.declared.step.Short.TheVariants.{Went, Failed, Apart}
-use Rattle.id_firing.specs.Shorts.{IsHandled}
+use Rattle.id_firing.specs.declared.step.Short.TheVariants.{Apart}
 use Rattle.id_desk.specs.Replays.{ElementView}
-use Rattle.id_line.specs.Events.{EventView}
 use Rattle.id_line.specs.declared.step.Step.{Step}
 use Rattle.id_core.specs.Machines.{world_of, taken_from, given_to, routed_to, delivered, event_of_given}
 use Rattle.id_core.specs.Machines.{event_of_routed, event_at, start_message, input_messages, block_messages, AreTaken}

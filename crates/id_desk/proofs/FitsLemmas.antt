@@ -34,8 +34,8 @@ TokenFits-later g a b t p v later fits = record {
   continuation_later (value.Address x) c = tt
   continuation_later (value.Context x) c = tt
 
-pub ReplyFits-later : (g : Parts) (a b : ℕ) (t : Tag) → a ≤ b → ReplyFits g a t → ReplyFits g b t
-ReplyFits-later g a b t later fits = record { merge = fits.merge; in_time = omega (arith, later, fits.in_time) }
+pub ReplyFits-later : (g : Parts) (a b : ℕ) (c : Cell) (t : Tag) → a ≤ b → ReplyFits g a c t → ReplyFits g b c t
+ReplyFits-later g a b c t later fits = record { merge = fits.merge; in_time = omega (arith, later, fits.in_time) }
 
 pub WriteFits-later : (g : Parts) (a b : ℕ) (c : Cell) (v : Value) (t : Tag) → a ≤ b → WriteFits g a c v t → WriteFits g b c v t
 WriteFits-later g a b c v t later fits = record { cell = fits.cell; kind = fits.kind; store = fits.store; in_time = omega (arith, later, fits.in_time) }

@@ -1,7 +1,7 @@
 -- The outcome of a message that fits: what is sent and what waits afterwards fit too.
 use Rattle.std.proofs.Common.{◌≡◌, ℕ, ◌+◌, ◌≤◌, ◌<◌, Bool, true, false, cond, Option, Some, None, List, [], ◌∷◌}
 use Rattle.std.proofs.Common.{length, refl, sym, ap, subst, ◌∙◌, ⊎_elim, arith}
-use Rattle.std.specs.Prelude.{ℤ, All, slice_get, option_map, option_and_then, is_some}
+use Rattle.std.specs.Prelude.{All, slice_get, option_map, option_and_then, is_some}
 use Rattle.std.proofs.lemmas.List.Elements.{All-nil, All-cons, All-head, All-push, All-tail, All-weaker}
 use Rattle.id_instr.specs.declared.dests.Port.{Port}
 use Rattle.id_instr.specs.declared.dests.Port.TheVariants as port
@@ -13,19 +13,19 @@ use Rattle.id_instr.specs.Ports.{port_kind, two_ports}
 use Rattle.id_instr.specs.Graph.{Parts}
 use Rattle.id_tag.specs.declared.Tag.{Tag}
 use Rattle.id_tag.specs.declared.Value.{Value}
-use Rattle.id_tag.specs.declared.Value.TheVariants as value
 use Rattle.id_tag.specs.declared.Payload.{Payload}
 use Rattle.id_tag.specs.declared.Payload.TheVariants.{Token, Read, Write}
 use Rattle.id_tag.specs.declared.Message.{Message}
 use Rattle.id_tag.specs.Kinds.{kind_of}
-use Rattle.id_tag.specs.Plains.{tag_in}
+use Rattle.id_tag.specs.declared.plain.Plain.{Plain}
+use Rattle.id_tag.specs.Plains.{tag_in, whole}
 use Rattle.id_valid.specs.Validator.{IsValid}
 use Rattle.std.specs.FinMap.{empty, get, get-empty, get-insert, insert}
 use Rattle.std.specs.Ordering.{eq_by_cmp}
-use Rattle.id_instr.specs.declared.instr.PortKind.TheVariants as kind
+use Rattle.std.proofs.lemmas.Map.Views.{tells_apart}
 use Rattle.id_tag.specs.declared.Cell.{Cell}
 use Rattle.id_tag.specs.Tags.{cell_cmp}
-use Rattle.id_tag.proofs.TagsLemmas.{cells_total}
+use Rattle.id_tag.proofs.TagsLemmas.{cells_total, exact_cells}
 use Rattle.id_slot.specs.Cells.{Cells, CellState, Present, Deferred, read_answer, state_read, write_answer, state_written}
 use Rattle.id_front.specs.Ports.{other_port}
 use Rattle.id_front.specs.Waiting.{Store, waits, answer_of, offer_answer, offer_after}
@@ -36,7 +36,7 @@ use Rattle.id_ops.specs.declared.Fired.TheVariants.{Out, Side, Moved, Entered, S
 use Rattle.id_ops.specs.Operators.{fired}
 use Rattle.id_firing.specs.declared.step.Arrival.{Arrival}
 use Rattle.id_firing.specs.declared.step.Arrival.TheVariants.{Fires, Waits, Blocked}
-use Rattle.id_firing.specs.Fits.{TokenFits, ReplyFits, PayloadFits, Fits}
+use Rattle.id_firing.specs.Fits.{TokenFits, ReplyFits, PayloadFits, Fits, held_in}
 use Rattle.id_firing.specs.Steps.{State, allocated_by, answer_sends, arrival, arrival_of, arriving, at_instr}
 use Rattle.id_firing.specs.Steps.{fill_sends, made_by, next_numbers, next_stamp, outcome, outputs_of, state_after}
 use Rattle.id_firing.specs.Steps.{waiting_after}
@@ -101,22 +101,26 @@ arriving_fits g stamp n w b t i Blocked valid is in_time fits = All-nil (Payload
 
 -- everything that cells hold fits at the stamp
 abbrev AllHeld : Parts → ℕ → Cells → Type 0
-AllHeld g stamp b = (c : Cell) (x : CellState) → get b c ≡ Some x → CellFits g stamp x
+AllHeld g stamp b = (c : Cell) (x : CellState) → get b c ≡ Some x → CellFits g stamp c x
+
+-- what a cell may have fits it at the stamp
+abbrev MayHave : Parts → ℕ → Cell → Option CellState → Type 0
+MayHave g stamp c o = (x : CellState) → o ≡ Some x → CellFits g stamp c x
 
 -- the answer to a read fits at its reply
-answer_fits : (g : Parts) (stamp : ℕ) (t : Tag) (o : Option CellState) → ((x : CellState) → o ≡ Some x → CellFits g stamp x) → ReplyFits g stamp t
-    → All (PayloadFits g stamp) (answer_sends t (read_answer o))
-answer_fits g stamp t None held fits = All-nil (PayloadFits g stamp)
-answer_fits g stamp t (Some (Present v w)) held fits = replies_fit g stamp v (t ∷ []) (held (Present v w) refl)
-    (All-cons (ReplyFits g stamp) t [] fits (All-nil (ReplyFits g stamp)))
-answer_fits g stamp t (Some (Deferred ts)) held fits = All-nil (PayloadFits g stamp)
+answer_fits : (g : Parts) (stamp : ℕ) (c : Cell) (t : Tag) (o : Option CellState) → MayHave g stamp c o → ReplyFits g stamp c t →
+    All (PayloadFits g stamp) (answer_sends t (read_answer o))
+answer_fits g stamp c t None held fits = All-nil (PayloadFits g stamp)
+answer_fits g stamp c t (Some (Present v w)) held fits = replies_fit g stamp c v (t ∷ []) (held (Present v w) refl)
+    (All-cons (ReplyFits g stamp c) t [] fits (All-nil (ReplyFits g stamp c)))
+answer_fits g stamp c t (Some (Deferred ts)) held fits = All-nil (PayloadFits g stamp)
 
--- a number fits at the replies that waited
-fill_fits : (g : Parts) (stamp : ℕ) (v : Value) (o : Option CellState) → ((x : CellState) → o ≡ Some x → CellFits g stamp x) → kind_of v ≡ kind.Int
-    → All (PayloadFits g stamp) (fill_sends v (write_answer o))
-fill_fits g stamp v None held is = All-nil (PayloadFits g stamp)
-fill_fits g stamp v (Some (Present u w)) held is = All-nil (PayloadFits g stamp)
-fill_fits g stamp v (Some (Deferred ts)) held is = replies_fit g stamp v ts is (held (Deferred ts) refl)
+-- what a cell holds fits at the replies that waited
+fill_fits : (g : Parts) (stamp : ℕ) (c : Cell) (v : Value) (o : Option CellState) → MayHave g stamp c o → kind_of v ≡ held_in c →
+    All (PayloadFits g stamp) (fill_sends v (write_answer o))
+fill_fits g stamp c v None held is = All-nil (PayloadFits g stamp)
+fill_fits g stamp c v (Some (Present u w)) held is = All-nil (PayloadFits g stamp)
+fill_fits g stamp c v (Some (Deferred ts)) held is = replies_fit g stamp c v ts is (held (Deferred ts) refl)
 
 -- what a message sends fits, where the iteration in it is below the stamp
 sends_fit : (g : Parts) (stamp : ℕ) (n : Fresh) (w : Store) (b : Cells) (x : Payload) → IsValid g → AllFit g stamp w → AllHeld g stamp b →
@@ -128,8 +132,8 @@ sends_fit g stamp n w b (Token t p v) valid waiting held in_time fits = at (slic
     at None is = All-nil (PayloadFits g stamp)
     at (Some i) is = arriving_fits g stamp n (waiting_after i.op w t p v) b t i (arrival i.op w t p v) valid is in_time
         (arrival_fits g stamp w t p v i is waiting fits)
-sends_fit g stamp n w b (Read c t) valid waiting held in_time fits = answer_fits g stamp t (get b c) (held c) fits.reply
-sends_fit g stamp n w b (Write c v t) valid waiting held in_time fits = fill_fits g stamp v (get b c) (held c) fits.kind
+sends_fit g stamp n w b (Read c t) valid waiting held in_time fits = answer_fits g stamp c t (get b c) (held c) fits.reply
+sends_fit g stamp n w b (Write c v t) valid waiting held in_time fits = fill_fits g stamp c v (get b c) (held c) fits.kind
 
 -- the messages fit where their payloads do
 numbered_fit : (g : Parts) (n position stamp k : ℕ) (xs : List Payload) → All (PayloadFits g stamp) xs → All (Fits g) (numbered n position stamp k xs)
@@ -140,18 +144,19 @@ numbered_fit g n position stamp k (x ∷ xs) fits =
 -- what fits a payload at a stamp fits it at a later one
 PayloadFits-later : (g : Parts) (a b : ℕ) (x : Payload) → a ≤ b → PayloadFits g a x → PayloadFits g b x
 PayloadFits-later g a b (Token t p v) later fits = TokenFits-later g a b t p v later fits
-PayloadFits-later g a b (Read c t) later fits = record { cell = fits.cell; reply = ReplyFits-later g a b t later fits.reply }
+PayloadFits-later g a b (Read c t) later fits = record { cell = fits.cell; reply = ReplyFits-later g a b c t later fits.reply }
 PayloadFits-later g a b (Write c v t) later fits = WriteFits-later g a b c v t later fits
 
 AllFit-later : (g : Parts) (a b : ℕ) (w : Store) → a ≤ b → AllFit g a w → AllFit g b w
 AllFit-later g a b w later fit t p v is = TokenFits-later g a b t p v later (fit t p v is)
 
-CellFits-later : (g : Parts) (a b : ℕ) (x : CellState) → a ≤ b → CellFits g a x → CellFits g b x
-CellFits-later g a b (Present v w) later fits = fits
-CellFits-later g a b (Deferred ts) later fits = All-weaker (ReplyFits g a) (ReplyFits g b) (λ t. ReplyFits-later g a b t later) ts fits
+CellFits-later : (g : Parts) (a b : ℕ) (c : Cell) (x : CellState) → a ≤ b → CellFits g a c x → CellFits g b c x
+CellFits-later g a b c (Present v w) later fits = fits
+CellFits-later g a b c (Deferred ts) later fits =
+    All-weaker (ReplyFits g a c) (ReplyFits g b c) (λ t. ReplyFits-later g a b c t later) ts fits
 
 AllHeld-later : (g : Parts) (a b : ℕ) (m : Cells) → a ≤ b → AllHeld g a m → AllHeld g b m
-AllHeld-later g a b m later held c x is = CellFits-later g a b x later (held c x is)
+AllHeld-later g a b m later held c x is = CellFits-later g a b c x later (held c x is)
 
 -- an iteration that is in time at a stamp is below each later one
 pub before_later : (g : Parts) (a b : ℕ) (x : Payload) → a < b → PayloadFits g a x → (tag_of x).iteration < b
@@ -170,18 +175,18 @@ outputs_fit g n s m valid waiting cells fits =
     (PayloadFits-later g m.stamp (next_stamp s m) m.payload (omega arith) fits))
 
 -- what a read or a write in small numbers sends fits
-demand_sends : (g : Parts) (stamp : ℕ) (n : Fresh) (w : Store) (b : Cells) (c : Cell) (t : Tag) (o : Option ℤ) → AllHeld g stamp b →
+demand_sends : (g : Parts) (stamp : ℕ) (n : Fresh) (w : Store) (b : Cells) (c : Cell) (t : Tag) (o : Option Plain) → AllHeld g stamp b →
     PayloadFits g stamp (asked o c t)
     → All (PayloadFits g stamp) (outcome g n w b (asked o c t)).sends
-demand_sends g stamp n w b c t None held fits = answer_fits g stamp t (get b c) (held c) fits.reply
-demand_sends g stamp n w b c t (Some m) held fits = fill_fits g stamp (value.Int m) (get b c) (held c) fits.kind
+demand_sends g stamp n w b c t None held fits = answer_fits g stamp c t (get b c) (held c) fits.reply
+demand_sends g stamp n w b c t (Some v) held fits = fill_fits g stamp c (whole v) (get b c) (held c) fits.kind
 
 -- and so does each of its outputs
 pub demand_outputs_fit : (g : Parts) (n : ℕ) (s : State) (d : Demand) → CellsFit g s → Fits g (demanded d) → All (Fits g) (outputs_of g n s (demanded d))
 demand_outputs_fit g n s d cells fits =
     let m : Message = demanded d in
     numbered_fit g n (length s.events) (next_stamp s m) 0 _
-    (demand_sends g (next_stamp s m) (next_numbers n s) s.waiting s.cells d.cell (tag_in d.like) d.number
+    (demand_sends g (next_stamp s m) (next_numbers n s) s.waiting s.cells d.cell (tag_in d.like) d.stored
     (AllHeld-later g s.stamp (next_stamp s m) s.cells (omega arith) cells)
     (PayloadFits-later g m.stamp (next_stamp s m) m.payload (omega arith) fits))
 
@@ -238,31 +243,34 @@ token_cells n w b t p v None = refl
 token_cells n w b t p v (Some i) = arriving_cells n i t (waiting_after i.op w t p v) b (arrival i.op w t p v)
 
 -- a cell that changes to what fits
-inserted_fits : (g : Parts) (stamp : ℕ) (b : Cells) (c : Cell) (x : CellState) → AllHeld g stamp b → CellFits g stamp x → AllHeld g stamp (insert b c x)
-inserted_fits g stamp b c x held fits d y is = go (eq_by_cmp cell_cmp d c) (sym (get-insert cells_total b c x d) ∙ is)
+inserted_fits : (g : Parts) (stamp : ℕ) (b : Cells) (c : Cell) (x : CellState) → AllHeld g stamp b → CellFits g stamp c x → AllHeld g stamp (insert b c x)
+inserted_fits g stamp b c x held fits d y is = go (eq_by_cmp cell_cmp d c) refl (sym (get-insert cells_total b c x d) ∙ is)
   where
-    go : (e : Bool) → cond e (Some x) (get b d) ≡ Some y → CellFits g stamp y
-    go true h = let same : x ≡ y = cc in subst (CellFits g stamp) same fits
-    go false h = held d y h
+    go : (e : Bool) → eq_by_cmp cell_cmp d c ≡ e → cond e (Some x) (get b d) ≡ Some y → CellFits g stamp d y
+    go true e h =
+        let same : x ≡ y = cc in
+        let here : d ≡ c = tells_apart exact_cells d c e in
+        subst (λ z. CellFits g stamp z y) (sym here) (subst (CellFits g stamp c) same fits)
+    go false e h = held d y h
 
-read_fits : (g : Parts) (stamp : ℕ) (t : Tag) (o : Option CellState) → ((x : CellState) → o ≡ Some x → CellFits g stamp x) → ReplyFits g stamp t
-    → CellFits g stamp (state_read t o)
-read_fits g stamp t None held fits = All-cons (ReplyFits g stamp) t [] fits (All-nil (ReplyFits g stamp))
-read_fits g stamp t (Some (Present v w)) held fits = held (Present v w) refl
-read_fits g stamp t (Some (Deferred ts)) held fits = All-push (ReplyFits g stamp) ts t (held (Deferred ts) refl) fits
+read_fits : (g : Parts) (stamp : ℕ) (c : Cell) (t : Tag) (o : Option CellState) → MayHave g stamp c o → ReplyFits g stamp c t →
+    CellFits g stamp c (state_read t o)
+read_fits g stamp c t None held fits = All-cons (ReplyFits g stamp c) t [] fits (All-nil (ReplyFits g stamp c))
+read_fits g stamp c t (Some (Present v w)) held fits = held (Present v w) refl
+read_fits g stamp c t (Some (Deferred ts)) held fits = All-push (ReplyFits g stamp c) ts t (held (Deferred ts) refl) fits
 
-written_fits : (g : Parts) (stamp : ℕ) (v : Value) (t : Tag) (o : Option CellState) → ((x : CellState) → o ≡ Some x → CellFits g stamp x) → kind_of v ≡ kind.Int
-    → CellFits g stamp (state_written v t o)
-written_fits g stamp v t None held is = is
-written_fits g stamp v t (Some (Present u w)) held is = held (Present u w) refl
-written_fits g stamp v t (Some (Deferred ts)) held is = is
+written_fits : (g : Parts) (stamp : ℕ) (c : Cell) (v : Value) (t : Tag) (o : Option CellState) → MayHave g stamp c o → kind_of v ≡ held_in c →
+    CellFits g stamp c (state_written v t o)
+written_fits g stamp c v t None held is = is
+written_fits g stamp c v t (Some (Present u w)) held is = held (Present u w) refl
+written_fits g stamp c v t (Some (Deferred ts)) held is = is
 
 outcome_holds : (g : Parts) (stamp : ℕ) (n : Fresh) (w : Store) (b : Cells) (x : Payload) → AllHeld g stamp b → PayloadFits g stamp x →
     AllHeld g stamp (outcome g n w b x).cells
 outcome_holds g stamp n w b (Token t p v) held fits = subst (AllHeld g stamp) (sym (token_cells n w b t p v (slice_get g.instrs t.instr))) held
-outcome_holds g stamp n w b (Read c t) held fits = inserted_fits g stamp b c (state_read t (get b c)) held (read_fits g stamp t (get b c) (held c) fits.reply)
+outcome_holds g stamp n w b (Read c t) held fits = inserted_fits g stamp b c (state_read t (get b c)) held (read_fits g stamp c t (get b c) (held c) fits.reply)
 outcome_holds g stamp n w b (Write c v t) held fits = inserted_fits g stamp b c (state_written v t (get b c)) held
-    (written_fits g stamp v t (get b c) (held c) fits.kind)
+    (written_fits g stamp c v t (get b c) (held c) fits.kind)
 
 -- after a message that fits, what the cells hold fits
 pub CellsFit-take : (g : Parts) (n : ℕ) (s : State) (m : Message) → CellsFit g s → Fits g m → CellsFit g (state_after g n s m)
@@ -272,7 +280,7 @@ CellsFit-take g n s m cells fits =
     (PayloadFits-later g m.stamp (next_stamp s m) m.payload (omega arith) fits)
 
 -- no cell holds anything at first
-pub CellsFit-empty : (g : Parts) (stamp : ℕ) (c : Cell) (x : CellState) → get (empty {R = cell_cmp}) c ≡ Some x → CellFits g stamp x
+pub CellsFit-empty : (g : Parts) (stamp : ℕ) (c : Cell) (x : CellState) → get (empty {R = cell_cmp}) c ≡ Some x → CellFits g stamp c x
 CellsFit-empty g stamp c x is = absurd (none_some (sym (get-empty cell_cmp c) ∙ is))
   where
     none_some : {X : Type 0} {y : X} → None ≡ Some y → ⊥
@@ -292,15 +300,15 @@ at_most_one (Failed k) = omega arith
 at_most_one Nothing = omega arith
 
 one_structure : (o : Op) (f : Fired) → allocated_by o f ≤ 1
-one_structure Alloc (Out v) = omega arith
-one_structure Alloc (Side b v) = omega arith
-one_structure Alloc (Moved i v) = omega arith
-one_structure Alloc (Entered c) = omega arith
-one_structure Alloc (Sent u v) = omega arith
-one_structure Alloc (Asked c r) = omega arith
-one_structure Alloc (Stored c v w) = omega arith
-one_structure Alloc (Failed k) = omega arith
-one_structure Alloc Nothing = omega arith
+one_structure (Alloc nested) (Out v) = omega arith
+one_structure (Alloc nested) (Side b v) = omega arith
+one_structure (Alloc nested) (Moved i v) = omega arith
+one_structure (Alloc nested) (Entered c) = omega arith
+one_structure (Alloc nested) (Sent u v) = omega arith
+one_structure (Alloc nested) (Asked c r) = omega arith
+one_structure (Alloc nested) (Stored c v w) = omega arith
+one_structure (Alloc nested) (Failed k) = omega arith
+one_structure (Alloc nested) Nothing = omega arith
 one_structure (Const k) f = omega arith
 one_structure (Unary k) f = omega arith
 one_structure (Binary k) f = omega arith
@@ -311,9 +319,9 @@ one_structure (Enter k r) f = omega arith
 one_structure (Send k r) f = omega arith
 one_structure (Next k) f = omega arith
 one_structure (Reset k) f = omega arith
-one_structure Address f = omega arith
-one_structure (Fetch r) f = omega arith
-one_structure Stores f = omega arith
+one_structure (Address nested) f = omega arith
+one_structure (Fetch nested r) f = omega arith
+one_structure (Stores nested) f = omega arith
 
 arriving_makes : (n : Fresh) (i : Instr) (t : Tag) (w : Store) (b : Cells) (a : Arrival) →
     ((arriving n i t w b a).made ≤ 1) × ((arriving n i t w b a).allocated ≤ 1)

@@ -1,5 +1,5 @@
 -- What a firing sends fits the graph, where its operands do.
-use Rattle.std.proofs.Common.{◌≡◌, ◌==◌, ◌||◌, ℕ, ◌+◌, ◌≤◌, ◌<◌, Bool, true, false, cond, Option, Some, None, List}
+use Rattle.std.proofs.Common.{◌≡◌, ◌≢◌, ◌==◌, ◌||◌, ℕ, ◌+◌, ◌≤◌, ◌<◌, Bool, true, false, cond, Option, Some, None, List}
 use Rattle.std.proofs.Common.{[], ◌∷◌, map, refl, sym, ap, subst, ◌∙◌, arith}
 use Rattle.std.specs.Prelude.{All, IsSomeAnd, slice_get, option_map, option_and_then, neg_ℤ}
 use Rattle.std.proofs.lemmas.List.Elements.{All-nil, All-cons, All-append, All-map, All-weaker}
@@ -21,9 +21,11 @@ use Rattle.id_instr.specs.declared.instr.Op.{Op}
 use Rattle.id_instr.specs.declared.instr.Op.TheVariants.{Const, Unary, Binary, Merge, Switch, Back, Enter, Send, Next, Reset, Alloc, Address, Fetch, Store}
 use Rattle.id_instr.specs.declared.instr.PortKind.{PortKind}
 use Rattle.id_instr.specs.declared.instr.PortKind.TheVariants as kind
+use Rattle.id_instr.specs.Held.{address_kind, held_kind, structure_kind}
 use Rattle.id_instr.specs.Ports.{outcome_kind, port_kind, sends, two_sides, unary_kind}
 use Rattle.id_instr.specs.Graph.{Parts, arcs, arcs_on, kind_at}
 use Rattle.id_instr.proofs.GraphLemmas.{All-true_arcs, All-arcs_on}
+use Rattle.id_tag.specs.declared.Cell.{Cell}
 use Rattle.id_tag.specs.declared.Context.{Context}
 use Rattle.id_tag.specs.declared.Tag.{Tag}
 use Rattle.id_tag.specs.declared.Value.{Value}
@@ -32,6 +34,7 @@ use Rattle.id_tag.specs.Kinds.{kind_of, same_kind}
 use Rattle.id_tag.specs.declared.Payload.{Payload}
 use Rattle.id_tag.specs.declared.Payload.TheVariants.{Token}
 use Rattle.id_instr.specs.declared.instr.Block.{Block}
+use Rattle.std.specs.Bool.{beq}
 use Rattle.std.specs.List.{list_any}
 use Rattle.std.proofs.lemmas.Bool.Decides.{nat_tests}
 use Rattle.id_valid.specs.Roles.{op_at, is_first, is_second}
@@ -44,11 +47,13 @@ use Rattle.id_ops.specs.declared.Fired.{Fired}
 use Rattle.id_ops.specs.declared.Fired.TheVariants.{Out, Side, Moved, Entered, Sent, Asked, Stored, Failed, Nothing}
 use Rattle.id_ops.specs.Operators.{fired, fired_by, fired_const, fired_unary, fired_binary, fired_merge, fired_switch}
 use Rattle.id_ops.specs.Operators.{fired_back, fired_enter, tag_within, fired_send, fired_next, fired_reset}
-use Rattle.id_ops.specs.Operators.{fired_alloc, fired_address, fired_fetch, fired_store, side_of}
+use Rattle.id_ops.specs.Operators.{fired_alloc, address_in, fired_address, fired_fetch, fired_store, may_hold, side_of}
+use Rattle.id_ops.specs.Operands.{IsOfKind}
+use Rattle.id_ops.proofs.OperandsLemmas.{IsOfKind-fired}
 use Rattle.id_value.specs.Bounds.{are_good, is_inside}
 use Rattle.id_value.specs.declared.FaultKind.TheVariants.{BadBounds, OutOfBounds}
 use Rattle.id_tag.specs.declared.Structure.{Structure}
-use Rattle.id_firing.specs.Fits.{AddressFits, IsCell, TokenFits, ReplyFits, ReadFits, WriteFits, PayloadFits, ContinuationFits}
+use Rattle.id_firing.specs.Fits.{AddressFits, ContinuationFits, IsCell, PayloadFits, ReadFits, ReplyFits, TokenFits, WriteFits, held_in}
 use Rattle.id_record.specs.Sends.{beside, moved_to, replies, sent, started, token_to}
 
 -- the value is no continuation, and an address in it is that of a cell
@@ -272,59 +277,63 @@ send_fits g stamp t k n (operands.Two (value.Address c) w) valid is fits = tt
 send_fits g stamp t k n (operands.Two (value.Continuation u) w) valid is fits = tt
 send_fits g stamp t k n (operands.One v) valid is fits = tt
 
-alloc_fits : (g : Parts) (stamp : ℕ) (fresh : Fresh) (o : Operands) → FiredFits g stamp (Some kind.Structure) false (fired_alloc fresh o)
-alloc_fits g stamp fresh (operands.Two (value.Int lo) (value.Int hi)) = go (are_good lo hi)
+alloc_fits : (g : Parts) (stamp : ℕ) (nested : Bool) (fresh : Fresh) (o : Operands) →
+    FiredFits g stamp (Some (structure_kind nested)) false (fired_alloc nested fresh o)
+alloc_fits g stamp nested fresh (operands.Two (value.Int lo) (value.Int hi)) = go (are_good lo hi)
   where
     made : Structure
-    made = record { element = fresh.element; serial = fresh.structure; low = lo; high = hi }
+    made = record { element = fresh.element; serial = fresh.structure; low = lo; high = hi; nested = nested }
 
-    go : (b : Bool) → FiredFits g stamp (Some kind.Structure) false (cond b (Out (value.Structure made)) (Failed BadBounds))
+    go : (b : Bool) → FiredFits g stamp (Some (structure_kind nested)) false (cond b (Out (value.Structure made)) (Failed BadBounds))
     go true = (refl, tt)
     go false = tt
-alloc_fits g stamp fresh _ = tt
+alloc_fits g stamp nested fresh _ = tt
 
 -- an address that goes out is that of a cell
-address_fits : (g : Parts) (stamp : ℕ) (o : Operands) → FiredFits g stamp (Some kind.Address) false (fired_address o)
-address_fits g stamp (operands.Two (value.Structure s) (value.Int i)) = go (is_inside s.low s.high i) refl
+address_fits : (g : Parts) (stamp : ℕ) (nested : Bool) (o : Operands) → IsOfKind (Address nested) (fired_address nested o) →
+    FiredFits g stamp (Some (address_kind nested)) false (fired_address nested o)
+address_fits g stamp nested (operands.Two (value.Structure s) (value.Int i)) kinds = same (beq s.nested nested) kinds
   where
-    go : (b : Bool) → is_inside s.low s.high i ≡ b
-        → FiredFits g stamp (Some kind.Address) false (cond b (Out (value.Address (record { structure = s; index = i }))) (Failed OutOfBounds))
-    go true e = (refl, e)
-    go false e = tt
-address_fits g stamp _ = tt
+    made : Fired
+    made = Out (value.Address (record { structure = s; index = i }))
 
--- the reply of a fetch is a merge for numbers
-fetch_fits : (g : Parts) (stamp : ℕ) (t : Tag) (r : ℕ) (o : Operands) → IsValid g → op_at g t.instr ≡ Some (Fetch r) → t.iteration ≤ stamp →
-    OperandsFit g stamp t o
-    → FiredFits g stamp None false (fired_fetch r t o)
-fetch_fits g stamp t r (operands.One (value.Address c)) valid is in_time fits =
-    record { cell = fits.address; reply = record { merge = IsReply-valid g t.instr r valid is; in_time = in_time } }
-fetch_fits g stamp t r (operands.One value.Signal) valid is in_time fits = tt
-fetch_fits g stamp t r (operands.One (value.Int n)) valid is in_time fits = tt
-fetch_fits g stamp t r (operands.One (value.Bool b)) valid is in_time fits = tt
-fetch_fits g stamp t r (operands.One (value.Structure s)) valid is in_time fits = tt
-fetch_fits g stamp t r (operands.One (value.Context c)) valid is in_time fits = tt
-fetch_fits g stamp t r (operands.One (value.Continuation u)) valid is in_time fits = tt
-fetch_fits g stamp t r (operands.Two v w) valid is in_time fits = tt
+    inside : (b : Bool) → is_inside s.low s.high i ≡ b → IsOfKind (Address nested) (cond b made (Failed OutOfBounds)) →
+        FiredFits g stamp (Some (address_kind nested)) false (cond b made (Failed OutOfBounds))
+    inside true e kinds = (kinds, e)
+    inside false e kinds = tt
 
--- a store writes a number to a cell, from itself
-store_fits : (g : Parts) (stamp : ℕ) (t : Tag) (o : Operands) → op_at g t.instr ≡ Some Store → t.iteration ≤ stamp → OperandsFit g stamp t o
-    → FiredFits g stamp None false (fired_store t o)
-store_fits g stamp t (operands.Two (value.Address c) (value.Int n)) is in_time fits =
-    record { cell = fits.0.address; kind = refl; store = is; in_time = in_time }
-store_fits g stamp t (operands.Two (value.Address c) value.Signal) is in_time fits = tt
-store_fits g stamp t (operands.Two (value.Address c) (value.Bool b)) is in_time fits = tt
-store_fits g stamp t (operands.Two (value.Address c) (value.Structure s)) is in_time fits = tt
-store_fits g stamp t (operands.Two (value.Address c) (value.Address d)) is in_time fits = tt
-store_fits g stamp t (operands.Two (value.Address c) (value.Context d)) is in_time fits = tt
-store_fits g stamp t (operands.Two (value.Address c) (value.Continuation u)) is in_time fits = tt
-store_fits g stamp t (operands.Two value.Signal w) is in_time fits = tt
-store_fits g stamp t (operands.Two (value.Int n) w) is in_time fits = tt
-store_fits g stamp t (operands.Two (value.Bool b) w) is in_time fits = tt
-store_fits g stamp t (operands.Two (value.Structure s) w) is in_time fits = tt
-store_fits g stamp t (operands.Two (value.Context c) w) is in_time fits = tt
-store_fits g stamp t (operands.Two (value.Continuation u) w) is in_time fits = tt
-store_fits g stamp t (operands.One v) is in_time fits = tt
+    same : (b : Bool) → IsOfKind (Address nested) (cond b (address_in s i) Nothing) →
+        FiredFits g stamp (Some (address_kind nested)) false (cond b (address_in s i) Nothing)
+    same true kinds = inside (is_inside s.low s.high i) refl kinds
+    same false kinds = tt
+address_fits g stamp nested _ kinds = tt
+
+-- the reply of a fetch is a merge for what the cell holds
+fetch_fits : (g : Parts) (stamp : ℕ) (t : Tag) (nested : Bool) (r : ℕ) (o : Operands) → IsValid g → op_at g t.instr ≡ Some (Fetch nested r)
+    → t.iteration ≤ stamp → OperandsFit g stamp t o → IsOfKind (Fetch nested r) (fired_fetch nested r t o)
+    → FiredFits g stamp None false (fired_fetch nested r t o)
+fetch_fits g stamp t nested r (operands.One (value.Address c)) valid is in_time fits kinds = same (beq c.structure.nested nested) kinds
+  where
+    reply : Tag
+    reply = record { context = t.context; iteration = t.iteration; instr = r }
+
+    same : (b : Bool) → IsOfKind (Fetch nested r) (cond b (Asked c reply) Nothing) → FiredFits g stamp None false (cond b (Asked c reply) Nothing)
+    same true kinds = record {
+      cell = fits.address;
+      reply = record { merge = IsReply-valid g t.instr c.structure.nested r valid (is ∙ ap Some kinds); in_time = in_time };
+    }
+    same false kinds = tt
+fetch_fits g stamp t nested r _ valid is in_time fits kinds = tt
+
+-- a store writes what the cell holds, from itself
+store_fits : (g : Parts) (stamp : ℕ) (t : Tag) (nested : Bool) (o : Operands) → op_at g t.instr ≡ Some (Store nested) → t.iteration ≤ stamp
+    → OperandsFit g stamp t o → IsOfKind (Store nested) (fired_store nested t o) → FiredFits g stamp None false (fired_store nested t o)
+store_fits g stamp t nested (operands.Two (value.Address c) v) is in_time fits kinds = same (may_hold nested c v) kinds
+  where
+    same : (b : Bool) → IsOfKind (Store nested) (cond b (Stored c v t) Nothing) → FiredFits g stamp None false (cond b (Stored c v t) Nothing)
+    same true kinds = record { cell = fits.0.address; kind = kinds.1; store = is ∙ ap Some kinds.0; in_time = in_time }
+    same false kinds = tt
+store_fits g stamp t nested _ is in_time fits kinds = tt
 
 -- what fires fits, where the operands do and the iteration is below the stamp
 pub fired_fits : (g : Parts) (stamp : ℕ) (t : Tag) (op : Op) (o : Operands) (fresh : Fresh) → IsValid g → op_at g t.instr ≡ Some op → t.iteration < stamp →
@@ -340,10 +349,12 @@ fired_fits g stamp t (Enter b r) o fresh valid is in_time fits = enter_fits g st
 fired_fits g stamp t (Send k n) o fresh valid is in_time fits = send_fits g stamp t k n o valid is fits
 fired_fits g stamp t (Next k) o fresh valid is in_time fits = next_fits g stamp t k o is in_time fits
 fired_fits g stamp t (Reset k) o fresh valid is in_time fits = reset_fits g stamp t k o is fits
-fired_fits g stamp t Alloc o fresh valid is in_time fits = alloc_fits g stamp fresh o
-fired_fits g stamp t Address o fresh valid is in_time fits = address_fits g stamp o
-fired_fits g stamp t (Fetch r) o fresh valid is in_time fits = fetch_fits g stamp t r o valid is (omega (arith, in_time)) fits
-fired_fits g stamp t Store o fresh valid is in_time fits = store_fits g stamp t o is (omega (arith, in_time)) fits
+fired_fits g stamp t (Alloc nested) o fresh valid is in_time fits = alloc_fits g stamp nested fresh o
+fired_fits g stamp t (Address nested) o fresh valid is in_time fits = address_fits g stamp nested o (IsOfKind-fired (Address nested) t o fresh)
+fired_fits g stamp t (Fetch nested r) o fresh valid is in_time fits =
+    fetch_fits g stamp t nested r o valid is (omega (arith, in_time)) fits (IsOfKind-fired (Fetch nested r) t o fresh)
+fired_fits g stamp t (Store nested) o fresh valid is in_time fits =
+    store_fits g stamp t nested o is (omega (arith, in_time)) fits (IsOfKind-fired (Store nested) t o fresh)
 
 -- ---- what starts a block
 
@@ -397,10 +408,10 @@ starts_fit g stamp t c (Back k) valid is in_time = All-nil (PayloadFits g stamp)
 starts_fit g stamp t c (Send k n) valid is in_time = All-nil (PayloadFits g stamp)
 starts_fit g stamp t c (Next k) valid is in_time = All-nil (PayloadFits g stamp)
 starts_fit g stamp t c (Reset k) valid is in_time = All-nil (PayloadFits g stamp)
-starts_fit g stamp t c Alloc valid is in_time = All-nil (PayloadFits g stamp)
-starts_fit g stamp t c Address valid is in_time = All-nil (PayloadFits g stamp)
-starts_fit g stamp t c (Fetch r) valid is in_time = All-nil (PayloadFits g stamp)
-starts_fit g stamp t c Store valid is in_time = All-nil (PayloadFits g stamp)
+starts_fit g stamp t c (Alloc nested) valid is in_time = All-nil (PayloadFits g stamp)
+starts_fit g stamp t c (Address nested) valid is in_time = All-nil (PayloadFits g stamp)
+starts_fit g stamp t c (Fetch nested r) valid is in_time = All-nil (PayloadFits g stamp)
+starts_fit g stamp t c (Store nested) valid is in_time = All-nil (PayloadFits g stamp)
 
 -- a token of the kind that the instruction sends fits at each of its destinations
 token_fits : (g : Parts) (stamp : ℕ) (t : Tag) (i : Instr) (v : Value) → t.iteration ≤ stamp → sends i.op ≡ Some (kind_of v) → IsPlain v → (d : Dest) →
@@ -443,20 +454,38 @@ sent_fits g stamp t i f valid is in_time = at f
 
 -- ---- replies
 
--- a number fits at a reply that fits
-pub reply_fits : (g : Parts) (stamp : ℕ) (v : Value) (t : Tag) → kind_of v ≡ kind.Int → ReplyFits g stamp t → PayloadFits g stamp (Token t port.Zero v)
-reply_fits g stamp (value.Int n) t is fits =
-    record { kind = kind_at_op g t.instr port.Zero (Merge kind.Int) fits.merge; in_time = fits.in_time; continuation = tt; address = tt }
-reply_fits g stamp value.Signal t is fits = cc
-reply_fits g stamp (value.Bool b) t is fits = cc
-reply_fits g stamp (value.Structure s) t is fits = cc
-reply_fits g stamp (value.Address c) t is fits = cc
-reply_fits g stamp (value.Context c) t is fits = cc
-reply_fits g stamp (value.Continuation u) t is fits = cc
+addresses_apart : (a b : Bool) → address_kind a ≢ held_kind b
+addresses_apart false false e = cc
+addresses_apart false true e = cc
+addresses_apart true false e = cc
+addresses_apart true true e = cc
+
+-- what a cell holds is no continuation and no address
+held_plain : (b : Bool) (v : Value) → kind_of v ≡ held_kind b → IsPlain v
+held_plain b value.Signal is = tt
+held_plain b (value.Int n) is = tt
+held_plain b (value.Bool x) is = tt
+held_plain b (value.Structure s) is = tt
+held_plain b (value.Address c) is = absurd (addresses_apart c.structure.nested b is)
+held_plain b (value.Context c) is = tt
+held_plain false (value.Continuation u) is = cc
+held_plain true (value.Continuation u) is = cc
+
+-- what a cell holds fits at a reply that fits the cell
+pub reply_fits : (g : Parts) (stamp : ℕ) (c : Cell) (v : Value) (t : Tag) → kind_of v ≡ held_in c → ReplyFits g stamp c t →
+    PayloadFits g stamp (Token t port.Zero v)
+reply_fits g stamp c v t is fits =
+    let plain = held_plain c.structure.nested v is in
+    record {
+      kind = kind_at_op g t.instr port.Zero (Merge (held_in c)) fits.merge ∙ ap Some (sym is);
+      in_time = fits.in_time;
+      continuation = plain_fits g stamp t port.Zero v plain;
+      address = plain_address v plain;
+    }
 
 -- and at all of them
-pub replies_fit : (g : Parts) (stamp : ℕ) (v : Value) (ts : List Tag) → kind_of v ≡ kind.Int → All (ReplyFits g stamp) ts →
+pub replies_fit : (g : Parts) (stamp : ℕ) (c : Cell) (v : Value) (ts : List Tag) → kind_of v ≡ held_in c → All (ReplyFits g stamp c) ts →
     All (PayloadFits g stamp) (replies v ts)
-replies_fit g stamp v ts is fit =
+replies_fit g stamp c v ts is fit =
     All-map (PayloadFits g stamp) (λ t. Token t port.Zero v) ts
-    (All-weaker (ReplyFits g stamp) (λ t. PayloadFits g stamp (Token t port.Zero v)) (λ t. reply_fits g stamp v t is) ts fit)
+    (All-weaker (ReplyFits g stamp c) (λ t. PayloadFits g stamp (Token t port.Zero v)) (λ t. reply_fits g stamp c v t is) ts fit)

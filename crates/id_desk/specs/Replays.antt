@@ -2,7 +2,6 @@
 use Rattle.std.specs.Prelude.{◌≡◌, ◌↔◌, Bool, IsTrue, ◌<◌, ◌≤◌, ◌-◌, ◌^◌, ℕ, Some, List, [], ◌∷◌, map, All}
 use Rattle.id_instr.specs.declared.dests.Port.{Port}
 use Rattle.std.specs.FinMap.{get}
-use Rattle.id_instr.specs.declared.instr.PortKind.TheVariants.{Int}
 use Rattle.id_tag.specs.declared.Tag.{Tag}
 use Rattle.id_tag.specs.declared.Cell.{Cell}
 use Rattle.id_tag.specs.Kinds.{kind_of}
@@ -12,7 +11,7 @@ use Rattle.id_front.specs.Waiting.{waits}
 use Rattle.id_slot.specs.Cells.{CellState, Present, Deferred}
 use Rattle.id_instr.specs.Graph.{Parts}
 use Rattle.id_line.specs.Events.{EventView, AllWent}
-use Rattle.id_firing.specs.Fits.{TokenFits, ReplyFits, IsFor}
+use Rattle.id_firing.specs.Fits.{TokenFits, ReplyFits, IsFor, held_in}
 use Rattle.id_firing.specs.Steps.{State, fresh, state_after}
 
 -- the state of the element n after these messages, one after another
@@ -46,14 +45,15 @@ pub record ElementView : Type 0 where
 abbrev pub WaitingFits : Parts → State → Type 0
 WaitingFits g s = (t : Tag) (p : Port) (v : Value) → waits s.waiting t p ≡ Some v → TokenFits g s.stamp t p v
 
--- what a cell holds fits at the stamp: its value is a number, and the replies that wait for one name merges for numbers
-abbrev pub CellFits : Parts → ℕ → CellState → Type 0
-CellFits g stamp (Present v w) = kind_of v ≡ Int
-CellFits g stamp (Deferred ts) = All (ReplyFits g stamp) ts
+-- what a cell has fits it at the stamp: its value is of the kind that it holds, and so is what each of the replies that
+-- wait for one merges
+abbrev pub CellFits : Parts → ℕ → Cell → CellState → Type 0
+CellFits g stamp c (Present v w) = kind_of v ≡ held_in c
+CellFits g stamp c (Deferred ts) = All (ReplyFits g stamp c) ts
 
 -- whatever the cells hold fits the graph at the last stamp
 abbrev pub CellsFit : Parts → State → Type 0
-CellsFit g s = (c : Cell) (x : CellState) → get s.cells c ≡ Some x → CellFits g s.stamp x
+CellsFit g s = (c : Cell) (x : CellState) → get s.cells c ≡ Some x → CellFits g s.stamp c x
 
 -- what every element keeps: its record leads to its state, by legal events, what waits and what the cells hold fits the
 -- graph, and as it makes at most one context or structure in an event, the stamp runs out before their numbers do

@@ -1,7 +1,7 @@
 -- Lemmas on specs/Writing.antt: a write that is made again.
-use Rattle.std.proofs.Common.{◌≡◌, ℕ, zero, suc, min, ◌+◌, ◌<◌, ◌≤◌, List, Option, Some, None, Result, Ok, Err, refl, sym, ap, subst, ◌∙◌, arith}
+use Rattle.std.proofs.Common.{◌≡◌, ℕ, zero, suc, ◌+◌, ◌≤◌, List, Option, Some, None, Result, refl, ap, subst, ◌∙◌, arith}
 use Rattle.id_sink.specs.declared.sink.SinkFault.{SinkFault}
-use Rattle.id_sink.specs.Told.{Told, AfterWrite, after_write}
+use Rattle.id_sink.specs.Told.{AfterWrite, after_write}
 use Rattle.id_edge.specs.Writing.{Outlook, cuts_of, within, Tells, IsAnswered, IsAttemptOf, IsAttempt, IsWritten, told_of}
 
 -- so many writes were cut short, and nothing else came

@@ -1,5 +1,6 @@
 -- What a device tells of what is written to it (docs/PROMISES.md, "The edge").
-use Rattle.std.specs.Prelude.{◌≡◌, ℕ, zero, suc, min, List, [], length, Option, None, Some, Result, Ok, Err, OnOk, IfSome}
+use Rattle.std.specs.Prelude.{◌≡◌, ℕ, zero, suc, min, List, [], length, Option, None, Some, Result}
+use Rattle.std.specs.Prelude.{Ok, Err, OnOk, IfSome}
 use Rattle.id_sink.specs.declared.sink.SinkFault.{SinkFault}
 use Rattle.id_sink.specs.Told.{Told, after_write}
 

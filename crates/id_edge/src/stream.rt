@@ -74,7 +74,8 @@ impl<W: Write + Drop, A: Allocator> Device for BufWriter<W, A> {
         ensures outlook { IsAttempt None None bytes.now result }
         ensures bytes { MatchOption result
             (Keeps (writer_contents W.contents self.old) (writer_contents W.contents self.new))
-            (λ answer. WriteAppends (writer_contents W.contents self.old) (writer_contents W.contents self.new) answer bytes.now) }
+            (λ answer. WriteAppends
+            (writer_contents W.contents self.old) (writer_contents W.contents self.new) answer bytes.now) }
     {
         attempt_on(self, bytes)
     }

@@ -94,28 +94,30 @@ among-numbers v lo hi (inr is) = ap is_number is
 number-told : (v : Value) (f : Fired) (s : Structure) → is_number v ≡ true → makes v f ≡ false → f ≢ Out (value.Structure s)
 number-told v f s number not made = let both : true ≡ false = sym number ∙ sym (ap (makes v) made) ∙ not in cc
 
-alloc-fires : (v : Value) (n : Fresh) (x : Operands) → Has v (Fires x) → makes v (fired_alloc n x) ≡ false → (s : Structure) →
-    fired_alloc n x ≢ Out (value.Structure s)
-alloc-fires v n (Two (value.Int lo) (value.Int hi)) has not s =
-    number-told v (fired_alloc n (Two (value.Int lo) (value.Int hi))) s (among-numbers v lo hi has) not
-alloc-fires v n x has not s = λ made. cc
+alloc-fires : (v : Value) (nested : Bool) (n : Fresh) (x : Operands) → Has v (Fires x) → makes v (fired_alloc nested n x) ≡ false → (s : Structure) →
+    fired_alloc nested n x ≢ Out (value.Structure s)
+alloc-fires v nested n (Two (value.Int lo) (value.Int hi)) has not s =
+    number-told v (fired_alloc nested n (Two (value.Int lo) (value.Int hi))) s (among-numbers v lo hi has) not
+alloc-fires v nested n x has not s = λ made. cc
 
-alloc-makes : (n : Fresh) (i : Instr) (t : Tag) (w : Store) (b : Cells) (v : Value) (a : Arrival) → i.op ≡ Alloc → Has v a
+alloc-makes : (n : Fresh) (i : Instr) (t : Tag) (w : Store) (b : Cells) (v : Value) (a : Arrival) (nested : Bool) → i.op ≡ Alloc nested → Has v a
     → makes v (arriving n i t w b a).fired ≡ false → (s : Structure) → (arriving n i t w b a).fired ≢ Out (value.Structure s)
-alloc-makes n i t w b v (Fires x) is has not s made =
-    let same : fired i.op t x n ≡ fired_alloc n x = ap (λ o. fired o t x n) is in
-    alloc-fires v n x has (ap (makes v) (sym same) ∙ not) s (sym same ∙ made)
-alloc-makes n i t w b v Waits is has not s made = cc
-alloc-makes n i t w b v Blocked is has not s made = cc
+alloc-makes n i t w b v (Fires x) nested is has not s made =
+    let same : fired i.op t x n ≡ fired_alloc nested n x = ap (λ o. fired o t x n) is in
+    alloc-fires v nested n x has (ap (makes v) (sym same) ∙ not) s (sym same ∙ made)
+alloc-makes n i t w b v Waits nested is has not s made = cc
+alloc-makes n i t w b v Blocked nested is has not s made = cc
 
-alloc-at : (n : Fresh) (w : Store) (b : Cells) (t : Tag) (p : Port) (v : Value) (o : Option Instr) → option_map (λ i. i.op) o ≡ Some Alloc
-    → makes v (at_instr n w b t p v o).fired ≡ false → (s : Structure) → (at_instr n w b t p v o).fired ≢ Out (value.Structure s)
-alloc-at n w b t p v None is not s = λ made. cc
-alloc-at n w b t p v (Some i) is not s =
-    let op : i.op ≡ Alloc = cc in
-    alloc-makes n i t (waiting_after i.op w t p v) b v (arrival i.op w t p v) op (has-arrival i.op w t p v) not s
+alloc-at : (n : Fresh) (w : Store) (b : Cells) (t : Tag) (p : Port) (v : Value) (o : Option Instr) (nested : Bool)
+    → option_map (λ i. i.op) o ≡ Some (Alloc nested) → makes v (at_instr n w b t p v o).fired ≡ false → (s : Structure)
+    → (at_instr n w b t p v o).fired ≢ Out (value.Structure s)
+alloc-at n w b t p v None nested is not s = λ made. cc
+alloc-at n w b t p v (Some i) nested is not s =
+    let op : i.op ≡ Alloc nested = cc in
+    alloc-makes n i t (waiting_after i.op w t p v) b v (arrival i.op w t p v) nested op (has-arrival i.op w t p v) not s
 
 -- an `alloc` brings no structure out by an event that does not tell
-pub alloc-makes_nothing : (g : Parts) (n : Fresh) (w : Store) (b : Cells) (t : Tag) (p : Port) (v : Value) → op_at g t.instr ≡ Some Alloc
-    → makes v (outcome g n w b (Token t p v)).fired ≡ false → (s : Structure) → (outcome g n w b (Token t p v)).fired ≢ Out (value.Structure s)
-alloc-makes_nothing g n w b t p v is not s = alloc-at n w b t p v (slice_get g.instrs t.instr) is not s
+pub alloc-makes_nothing : (g : Parts) (n : Fresh) (w : Store) (b : Cells) (t : Tag) (p : Port) (v : Value) (nested : Bool)
+    → op_at g t.instr ≡ Some (Alloc nested) → makes v (outcome g n w b (Token t p v)).fired ≡ false → (s : Structure)
+    → (outcome g n w b (Token t p v)).fired ≢ Out (value.Structure s)
+alloc-makes_nothing g n w b t p v nested is not s = alloc-at n w b t p v (slice_get g.instrs t.instr) nested is not s

@@ -78,7 +78,7 @@ fired_step-computed t p v Nothing = refl
 
 -- an operator that fires nothing makes no structure
 none_allocated : (o : Op) → allocated_by o Nothing ≡ 0
-none_allocated Alloc = refl
+none_allocated (Alloc nested) = refl
 none_allocated (Const v) = refl
 none_allocated (Unary f) = refl
 none_allocated (Binary f) = refl
@@ -89,9 +89,9 @@ none_allocated (Enter b r) = refl
 none_allocated (Send k n) = refl
 none_allocated (Next k) = refl
 none_allocated (Reset k) = refl
-none_allocated Address = refl
-none_allocated (Fetch r) = refl
-none_allocated Stores = refl
+none_allocated (Address nested) = refl
+none_allocated (Fetch nested r) = refl
+none_allocated (Stores nested) = refl
 
 pub arriving-computed : (n : Fresh) (i : Instr) (t : Tag) (p : Port) (v : Value) (w : Store) (b : Cells) (a : Arrival) →
     arriving n i t w b a ≡ computed n i t p v w b a

@@ -4,7 +4,7 @@ use Rattle.id_instr.specs.declared.dests.Port.{Port}
 use Rattle.id_instr.specs.declared.dests.Port.TheVariants.{Zero}
 use Rattle.id_instr.specs.declared.instr.Op.TheVariants.{Back, Merge, Store}
 use Rattle.id_instr.specs.declared.instr.PortKind.{PortKind}
-use Rattle.id_instr.specs.declared.instr.PortKind.TheVariants.{Int}
+use Rattle.id_instr.specs.Held.{held_kind}
 use Rattle.id_instr.specs.Graph.{Parts, kind_at}
 use Rattle.id_value.specs.Bounds.{is_inside}
 use Rattle.id_tag.specs.declared.Cell.{Cell}
@@ -58,21 +58,26 @@ pub record TokenFits (g : Parts) (stamp : ℕ) (t : Tag) (p : Port) (v : Value) 
   pub continuation : ContinuationFits g stamp t p v
   pub address : AddressFits v
 
--- a reply fits: it names a merge for numbers, and has no iteration above the stamp
-pub record ReplyFits (g : Parts) (stamp : ℕ) (t : Tag) : Type 0 where
-  pub merge : op_at g t.instr ≡ Some (Merge Int)
+-- the kind of what the cell holds: of one of a nested structure it is a structure that is not nested, else a number
+abbrev pub held_in : Cell → PortKind
+held_in c = held_kind c.structure.nested
+
+-- a reply fits a cell: it names a merge for what that holds, and has no iteration above the stamp
+pub record ReplyFits (g : Parts) (stamp : ℕ) (c : Cell) (t : Tag) : Type 0 where
+  pub merge : op_at g t.instr ≡ Some (Merge (held_in c))
   pub in_time : t.iteration ≤ stamp
 
--- a read fits: it asks for a cell, and its reply fits
+-- a read fits: it asks for a cell, and its reply fits that
 pub record ReadFits (g : Parts) (stamp : ℕ) (c : Cell) (t : Tag) : Type 0 where
   pub cell : IsCell c
-  pub reply : ReplyFits g stamp t
+  pub reply : ReplyFits g stamp c t
 
--- a write fits: it is of a number to a cell, and its origin names a `store` and has no iteration above the stamp
+-- a write fits: it is to a cell, of what that holds, and its origin names a `store` to such cells and has no iteration
+-- above the stamp
 pub record WriteFits (g : Parts) (stamp : ℕ) (c : Cell) (v : Value) (t : Tag) : Type 0 where
   pub cell : IsCell c
-  pub kind : kind_of v ≡ Int
-  pub store : op_at g t.instr ≡ Some Store
+  pub kind : kind_of v ≡ held_in c
+  pub store : op_at g t.instr ≡ Some (Store c.structure.nested)
   pub in_time : t.iteration ≤ stamp
 
 -- what a message says fits the graph at its stamp

@@ -114,7 +114,7 @@ made_by Nothing = 0
 
 -- how many structures a firing of the operator takes
 abbrev pub allocated_by : Op → Fired → ℕ
-allocated_by Alloc (Out v) = 1
+allocated_by (Alloc nested) (Out v) = 1
 allocated_by _ _ = 0
 
 -- what is fired and sent and what the event comes to, what waits and what the cells have afterwards, and how many

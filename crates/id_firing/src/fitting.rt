@@ -3,11 +3,10 @@
 ghost use Rattle.std.specs.Prelude.{◌≡◌, ◌↔◌, IsTrue};
 ghost use Rattle.id_instr.specs.declared.instr.PortKind.{PortKind};
 ghost use Rattle.id_instr.specs.declared.instr.Op.TheVariants.{Back, Merge, Store};
-ghost use Rattle.id_instr.specs.declared.instr.PortKind.TheVariants.{Int};
 ghost use Rattle.id_instr.specs.Graph.{kind_at};
 ghost use Rattle.id_tag.specs.Kinds.{kind_of};
 ghost use Rattle.id_valid.specs.Roles.{is_second, op_at};
-ghost use Rattle.id_firing.specs.Fits.{AddressFits, ContinuationFits, Fits, IsCell, ReadFits, ReplyFits};
+ghost use Rattle.id_firing.specs.Fits.{AddressFits, ContinuationFits, Fits, IsCell, ReadFits, ReplyFits, held_in};
 ghost use Rattle.id_firing.specs.Fits.{TakesReturn, TokenFits, WriteFits};
 
 use id_instr::{Dest, Graph, Op, Port, PortKind, kind_at};
@@ -17,9 +16,9 @@ use id_value::is_inside;
 
 /// Whether a message fits a graph: its port exists and takes a value of its kind, a continuation comes
 /// to port 0 of a block's `back` and names a merge of that block's result kind, a cell lies inside its
-/// structure's bounds, a reply names a merge for numbers, a write of a number a `store`, and no iteration
-/// in it is above its stamp. Takes no memory. A continuation is looked for among the graph's blocks; every
-/// other message takes constant time (docs/MACHINE.md, "Element step").
+/// structure's bounds, a reply names a merge for what the cell holds, a write is of that and names a `store` to such
+/// cells, and no iteration in it is above its stamp. Takes no memory. A continuation is looked for among the graph's
+/// blocks; every other message takes constant time (docs/MACHINE.md, "Element step").
 pub fn fits(graph: &Valid, message: &Message) -> bool
     ensures { IsTrue result ↔ Fits graph.now message.now }
 {
@@ -50,14 +49,21 @@ fn token_fits(graph: &Graph, stamp: u64, tag: Tag, port: Port, value: Value) -> 
 fn read_fits(graph: &Graph, stamp: u64, cell: Cell, reply: Tag) -> bool
     ensures { IsTrue result ↔ ReadFits graph.now stamp cell reply }
 {
-    is_cell(cell) && reply_fits(graph, stamp, reply)
+    is_cell(cell) && reply_fits(graph, stamp, cell, reply)
 }
 
-/// Whether a reply fits at a stamp.
-fn reply_fits(graph: &Graph, stamp: u64, reply: Tag) -> bool
-    ensures { IsTrue result ↔ ReplyFits graph.now stamp reply }
+/// Whether a reply fits the cell at a stamp.
+fn reply_fits(graph: &Graph, stamp: u64, cell: Cell, reply: Tag) -> bool
+    ensures { IsTrue result ↔ ReplyFits graph.now stamp cell reply }
 {
-    op_at(graph, reply.instr) == Some(Op::Merge(PortKind::Int)) && reply.iteration <= stamp
+    op_at(graph, reply.instr) == Some(Op::Merge(held_in(cell))) && reply.iteration <= stamp
+}
+
+/// The kind of what the cell holds.
+fn held_in(cell: Cell) -> PortKind
+    ensures { result ≡ held_in cell }
+{
+    PortKind::of_held(cell.structure.nested)
 }
 
 /// Whether a write fits at a stamp.
@@ -65,9 +71,18 @@ fn write_fits(graph: &Graph, stamp: u64, cell: Cell, value: Value, origin: Tag) 
     ensures { IsTrue result ↔ WriteFits graph.now stamp cell value origin }
 {
     is_cell(cell)
-        && value.kind() == PortKind::Int
-        && op_at(graph, origin.instr) == Some(Op::Store)
+        && value.kind() == held_in(cell)
+        && op_at(graph, origin.instr) == Some(store_to(cell))
         && origin.iteration <= stamp
+}
+
+/// The operator that stores in cells like this one.
+fn store_to(cell: Cell) -> Op
+    ensures { result ≡ Store cell.structure.nested }
+{
+    Op::Store {
+        nested: cell.structure.nested,
+    }
 }
 
 /// Whether the cell's index is inside its structure's bounds.

@@ -299,7 +299,7 @@ pub fn allocated_by(op: Op, fired: &Fired) -> u64
     ensures { result ≡ allocated_by op fired.now }
 {
     match op {
-        Op::Alloc => match *fired {
+        Op::Alloc { .. } => match *fired {
             Fired::Out(_) => 1,
             _ => 0,
         },
@@ -313,7 +313,7 @@ fn allocated_by_shot(op: Op, shot: Shot) -> u64
     ensures { result ≡ allocated_by op (fired_of shot) }
 {
     match (op, shot) {
-        (Op::Alloc, Shot::Out(_)) => 1,
+        (Op::Alloc { .. }, Shot::Out(_)) => 1,
         _ => 0,
     }
 }
@@ -325,7 +325,7 @@ pub fn allocated_by_deed(op: Op, deed: Deed) -> u64
     ensures contexts { (t : Tag) → made_by (fired_by_deed t deed) ≡ 0 }
 {
     match (op, deed) {
-        (Op::Alloc, Deed::Addressed(_)) => 1,
+        (Op::Alloc { .. }, Deed::Addressed(_)) => 1,
         _ => 0,
     }
 }
@@ -585,8 +585,8 @@ pub fn send_deed(instr: &Instr, like: &PlainToken, deed: Deed, outputs: &mut Que
             },
             cell,
         ),
-        Deed::Stored(cell, number) => {
-            outputs.push_write_reserved(&PlainToken { output: 0, ..*like }, cell, number)
+        Deed::Stored(cell, value) => {
+            outputs.push_write_reserved(&PlainToken { output: 0, ..*like }, cell, value)
         }
         Deed::Switched(true, value) => {
             let dests = instr.dests.as_slice();

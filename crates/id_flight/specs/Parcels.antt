@@ -4,7 +4,6 @@ use Rattle.std.specs.Prelude.{slice_index_or}
 use Rattle.id_instr.specs.declared.dests.Port.{Port}
 use Rattle.id_tag.specs.declared.Tag.{Tag}
 use Rattle.id_tag.specs.declared.Cell.{Cell}
-use Rattle.id_tag.specs.declared.Structure.{Structure}
 use Rattle.id_tag.specs.declared.Message.{Message}
 use Rattle.id_tag.specs.declared.Payload.{Payload}
 use Rattle.id_tag.specs.declared.Payload.TheVariants.{Token, Read as Reads, Write as Writes}
@@ -14,15 +13,11 @@ use Rattle.id_flight.specs.declared.parcel.What.{What}
 use Rattle.id_flight.specs.declared.parcel.What.TheVariants.{Plain, Structure as Named, Address, Read, Write, Aside}
 use Rattle.id_tag.specs.declared.plain.Plain.{Plain as Short}
 use Rattle.id_tag.specs.declared.plain.Plain.TheVariants.{Int}
-use Rattle.id_tag.specs.Plains.{cell_of, message_of, tag_in, whole}
+use Rattle.id_tag.specs.Plains.{cell_of, made_by, message_of, tag_in, whole}
 
--- the structure that this element numbered so, with these bounds
-abbrev pub structure_in : ℕ → ℕ → ℤ → ℤ → Structure
-structure_in e s l h = record { element = e; serial = s; low = l; high = h }
-
--- its cell at this index
+-- the cell at this index of the structure that this maker numbered so, with these bounds
 abbrev pub cell_in : ℕ → ℕ → ℤ → ℤ → ℤ → Cell
-cell_in e s l h i = record { structure = structure_in e s l h; index = i }
+cell_in e s l h i = record { structure = made_by e s l h; index = i }
 
 -- the index that is kept as a token's value
 abbrev pub index_in : Short → ℤ
@@ -32,7 +27,7 @@ index_in v = pos 0
 -- what a message says of its token's tag, port and value, unless it stands aside
 abbrev pub said : Tag → Port → Short → What → Option Payload
 said t q v Plain = Some (Token t q (whole v))
-said t q v (Named e s l h) = Some (Token t q (value.Structure (structure_in e s l h)))
+said t q v (Named e s l h) = Some (Token t q (value.Structure (made_by e s l h)))
 said t q v (Address e s l h) = Some (Token t q (value.Address (cell_in e s l h (index_in v))))
 said t q v (Read e s l h) = Some (Reads (cell_in e s l h (index_in v)) t)
 said t q v (Write n p) = Some (Writes (cell_of (record { name = n; place = p })) (whole v) t)

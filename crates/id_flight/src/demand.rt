@@ -3,7 +3,7 @@
 ghost use Rattle.std.specs.Prelude.{◌≡◌};
 ghost use Rattle.id_flight.specs.Demands.{demanded};
 
-use id_tag::{Cell, Message, Payload, PlainToken, Sender, Value};
+use id_tag::{Cell, Message, Payload, Plain, PlainToken, Sender};
 
 /// A read or a write of a cell that an element sent, whose numbers are small: what most messages to cells are.
 #[derive(Clone, Copy)]
@@ -11,8 +11,8 @@ pub struct Demand {
     /// A token of the tag that the message names, which is else like it.
     pub like: PlainToken,
     pub cell: Cell,
-    /// The number that is written, or none where the cell is read.
-    pub number: Option<i64>,
+    /// The value that is written, or none where the cell is read.
+    pub stored: Option<Plain>,
 }
 
 impl Demand {
@@ -23,11 +23,11 @@ impl Demand {
     {
         let cell = self.cell;
         let tag = self.like.tag();
-        let payload = match self.number {
+        let payload = match self.stored {
             None => Payload::Read { cell, reply: tag },
-            Some(number) => Payload::Write {
+            Some(value) => Payload::Write {
                 cell,
-                value: Value::Int(number),
+                value: value.value(),
                 origin: tag,
             },
         };

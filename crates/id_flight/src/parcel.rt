@@ -8,17 +8,17 @@ ghost use Rattle.id_tag.specs.declared.Payload.TheVariants.{Token, Read, Write};
 ghost use Rattle.id_tag.specs.declared.Sender.TheVariants.{Element};
 ghost use Rattle.id_instr.specs.declared.dests.Port.{Port};
 ghost use Rattle.id_flight.specs.declared.parcel.What.TheVariants.{Aside};
-ghost use Rattle.id_flight.specs.Parcels.{IsPacked, IsWithin, cell_in, index_in, own, said, structure_in, unpacked};
+ghost use Rattle.id_flight.specs.Parcels.{IsPacked, IsWithin, cell_in, index_in, own, said, unpacked};
 ghost use Rattle.id_flight.specs.Queues.{context_of};
 ghost use Rattle.id_flight.specs.Demands.{demanded};
 ghost use Rattle.id_tag.specs.declared.plain.Plain.{Plain};
-ghost use Rattle.id_tag.specs.Plains.{cell_of, message_of, tag_in as tag_of};
+ghost use Rattle.id_tag.specs.Plains.{cell_of, made_by, message_of, tag_in as tag_of, whole};
 
 use crate::demand::Demand;
 use id_instr::Port;
 use id_tag::{
     Cell, Context, Message, Payload, Plain, PlainCell, PlainToken, Sender, Structure, Tag, Value,
-    plain_cell, plain_of, small, tiny,
+    made_by, maker_of, plain_cell, plain_of, small, tiny,
 };
 
 /// A message in 64 bytes: most numbers of a run need no more than 32 bits, and there are no more than 64 elements. It
@@ -34,7 +34,7 @@ const _: () = prove!(size_of::<Parcel>() == 64);
 
 /// What a message is: the plain token; a token of its tag and port with a structure or an address; a read whose reply
 /// is to go to its tag; a write of its value from its tag; or that the whole message stands aside. A structure is told
-/// by its element, serial number and bounds, and a cell of it by the index too, which is the token's value. The cell of
+/// by its maker, serial number and bounds, and a cell of it by the index too, which is the token's value. The cell of
 /// a write is told in small numbers, the name of its structure and its place.
 #[derive(Clone, Copy)]
 pub(crate) enum What {
@@ -91,7 +91,7 @@ pub(crate) fn packed_read(like: &PlainToken, cell: PlainCell) -> Parcel
     Parcel {
         token: PlainToken { value, ..*like },
         what: What::Read(
-            cell.element(),
+            cell.maker(),
             cell.serial(),
             i64::from(cell.low()),
             i64::from(cell.high()),
@@ -99,14 +99,13 @@ pub(crate) fn packed_read(like: &PlainToken, cell: PlainCell) -> Parcel
     }
 }
 
-/// The parcel of a write of a number to a cell, from the store of this token's tag, and else like it.
+/// The parcel of a write of a value to a cell, from the store of this token's tag, and else like it.
 #[inline(always)]
-pub(crate) fn packed_write(like: &PlainToken, cell: PlainCell, number: i64) -> Parcel
+pub(crate) fn packed_write(like: &PlainToken, cell: PlainCell, value: Plain) -> Parcel
     ensures { IsPacked (record (message_of like.now) {
-      payload = Write (cell_of cell) (value.Int number) (tag_of like.now);
+      payload = Write (cell_of cell) (whole value) (tag_of like.now);
     }) result }
 {
-    let value = Plain::Int(number);
     Parcel {
         token: PlainToken { value, ..*like },
         what: What::Write(cell.name, cell.place),
@@ -124,7 +123,7 @@ pub(crate) fn plain_in(parcel: &Parcel) -> Option<&PlainToken>
     }
 }
 
-/// The read of a cell, or the write of a number to one, that a parcel is, if it is one.
+/// The read of a cell, or the write to one, that a parcel is, if it is one.
 #[inline(always)]
 pub(crate) fn demand_in(parcel: &Parcel) -> Option<Demand>
     ensures { IfSome result (λ d. (asides : List Message) → unpacked asides parcel.now ≡ demanded d) }
@@ -133,12 +132,12 @@ pub(crate) fn demand_in(parcel: &Parcel) -> Option<Demand>
         (What::Read(element, serial, low, high), value) => Some(Demand {
             like: parcel.token,
             cell: cell(element, serial, low, high, value),
-            number: None,
+            stored: None,
         }),
-        (What::Write(name, place), Plain::Int(number)) => Some(Demand {
+        (What::Write(name, place), value) => Some(Demand {
             like: parcel.token,
             cell: PlainCell { name, place }.cell(),
-            number: Some(number),
+            stored: Some(value),
         }),
         _ => None,
     }
@@ -202,7 +201,7 @@ pub(crate) fn unpack(asides: &[Message], parcel: &Parcel) -> Message
             payload: Payload::Token {
                 tag,
                 port: token.port,
-                value: Value::Structure(structure(element, serial, low, high)),
+                value: Value::Structure(made_by(u32::from(element), u64::from(serial), low, high)),
             },
             ..token.message()
         },
@@ -233,19 +232,6 @@ pub(crate) fn unpack(asides: &[Message], parcel: &Parcel) -> Message
     }
 }
 
-/// The structure of these numbers and bounds.
-#[inline(always)]
-fn structure(element: u8, serial: u32, low: i64, high: i64) -> Structure
-    ensures { result ≡ structure_in element serial low high }
-{
-    Structure {
-        element: u32::from(element),
-        serial: u64::from(serial),
-        low,
-        high,
-    }
-}
-
 /// The cell of the structure of these numbers and bounds at the index that this value is.
 #[inline(always)]
 fn cell(element: u8, serial: u32, low: i64, high: i64, value: Plain) -> Cell
@@ -256,7 +242,7 @@ fn cell(element: u8, serial: u32, low: i64, high: i64, value: Plain) -> Cell
         _ => 0,
     };
     Cell {
-        structure: structure(element, serial, low, high),
+        structure: made_by(u32::from(element), u64::from(serial), low, high),
         index,
     }
 }
@@ -325,12 +311,12 @@ fn stored(cell: Cell, value: Value) -> Option<(Plain, What)>
     Some((plain_of(&value)?, What::Write(name, place)))
 }
 
-/// The element and the serial number of a structure, where they are short.
+/// The maker and the serial number of a structure, where they are short.
 #[inline(always)]
 fn short_structure(structure: Structure) -> Option<(u8, u32)>
-    ensures { IfSome result (λ s. structure_in s.0 s.1 structure.low structure.high ≡ structure) }
+    ensures { IfSome result (λ s. made_by s.0 s.1 structure.low structure.high ≡ structure) }
 {
-    Some((tiny(structure.element)?, small(structure.serial)?))
+    Some((maker_of(structure)?, small(structure.serial)?))
 }
 
 /// The message in a parcel that says this of this tag, port and value, where its numbers fit.

@@ -11,7 +11,7 @@ use crate::parcel::{
     plain_in, unpack,
 };
 use crate::row::Row;
-use id_tag::{Context, Message, PlainCell, PlainToken};
+use id_tag::{Context, Message, Plain, PlainCell, PlainToken};
 use std::alloc::{AllocError, Global};
 use std::marker::Model;
 
@@ -50,9 +50,8 @@ impl Queue {
     ghost use Rattle.id_flight.specs.Queues.{context_at};
     ghost use Rattle.std.specs.Prelude.{option_to_list, IfOk, IfSome, IsSome, IsTrue, OnErr, OnOk};
     ghost use Rattle.id_flight.specs.Demands.{demanded};
-    ghost use Rattle.id_tag.specs.Plains.{cell_of, message_of, tag_in};
+    ghost use Rattle.id_tag.specs.Plains.{cell_of, message_of, tag_in, whole};
     ghost use Rattle.id_tag.specs.declared.Payload.TheVariants.{Read, Write};
-    ghost use Rattle.id_tag.specs.declared.Value.TheVariants as value;
 
     /// The empty queue. Takes no memory.
     pub fn new(alloc: Global) -> Queue
@@ -242,19 +241,19 @@ impl Queue {
         self.parcels.push_back_reserved(packed_read(like, cell));
     }
 
-    /// Adds a write of a number to a cell at the end, from the store of this token's tag, and else like it. There is
+    /// Adds a write of a value to a cell at the end, from the store of this token's tag, and else like it. There is
     /// room for it. Takes no memory.
     #[inline(always)]
-    pub fn push_write_reserved(&mut self, like: &PlainToken, cell: PlainCell, number: i64)
+    pub fn push_write_reserved(&mut self, like: &PlainToken, cell: PlainCell, value: Plain)
         requires { 0 < self.old.room }
         ensures messages { self.new.messages ≡ self.old.messages ++ record (message_of like.now) {
-          payload = Write (cell_of cell) (value.Int number) (tag_in like.now);
+          payload = Write (cell_of cell) (whole value) (tag_in like.now);
         } ∷ [] }
         ensures room { self.old.room ≤ self.new.room + 1 }
     {
         self.room -= 1;
         self.parcels
-            .push_back_reserved(packed_write(like, cell, number));
+            .push_back_reserved(packed_write(like, cell, value));
     }
 
     /// Adds a message at the front. After an error nothing has changed.

@@ -120,7 +120,7 @@ fn add_from_on(
         Node::Block { body } => {
             add_seen(alloc, found, cells, followed, path, row, path, Some(body))
         }
-        Node::Array { low, high } => {
+        Node::Array { low, high, .. } => {
             add_array_at(alloc, found, cells, followed, path, row, spot, low, high)
         }
         Node::Fetch { target, index } => {

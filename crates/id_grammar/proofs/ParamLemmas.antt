@@ -2,30 +2,53 @@
 use Rattle.std.proofs.Common.{◌≡◌, ℕ, inl, inr, Some, None, List, [], ◌∷◌, ◌++◌, length, refl, sym, ap, ◌∙◌, arith}
 use Rattle.id_text.specs.declared.token.Token.{Token}
 use Rattle.id_text.specs.declared.token.TokenKind.{TokenKind}
-use Rattle.id_text.specs.declared.token.TokenKind.TheVariants.{Name, Sign}
+use Rattle.id_text.specs.declared.token.TokenKind.TheVariants.{Key, Name, Sign}
 use Rattle.id_text.specs.declared.token.Symbol.TheVariants.{LeftParen, RightParen, Comma, Colon, Becomes}
 use Rattle.id_value.specs.declared.Kind.{Kind}
+use Rattle.id_value.specs.declared.Kind.TheVariants as kind
+use Rattle.id_text.specs.declared.token.Keyword.TheVariants.{Array}
+use Rattle.id_grammar.specs.declared.tokens.Word.TheVariants as the
 use Rattle.id_grammar.specs.declared.tree.Param.{Param}
 use Rattle.id_grammar.specs.declared.tree.TreeError.{TreeError}
 use Rattle.id_grammar.specs.declared.tree.TreeError.TheVariants.{Unexpected}
 use Rattle.id_grammar.specs.Tree.{Tree, param, params_tree, none, more}
-use Rattle.id_grammar.specs.Grammar.{Definition, Parameters, MoreParameters, Rest, done, name, of_kind, part, sign}
+use Rattle.id_grammar.specs.Grammar.{Definition, Parameters, MoreParameters, Rest, done, name, deepened, typed, part, sign}
 use Rattle.id_grammar.specs.Grammar.{kind_named, parameter_of, Opens, no_parameters, first_parameter, last_parameter}
 use Rattle.id_grammar.specs.Grammar.{next_parameter}
 use Rattle.id_grammar.specs.Machine.{opening, Frame, Inside, Want, Have, Next, name_in, run}
 use Rattle.id_grammar.specs.Readers.{first_kind, first_start, IsBehind, Leads, Fails, Takes, Misses, BeginsWithName}
 use Rattle.id_grammar.specs.Readers.{LacksName, Types, Untypes, Declares, Undeclares, listed, Counts, heading, Heads}
 use Rattle.id_grammar.specs.Readers.{Beheads}
-use Rattle.id_grammar.proofs.RunLemmas.{run-none, run-kind, run-done, run-part, run-inside}
-use Rattle.id_grammar.proofs.ReaderLemmas.{EndsBy-at, At, At-opens, At-name, Fails-name, Leads-done}
+use Rattle.id_grammar.proofs.RunLemmas.{run-none, run-kind, run-chosen, run-left_out, run-done, run-part, run-inside}
+use Rattle.id_grammar.proofs.ReaderLemmas.{EndsBy-at, At, At-opens, At-name, Fails-name, Leads-done, first_of, no_word}
+
+-- behind its first word a kind is there, where no second word comes
+settled : (f : Kind → Rest) (k : Kind) (vs : List Token) → (k ≡ kind.Array → first_kind vs ≡ Key Array → ⊥) → (h d c : ℕ) (K : List Frame) →
+    run 200 vs (Next (deepened f k) h d c K) ≡ run 200 vs (Next (f k) h d c K)
+settled f kind.Int vs g h d c K = refl
+settled f kind.Bool vs g h d c K = refl
+settled f kind.Array vs g h d c K = run-left_out 200 vs (the.Key Array) (λ _. f kind.Nested) (f kind.Array) h d c K (no_word (the.Key Array) vs (g refl))
+settled f kind.Nested vs g h d c K = refl
 
 -- a colon and a kind
 module _ {ts us : List Token} (colon : Takes (sign Colon) ts us) where
-  pub Types-done : {vs : List Token} {t : Token} (k : Kind) → us ≡ t ∷ vs → kind_named (first_kind us) ≡ Some k → Types ts vs k
-  Types-done {vs = vs} {t = t} k e q = record {
+  pub Types-done : {vs : List Token} {t : Token} (k : Kind) → us ≡ t ∷ vs → kind_named (first_kind us) ≡ Some k →
+      (k ≡ kind.Array → first_kind vs ≡ Key Array → ⊥) → Types ts vs k
+  Types-done {vs = vs} {t = t} k e q g = record {
     comes = λ f h d c K.
         let i : kind_named t.kind ≡ Some k = ap (λ xs. kind_named (first_kind xs)) (sym e) ∙ q in
-        colon.comes (of_kind f) h d c K ∙ rw e (run-kind 200 t vs k f h d c K i);
+        colon.comes (typed f) h d c K ∙ rw e (run-kind 200 t vs k (deepened f) h d c K i) ∙ settled f k vs g h d c K;
+  }
+
+  -- the word `array` twice
+  pub Types-deeper : {vs ws : List Token} {t u : Token} → us ≡ t ∷ vs → kind_named (first_kind us) ≡ Some kind.Array →
+      vs ≡ u ∷ ws → first_kind vs ≡ Key Array → Types ts ws kind.Nested
+  Types-deeper {vs = vs} {ws = ws} {t = t} {u = u} e q b r = record {
+    comes = λ f h d c K.
+        let i : kind_named t.kind ≡ Some kind.Array = ap (λ xs. kind_named (first_kind xs)) (sym e) ∙ q in
+        let deeper : run 200 vs (Next (deepened f kind.Array) h d c K) ≡ run 200 ws (Next (f kind.Nested) h d c K) =
+        rw b (run-chosen 200 u ws (the.Key Array) (λ _. f kind.Nested) (f kind.Array) h d c K (first_of b r)) in
+        colon.comes (typed f) h d c K ∙ rw e (run-kind 200 t vs kind.Array (deepened f) h d c K i) ∙ deeper;
   }
 
   pub Untypes-kind : {vs : List Token} {t : Token} (x : TreeError) → us ≡ t ∷ vs → x ≡ Unexpected (first_start us) → kind_named (first_kind us) ≡ None →
@@ -33,11 +56,11 @@ module _ {ts us : List Token} (colon : Takes (sign Colon) ts us) where
   Untypes-kind {vs = vs} {t = t} x e j q = record {
     fails = λ f h d c K.
         let i : kind_named t.kind ≡ None = ap (λ xs. kind_named (first_kind xs)) (sym e) ∙ q in
-        EndsBy-at x (colon.comes (of_kind f) h d c K) (rw (j, e) (run-none 200 t vs (Next (of_kind f) h d c K) (rw i refl)));
+        EndsBy-at x (colon.comes (typed f) h d c K) (rw (j, e) (run-none 200 t vs (Next (typed f) h d c K) (rw i refl)));
   }
 
 pub Untypes-colon : {ts : List Token} {x : TreeError} → Misses (sign Colon) ts x → Untypes ts x
-Untypes-colon q = record { fails = λ f h d c K. q.fails (of_kind f) h d c K }
+Untypes-colon q = record { fails = λ f h d c K. q.fails (typed f) h d c K }
 
 -- a parameter
 pub Declares-done : {ts us vs : List Token} (x : Param) → BeginsWithName ts x.name x.place us → Types us vs x.kind → Declares ts vs x
@@ -180,15 +203,15 @@ module _ {ts us : List Token} (opens : Takes (sign LeftParen) ts us) where
   pub Beheads-params : {x : TreeError} → Fails us Parameters 0 x → Beheads ts x
   Beheads-params {x = x} q = record {
     fails = λ f K.
-        let g : Tree → Rest = λ a. sign Colon (of_kind (λ k. sign Becomes (f a k))) in
+        let g : Tree → Rest = λ a. sign Colon (typed (λ k. sign Becomes (f a k))) in
         EndsBy-at x (opens.comes (part Parameters g) 0 0 0 K ∙ run-part 200 us Parameters g 0 0 0 K) (q.fails (Inside g 0 0 0 ∷ K));
   }
 
   module _ {vs : List Token} {a : Tree} (leads : Leads us Parameters 0 vs a 0) where
     heading_comes : (f : Tree → Kind → Rest) (K : List Frame) →
-        run 200 ts (Next (heading f) 0 0 0 K) ≡ run 200 vs (Next (sign Colon (of_kind (λ k. sign Becomes (f a k)))) 0 0 0 K)
+        run 200 ts (Next (heading f) 0 0 0 K) ≡ run 200 vs (Next (sign Colon (typed (λ k. sign Becomes (f a k)))) 0 0 0 K)
     heading_comes f K =
-        let g : Tree → Rest = λ a. sign Colon (of_kind (λ k. sign Becomes (f a k))) in
+        let g : Tree → Rest = λ a. sign Colon (typed (λ k. sign Becomes (f a k))) in
         opens.comes (part Parameters g) 0 0 0 K ∙ run-part 200 us Parameters g 0 0 0 K ∙ leads.comes (Inside g 0 0 0 ∷ K) ∙ run-inside 200 vs a 0 g 0 0 0 K
 
     pub Beheads-kind : {x : TreeError} → Untypes vs x → Beheads ts x
@@ -205,7 +228,7 @@ module _ {ts us : List Token} (opens : Takes (sign LeftParen) ts us) where
       Heads-done q = record { comes = λ f K. heading_comes f K ∙ types.comes (λ k. sign Becomes (f a k)) 0 0 0 K ∙ q.comes (f a k) 0 0 0 K }
 
 pub Beheads-paren : {ts : List Token} {x : TreeError} → Misses (sign LeftParen) ts x → Beheads ts x
-Beheads-paren q = record { fails = λ f K. q.fails (part Parameters (λ a. sign Colon (of_kind (λ k. sign Becomes (f a k))))) 0 0 0 K }
+Beheads-paren q = record { fails = λ f K. q.fails (part Parameters (λ a. sign Colon (typed (λ k. sign Becomes (f a k))))) 0 0 0 K }
 
 -- a definition whose heading has come
 pub At-heading : {ts us vs : List Token} {a : Tree} {k : Kind} (f : Tree → Kind → Rest) → At ts Definition 0 us (heading f) 0 → Heads us vs a k →

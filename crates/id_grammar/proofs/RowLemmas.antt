@@ -6,29 +6,32 @@ use Rattle.id_text.specs.contracts.token.Symbol as symbol
 use Rattle.id_text.specs.declared.token.Token.{Token}
 use Rattle.id_text.specs.declared.token.TokenKind.{TokenKind}
 use Rattle.id_text.specs.declared.token.TokenKind.TheVariants.{Key, Sign}
-use Rattle.id_text.specs.declared.token.Keyword.TheVariants.{While, For, And, Or}
-use Rattle.id_text.specs.declared.token.Symbol.TheVariants.{LeftParen, RightParen, LeftBracket, Comma, Equal}
+use Rattle.id_text.specs.declared.token.Keyword.TheVariants.{While, For, And, Or, Array}
+use Rattle.id_text.specs.declared.token.Symbol.TheVariants.{LeftParen, RightParen, LeftBracket, Comma, Becomes, Equal}
 use Rattle.id_text.specs.declared.token.Symbol.TheVariants.{NotEqual, Less, LessEqual, Greater, GreaterEqual, Plus}
 use Rattle.id_text.specs.declared.token.Symbol.TheVariants.{Minus}
 use Rattle.id_grammar.specs.declared.tokens.Word.{Word}
 use Rattle.id_grammar.specs.declared.tokens.Word.TheVariants as the
 use Rattle.id_value.specs.declared.BinaryOp.{BinaryOp}
 use Rattle.id_value.specs.declared.Kind.{Kind}
+use Rattle.id_value.specs.declared.Kind.TheVariants as kind
 use Rattle.id_grammar.specs.declared.phrase.Level.{Level}
 use Rattle.id_grammar.specs.declared.phrase.Scope.{Scope}
 use Rattle.id_grammar.specs.declared.phrase.Level.TheVariants as level
 use Rattle.id_grammar.specs.declared.phrase.Scope.TheVariants as scope
 use Rattle.id_grammar.specs.Tree as tree
-use Rattle.id_grammar.specs.Tree.{Tree, binding, store}
+use Rattle.id_grammar.specs.Tree.{Tree, binding, fetch, store, param, more}
 use Rattle.id_grammar.specs.Grammar.{Phrase, Definition, Parameters, MoreParameters, Expression, Grouped, Negation}
 use Rattle.id_grammar.specs.Grammar.{Unary, Postfix, Atom, Arguments, MoreArguments, Tail, kind_of, arguments_of}
-use Rattle.id_grammar.specs.Grammar.{statement_of, last_of, Rest, done, word, either, name, of_kind, part, Opens}
+use Rattle.id_grammar.specs.Grammar.{statement_of, last_of, Rest, done, word, either, name, of_kind, part, sized, raised, Opens}
+use Rattle.id_grammar.specs.Grammar.{sign, body_of, bounds_of, deepened}
 use Rattle.id_grammar.specs.Grammar.{definition, no_parameters, first_parameter, last_parameter, next_parameter}
 use Rattle.id_grammar.specs.Grammar.{by_conditional, denied, negated, number, by_true, by_false, parens, by_name}
 use Rattle.id_grammar.specs.Grammar.{by_array, by_braces, no_arguments, last_argument, next_argument, by_statement}
 use Rattle.id_grammar.specs.Grammar.{by_next, by_body, by_last, operand, left_operand, operator_of, own_height, Derives}
 use Rattle.id_grammar.specs.Grammar.{opened, unconditional, single, grouped, plain, bare, atomic, fetched}
-use Rattle.id_grammar.specs.Grammar.{some_arguments, Follows, ended, taken, chosen, left_out, named, kinded, given}
+use Rattle.id_grammar.specs.Grammar.{some_arguments, Follows, ended, taken, chosen, left_out, named, kinded, given, measured, lifted}
+use Rattle.id_grammar.specs.Grammar.{unlifted}
 use Rattle.id_grammar.specs.Machine.{opening, least_height, room, is_word}
 use Rattle.id_grammar.specs.Standing.{Roomy}
 
@@ -99,13 +102,17 @@ Ends s0 s (name f) = ⊥
 Ends s0 s (of_kind f) = ⊥
 Ends s0 s (part MoreArguments f) = Quiet s (Sign RightParen) × Quiet s (Sign Comma)
 Ends s0 s (part s' f) = ⊥
+Ends s0 s (sized s' f) = ⊥
+Ends s0 s (raised m w r q) = ⊥
 
 -- a word is none with which what is left of a production of the phrase begins, or what stands behind it where that is nothing
 abbrev pub Bars : Phrase → Word → Rest → Type 0
 Bars s0 w (done e) = (k : TokenKind) → Quiet s0 k → is_word w k ≡ false
 Bars s0 w (word v r) = is_word w (kind_of v) ≡ false
-Bars s0 w (part (Tail o) f) = (k : TokenKind) (p : ℕ) (r : Rest) → Opens (Tail o) k p r → is_word w k ≡ false
 Bars s0 w (either v r q) = (is_word w (kind_of v) ≡ false) × Bars s0 w q
+Bars s0 w (part (Tail o) f) = (k : TokenKind) (p : ℕ) (r : Rest) → Opens (Tail o) k p r → is_word w k ≡ false
+Bars s0 w (part MoreParameters f) =
+    (k : TokenKind) (p : ℕ) (r : Rest) → Opens MoreParameters k p r → is_word w k ≡ false
 Bars s0 w _ = ⊥
 
 -- no part is gone on by what stands behind it, nor a production that could go on
@@ -116,6 +123,8 @@ Parts s0 (either w r q) = Bars s0 w q × ((p : ℕ) → Parts s0 (r p)) × Parts
 Parts s0 (name f) = (x : List ℕ) (p : ℕ) → Parts s0 (f x p)
 Parts s0 (of_kind f) = (k : Kind) → Parts s0 (f k)
 Parts s0 (part s f) = (a : Tree) → Ends s0 s (f a) × Parts s0 (f a)
+Parts s0 (sized s f) = (a : Tree) (m : ℕ) → Ends s0 s (f a m) × Parts s0 (f a m)
+Parts s0 (raised m w r q) = Bars s0 w q × ((p : ℕ) → Parts s0 (r p)) × Parts s0 q
 
 -- the parts have at least this height
 abbrev pub Needs : ℕ → Rest → Type 0
@@ -125,6 +134,8 @@ Needs m (either w r q) = ((p : ℕ) → Needs m (r p)) × Needs m q
 Needs m (name f) = (x : List ℕ) (p : ℕ) → Needs m (f x p)
 Needs m (of_kind f) = (k : Kind) → Needs m (f k)
 Needs m (part s f) = (k : ℕ) × (m ≤ max (least_height s) k) × ((a : Tree) → Needs k (f a))
+Needs m (sized s f) = (k : ℕ) × (m ≤ max (least_height s) k) × ((a : Tree) (h : ℕ) → Needs k (f a h))
+Needs m (raised j w r q) = ((p : ℕ) → Needs m (r p)) × Needs m q
 
 -- what each production keeps: its parts end where they must, their heights and their room are as it says, and it has the
 -- least height of its phrase
@@ -190,6 +201,41 @@ arguments_parts s0 = λ e. (((refl, (refl, (refl, (refl, (refl, refl))))), (refl
 statement_parts : (o : Scope) (f : Tree → Tree) → Parts (Tail o) (statement_of o f)
 statement_parts o f = λ e. (((refl, (refl, (refl, (refl, (refl, refl)))))), λ a. (λ k q. tt, tt))
 
+-- neither a comma nor a closing bracket is the word `array`
+not_deeper : (k : TokenKind) (p : ℕ) (r : Rest) → Opens MoreParameters k p r → is_word (the.Key Array) k ≡ false
+not_deeper k p r last_parameter = refl
+not_deeper k p r next_parameter = refl
+
+-- what holds behind each kind holds behind its first word
+deepened_parts : (s0 : Phrase) (f : Kind → Rest) → ((k : Kind) → Parts s0 (f k)) → Bars s0 (the.Key Array) (f kind.Array) → (k : Kind) → Parts s0 (deepened f k)
+deepened_parts s0 f h b kind.Int = h kind.Int
+deepened_parts s0 f h b kind.Bool = h kind.Bool
+deepened_parts s0 f h b kind.Array = (b, λ p. h kind.Nested, h kind.Array)
+deepened_parts s0 f h b kind.Nested = h kind.Nested
+
+deepened_needs : (m : ℕ) (f : Kind → Rest) → ((k : Kind) → Needs m (f k)) → (k : Kind) → Needs m (deepened f k)
+deepened_needs m f h kind.Int = h kind.Int
+deepened_needs m f h kind.Bool = h kind.Bool
+deepened_needs m f h kind.Array = (λ p. h kind.Nested, h kind.Array)
+deepened_needs m f h kind.Nested = h kind.Nested
+
+deepened_roomy : (n d : ℕ) (f : Kind → Rest) → ((k : Kind) → Roomy n d (f k)) → (k : Kind) → Roomy n d (deepened f k)
+deepened_roomy n d f h kind.Int = h kind.Int
+deepened_roomy n d f h kind.Bool = h kind.Bool
+deepened_roomy n d f h kind.Array = (λ p. h kind.Nested, h kind.Array)
+deepened_roomy n d f h kind.Nested = h kind.Nested
+
+-- what stands behind the kind of a definition, and behind that of a parameter
+abbrev kinded_body : List ℕ → ℕ → Tree → Kind → Rest
+kinded_body x q a k = sign Becomes (body_of x a k q)
+
+abbrev kinded_parameter : List ℕ → ℕ → Kind → Rest
+kinded_parameter x q k = part MoreParameters (λ a. done (more (param x k q) a))
+
+-- the bounds of an array of either sort
+bounds_parts : (nested : Bool) (p : ℕ) → Parts Atom (bounds_of nested p)
+bounds_parts nested p = λ a. ((refl, (refl, (refl, (refl, (refl, refl))))), λ b. ((refl, (refl, (refl, (refl, (refl, refl))))), tt))
+
 -- the body of a block, and the last expression of a loop
 last_valid : {o : Scope} → Valid (Tail o) last_of
 last_valid = record {
@@ -201,10 +247,10 @@ last_valid = record {
 
 pub valid : {s : Phrase} {k : TokenKind} {p : ℕ} {r : Rest} → Opens s k p r → Valid s r
 valid definition = record {
-  parts = λ x p a. (tt, λ k e. ((refl, (refl, (refl, (refl, (refl, refl))))), tt));
+  parts = λ x p a. (tt, deepened_parts Definition (kinded_body x p a) (λ k e. ((refl, (refl, (refl, (refl, (refl, refl))))), tt)) refl);
   high = omega arith;
-  needs = λ x p. (1, omega arith, λ a k. (0, omega arith, λ e. omega arith));
-  roomy = λ n d h x p. (omega arith, λ a k. (h, λ e. tt));
+  needs = λ x p. (1, omega arith, λ a. deepened_needs 1 (kinded_body x p a) (λ k. (0, omega arith, λ e. omega arith)));
+  roomy = λ n d h x p. (omega arith, λ a. deepened_roomy n d (kinded_body x p a) (λ k. (h, λ e. tt)));
 }
 valid no_parameters = record {
   parts = tt;
@@ -212,11 +258,11 @@ valid no_parameters = record {
   needs = omega arith;
   roomy = λ n d h. tt;
 }
-valid first_parameter = record {
-  parts = λ k a. (λ j q. tt, tt);
+valid (first_parameter {x = x} {p = p}) = record {
+  parts = deepened_parts Parameters (kinded_parameter x p) (λ k a. (λ j q. tt, tt)) not_deeper;
   high = omega arith;
-  needs = λ k. (0, omega arith, λ a. omega arith);
-  roomy = λ n d h k. (h, λ a. tt);
+  needs = deepened_needs 0 (kinded_parameter x p) (λ k. (0, omega arith, λ a. omega arith));
+  roomy = λ n d h. deepened_roomy n d (kinded_parameter x p) (λ k. (h, λ a. tt));
 }
 valid last_parameter = record {
   parts = tt;
@@ -225,10 +271,10 @@ valid last_parameter = record {
   roomy = λ n d h. tt;
 }
 valid next_parameter = record {
-  parts = λ x p k a. (λ j q. tt, tt);
+  parts = λ x p. deepened_parts MoreParameters (kinded_parameter x p) (λ k a. (λ j q. tt, tt)) not_deeper;
   high = omega arith;
-  needs = λ x p k. (0, omega arith, λ a. omega arith);
-  roomy = λ n d h x p k. (h, λ a. tt);
+  needs = λ x p. deepened_needs 0 (kinded_parameter x p) (λ k. (0, omega arith, λ a. omega arith));
+  roomy = λ n d h x p. deepened_roomy n d (kinded_parameter x p) (λ k. (h, λ a. tt));
 }
 valid by_conditional = record {
   parts = λ t. ((refl, (refl, (refl, (refl, (refl, refl))))), λ x. ((refl, (refl, (refl, (refl, (refl, refl))))), λ y. (λ k q. q, tt)));
@@ -263,11 +309,11 @@ valid by_name = record {
   needs = (λ p. (0, omega arith, λ a. omega arith), omega arith);
   roomy = λ n d h. (λ p. (h, λ a. tt), tt);
 }
-valid by_array = record {
-  parts = λ a. ((refl, (refl, (refl, (refl, (refl, refl))))), λ b. ((refl, (refl, (refl, (refl, (refl, refl))))), tt));
+valid (by_array {p = p}) = record {
+  parts = (refl, λ _. bounds_parts true p, bounds_parts false p);
   high = omega arith;
-  needs = (0, omega arith, λ a. (0, omega arith, λ b. omega arith));
-  roomy = λ n d h. (h, λ a. (h, λ b. tt));
+  needs = (λ _. (0, omega arith, λ a. (0, omega arith, λ b. omega arith)), (0, omega arith, λ a. (0, omega arith, λ b. omega arith)));
+  roomy = λ n d h. (λ _. (h, λ a. (h, λ b. tt)), (h, λ a. (h, λ b. tt)));
 }
 valid by_braces = record {
   parts = (
@@ -297,12 +343,32 @@ valid next_argument = record {
 valid (by_statement {s = s} {x = x} {p = p}) = record {
   parts = (
     refl,
-    λ q i. ((refl, (refl, (refl, (refl, (refl, refl))))), statement_parts s (λ e. store (tree.name x p) i e q)),
+    λ q i m. (
+      (refl, (refl, (refl, (refl, (refl, refl))))),
+      (
+        refl,
+        λ o j. ((refl, (refl, (refl, (refl, (refl, refl))))), statement_parts s (λ e. store (fetch (tree.name x p) i q) j e o)),
+        statement_parts s (λ e. store (tree.name x p) i e q),
+      ),
+    ),
     statement_parts s (λ e. binding x e p),
   );
   high = omega arith;
-  needs = (λ q. (1, omega arith, λ i. (1, omega arith, λ e. (0, omega arith, λ a. omega arith))), (1, omega arith, λ e. (0, omega arith, λ a. omega arith)));
-  roomy = λ n d h. (λ q. (h, λ i. (h, λ e. (h, λ a. tt))), (h, λ e. (h, λ a. tt)));
+  needs = (
+    λ q. (
+      1,
+      omega arith,
+      λ i m. (
+        λ o. (1, omega arith, λ j. (1, omega arith, λ e. (0, omega arith, λ a. omega arith))),
+        (1, omega arith, λ e. (0, omega arith, λ a. omega arith)),
+      ),
+    ),
+    (1, omega arith, λ e. (0, omega arith, λ a. omega arith)),
+  );
+  roomy = λ n d h. (
+    λ q. (h, λ i m. (λ o. (h, λ j. (h, λ e. (h, λ a. tt))), (h, λ e. (h, λ a. tt)))),
+    (h, λ e. (h, λ a. tt)),
+  );
 }
 valid by_next = record {
   parts = λ x q e. ((refl, (refl, (refl, (refl, (refl, refl))))), λ a. (λ k q. tt, tt));
@@ -413,3 +479,6 @@ mutual
   Follows-height (named q f) m n = Follows-height f m (n _ _)
   Follows-height (kinded {k = k} q f) m n = Follows-height f m (n k)
   Follows-height (given {a = a} {m = i} {n = j} d f) m n = omega (arith, n.1, Derives-height d, Follows-height f n.0 (n.2 a))
+  Follows-height (measured {a = a} {m = i} {n = j} d f) m n = omega (arith, n.1, Derives-height d, Follows-height f n.0 (n.2 a i))
+  Follows-height (lifted {t = t} q f) m n = omega (arith, Follows-height f m (n.0 t.start))
+  Follows-height (unlifted f) m n = Follows-height f m n.1

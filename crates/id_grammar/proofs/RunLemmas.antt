@@ -14,9 +14,9 @@ use Rattle.id_value.specs.declared.BinaryOp.{BinaryOp}
 use Rattle.id_grammar.specs.Tree.{Tree, binary}
 use Rattle.id_grammar.specs.Grammar.{Phrase, Definition, Parameters, MoreParameters, Expression, Grouped, Negation}
 use Rattle.id_grammar.specs.Grammar.{Unary, Postfix, Atom, Arguments, MoreArguments, Tail, kind_of, fetch_of}
-use Rattle.id_grammar.specs.Grammar.{arguments_of, Rest, done, word, either, name, of_kind, part, kind_named, Opens}
+use Rattle.id_grammar.specs.Grammar.{arguments_of, Rest, done, word, either, name, of_kind, part, sized, raised, kind_named, Opens}
 use Rattle.id_grammar.specs.Grammar.{operand, operator_of, own_height}
-use Rattle.id_grammar.specs.Machine.{opening, room, Frame, Left, Right, Target, Inside, Outer, again, State, Begin, Want}
+use Rattle.id_grammar.specs.Machine.{opening, room, Frame, Left, Right, Target, Inside, Sizing, Outer, again, State, Begin, Want}
 use Rattle.id_grammar.specs.Machine.{Have, Next, Move, is_word, takes, Refused, run}
 use Rattle.id_grammar.proofs.RowLemmas.{opening-from_opens, is_word-same}
 
@@ -116,6 +116,19 @@ module _ (n : ℕ) (t : Token) (ts : List Token) where
       run n (t ∷ ts) (Have a m (Target d ∷ K)) ≡ Refused true t.start
   run-fetch-deep a m d K q h = run-deep (Have a m (Target d ∷ K)) _ (run-bracket a m d K q) h
 
+  -- a word by which what stands before it becomes a part of an expression
+  pub run-lifted : (j : ℕ) (w : Word) (r : ℕ → Rest) (o : Rest) (h d c : ℕ) (K : List Frame) → t.kind ≡ kind_of w → d + j + 1 ≤ n →
+      run n (t ∷ ts) (Next (raised j w r o) h d c K) ≡ run n ts (Next (r t.start) (max h (j + 1)) d c K)
+  run-lifted j w r o h d c K q k =
+      let b = is_word-same w t.kind q in
+      run-step (Next (raised j w r o) h d c K) (record { need = d + j + 1; next = Next (r t.start) (max h (j + 1)) d c K }) (rw b refl) k
+
+  pub run-lifted-deep : (j : ℕ) (w : Word) (r : ℕ → Rest) (o : Rest) (h d c : ℕ) (K : List Frame) → t.kind ≡ kind_of w → n < d + j + 1 →
+      run n (t ∷ ts) (Next (raised j w r o) h d c K) ≡ Refused true t.start
+  run-lifted-deep j w r o h d c K q k =
+      let b = is_word-same w t.kind q in
+      run-deep (Next (raised j w r o) h d c K) (record { need = d + j + 1; next = Next (r t.start) (max h (j + 1)) d c K }) (rw b refl) k
+
 -- What takes no token.
 pub run-done : (n : ℕ) (ts : List Token) (e : Tree) (h d c : ℕ) (K : List Frame) → run n ts (Next (done e) h d c K) ≡ run n ts (Have e (h + c) K)
 unfolding run
@@ -127,6 +140,18 @@ pub run-part : (n : ℕ) (ts : List Token) (s : Phrase) (f : Tree → Rest) (h d
 unfolding run
 run-part n [] s f h d c K = refl
 run-part n (t ∷ ts) s f h d c K = refl
+
+pub run-sized : (n : ℕ) (ts : List Token) (s : Phrase) (f : Tree → ℕ → Rest) (h d c : ℕ) (K : List Frame) →
+    run n ts (Next (sized s f) h d c K) ≡ run n ts (Want s d (Sizing f h d c ∷ K))
+unfolding run
+run-sized n [] s f h d c K = refl
+run-sized n (t ∷ ts) s f h d c K = refl
+
+pub run-sizing : (n : ℕ) (ts : List Token) (e : Tree) (h : ℕ) (f : Tree → ℕ → Rest) (m d c : ℕ) (K : List Frame) →
+    run n ts (Have e h (Sizing f m d c ∷ K)) ≡ run n ts (Next (f e h) (max m h) d c K)
+unfolding run
+run-sizing n [] e h f m d c K = refl
+run-sizing n (t ∷ ts) e h f m d c K = refl
 
 pub run-inside : (n : ℕ) (ts : List Token) (e : Tree) (h : ℕ) (f : Tree → Rest) (m d c : ℕ) (K : List Frame) →
     run n ts (Have e h (Inside f m d c ∷ K)) ≡ run n ts (Next (f e) (max m h) d c K)
@@ -201,6 +226,12 @@ pub run-left_out : (n : ℕ) (ts : List Token) (w : Word) (r : ℕ → Rest) (o 
 unfolding run
 run-left_out n [] w r o h d c K q = refl
 run-left_out n (t ∷ ts) w r o h d c K q = rw q refl
+
+pub run-unlifted : (n : ℕ) (ts : List Token) (j : ℕ) (w : Word) (r : ℕ → Rest) (o : Rest) (h d c : ℕ) (K : List Frame) → First (λ k. is_word w k ≡ false) ts →
+    run n ts (Next (raised j w r o) h d c K) ≡ run n ts (Next o h d c K)
+unfolding run
+run-unlifted n [] j w r o h d c K q = refl
+run-unlifted n (t ∷ ts) j w r o h d c K q = rw q refl
 
 -- without the closing bracket an argument is wanted
 pub run-arguments : (n : ℕ) (ts : List Token) (d : ℕ) (K : List Frame) → Unopened Arguments ts →

@@ -1,5 +1,5 @@
 -- Which tokens make which tree (docs/LANGUAGE.md, "Grammar").
-use Rattle.std.specs.Prelude.{◌≡◌, ◌+◌, ℕ, ℤ, true, false, Option, Some, None, List, [], ◌∷◌, ◌++◌, max}
+use Rattle.std.specs.Prelude.{◌≡◌, ◌+◌, ℕ, ℤ, Bool as Truth, true, false, Option, Some, None, List, [], ◌∷◌, ◌++◌, max}
 use Rattle.id_text.specs.declared.token.Token.{Token}
 use Rattle.id_text.specs.declared.token.TokenKind.{TokenKind}
 use Rattle.id_text.specs.declared.token.TokenKind.TheVariants.{Name, Number, Key, Sign, End}
@@ -56,7 +56,9 @@ kind_of (the.Sign s) = Sign s
 
 -- What is left of a production, and the tree that it makes: nothing, and the tree; a reserved word or a sign, and
 -- then more; the same, and then more for its place, or else something without it; a name, and then more for its
--- spelling and its place; a kind's word, and then more for the kind; a part, and then more for its tree.
+-- spelling and its place; a kind's word, and then more for the kind; a part, and then more for its tree; the same, and
+-- then more for its tree and its height; a word by which what stands before it, of this height, becomes a part of an
+-- expression, and then more for its place, or else something without it.
 pub data Rest : Type 0 where
   done : Tree → Rest
   word : Word → Rest → Rest
@@ -64,6 +66,8 @@ pub data Rest : Type 0 where
   name : (List ℕ → ℕ → Rest) → Rest
   of_kind : (Kind → Rest) → Rest
   part : Phrase → (Tree → Rest) → Rest
+  sized : Phrase → (Tree → ℕ → Rest) → Rest
+  raised : ℕ → Word → (ℕ → Rest) → Rest → Rest
 
 -- a sign, and then more
 abbrev pub sign : Symbol → Rest → Rest
@@ -80,17 +84,28 @@ kind_named (Key Bool) = Some kind.Bool
 kind_named (Key Array) = Some kind.Array
 kind_named _ = None
 
+-- behind the first word of a kind: of `array`, the same word for arrays of arrays, or nothing
+abbrev pub deepened : (Kind → Rest) → Kind → Rest
+deepened f kind.Int = f kind.Int
+deepened f kind.Bool = f kind.Bool
+deepened f kind.Array = either (the.Key Array) (λ _. f kind.Nested) (f kind.Array)
+deepened f kind.Nested = f kind.Nested
+
+-- a kind, and then more for it
+abbrev pub typed : (Kind → Rest) → Rest
+typed f = of_kind (deepened f)
+
 -- behind the "=" of a definition: its body, ";"
 abbrev pub body_of : List ℕ → Tree → Kind → ℕ → Rest
 body_of x a k q = enclosed (the.Sign Semicolon) (λ e. done (define x a k e q))
 
 -- behind the name of a definition: "(", its parameters, ":", its kind, "=" and what stands behind it
 abbrev pub definition_of : List ℕ → ℕ → Rest
-definition_of x q = sign LeftParen (part Parameters (λ a. sign Colon (of_kind (λ k. sign Becomes (body_of x a k q)))))
+definition_of x q = sign LeftParen (part Parameters (λ a. sign Colon (typed (λ k. sign Becomes (body_of x a k q)))))
 
 -- behind the name of a parameter: ":", its kind, and the parameters behind it
 abbrev pub parameter_of : List ℕ → ℕ → Rest
-parameter_of x q = sign Colon (of_kind (λ k. part MoreParameters (λ a. done (more (param x k q) a))))
+parameter_of x q = sign Colon (typed (λ k. part MoreParameters (λ a. done (more (param x k q) a))))
 
 -- behind the word `if`: the predicate, "then", the arm for true, "else", the arm for false
 abbrev pub conditional_of : ℕ → Rest
@@ -101,10 +116,14 @@ conditional_of p =
 abbrev pub named_of : List ℕ → ℕ → Rest
 named_of x p = either (the.Sign LeftParen) (λ _. part Arguments (λ a. done (call x a p))) (done (tree.name x p))
 
--- behind the word `array`: "(", the lower bound, ",", the upper bound, ")"
+-- the bounds of an array, which is nested or not: "(", the lower one, ",", the upper one, ")"
+abbrev pub bounds_of : Truth → ℕ → Rest
+bounds_of nested p = sign LeftParen
+    (enclosed (the.Sign Comma) (λ a. enclosed (the.Sign RightParen) (λ b. done (array nested a b p))))
+
+-- behind the word `array`: the same word for an array of arrays, or nothing, and the bounds
 abbrev pub array_of : ℕ → Rest
-array_of p = sign LeftParen
-    (enclosed (the.Sign Comma) (λ a. enclosed (the.Sign RightParen) (λ b. done (array a b p))))
+array_of p = either (the.Key Array) (λ _. bounds_of true p) (bounds_of false p)
 
 -- behind the `[` of a fetch, whose target stands before it: the index, "]"
 abbrev pub fetch_of : Tree → ℕ → Rest
@@ -128,9 +147,19 @@ abbrev pub statement_of : Scope → (Tree → Tree) → Rest
 statement_of s f =
     sign Becomes (enclosed (the.Sign Semicolon) (λ e. part (Tail s) (λ a. done (with_statement (f e) a))))
 
--- behind the `[` of a store, whose target stands before it: the index, "]", and the rest of the statement
+-- behind the last `[` of a store, whose target stands before it: the index, "]", and the rest of the statement
+abbrev pub last_store_of : Scope → Tree → ℕ → Rest
+last_store_of s t p = enclosed (the.Sign RightBracket) (λ i. statement_of s (λ e. store t i e p))
+
+-- behind the `]` of a store, with the index before it, of this height: the `[` of another index, whose target is the
+-- fetch before it, or the rest of the statement
+abbrev pub stored_of : Scope → Tree → Tree → ℕ → ℕ → Rest
+stored_of s t i m p =
+    raised m (the.Sign LeftBracket) (λ q. last_store_of s (fetch t i p) q) (statement_of s (λ e. store t i e p))
+
+-- behind the first `[` of a store, whose target stands before it: the index, "]", and what stands behind that
 abbrev pub store_of : Scope → Tree → ℕ → Rest
-store_of s t p = enclosed (the.Sign RightBracket) (λ i. statement_of s (λ e. store t i e p))
+store_of s t p = sized Expression (λ i m. sign RightBracket (stored_of s t i m p))
 
 -- behind the name with which a statement begins: it is the target of a store, or of a binding
 abbrev pub assigned_of : Scope → List ℕ → ℕ → Rest
@@ -288,6 +317,12 @@ mutual
         kind_named t.kind ≡ Some k → Follows (f k) ts e h → Follows (of_kind f) (t ∷ ts) e h
     given : {s : Phrase} {f : Tree → Rest} {us ts : List Token} {a e : Tree} {m n : ℕ} →
         Derives s us a m → Follows (f a) ts e n → Follows (part s f) (us ++ ts) e (max m n)
+    measured : {s : Phrase} {f : Tree → ℕ → Rest} {us ts : List Token} {a e : Tree} {m n : ℕ} →
+        Derives s us a m → Follows (f a m) ts e n → Follows (sized s f) (us ++ ts) e (max m n)
+    lifted : {m : ℕ} {w : Word} {t : Token} {r : ℕ → Rest} {q : Rest} {ts : List Token} {e : Tree} {h : ℕ} →
+        t.kind ≡ kind_of w → Follows (r t.start) ts e h → Follows (raised m w r q) (t ∷ ts) e (max (m + 1) h)
+    unlifted : {m : ℕ} {w : Word} {r : ℕ → Rest} {q : Rest} {ts : List Token} {e : Tree} {h : ℕ} →
+        Follows q ts e h → Follows (raised m w r q) ts e h
 
 -- the tokens are a program of this height: the end, or a definition and then a program
 pub data Program : List Token → Tree → ℕ → Type 0 where

@@ -20,7 +20,8 @@ use Rattle.id_grammar.specs.Tree.{Tree, binary, none, more}
 use Rattle.id_grammar.specs.Grammar.{Phrase, Definition, Parameters, MoreParameters, Expression, Grouped, Negation}
 use Rattle.id_grammar.specs.Grammar.{Unary}
 use Rattle.id_grammar.specs.Grammar.{Postfix, Atom, Arguments, MoreArguments, Tail, Rest, done, word, either, name}
-use Rattle.id_grammar.specs.Grammar.{of_kind, part, fetch_of, kind_named, Opens, definition, no_parameters}
+use Rattle.id_grammar.specs.Grammar.{of_kind, part, sized, raised, fetch_of, kind_named, Opens}
+use Rattle.id_grammar.specs.Grammar.{definition, no_parameters}
 use Rattle.id_grammar.specs.Grammar.{first_parameter, last_parameter, next_parameter, by_conditional, denied, negated}
 use Rattle.id_grammar.specs.Grammar.{number, by_true, by_false, parens, by_name, by_array, by_braces, no_arguments}
 use Rattle.id_grammar.specs.Grammar.{last_argument, next_argument, argument_of, by_statement, by_next, by_body, by_last}
@@ -80,15 +81,18 @@ room (either w r q) = room q
 room (name f) = room (f [] 0)
 room (of_kind f) = room (f kind.Int)
 room (part s f) = max (least_height s) (room (f none))
+room (sized s f) = max (least_height s) (room (f none 0))
+room (raised m w r q) = room q
 
 -- What stands round a part, from the inside: a level whose first operand it is, one whose next operand it is, what it
--- may be the target of, a production, or the program, with the definitions before it; the last numbers are the
--- expressions round the level, the fetch or the production's parts.
+-- may be the target of, a production, one that asks for the part's height too, or the program, with the definitions
+-- before it; the last numbers are the expressions round the level, the fetch or the production's parts.
 pub data Frame : Type 0 where
   Left : Level → ℕ → Frame
   Right : Level → BinaryOp → Tree → ℕ → ℕ → ℕ → Frame
   Target : ℕ → Frame
   Inside : (Tree → Rest) → ℕ → ℕ → ℕ → Frame
+  Sizing : (Tree → ℕ → Rest) → ℕ → ℕ → ℕ → Frame
   Outer : List Tree → Frame
 
 -- what stands round a level behind one of its operators: more of the level, but in a comparison nothing of it
@@ -215,6 +219,10 @@ nexts t (either w r q) h d c K close =
 nexts t (name f) h d c K close = pick (name_in t.kind) (λ x. free (Next (f x t.start) h d c K)) None
 nexts t (of_kind f) h d c K close = pick (kind_named t.kind) (λ k. free (Next (f k) h d c K)) None
 nexts t (part s f) h d c K close = wants t s d (Inside f h d c ∷ K)
+nexts t (sized s f) h d c K close = wants t s d (Sizing f h d c ∷ K)
+nexts t (raised m w r q) h d c K close =
+    cond (is_word w t.kind) (Some (record { need = d + m + 1; next = Next (r t.start) (max h (m + 1)) d c K }))
+    (nexts t q h d c K close)
 
 -- trees, in order, put before a list of trees
 abbrev pub ahead : List Tree → Tree → Tree
@@ -239,6 +247,7 @@ closes t b n (Right l o a m p d ∷ K) =
     repeats t (binary o a b p) (max m n + 1) l d K (closes t (binary o a b p) (max m n + 1) K)
 closes t e h (Target d ∷ K) = indexes t e h d K (closes t e h K)
 closes t e h (Inside f m d c ∷ K) = nexts t (f e) (max m h) d c K (λ a n. closes t a n K)
+closes t e h (Sizing f m d c ∷ K) = nexts t (f e h) (max m h) d c K (λ a n. closes t a n K)
 
 -- what a token does
 abbrev pub takes : Token → State → Option Move

@@ -23,11 +23,11 @@ use Rattle.id_grammar.specs.declared.tree.Param.{Param}
 use Rattle.id_grammar.specs.declared.tree.Def.{Def}
 use Rattle.id_grammar.specs.declared.tree.TreeError.{TreeError}
 use Rattle.id_grammar.specs.declared.tree.TreeError.TheVariants.{Unexpected, TooDeep, Memory}
-use Rattle.id_grammar.specs.Tree.{Tree, tree_of, stmt_tree, def_tree, unary, param, more}
+use Rattle.id_grammar.specs.Tree.{Tree, tree_of, stmt_tree, def_tree, unary, store, param, more}
 use Rattle.id_grammar.specs.Grammar.{Phrase, Definition, Parameters, MoreParameters, Arguments, MoreArguments, Tail}
 use Rattle.id_grammar.specs.Grammar.{Rest}
-use Rattle.id_grammar.specs.Grammar.{named_of, assigned_of, done, of_kind, part, sign, enclosed, with_statement, Opens}
-use Rattle.id_grammar.specs.Grammar.{Grouped, word, operand, operator_of, for_of, for_with_tail}
+use Rattle.id_grammar.specs.Grammar.{named_of, assigned_of, done, typed, part, sign, enclosed, with_statement}
+use Rattle.id_grammar.specs.Grammar.{Grouped, Opens, word, operand, operator_of, statement_of, for_of, for_with_tail}
 use Rattle.id_grammar.specs.Machine.{Frame, Left, Target, Inside, again, Begin, Want, Have, Next, Outcome, Refused}
 use Rattle.id_grammar.specs.Machine.{name_in, run}
 
@@ -202,12 +202,12 @@ LacksName ts x = (x ≡ Memory) ⊎ NoName ts x
 -- the run takes a colon and a kind behind it
 pub record Types (ts us : List Token) (k : Kind) : Type 0 where
   pub comes : (f : Kind → Rest) (h d c : ℕ) (K : List Frame) →
-      run 200 ts (Next (sign Colon (of_kind f)) h d c K) ≡ run 200 us (Next (f k) h d c K)
+      run 200 ts (Next (sign Colon (typed f)) h d c K) ≡ run 200 us (Next (f k) h d c K)
 
 -- the run ends so at a colon or the kind behind it
 pub record Untypes (ts : List Token) (x : TreeError) : Type 0 where
   pub fails : (f : Kind → Rest) (h d c : ℕ) (K : List Frame) →
-      EndsBy (run 200 ts (Next (sign Colon (of_kind f)) h d c K)) x
+      EndsBy (run 200 ts (Next (sign Colon (typed f)) h d c K)) x
 
 -- the list begins with a parameter: its name, a colon and its kind
 pub record Declares (ts us : List Token) (p : Param) : Type 0 where
@@ -244,7 +244,7 @@ pub record Counts (ts us : List Token) (ps : List Param) : Type 0 where
 
 -- between the name and the body of a definition: "(", its parameters, ":", its kind, "="
 abbrev pub heading : (Tree → Kind → Rest) → Rest
-heading f = sign LeftParen (part Parameters (λ a. sign Colon (of_kind (λ k. sign Becomes (f a k)))))
+heading f = sign LeftParen (part Parameters (λ a. sign Colon (typed (λ k. sign Becomes (f a k)))))
 
 -- the run takes a heading
 pub record Heads (ts us : List Token) (a : Tree) (k : Kind) : Type 0 where
@@ -299,6 +299,18 @@ pub record Assigns (ts : List Token) (o : Scope) (d : ℕ) (x : List ℕ) (p : �
 -- from behind that name the run ends so
 pub record Misassigns (ts : List Token) (o : Scope) (d : ℕ) (x : List ℕ) (p : ℕ) (y : TreeError) : Type 0 where
   pub fails : (K : List Frame) → EndsBy (run 200 ts (Next (assigned_of o x p) 0 (d + 0) 0 K)) y
+
+-- from behind the `]` of a store's index, where its target and that index stand, of this height, the run takes the rest
+-- of the statement
+pub record Stores (ts : List Token) (o : Scope) (d : ℕ) (a i : Tree) (p m : ℕ) (us : List Token) (s : Tree) (h : ℕ)
+    : Type 0 where
+  pub comes : (K : List Frame) →
+      run 200 ts (Next (statement_of o (λ e. store a i e p)) m (d + 0) 0 K)
+      ≡ run 200 us (Want (Tail o) d (Inside (λ a. done (with_statement s a)) h d 0 ∷ K))
+
+-- from behind that `]` the run ends so
+pub record Misstores (ts : List Token) (o : Scope) (d : ℕ) (a i : Tree) (p m : ℕ) (y : TreeError) : Type 0 where
+  pub fails : (K : List Frame) → EndsBy (run 200 ts (Next (statement_of o (λ e. store a i e p)) m (d + 0) 0 K)) y
 
 -- the run takes statements of a tail, and puts them before those that come behind
 pub record Stacks (ts : List Token) (o : Scope) (d : ℕ) (us : List Token) (ss : List Stmt) (h : ℕ) (K : List Frame)

@@ -8,9 +8,11 @@ use Rattle.id_value.specs.declared.Kind.{Kind}
 use Rattle.id_grammar.specs.Tree.{Tree}
 use Rattle.id_grammar.specs.Grammar.{Phrase, Definition, Expression, Grouped, Negation, Unary, Postfix, Atom, Rest}
 use Rattle.id_grammar.specs.Grammar.{done}
-use Rattle.id_grammar.specs.Grammar.{word, either, name, of_kind, part, operand, left_operand, operator_of, own_height}
+use Rattle.id_grammar.specs.Grammar.{word, either, name, of_kind, part, sized, raised, operand, left_operand}
+use Rattle.id_grammar.specs.Grammar.{operator_of, own_height}
 use Rattle.id_grammar.specs.Grammar.{Derives, Follows, Program}
-use Rattle.id_grammar.specs.Machine.{least_height, Frame, Left, Right, Target, Inside, Outer, ahead, State, Begin, Want}
+use Rattle.id_grammar.specs.Machine.{least_height, Frame, Left, Right, Target, Inside, Sizing}
+use Rattle.id_grammar.specs.Machine.{Outer, ahead, State, Begin, Want}
 use Rattle.id_grammar.specs.Machine.{Have, Next, Finished}
 
 -- the tokens begin a phrase, of which this is left, and its parts so far have this greatest height
@@ -30,6 +32,8 @@ Roomy n d (either w r q) = ((p : ℕ) → Roomy n d (r p)) × Roomy n d q
 Roomy n d (name f) = (x : List ℕ) (p : ℕ) → Roomy n d (f x p)
 Roomy n d (of_kind f) = (k : Kind) → Roomy n d (f k)
 Roomy n d (part s f) = (d + least_height s ≤ n) × ((a : Tree) → Roomy n d (f a))
+Roomy n d (sized s f) = (d + least_height s ≤ n) × ((a : Tree) (m : ℕ) → Roomy n d (f a m))
+Roomy n d (raised m w r q) = ((p : ℕ) → Roomy n d (r p)) × Roomy n d q
 
 -- inside d expressions, behind these tokens, a phrase is to come, and what stands round it fits n
 pub data Around (n : ℕ) : Phrase → ℕ → List Frame → List Token → Type 0 where
@@ -51,6 +55,10 @@ pub data Around (n : ℕ) : Phrase → ℕ → List Frame → List Token → Typ
       Around n s d K us → Begins s vs (part i f) h → d + own_height s + h ≤ n →
       ((a : Tree) → Roomy n (d + own_height s) (f a)) →
       Around n i (d + own_height s) (Inside f h (d + own_height s) (own_height s) ∷ K) (us ++ vs)
+  sizing : {s i : Phrase} {f : Tree → ℕ → Rest} {d h : ℕ} {K : List Frame} {us vs : List Token} →
+      Around n s d K us → Begins s vs (sized i f) h → d + own_height s + h ≤ n →
+      ((a : Tree) (m : ℕ) → Roomy n (d + own_height s) (f a m)) →
+      Around n i (d + own_height s) (Sizing f h (d + own_height s) (own_height s) ∷ K) (us ++ vs)
 
 -- the tokens lead to the state, within n
 pub data Stands (n : ℕ) : State → List Token → Type 0 where

@@ -1,5 +1,5 @@
 -- Trees as values: what stands in a `Program`, without the addresses of its boxes (docs/LANGUAGE.md, "Grammar").
-use Rattle.std.specs.Prelude.{ℕ, List, [], ◌∷◌}
+use Rattle.std.specs.Prelude.{ℕ, Bool, List, [], ◌∷◌}
 use Rattle.id_value.specs.declared.Kind.{Kind}
 use Rattle.id_value.specs.declared.Constant.{Constant}
 use Rattle.id_value.specs.declared.UnaryOp.{UnaryOp}
@@ -16,8 +16,8 @@ use Rattle.id_grammar.specs.declared.tree.Program.{Program}
 -- An expression, a statement, a parameter, a definition with its parameters and its body, or a list of trees; a call
 -- has the list of its arguments, a block its statements and its body, a loop its predicate, its statements and its last
 -- expression, a `for` the name and the place of its index, its lower and its upper bound, its statements and its last
--- expression, an array its lower and its upper bound, a fetch its target and its index, a store its target, its index
--- and its value. The last number of a thing is its place.
+-- expression, an array its lower and its upper bound, and whether it is nested, a fetch its target and its index, a
+-- store its target, its index and its value. The last number of a thing is its place.
 pub data Tree : Type 0 where
   literal : Constant → ℕ → Tree
   unary : UnaryOp → Tree → ℕ → Tree
@@ -28,7 +28,7 @@ pub data Tree : Type 0 where
   block : Tree → Tree → ℕ → Tree
   loop : Tree → Tree → Tree → ℕ → Tree
   for_loop : List ℕ → ℕ → Tree → Tree → Tree → Tree → ℕ → Tree
-  array : Tree → Tree → ℕ → Tree
+  array : Bool → Tree → Tree → ℕ → Tree
   fetch : Tree → Tree → ℕ → Tree
   binding : List ℕ → Tree → ℕ → Tree
   next : List ℕ → Tree → ℕ → Tree
@@ -51,7 +51,7 @@ abbrev mutual
   tree_of (Loop' place p test n statements last) = loop (tree_of test) (row_tree statements) (tree_of last) place
   tree_of (For' place p x q low high n statements last) =
       for_loop x q (tree_of low) (tree_of high) (row_tree statements) (tree_of last) place
-  tree_of (Array' place p a b) = array (tree_of a) (tree_of b) place
+  tree_of (Array' place nested p a b) = array nested (tree_of a) (tree_of b) place
   tree_of (Fetch' place p a b) = fetch (tree_of a) (tree_of b) place
 
   -- the trees of the arguments, in order

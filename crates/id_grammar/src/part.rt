@@ -294,18 +294,28 @@ pub fn conditional(
     Ok(Part { expr, height })
 }
 
-/// The bounds of a new structure.
-pub fn array(alloc: Global, low: Part, high: Part, place: u32) -> Result<Part, TreeError>
+/// The bounds of a new structure, which is nested or not.
+pub fn array(
+    alloc: Global,
+    nested: bool,
+    low: Part,
+    high: Part,
+    place: u32,
+) -> Result<Part, TreeError>
     requires low { low.height < 2 ^ 63 }
     requires high { high.height < 2 ^ 63 }
     ensures { MatchResult result
         (λ p. (p.height ≡ max low.height high.height + 1)
-        × (tree_of p.expr ≡ tree.array (tree_of low.expr) (tree_of high.expr) place))
+        × (tree_of p.expr ≡ tree.array nested (tree_of low.expr) (tree_of high.expr) place))
         (λ e. e ≡ Memory) }
 {
     let height = low.height.max(high.height) + 1;
     let inside = found!(pair(alloc, low, high));
-    let expr = Expr::Array { place, inside };
+    let expr = Expr::Array {
+        place,
+        nested,
+        inside,
+    };
     Ok(Part { expr, height })
 }
 
@@ -360,7 +370,7 @@ pub fn next(name: Identifier, value: Part, place: u32) -> Statement
     Statement { stmt, height }
 }
 
-/// The value of a structure's element. The height of the structure's name, 1, is never above that of the index.
+/// The value of a structure's element.
 pub fn store(
     alloc: Global,
     target: Part,
@@ -369,11 +379,11 @@ pub fn store(
     place: u32,
 ) -> Result<Statement, TreeError>
     ensures { MatchResult result
-        (λ s. (s.height ≡ max index.height value.height)
+        (λ s. (s.height ≡ max (max target.height index.height) value.height)
         × (stmt_tree s.stmt ≡ tree.store (tree_of target.expr) (tree_of index.expr) (tree_of value.expr) place))
         (λ e. e ≡ Memory) }
 {
-    let height = index.height.max(value.height);
+    let height = target.height.max(index.height).max(value.height);
     let inside = found!(triple(alloc, target, index, value));
     let stmt = Stmt::Store { place, inside };
     Ok(Statement { stmt, height })

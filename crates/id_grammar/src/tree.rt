@@ -58,9 +58,10 @@ pub enum Expr {
         place: u32,
         inside: Box<For>,
     },
-    /// A new structure between its lower and its upper bound, at the word `array`.
+    /// A new structure between its lower and its upper bound, which is nested or not, at the first word `array`.
     Array {
         place: u32,
+        nested: bool,
         inside: Box<Pair>,
     },
     /// The element of a structure at an index, at the `[`.
@@ -141,7 +142,8 @@ pub enum Stmt {
         name: Identifier,
         value: Expr,
     },
-    /// A structure, which is a name, an index, and the value of the element there, at the `[`.
+    /// A structure, which is a name or a fetch from a name, an index, and the value of the element there, at the last
+    /// `[` before the value.
     Store {
         place: u32,
         inside: Box<Triple>,

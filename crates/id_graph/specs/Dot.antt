@@ -107,7 +107,7 @@ reply_text n m = arrow_text n [] (codes "dotted") [] (record { instr = m; port =
 abbrev pub names_text : ℕ → Op → List ℕ
 names_text n (Enter b r) = named_text n b ++ reply_text n r
 names_text n (Send k t) = named_text n t
-names_text n (Fetch r) = reply_text n r
+names_text n (Fetch nested r) = reply_text n r
 names_text n (Const v) = []
 names_text n (Unary f) = []
 names_text n (Binary f) = []
@@ -116,9 +116,9 @@ names_text n (Switch k) = []
 names_text n (Back k) = []
 names_text n (Next k) = []
 names_text n (Reset k) = []
-names_text n Alloc = []
-names_text n Address = []
-names_text n Store = []
+names_text n (Alloc nested) = []
+names_text n (Address nested) = []
+names_text n (Store nested) = []
 
 -- the arrows of instructions whose numbers begin at n
 abbrev pub links_text : ℕ → List Instr → List ℕ

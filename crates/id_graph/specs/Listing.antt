@@ -11,7 +11,8 @@ use Rattle.id_instr.specs.declared.instr.Dyadic.{Dyadic}
 use Rattle.id_instr.specs.declared.instr.Dyadic.TheVariants as class
 use Rattle.id_instr.specs.declared.instr.PortKind.{PortKind}
 use Rattle.id_instr.specs.declared.instr.PortKind.TheVariants.{Signal, Int, Bool as BoolKind, Structure}
-use Rattle.id_instr.specs.declared.instr.PortKind.TheVariants.{Address as AddressKind, Context, Continuation}
+use Rattle.id_instr.specs.declared.instr.PortKind.TheVariants.{Structures, Address as AddressKind, Addresses}
+use Rattle.id_instr.specs.declared.instr.PortKind.TheVariants.{Context, Continuation}
 use Rattle.id_instr.specs.declared.dests.Dest.{Dest}
 use Rattle.id_instr.specs.declared.dests.Port.{Port}
 use Rattle.id_instr.specs.declared.dests.Port.TheVariants.{Zero, One}
@@ -34,7 +35,9 @@ kind_name Signal = codes "signal"
 kind_name Int = codes "int"
 kind_name BoolKind = codes "bool"
 kind_name Structure = codes "structure"
+kind_name Structures = codes "structures"
 kind_name AddressKind = codes "address"
+kind_name Addresses = codes "addresses"
 kind_name Context = codes "context"
 kind_name Continuation = codes "continuation"
 
@@ -91,10 +94,14 @@ op_text (Enter b r) = codes "enter " ++ decimal b ++ codes " " ++ decimal r
 op_text (Send k t) = codes "send " ++ kind_name k ++ codes " " ++ decimal t
 op_text (Next k) = codes "next " ++ kind_name k
 op_text (Reset k) = codes "reset " ++ kind_name k
-op_text Alloc = codes "alloc"
-op_text Address = codes "address"
-op_text (Fetch r) = codes "fetch " ++ decimal r
-op_text Store = codes "store"
+op_text (Alloc false) = codes "alloc"
+op_text (Alloc true) = codes "alloc nested"
+op_text (Address false) = codes "address"
+op_text (Address true) = codes "address nested"
+op_text (Fetch false r) = codes "fetch " ++ decimal r
+op_text (Fetch true r) = codes "fetch nested " ++ decimal r
+op_text (Store false) = codes "store"
+op_text (Store true) = codes "store nested"
 
 -- the number of a port
 abbrev pub port_number : Port → ℕ
@@ -159,10 +166,13 @@ op_name (Switch k) = codes "switch "
 op_name (Back k) = codes "back "
 op_name (Next k) = codes "next "
 op_name (Reset k) = codes "reset "
-op_name Alloc = codes "alloc"
-op_name Address = codes "address"
-op_name Store = codes "store"
+op_name (Alloc false) = codes "alloc"
+op_name (Alloc true) = codes "alloc nested"
+op_name (Address false) = codes "address"
+op_name (Address true) = codes "address nested"
+op_name (Store false) = codes "store"
+op_name (Store true) = codes "store nested"
 op_name (Const v) = []
 op_name (Enter b r) = []
 op_name (Send k t) = []
-op_name (Fetch r) = []
+op_name (Fetch nested r) = []

@@ -1,13 +1,16 @@
 -- What an instruction is named and how it looks in a picture (docs/GRAPH.md, "Picture").
-use Rattle.std.specs.Prelude.{ℕ, ◌==◌, ◌&&◌, Bool, true, false, if◌then◌else◌, List, [], length, drop, take_while, codes}
+use Rattle.std.specs.Prelude.{ℕ, ◌==◌, ◌&&◌, Bool, true, false, if◌then◌else◌, List, [], length}
+use Rattle.std.specs.Prelude.{drop, take_while, codes}
 use Rattle.std.specs.List.{starts_with}
 use Rattle.id_instr.specs.declared.instr.Instr.{Instr}
 use Rattle.id_instr.specs.declared.instr.Op.{Op}
 use Rattle.id_instr.specs.declared.instr.Op.TheVariants.{Const, Unary, Binary, Merge, Switch, Back, Enter, Send, Next}
 use Rattle.id_instr.specs.declared.instr.Op.TheVariants.{Reset, Alloc, Address, Fetch, Store}
+use Rattle.id_instr.specs.Held.{address_kind, structure_kind}
 use Rattle.id_instr.specs.declared.instr.PortKind.{PortKind}
 use Rattle.id_instr.specs.declared.instr.PortKind.TheVariants.{Signal, Int, Bool as BoolKind, Structure}
-use Rattle.id_instr.specs.declared.instr.PortKind.TheVariants.{Address as AddressKind, Context, Continuation}
+use Rattle.id_instr.specs.declared.instr.PortKind.TheVariants.{Structures, Address as AddressKind, Addresses}
+use Rattle.id_instr.specs.declared.instr.PortKind.TheVariants.{Context, Continuation}
 use Rattle.id_text.specs.Bytes.{is_name_byte}
 
 -- what is left behind `next` and a space, where they stand at the front
@@ -30,10 +33,10 @@ computes (Enter b r) = false
 computes (Send k t) = false
 computes (Next k) = false
 computes (Reset k) = false
-computes Alloc = false
-computes Address = false
-computes (Fetch r) = false
-computes Store = false
+computes (Alloc nested) = false
+computes (Address nested) = false
+computes (Fetch nested r) = false
+computes (Store nested) = false
 
 -- the name of an instruction, if it has one
 abbrev pub name_text : List ℕ → Instr → List ℕ
@@ -43,7 +46,9 @@ name_text text i = if computes i.op then [] else name_at text i.place
 abbrev pub kind_look : PortKind → List ℕ
 kind_look Signal = codes ", color=gray60, fontcolor=gray40"
 kind_look Structure = codes ", penwidth=2"
+kind_look Structures = codes ", penwidth=2"
 kind_look AddressKind = codes ", penwidth=2"
+kind_look Addresses = codes ", penwidth=2"
 kind_look Int = []
 kind_look BoolKind = []
 kind_look Context = []
@@ -57,10 +62,10 @@ look (Back k) = kind_look k
 look (Send k t) = kind_look k
 look (Next k) = kind_look k
 look (Reset k) = kind_look k
-look Alloc = kind_look Structure
-look Address = kind_look AddressKind
-look (Fetch r) = kind_look AddressKind
-look Store = kind_look AddressKind
+look (Alloc nested) = kind_look (structure_kind nested)
+look (Address nested) = kind_look (address_kind nested)
+look (Fetch nested r) = kind_look (address_kind nested)
+look (Store nested) = kind_look (address_kind nested)
 look (Const v) = []
 look (Unary f) = []
 look (Binary f) = []
@@ -78,10 +83,10 @@ is_merge (Enter b r) = false
 is_merge (Send k t) = false
 is_merge (Next k) = false
 is_merge (Reset k) = false
-is_merge Alloc = false
-is_merge Address = false
-is_merge (Fetch r) = false
-is_merge Store = false
+is_merge (Alloc nested) = false
+is_merge (Address nested) = false
+is_merge (Fetch nested r) = false
+is_merge (Store nested) = false
 
 -- a merge with one destination is a point
 abbrev pub is_point : Instr → Bool

@@ -374,7 +374,7 @@ fn write_names(out: &mut String, number: usize, op: Op) -> Result<(), AllocError
             write_named(out, number, "dotted", reply)
         }
         Op::Send { target, .. } => write_named(out, number, "dotted, constraint=false", target),
-        Op::Fetch { reply } => write_named(out, number, "dotted", reply),
+        Op::Fetch { reply, .. } => write_named(out, number, "dotted", reply),
         _ => Ok(()),
     }
 }

@@ -172,13 +172,19 @@ pub fn write_op(out: &mut String, op: Op) -> Result<(), AllocError>
         Op::Const(constant) => write_const(out, constant),
         Op::Enter { block, reply } => write_enter(out, block, reply),
         Op::Send { kind, target } => write_send(out, kind, target),
-        Op::Fetch { reply } => write_after(out, "fetch ", reply),
+        Op::Fetch {
+            nested: false,
+            reply,
+        } => write_after(out, "fetch ", reply),
+        Op::Fetch {
+            nested: true,
+            reply,
+        } => write_after(out, "fetch nested ", reply),
         Op::Merge(kind) | Op::Switch(kind) | Op::Back(kind) | Op::Next(kind) | Op::Reset(kind) => {
             write_kind(out, op_name(op), kind)
         }
-        Op::Unary(_) | Op::Binary(_) | Op::Alloc | Op::Address | Op::Store => {
-            put(out, op_name(op))
-        }
+        Op::Unary(_) | Op::Binary(_) => put(out, op_name(op)),
+        Op::Alloc { .. } | Op::Address { .. } | Op::Store { .. } => put(out, op_name(op)),
     }
 }
 
@@ -195,9 +201,12 @@ fn op_name(op: Op) -> &'static str
         Op::Back(_) => "back ",
         Op::Next(_) => "next ",
         Op::Reset(_) => "reset ",
-        Op::Alloc => "alloc",
-        Op::Address => "address",
-        Op::Store => "store",
+        Op::Alloc { nested: false } => "alloc",
+        Op::Alloc { nested: true } => "alloc nested",
+        Op::Address { nested: false } => "address",
+        Op::Address { nested: true } => "address nested",
+        Op::Store { nested: false } => "store",
+        Op::Store { nested: true } => "store nested",
         Op::Const(_) | Op::Enter { .. } | Op::Send { .. } | Op::Fetch { .. } => "",
     }
 }
@@ -294,7 +303,9 @@ fn kind_name(kind: PortKind) -> &'static str
         PortKind::Int => "int",
         PortKind::Bool => "bool",
         PortKind::Structure => "structure",
+        PortKind::Structures => "structures",
         PortKind::Address => "address",
+        PortKind::Addresses => "addresses",
         PortKind::Context => "context",
         PortKind::Continuation => "continuation",
     }

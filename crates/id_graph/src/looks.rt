@@ -76,8 +76,10 @@ pub fn look(op: Op) -> &'static str
             kind_look(kind)
         }
         Op::Send { kind, .. } => kind_look(kind),
-        Op::Alloc => kind_look(PortKind::Structure),
-        Op::Address | Op::Fetch { .. } | Op::Store => kind_look(PortKind::Address),
+        Op::Alloc { nested } => kind_look(PortKind::of_structure(nested)),
+        Op::Address { nested } | Op::Fetch { nested, .. } | Op::Store { nested } => {
+            kind_look(PortKind::of_address(nested))
+        }
         Op::Const(_) | Op::Unary(_) | Op::Binary(_) | Op::Enter { .. } => "",
     }
 }
@@ -88,7 +90,8 @@ fn kind_look(kind: PortKind) -> &'static str
 {
     match kind {
         PortKind::Signal => ", color=gray60, fontcolor=gray40",
-        PortKind::Structure | PortKind::Address => ", penwidth=2",
+        PortKind::Structure | PortKind::Structures => ", penwidth=2",
+        PortKind::Address | PortKind::Addresses => ", penwidth=2",
         PortKind::Int | PortKind::Bool | PortKind::Context | PortKind::Continuation => "",
     }
 }

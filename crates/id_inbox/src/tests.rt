@@ -30,6 +30,7 @@ fn cell(low: i64) -> Cell {
             serial: 4,
             low,
             high: 9,
+            nested: false,
         },
         index: 7,
     }

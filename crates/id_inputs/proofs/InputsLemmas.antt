@@ -282,6 +282,7 @@ spelled-kind : (k : Kind) (cs : List ℕ) (o : Constant) → value_spelled k cs 
 spelled-kind kind.Int cs o e = number-kind (number_spelled cs) o e
 spelled-kind kind.Bool cs o e = truth-kind _ _ o e
 spelled-kind kind.Array cs o e = cc
+spelled-kind kind.Nested cs o e = cc
 
 param-kind : (q : Option Wanted) (p : Wanted) (cs : List ℕ) (o : Constant) → q ≡ Some p → option_and_then (λ r. value_spelled r.kind cs) q ≡ Some o
     → IsOf o p.kind

@@ -82,6 +82,7 @@ abbrev pub value_spelled : Kind → List ℕ → Option Constant
 value_spelled kind.Int cs = option_and_then whole_value (number_spelled cs)
 value_spelled kind.Bool cs = truth_spelled cs
 value_spelled kind.Array cs = None
+value_spelled kind.Nested cs = None
 
 -- what a word says: it names no parameter; or it names the parameter of this number, with a value of its kind or
 -- without

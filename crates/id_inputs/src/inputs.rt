@@ -234,7 +234,7 @@ fn value_spelled(kind: Kind, text: &str) -> Option<Constant>
     match kind {
         Kind::Int => whole_spelled(text.as_bytes()),
         Kind::Bool => truth_spelled(text),
-        Kind::Array => None,
+        Kind::Array | Kind::Nested => None,
     }
 }
 

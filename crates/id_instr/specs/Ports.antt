@@ -10,8 +10,8 @@ use Rattle.id_value.specs.declared.UnaryOp.TheVariants.{Neg, Not}
 use Rattle.id_value.specs.declared.Constant.{Constant}
 use Rattle.id_value.specs.declared.Constant.TheVariants.{Int as IntConstant, Bool as BoolConstant}
 use Rattle.id_instr.specs.declared.instr.PortKind.{PortKind}
-use Rattle.id_instr.specs.declared.instr.PortKind.TheVariants.{Signal, Int, Bool as BoolKind, Structure}
-use Rattle.id_instr.specs.declared.instr.PortKind.TheVariants.{Address as AddressKind, Context, Continuation}
+use Rattle.id_instr.specs.declared.instr.PortKind.TheVariants.{Signal, Int, Bool as BoolKind, Context, Continuation}
+use Rattle.id_instr.specs.Held.{address_kind, held_kind, structure_kind}
 use Rattle.id_instr.specs.declared.dests.Port.{Port}
 use Rattle.id_instr.specs.declared.dests.Port.TheVariants.{Zero, One}
 
@@ -53,13 +53,13 @@ port_kind (Next k) Zero = Some k
 port_kind (Next k) One = None
 port_kind (Reset k) Zero = Some k
 port_kind (Reset k) One = None
-port_kind Alloc p = Some Int
-port_kind Address Zero = Some Structure
-port_kind Address One = Some Int
-port_kind (Fetch r) Zero = Some AddressKind
-port_kind (Fetch r) One = None
-port_kind Store Zero = Some AddressKind
-port_kind Store One = Some Int
+port_kind (Alloc nested) p = Some Int
+port_kind (Address nested) Zero = Some (structure_kind nested)
+port_kind (Address nested) One = Some Int
+port_kind (Fetch nested r) Zero = Some (address_kind nested)
+port_kind (Fetch nested r) One = None
+port_kind (Store nested) Zero = Some (address_kind nested)
+port_kind (Store nested) One = Some (held_kind nested)
 
 -- whether the operator has a second port
 abbrev pub two_ports : Op → Bool
@@ -82,10 +82,10 @@ sends (Enter b r) = Some Context
 sends (Send k t) = None
 sends (Next k) = Some k
 sends (Reset k) = Some k
-sends Alloc = Some Structure
-sends Address = Some AddressKind
-sends (Fetch r) = None
-sends Store = None
+sends (Alloc nested) = Some (structure_kind nested)
+sends (Address nested) = Some (address_kind nested)
+sends (Fetch nested r) = None
+sends (Store nested) = None
 
 -- whether the operator has two sides, each with its destinations: a switch alone has
 abbrev pub two_sides : Op → Bool
@@ -99,7 +99,7 @@ two_sides (Enter b r) = false
 two_sides (Send k t) = false
 two_sides (Next k) = false
 two_sides (Reset k) = false
-two_sides Alloc = false
-two_sides Address = false
-two_sides (Fetch r) = false
-two_sides Store = false
+two_sides (Alloc nested) = false
+two_sides (Address nested) = false
+two_sides (Fetch nested r) = false
+two_sides (Store nested) = false

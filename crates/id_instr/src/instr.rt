@@ -15,10 +15,57 @@ pub enum PortKind {
     Signal,
     Int,
     Bool,
+    /// A structure whose cells hold numbers.
     Structure,
+    /// A nested structure, whose cells hold such structures.
+    Structures,
+    /// The address of a cell of a structure that is not nested.
     Address,
+    /// The address of a cell of a nested structure.
+    Addresses,
     Context,
     Continuation,
+}
+
+impl PortKind {
+    ghost use Rattle.id_instr.specs.Held.{address_kind, held_kind, structure_kind};
+
+    /// The kind of what a cell of a structure holds, by whether that is nested. Takes no memory.
+    #[inline(always)]
+    pub fn of_held(nested: bool) -> PortKind
+        ensures { result ≡ held_kind nested }
+    {
+        if nested {
+            PortKind::Structure
+        } else {
+            PortKind::Int
+        }
+    }
+
+    /// The kind of the ports that take a structure, by whether it is nested. Takes no memory.
+    #[inline(always)]
+    pub fn of_structure(nested: bool) -> PortKind
+        ensures { result ≡ structure_kind nested }
+    {
+        if nested {
+            PortKind::Structures
+        } else {
+            PortKind::Structure
+        }
+    }
+
+    /// The kind of the ports that take the address of a cell of a structure, by whether that is nested. Takes no
+    /// memory.
+    #[inline(always)]
+    pub fn of_address(nested: bool) -> PortKind
+        ensures { result ≡ address_kind nested }
+    {
+        if nested {
+            PortKind::Addresses
+        } else {
+            PortKind::Address
+        }
+    }
 }
 
 /// An operator on two values, by class.
@@ -80,14 +127,15 @@ pub enum Op {
     Next(PortKind),
     /// Sends on whatever comes, of one kind, at iteration 0.
     Reset(PortKind),
-    /// Makes a structure from its two bounds.
-    Alloc,
-    /// Makes an address from a structure and a number.
-    Address,
-    /// Asks for the value of the cell at an address; that value comes to the instruction `reply`.
-    Fetch { reply: u32 },
-    /// Stores a number in the cell at an address.
-    Store,
+    /// Makes a structure, nested or not, from its two bounds.
+    Alloc { nested: bool },
+    /// Makes an address from a structure, nested or not, and a number.
+    Address { nested: bool },
+    /// Asks for the value of the cell at an address, of a structure that is nested or not; that value comes to the
+    /// instruction `reply`.
+    Fetch { nested: bool, reply: u32 },
+    /// Stores what it holds in the cell at an address: a structure in one of a nested structure, else a number.
+    Store { nested: bool },
 }
 
 impl Op {
@@ -111,9 +159,12 @@ impl Op {
             (Op::Switch(kind) | Op::Back(kind) | Op::Send { kind, .. }, Port::One) => Some(kind),
             (Op::Back(_), Port::Zero) => Some(PortKind::Continuation),
             (Op::Send { .. }, Port::Zero) => Some(PortKind::Context),
-            (Op::Alloc, _) | (Op::Address | Op::Store, Port::One) => Some(PortKind::Int),
-            (Op::Address, Port::Zero) => Some(PortKind::Structure),
-            (Op::Fetch { .. } | Op::Store, Port::Zero) => Some(PortKind::Address),
+            (Op::Alloc { .. }, _) | (Op::Address { .. }, Port::One) => Some(PortKind::Int),
+            (Op::Address { nested }, Port::Zero) => Some(PortKind::of_structure(nested)),
+            (Op::Fetch { nested, .. } | Op::Store { nested }, Port::Zero) => {
+                Some(PortKind::of_address(nested))
+            }
+            (Op::Store { nested }, Port::One) => Some(PortKind::of_held(nested)),
             (Op::Const(_) | Op::Unary(_) | Op::Merge(_) | Op::Enter { .. }, Port::One) => None,
             (Op::Next(_) | Op::Reset(_) | Op::Fetch { .. }, Port::One) => None,
         }
@@ -130,9 +181,9 @@ impl Op {
             Op::Binary(operator) => Some(operator.outcome_kind()),
             Op::Merge(kind) | Op::Switch(kind) | Op::Next(kind) | Op::Reset(kind) => Some(kind),
             Op::Enter { .. } => Some(PortKind::Context),
-            Op::Alloc => Some(PortKind::Structure),
-            Op::Address => Some(PortKind::Address),
-            Op::Back(_) | Op::Send { .. } | Op::Fetch { .. } | Op::Store => None,
+            Op::Alloc { nested } => Some(PortKind::of_structure(nested)),
+            Op::Address { nested } => Some(PortKind::of_address(nested)),
+            Op::Back(_) | Op::Send { .. } | Op::Fetch { .. } | Op::Store { .. } => None,
         }
     }
 

@@ -4,19 +4,20 @@ use Rattle.std.specs.Prelude.{◌||◌}
 use Rattle.id_list.specs.List.{Among}
 use Rattle.id_value.specs.declared.Kind.{Kind}
 use Rattle.id_value.specs.declared.Kind.TheVariants as kinds
+use Rattle.id_value.specs.Kinds.{array_kind as kind_made}
 use Rattle.id_value.specs.declared.Constant.{Constant}
 use Rattle.id_value.specs.declared.UnaryOp.{UnaryOp}
 use Rattle.id_value.specs.declared.BinaryOp.{BinaryOp}
 use Rattle.id_table.specs.declared.row.Node.{Node}
 use Rattle.id_table.specs.declared.row.Node.TheVariants.{Param, Literal, Name, Unary, Binary, If, Enter, Arg, Call, Start, LoopHead, Turn, Next}
 use Rattle.id_table.specs.declared.row.Node.TheVariants.{Switches, Bounds, Carried, Index}
-use Rattle.id_table.specs.declared.row.Node.TheVariants.{Block, Binding, Array, Fetch, Store}
+use Rattle.id_table.specs.declared.row.Node.TheVariants.{Block, Binding, Array, Address, Store}
 use Rattle.id_table.specs.Rows.{at, top}
 use Rattle.id_table.specs.Tables.{AreApart, HasOperand, is_binder, is_carried, is_expression}
 use Rattle.id_table.specs.Calls.{IsCallOf}
 use Rattle.id_table.specs.Turns.{IsTable, IsDefOf, params_at}
 use Rattle.id_check.specs.declared.checked.Checked.{Checked}
-use Rattle.id_scope.specs.Kinds.{constant_kind, unary_kind, binary_kind}
+use Rattle.id_scope.specs.Kinds.{constant_kind, kind_within, unary_kind, binary_kind}
 use Rattle.id_check.specs.Programs.{binder, kind, place, region, rows}
 use Rattle.id_desugar.specs.Ends.{end_of}
 use Rattle.id_desugar.specs.Regions.{handed, imports_of, nexts_of, taken}
@@ -79,13 +80,14 @@ pub record IsKnown (P : Checked) : Type 0 where
   pub arm_kinds : (n s x y : ℕ) → n < length (rows P) → node P n ≡ If s x y → (kind P n ≡ kind P x) × (kind P n ≡ kind P y)
   pub index_kind : (n x : ℕ) → n < length (rows P) → node P n ≡ Index x → kind P n ≡ Some kinds.Int
   pub carried_kind : (n : ℕ) (k : Kind) → n < length (rows P) → node P n ≡ Carried k → kind P n ≡ Some k
-  pub array_kind : (n a b : ℕ) → n < length (rows P) → node P n ≡ Array a b → kind P n ≡ Some kinds.Array
-  pub fetch_kind : (n t i : ℕ) → n < length (rows P) → node P n ≡ Fetch t i → kind P n ≡ Some kinds.Int
-  -- what names a cell is a structure with a number, and so are bounds and what is stored
+  pub array_kind : {nested : Bool} (n a b : ℕ) → n < length (rows P) → node P n ≡ Array nested a b → kind P n ≡ Some (kind_made nested)
+  -- a fetch, and the address of a store, has the kind of what the elements of its target hold
+  pub cell_kind : (n t i : ℕ) → n < length (rows P) → Addresses P n t i → kind P n ≡ Some (kind_within (kind P t))
+  -- what names a cell is a structure with a number, and bounds are numbers; what is stored is of the kind of its address
   pub range_kinds : (n a b : ℕ) → n < length (rows P) → node P n ≡ Bounds a b → (kind P a ≡ Some kinds.Int) × (kind P b ≡ Some kinds.Int)
-  pub bound_kinds : (n a b : ℕ) → n < length (rows P) → node P n ≡ Array a b → (kind P a ≡ Some kinds.Int) × (kind P b ≡ Some kinds.Int)
-  pub cell_kinds : (n t i : ℕ) → n < length (rows P) → Addresses P n t i → (kind P t ≡ Some kinds.Array) × (kind P i ≡ Some kinds.Int)
-  pub stored_kind : (n a v : ℕ) → n < length (rows P) → node P n ≡ Store a v → kind P v ≡ Some kinds.Int
+  pub bound_kinds : {nested : Bool} (n a b : ℕ) → n < length (rows P) → node P n ≡ Array nested a b → (kind P a ≡ Some kinds.Int) × (kind P b ≡ Some kinds.Int)
+  pub cell_kinds : (n t i : ℕ) → n < length (rows P) → Addresses P n t i → (nested : Bool) × (kind P t ≡ Some (kind_made nested)) × (kind P i ≡ Some kinds.Int)
+  pub stored_kind : (n a v t i : ℕ) → n < length (rows P) → node P n ≡ Store a v → a < length (rows P) → node P a ≡ Address t i → kind P v ≡ kind P a
   pub block_kind : (n b : ℕ) → n < length (rows P) → node P n ≡ Block b → kind P n ≡ kind P b
   pub binding_kind : (n x a : ℕ) → n < length (rows P) → node P n ≡ Binding x a → kind P n ≡ kind P a
   -- the body of a definition is of its kind

@@ -1,5 +1,7 @@
 -- In a quiet run each fact of the source is carried.
-use Rattle.std.proofs.Common.{◌≡◌, inl, inr, ℕ, zero, suc, ◌<◌, true, false, cond, ℤ, Some, List, [], ◌∷◌, length, refl, sym, ◌∙◌, ap, subst, unwrap_or}
+use Rattle.std.proofs.Common.{◌≡◌, inl, inr, ℕ, zero, suc, ◌<◌, Bool as Truth, true, false, cond, ℤ, Some, List, [], ◌∷◌, length, refl, sym, ◌∙◌, ap, subst, unwrap_or}
+use Rattle.std.specs.Prelude.{◌&&◌}
+use Rattle.std.specs.Bool.{beq}
 use Rattle.id_list.proofs.AmongLemmas.{Among-from_at}
 use Rattle.id_table.specs.declared.row.Node.TheVariants.{Param, Literal, Name, Unary, Binary, Binding, Program, Array, Fetch, Address, Store}
 use Rattle.id_table.specs.Rows.{top}
@@ -9,18 +11,21 @@ use Rattle.id_check.specs.Programs.{Stands, place, region, rows}
 use Rattle.id_instr.specs.declared.dests.Port.TheVariants.{Zero, One}
 use Rattle.id_instr.specs.declared.instr.Op.TheVariants as op
 use Rattle.id_instr.specs.Graph.{Parts}
+use Rattle.id_instr.specs.Held.{held_kind}
+use Rattle.id_scope.specs.Kinds.{kind_within}
 use Rattle.id_value.specs.Bounds.{are_good, is_inside}
 use Rattle.id_value.specs.declared.FaultKind.TheVariants.{BadBounds, OutOfBounds}
 use Rattle.id_slot.specs.declared.WriteAnswer.TheVariants.{Second}
 use Rattle.id_tag.specs.declared.Cell.{Cell}
 use Rattle.id_tag.specs.declared.Structure.{Structure}
 use Rattle.id_tag.specs.declared.Tag.{Tag}
+use Rattle.id_tag.specs.Kinds.{kind_of, same_kind}
 use Rattle.id_tag.specs.declared.Value.{Value}
 use Rattle.id_tag.specs.declared.Value.TheVariants as value
 use Rattle.id_tag.specs.declared.Payload.TheVariants.{Read, Write}
 use Rattle.id_ops.specs.declared.Operands.TheVariants.{One as Alone, Two}
-use Rattle.id_ops.specs.declared.Fired.TheVariants.{Out, Failed}
-use Rattle.id_ops.specs.Operators.{constant_value}
+use Rattle.id_ops.specs.declared.Fired.TheVariants.{Out, Asked, Stored, Failed, Nothing}
+use Rattle.id_ops.specs.Operators.{address_in, constant_value, fired_address, fired_fetch, fired_store}
 use Rattle.id_value.specs.declared.Constant.{Constant}
 use Rattle.id_value.specs.declared.Constant.TheVariants as constants
 use Rattle.id_core.specs.Machines.{World}
@@ -30,7 +35,7 @@ use Rattle.id_source.specs.declared.SourceValue.{SourceValue}
 use Rattle.id_source.specs.declared.SourceValue.TheVariants as source
 use Rattle.id_source.specs.declared.Fact.{Fact}
 use Rattle.id_source.specs.declared.Fact.TheVariants.{Has}
-use Rattle.id_source.specs.Sources.{Source, AreInputs, IsInput, body_of, main_body, main_params, value_kind, value_of}
+use Rattle.id_source.specs.Sources.{Source, AreInputs, IsInput, body_of, main_body, main_params, value_of}
 use Rattle.id_source.specs.Facts.{outermost, Rule, main_on, param_has, literal_has, operand_on, left_on, right_on, unary_has}
 use Rattle.id_source.specs.Facts.{binary_has, name_has, test_on, arm_on, conditional_has, statement_on, body_on, block_has, binding_has, argument_on}
 use Rattle.id_source.specs.Facts.{callee_on, argument_has, call_has, without}
@@ -42,7 +47,7 @@ use Rattle.id_source.specs.Facts.{StoreStands, site, shape, store_on, loop_store
 use Rattle.id_source.specs.Facts.{fetch_target_on, fetch_index_on, asks, fetch_has, store_target_on, store_index_on, store_value_on, puts}
 use Rattle.id_source.specs.Rounds.{Every, Rounds, Holds}
 use Rattle.id_pieces.specs.declared.arc.Origin.{Origin}
-use Rattle.id_pieces.specs.Rows.{home as home_of, label, node, origin, output, trigger_of, binary_op, port_at, port_of}
+use Rattle.id_pieces.specs.Rows.{home as home_of, label, node, origin, output, trigger_of, binary_op, holds_array, port_at}
 use Rattle.id_pieces.specs.Schemas.{Feeds, Numbered}
 use Rattle.id_runs.specs.Activations.{Activation, main_activation, tag_in, at_iteration}
 use Rattle.id_runs.specs.Events.{Event, FiresAs}
@@ -55,6 +60,7 @@ use Rattle.id_laws.proofs.Agreement.{agree_unary, agree_at}
 use Rattle.id_laws.proofs.Arcs.{enters, constant, unary, binary, names, allocates, addresses, fetches, gets_reply, stores}
 use Rattle.id_laws.proofs.Assumed.{IsKnown}
 use Rattle.id_laws.proofs.LoopFacts.{loop_is}
+use Rattle.id_laws.proofs.PortsTake.{Takes, takes_constant}
 use Rattle.id_laws.proofs.Regions.{region_of, same_depth}
 use Rattle.id_laws.proofs.Blocks.{a_param}
 use Rattle.id_pieces.proofs.EndsLemmas as ends
@@ -66,25 +72,55 @@ use Rattle.id_laws.proofs.Speakers.{own_origin, name_origin, block_origin, expre
 use Rattle.id_laws.proofs.Seats.{main_path}
 use Rattle.id_laws.proofs.TurnedOn.{holds_by}
 use Rattle.id_pieces.specs.declared.arc.Form.TheVariants.{FetchAt}
-use Rattle.id_laws.proofs.CarriedValues.{gives_out, expression_plain, home_plain, merged, stands_constant, value_fits}
+use Rattle.id_laws.proofs.CarriedValues.{gives_out, expression_plain, home_plain, merged, named_kind, stands_constant, value_fits}
 use Rattle.id_laws.proofs.FiringMeans.{constant_stands}
 use Rattle.id_laws.specs.Topics.{Addresses, of_fetch, of_store, Named, StandsFor, number_stands, truth_stands, name_stands}
-use Rattle.id_laws.proofs.Stores.{address_at}
+use Rattle.id_laws.proofs.Stores.{address_at, stored_port, target_operand}
 use Rattle.id_laws.proofs.OnCells.{was_read, was_written}
 use Rattle.id_runs.specs.Cells.{ReadBy, WrittenBy}
 use Rattle.id_runs.proofs.Answered.{answer_handled}
 use Rattle.id_runs.proofs.Givings.{same_firing}
 use Rattle.id_runs.proofs.OneMessage.{fired_once}
-use Rattle.id_instr.specs.declared.instr.PortKind.TheVariants as ports
 use Rattle.id_laws.proofs.Calls.{arg_at, call_at, enter_at}
 use Rattle.id_value.specs.declared.Kind.TheVariants as sort
+use Rattle.id_value.specs.Kinds.{array_kind, element_kind, is_array}
 use Rattle.id_laws.proofs.CarriedThings.{thing_here, here_is, live_at, same_here, operand_here, said_at, operand_spoken, constant_spoken, has_spoken, own_has}
 use Rattle.id_laws.proofs.CarriedRegions.{arm_rows, test_here, arm_here, merge_has, calling, callee_at, argument_carried, call_carried, starting}
-use Rattle.id_laws.proofs.CarriedRegions.{loop_test_here, first_carried, tested, side_live, side_here, next_value, next_operand, next_carried, last_at}
-use Rattle.id_laws.proofs.CarriedRegions.{last_operand, loop_carried, bounds_here, index_begins_carried, index_counts_carried}
+use Rattle.id_laws.proofs.CarriedRegions.{loop_test_here, first_carried, side_live, side_here, next_value, next_operand, next_carried, last_at}
+use Rattle.id_laws.proofs.CarriedRegions.{last_operand, loop_carried}
+use Rattle.id_laws.proofs.CarriedCounted.{bounds_here, index_begins_carried, index_counts_carried, tested}
 
 some_is : {A : Type 0} {x y : A} → Some x ≡ Some y → x ≡ y
 some_is h = cc
+
+-- the elements of an array are arrays where it is nested
+elements_are : (b : Truth) → is_array (element_kind (array_kind b)) ≡ b
+elements_are false = refl
+elements_are true = refl
+
+same_truth : (b c : Truth) → c ≡ b → beq b c ≡ true
+same_truth b c e = ap (beq b) e ∙ itself b
+  where
+    itself : (d : Truth) → beq d d ≡ true
+    itself false = refl
+    itself true = refl
+
+-- where the instruction is for structures as this one, it makes an address of it
+pub address_made : {h : Truth} (c : Structure) (j : ℤ) → h ≡ c.nested
+    → fired_address h (Two (value.Structure c) (value.Int j)) ≡ address_in c j
+address_made {h} c j e = ap (λ b. cond b (address_in c j) Nothing) (same_truth c.nested h e)
+
+-- and asks for a cell of it
+cell_asked : {h : Truth} (c : Cell) (r : ℕ) (t : Tag) → h ≡ c.structure.nested
+    → fired_fetch h r t (Alone (value.Address c)) ≡ Asked c (record { context = t.context; iteration = t.iteration; instr = r })
+cell_asked {h} c r t e =
+    ap (λ b. cond b (Asked c (record { context = t.context; iteration = t.iteration; instr = r })) Nothing) (same_truth c.structure.nested h e)
+
+-- and stores what such a cell holds
+cell_stored : {h : Truth} (c : Cell) (v : Value) (t : Tag) → h ≡ c.structure.nested → same_kind (kind_of v) (held_kind h) ≡ true
+    → fired_store h t (Two (value.Address c) v) ≡ Stored c v t
+cell_stored {h} c v t e fits =
+    (λ i. cond (same_truth c.structure.nested h e i && fits i) (Stored c v t) Nothing)
 
 module _ (S : Source) (g : Parts) (number : ℕ → ℕ → ℕ) (numbered : Numbered S.checked g number) (known : IsKnown S.checked)
     (inputs : AreInputs S.checked S.inputs) (count : ℕ) (only : Exclusive g S.inputs count) (s : World) (run : List Event)
@@ -160,21 +196,21 @@ module _ (S : Source) (g : Parts) (number : ℕ → ℕ → ℕ) (numbered : Num
     named : Named S number run structure (site p (place P n))
     says : Speaks S number run a (output n) (value.Structure structure)
 
-  allocated : {p : Path} {n e f : ℕ} {lo hi : ℤ} (h : H p (place P n)) → Stands P n (Array e f) → are_good lo hi ≡ true
+  allocated : {p : Path} {n e f : ℕ} {nested : Truth} {lo hi : ℤ} (h : H p (place P n)) → Stands P n (Array nested e f) → are_good lo hi ≡ true
       → CarriedHas S number run p (place P e) (source.Int lo) → CarriedHas S number run p (place P f) (source.Int hi) → Holds S
       (shape (site p (place P n)) lo hi)
       → Allocated p n lo hi h.activation
-  allocated {p} {n} {e} {f} {lo} {hi} h x good low high holds =
+  allocated {p} {n} {e} {f} {nested} {lo} {hi} h x good low high holds =
       let a = h.activation in
       let left = came S g number numbered known count only s run r quiet a (origin P e) n 0 Zero (value.Int lo)
       (constant_spoken S g number numbered known inputs count only s run r quiet (constants.Int lo) h e x refl (inl refl) low)
-      (fed_as P known (origin P e) n 0 Zero (Array e f) x.within x.node (inl refl)) in
+      (fed_as P known (origin P e) n 0 Zero (Array nested e f) x.within x.node (inl refl)) in
       let right = came S g number numbered known count only s run r quiet a (origin P f) n 0 One (value.Int hi)
       (constant_spoken S g number numbered known inputs count only s run r quiet (constants.Int hi) h f x refl (inr refl) high)
-      (fed_as P known (origin P f) n 0 One (Array e f) x.within x.node (inr (inl refl))) in
-      let fired_so = both_fired S g number numbered known count only s run r quiet a n 0 op.Alloc (value.Int lo) (value.Int hi) x.within
+      (fed_as P known (origin P f) n 0 One (Array nested e f) x.within x.node (inr (inl refl))) in
+      let fired_so = both_fired S g number numbered known count only s run r quiet a n 0 (op.Alloc nested) (value.Int lo) (value.Int hi) x.within
       (allocates x.node) refl left right in
-      let made : Structure = record { element = (fired_so.fresh).element; serial = (fired_so.fresh).structure; low = lo; high = hi } in
+      let made : Structure = record { element = (fired_so.fresh).element; serial = (fired_so.fresh).structure; low = lo; high = hi; nested = nested } in
       let fires : FiresAs run (tag_in a (number n 0)) (Out (value.Structure made)) =
       subst (λ b. FiresAs run (tag_in a (number n 0)) (cond b (Out (value.Structure made)) (Failed BadBounds))) good fired_so.fires in
       record {
@@ -219,17 +255,27 @@ module _ (S : Source) (g : Parts) (number : ℕ → ℕ → ℕ) (numbered : Num
       name_is : {y z : Site} → source.Name y ≡ source.Name z → y ≡ z
       name_is e = cc
 
+  -- what names a cell of a structure is for the cells of such structures
+  pub cells_of : {n t i : ℕ} {c : Structure} {x : Site} {p : Path} → n < length (rows P) → Addresses P n t i → Named S number run c x
+      → Holds S (Has p (place P t) (source.Name x)) → holds_array P n ≡ c.nested
+  cells_of {n} {t} {i} {c} {x} {p} within parts named holds =
+      let inner = operand_of S known inputs n t within (target_operand parts) in
+      let target = named_kind known named (Has_kind S known inputs t p (source.Name x) inner.0 inner.1 holds) in
+      ap (λ o. is_array (unwrap_or o sort.Int)) (known.cell_kind n t i within parts ∙ ap (λ o. Some (kind_within o)) target) ∙ elements_are c.nested
+
   -- the row n that names a cell has given its address, where its parts have spoken what they Have
   record Addressed (n : ℕ) (a : Activation) (x : Site) (j : ℤ) : Type 0 where
     structure : Structure
+    of_cells : holds_array P n ≡ structure.nested
     named : Named S number run structure x
     says : Speaks S number run a (output n) (value.Address (record { structure = structure; index = j }))
 
-  addressed : {n t i : ℕ} {x : Site} {j lo hi : ℤ} {w : Value} (a : Activation) → n < length (rows P) → Addresses P n t i → is_inside lo hi j ≡ true
-      → Feeds P (origin P t) n 0 Zero → Feeds P (origin P i) n 0 One
+  addressed : {p : Path} {n t i : ℕ} {x : Site} {j lo hi : ℤ} {w : Value} (a : Activation) → n < length (rows P) → Addresses P n t i
+      → is_inside lo hi j ≡ true
+      → Feeds P (origin P t) n 0 Zero → Feeds P (origin P i) n 0 One → Holds S (Has p (place P t) (source.Name x))
       → StandsFor S number run w (source.Name x) → Speaks S number run a (origin P t) w → Speaks S number run a (origin P i) (value.Int j)
       → CarriedShape S number run x lo hi → Addressed n a x j
-  addressed {n} {t} {i} {x} {j} {lo} {hi} {w} a within parts inside to_target to_index stands target index shaped =
+  addressed {n = n} {t = t} {i = i} {x = x} {j = j} {lo = lo} {hi = hi} {w = w} a within parts inside to_target to_index holds stands target index shaped =
       let c = structure_of stands refl in
       let same : shaped.structure ≡ c.0 = one_structure shaped.named c.2 in
       let low : lo ≡ (c.0).low = shaped.low ∙ ap (λ (y : Structure). y.low) same in
@@ -238,29 +284,33 @@ module _ (S : Source) (g : Parts) (number : ℕ → ℕ → ℕ) (numbered : Num
       let left = came S g number numbered known count only s run r quiet a (origin P t) n 0 Zero (value.Structure c.0)
       (subst (Speaks S number run a (origin P t)) c.1 target) to_target in
       let right = came S g number numbered known count only s run r quiet a (origin P i) n 0 One (value.Int j) index to_index in
-      let fired_so = both_fired S g number numbered known count only s run r quiet a n 0 op.Address (value.Structure c.0) (value.Int j) within
+      let fired_so = both_fired S g number numbered known count only s run r quiet a n 0 (op.Address (holds_array P n)) (value.Structure c.0) (value.Int j) within
       (addresses parts) refl left right in
       let cell : Cell = record { structure = c.0; index = j } in
+      let of_cells = cells_of within parts c.2 holds in
       let fires : FiresAs run (tag_in a (number n 0)) (Out (value.Address cell)) =
-      subst (λ b. FiresAs run (tag_in a (number n 0)) (cond b (Out (value.Address cell)) (Failed OutOfBounds))) good fired_so.fires in
-      record { structure = c.0; named = c.2; says = record { fired = Out (value.Address cell); fires = fires; gives = (refl, refl) } }
+      subst (FiresAs run (tag_in a (number n 0))) (address_made c.0 j of_cells ∙ ap (λ b. cond b (Out (value.Address cell)) (Failed OutOfBounds)) good)
+      fired_so.fires in
+      record { structure = c.0; of_cells = of_cells; named = c.2; says = record { fired = Out (value.Address cell); fires = fires; gives = (refl, refl) } }
 
   -- an On fetch has asked
   ask_carried : {p : Path} {n t i : ℕ} {x : Site} {j lo hi : ℤ} (h : H p (place P n)) → Stands P n (Fetch t i) → is_inside lo hi j ≡ true
+      → Holds S (Has p (place P t) (source.Name x))
       → (c : CarriedHas S number run p (place P t) (source.Name x)) → CarriedHas S number run p (place P i) (source.Int j) → CarriedShape S number run x lo hi
       → CarriedAsk S number run (site p (place P n)) x j
-  ask_carried {p} {n} {t} {i} {x} {j} h y inside target index shaped =
+  ask_carried {p} {n} {t} {i} {x} {j} h y inside holds target index shaped =
       let a = h.activation in
       let z = addressed a y.within (of_fetch y.node) inside (fed_as P known (origin P t) n 0 Zero (Fetch t i) y.within y.node (inl refl))
-      (fed_as P known (origin P i) n 0 One (Fetch t i) y.within y.node (inr (inl refl))) target.stands
+      (fed_as P known (origin P i) n 0 One (Fetch t i) y.within y.node (inr (inl refl))) holds target.stands
       (operand_spoken S g number numbered known inputs count only s run r quiet h t y refl (inl refl) target)
       (constant_spoken S g number numbered known inputs count only s run r quiet (constants.Int j) h i y refl (inr refl) index) shaped in
       let cell : Cell = record { structure = z.structure; index = j } in
       let to = came S g number numbered known count only s run r quiet a (output n) n 1 Zero (value.Address cell) z.says
       (fed_as P known (output n) n 1 Zero (Fetch t i) y.within y.node (inr (inr (inl refl)))) in
-      let fired_so = alone_formed S g number numbered known count only s run r quiet a n 1 (FetchAt n) Zero (value.Address cell) y.within
+      let fired_so = alone_formed S g number numbered known count only s run r quiet a n 1 (FetchAt (holds_array P n) n) Zero (value.Address cell) y.within
       (fetches y.node) refl to in
-      let asked = sent_handled S g number numbered known count only s run r quiet fired_so.fires (Read cell (tag_in a (number n 2))) (inl refl) in
+      let asks_so = subst (FiresAs run (tag_in a (number n 1))) (cell_asked cell (number n 2) (tag_in a (number n 1)) z.of_cells) fired_so.fires in
+      let asked = sent_handled S g number numbered known count only s run r quiet asks_so (Read cell (tag_in a (number n 2))) (inl refl) in
       let read = was_read run cell (tag_in a (number n 2)) asked in
       let row_is = here_is S g number numbered known inputs count only s run r quiet h y refl in
       record {
@@ -276,10 +326,11 @@ module _ (S : Source) (g : Parts) (number : ℕ → ℕ → ℕ) (numbered : Num
 
   -- an On store has put its value
   put_carried : {p : Path} {m t i e : ℕ} {x : Site} {j lo hi : ℤ} {v : SourceValue} (h : H p (place P m)) (y : StoreStands P m t i e) → is_inside lo hi j ≡ true
+      → Holds S (Has p (place P t) (source.Name x)) → Holds S (Has p (place P e) v)
       → CarriedHas S number run p (place P t) (source.Name x) → CarriedHas S number run p (place P i) (source.Int j)
-      → (c : CarriedHas S number run p (place P e) v) → Holds S (Has p (place P e) v) → CarriedShape S number run x lo hi
+      → CarriedHas S number run p (place P e) v → CarriedShape S number run x lo hi
       → CarriedPut S number run x j v (site p (place P m))
-  put_carried {p} {m} {t} {i} {e} {x} {j} {v = v} h y inside target index stored holds shaped =
+  put_carried {p} {m} {t} {i} {e} {x} {j} {v = v} h y inside target_holds holds target index stored shaped =
       let a = h.activation in
       let d = y.address in
       let within = (y.store).within in
@@ -291,23 +342,23 @@ module _ (S : Source) (g : Parts) (number : ℕ → ℕ → ℕ) (numbered : Num
       (said_at S g number numbered known inputs count only s run r quiet h i in_index.0 in_index.1 index) in
       let z = addressed a (y.parts).within (of_store (y.parts).node) inside (fed_as P known (origin P t) d 0 Zero (Address t i) (y.parts).within (y.parts).node
       (inl refl))
-      (fed_as P known (origin P i) d 0 One (Address t i) (y.parts).within (y.parts).node (inr (inl refl))) target.stands
+      (fed_as P known (origin P i) d 0 One (Address t i) (y.parts).within (y.parts).node (inr (inl refl))) target_holds target.stands
       (said_at S g number numbered known inputs count only s run r quiet h t in_target.0 in_target.1 target) says_index shaped in
       let cell : Cell = record { structure = z.structure; index = j } in
       let to = came S g number numbered known count only s run r quiet a (output d) m 0 Zero (value.Address cell) z.says
       (fed_as P known (output d) m 0 Zero (Store d e) within is (inl refl)) in
       let inner = operand_of S known inputs m e within (subst (λ q. HasOperand q e) (sym is) refl) in
-      let of_kind = some_is (sym (Has_kind S known inputs e p v inner.0 inner.1 holds) ∙ known.stored_kind m d e within is) in
-      let number_is = is_number stored.stands of_kind in
-      let said = subst (Speaks S number run a (origin P e)) number_is.1
-      (operand_spoken S g number numbered known inputs count only s run r quiet h e y.store refl refl stored) in
-      let value_in = came S g number numbered known count only s run r quiet a (origin P e) m 0 One (value.Int number_is.0) said
+      let taken = subst (Takes P v) (stored_port known within is) (port_taking S known inputs e p v inner.0 inner.1 holds) in
+      let fits = value_fits known stored.stands (held_kind (holds_array P d)) taken in
+      let said = operand_spoken S g number numbered known inputs count only s run r quiet h e y.store refl refl stored in
+      let value_in = came S g number numbered known count only s run r quiet a (origin P e) m 0 One stored.value said
       (fed_as P known (origin P e) m 0 One (Store d e) within is (inr (inl refl))) in
-      let fired_so = both_fired S g number numbered known count only s run r quiet a m 0 op.Store (value.Address cell) (value.Int number_is.0) within
+      let fired_so = both_fired S g number numbered known count only s run r quiet a m 0 (op.Store (holds_array P d)) (value.Address cell) stored.value within
       (stores is) refl to value_in in
       let own = tag_in a (number m 0) in
-      let put = sent_handled S g number numbered known count only s run r quiet fired_so.fires (Write cell (value.Int number_is.0) own) (inl refl) in
-      let written = was_written run cell (value.Int number_is.0) own put in
+      let stores_so = subst (FiresAs run own) (cell_stored cell stored.value own z.of_cells fits) fired_so.fires in
+      let put = sent_handled S g number numbered known count only s run r quiet stores_so (Write cell stored.value own) (inl refl) in
+      let written = was_written run cell stored.value own put in
       let row_is = here_is S g number numbered known inputs count only s run r quiet h y.store refl in
       record {
         here = h;
@@ -316,16 +367,11 @@ module _ (S : Source) (g : Parts) (number : ℕ → ℕ → ℕ) (numbered : Num
         node = ap (node P) row_is ∙ is;
         structure = z.structure;
         named = z.named;
-        value = value.Int number_is.0;
-        stands = subst (λ w. StandsFor S number run w v) number_is.1 stored.stands;
+        value = stored.value;
+        stands = stored.stands;
         answer = written.0;
-        written = subst (λ k. WrittenBy run cell (value.Int number_is.0) (tag_in a (number k 0)) written.0) (sym row_is) written.1;
+        written = subst (λ k. WrittenBy run cell stored.value (tag_in a (number k 0)) written.0) (sym row_is) written.1;
       }
-    where
-      is_number : {w : Value} {u : SourceValue} → StandsFor S number run w u → value_kind u ≡ sort.Int → (k : ℤ) × (w ≡ value.Int k)
-      is_number (number_stands k) e = (k, refl)
-      is_number (truth_stands b) e = cc
-      is_number (name_stands c q named) e = cc
 
   -- what was put into the cell that a fetch asks for came to the fetch
   fetch_carried : {f x y : Site} {j : ℤ} {v : SourceValue} → CarriedAsk S number run f x j → CarriedPut S number run x j v y → Holds S (Has f.path f.place v)
@@ -342,11 +388,10 @@ module _ (S : Source) (g : Parts) (number : ℕ → ℕ → ℕ) (numbered : Num
       let came_in = answer_handled g S.inputs count s run r quiet.empty cell reply _ put.value ask.answer put.answer ask.read written
       (λ q e. first cell put.value _ q (subst (WrittenBy run cell put.value _) e written)) in
       let of_kind = port_taking S known inputs n f.path v h.within h.thing (subst (λ z. Holds S (Has f.path z v)) h.place holds) in
-      let int_is : port_at P n ≡ ports.Int = ap (λ o. port_of (unwrap_or o sort.Int)) (known.fetch_kind n ask.target ask.index h.within ask.node) in
-      let fired_so = alone_fired S g number numbered known count only s run r quiet a n 2 (op.Merge ports.Int) Zero put.value h.within
+      let fired_so = alone_fired S g number numbered known count only s run r quiet a n 2 (op.Merge (port_at P n)) Zero put.value h.within
       (gets_reply ask.node) refl came_in in
-      let out = spoken S g number numbered known count only s run r quiet a n 2 (op.Merge ports.Int) (Alone put.value) put.value fired_so
-      (λ q. merged put.stands ports.Int (sym int_is ∙ of_kind)) in
+      let out = spoken S g number numbered known count only s run r quiet a n 2 (op.Merge (port_at P n)) (Alone put.value) put.value fired_so
+      (λ q. merged known put.stands (port_at P n) of_kind) in
       let from : speaker P n ≡ record { row = n; part = 2; side = true } = expression_speaks P known n (Fetch ask.target ask.index) ask.node refl
       ∙ fetch_origin P known n ask.target ask.index h.within ask.node in
       record { here = h; value = put.value; stands = put.stands; spoken = subst (λ z. Speaks S number run a z put.value) (sym from) out }
@@ -402,7 +447,7 @@ module _ (S : Source) (g : Parts) (number : ℕ → ℕ → ℕ) (numbered : Num
       (binary x.node) refl left right in
       let inner = operand_of S known inputs n m x.within (subst (λ z. HasOperand z m) (sym x.node) (inl refl)) in
       let out = spoken S g number numbered known count only s run r quiet a n 0 made (Two (constant_value k) (constant_value d)) (constant_value y) fired_so
-      (λ f. agree_at o k d (tag_in a (number n 0)) f (port_at P m) (port_taking S known inputs m p (value_of k) inner.0 inner.1 holds.1.0)
+      (λ f. agree_at o k d (tag_in a (number n 0)) f (port_at P m) (takes_constant P k (port_taking S known inputs m p (value_of k) inner.0 inner.1 holds.1.0))
       ∙ gives_out result) in
       has_spoken S g number numbered known inputs count only s run r quiet h x refl refl (constant_stands S number run y)
       (subst (λ z. Speaks S number run a z (constant_value y))
@@ -416,7 +461,7 @@ module _ (S : Source) (g : Parts) (number : ℕ → ℕ → ℕ) (numbered : Num
       let b_within = subst (λ z. z < length (rows P)) same k.2 in
       let b_binds = subst (λ z. is_binder (node P z) ≡ true) same k.3 in
       let seen = subst (λ z. Sees P z (region P n)) same k.4 in
-      let fits = value_fits has.stands (port_at P b) (port_taking S known inputs b _ v b_within (binder_thing (node P b) b_binds) holds.1.0) in
+      let fits = value_fits known has.stands (port_at P b) (port_taking S known inputs b _ v b_within (binder_thing (node P b) b_binds) holds.1.0) in
       let row_is = here_is S g number numbered known inputs count only s run r quiet has.here (record { within = b_within; node = refl })
       (binder_thing (node P b) b_binds) in
       let t : Home S g number numbered known count only s run r quiet a (region P n) b =
@@ -480,16 +525,16 @@ module _ (S : Source) (g : Parts) (number : ℕ → ℕ → ℕ) (numbered : Num
   carried_by (shape_made x good) holds c =
       let z = allocated c.0 x good c.1.0 c.1.1.0 (holds_by S _ _ (shape_made x good) holds) in
       record { structure = z.structure; named = z.named; low = z.low; high = z.high }
-  carried_by (array_has {n = n} {a = e} {b = f} x good) holds c =
+  carried_by (array_has {n = n} {a = e} {b = f} {nested = nested} x good) holds c =
       let h = c.0 in
       let z = allocated h x good c.1.0 c.1.1.0 (holds_by S _ _ (shape_made x good) holds) in
       has_spoken S g number numbered known inputs count only s run r quiet h x refl refl (name_stands z.structure _ z.named)
       (subst (λ q. Speaks S number run h.activation q (value.Structure z.structure))
-      (sym (own_origin P known n (Array e f) x.within x.node refl refl (λ q. refl))) z.says)
+      (sym (own_origin P known n (Array nested e f) x.within x.node refl refl (λ q. refl))) z.says)
   carried_by (fetch_target_on {t = t} x) holds c =
       operand_here S g number numbered known inputs count only s run r quiet c.0 t x refl refl (inl refl) (inl refl)
   carried_by (fetch_index_on {i = i} x) holds c = operand_here S g number numbered known inputs count only s run r quiet c.0 i x refl refl (inr refl) (inr refl)
-  carried_by (asks x inside) holds c = ask_carried c.0 x inside c.1.0 c.1.1.0 c.1.1.1.0
+  carried_by (asks x inside) holds c = ask_carried c.0 x inside holds.1.0 c.1.0 c.1.1.0 c.1.1.1.0
   carried_by (fetch_has {f = f} {s = x} {a = y} {j = j} {v = v}) holds c =
       fetch_carried c.0 c.1.0 (holds_by S _ _ (fetch_has {f = f} {s = x} {a = y} {j = j} {v = v}) holds)
   carried_by (store_target_on {t = t} y) holds c =
@@ -497,7 +542,7 @@ module _ (S : Source) (g : Parts) (number : ℕ → ℕ → ℕ) (numbered : Num
   carried_by (store_index_on {i = i} y) holds c =
       (let z = address_part c.0 y i (inr refl) (inr refl) in same_here S g number numbered known inputs count only s run r quiet c.0 i z.0 z.1 z.2)
   carried_by (store_value_on {x = v} y) holds c = operand_here S g number numbered known inputs count only s run r quiet c.0 v y.store refl refl (inr refl) refl
-  carried_by (puts y inside) holds c = put_carried c.0 y inside c.1.0 c.1.1.0 c.1.1.1.0 holds.1.1.1.0 c.1.1.1.1.0
+  carried_by (puts y inside) holds c = put_carried c.0 y inside holds.1.0 holds.1.1.1.0 c.1.0 c.1.1.0 c.1.1.1.0 c.1.1.1.1.0
   carried_by (body_on {b = b} x) holds c = operand_here S g number numbered known inputs count only s run r quiet c.0 b x refl refl refl refl
   carried_by (block_has {n = n} {b = b} {v = v} x) holds c =
       has_spoken S g number numbered known inputs count only s run r quiet c.0 x refl refl (c.1.0).stands

@@ -4,30 +4,17 @@ use Rattle.std.proofs.Common.{◌∙◌, ap, subst, unwrap_or, slice_get}
 use Rattle.id_list.specs.List.{Among}
 use Rattle.id_list.proofs.AmongLemmas.{Among-from_at}
 use Rattle.id_table.specs.declared.row.Node.TheVariants.{Param, Split, If, Head, Enter, Arg, Call, Def, Start, LoopHead, Variable, Next, Reset, Loop, Program}
-use Rattle.id_table.specs.declared.row.Node.TheVariants.{Bounds, Count, Index}
-use Rattle.id_table.specs.Loops.{bounds_row, index_row}
-use Rattle.std.proofs.Common.{ℤ}
-use Rattle.std.specs.Prelude.{int_le, int_lt, ◌+ℤ◌, pos}
-use Rattle.id_value.specs.Results.{is_whole}
-use Rattle.id_value.specs.declared.Outcome.TheVariants.{Gives, Fails}
-use Rattle.id_value.specs.declared.FaultKind.TheVariants.{Overflow}
-use Rattle.id_value.specs.declared.Comparison.TheVariants.{Le, Lt}
-use Rattle.id_value.specs.declared.Arithmetic.TheVariants.{Add}
-use Rattle.id_instr.specs.declared.instr.Dyadic.TheVariants as dyadic
-use Rattle.id_instr.specs.declared.instr.PortKind.TheVariants as ports
-use Rattle.id_ops.specs.Operators.{fired_by}
 use Rattle.id_table.specs.declared.row.Region.{Region}
 use Rattle.id_table.specs.Rows.{arm_at, top}
 use Rattle.id_table.specs.Tables.{HasNear, HasOperand, begins_block, is_binder, is_expression, is_thing}
 use Rattle.id_check.specs.declared.checked.Checked.{Checked}
 use Rattle.id_check.specs.Programs.{Stands, place, region, rows, binder}
-use Rattle.id_instr.specs.declared.dests.Port.{Port}
 use Rattle.id_instr.specs.declared.dests.Port.TheVariants.{Zero, One}
 use Rattle.id_instr.specs.declared.instr.Op.TheVariants as op
 use Rattle.id_instr.specs.Graph.{Parts}
 use Rattle.id_tag.specs.declared.Value.TheVariants as value
 use Rattle.id_tag.specs.declared.Payload.TheVariants.{Token}
-use Rattle.id_ops.specs.declared.Operands.TheVariants.{One as Alone, Two as Both}
+use Rattle.id_ops.specs.declared.Operands.TheVariants.{One as Alone}
 use Rattle.id_ops.specs.declared.Fired.TheVariants.{Entered}
 use Rattle.id_value.specs.declared.Constant.TheVariants as constants
 use Rattle.id_core.specs.Machines.{World}
@@ -35,45 +22,39 @@ use Rattle.id_source.specs.declared.Path.{Path}
 use Rattle.id_source.specs.declared.SourceValue.{SourceValue}
 use Rattle.id_source.specs.declared.SourceValue.TheVariants as source
 use Rattle.id_source.specs.declared.Fact.TheVariants.{Has}
-use Rattle.id_source.specs.Sources.{Source, AreInputs, value_kind}
-use Rattle.id_source.specs.Facts.{Chooses, then_arm, else_arm, below, without, LoopStands, ForStands, GoesOn, by_predicate, by_bounds, NextStands, between}
-use Rattle.id_source.specs.Facts as facts
-use Rattle.id_source.specs.Rounds.{Every, Holds}
-use Rattle.id_source.specs.declared.Fact.{Fact}
+use Rattle.id_source.specs.Sources.{Source, AreInputs}
+use Rattle.id_source.specs.Facts.{Chooses, then_arm, else_arm, below, without, LoopStands, NextStands, between}
+use Rattle.id_source.specs.Rounds.{Holds}
 use Rattle.id_pieces.specs.declared.arc.Origin.{Origin}
 use Rattle.id_pieces.specs.Rows as built
-use Rattle.id_pieces.specs.Rows.{block, entering, first_binder, loop_entries, name_in, next_of, label, node, feed, feeds_of, origin, output, trigger_of, port_at, port_of}
-use Rattle.id_pieces.specs.Rows.{called, home as home_of, home_by, label_by, param_of, part_of}
+use Rattle.id_pieces.specs.Rows.{block, entering, first_binder, loop_entries, name_in, next_of, label, node, feed, origin, output, trigger_of, port_at, port_of}
+use Rattle.id_pieces.specs.Rows.{called, home as home_of, home_by, label_by, param_of}
 use Rattle.id_desugar.specs.Regions.{first_variable, nexts_of}
 use Rattle.id_pieces.specs.Schemas.{Feeds, Numbered}
 use Rattle.id_runs.specs.Activations.{Activation, tag_in, at_iteration}
 use Rattle.id_runs.specs.Events.{Event, FiresAs}
 use Rattle.id_runs.specs.Runs.{Reach, handled}
 use Rattle.id_runs.specs.OneMessage.{Exclusive}
-use Rattle.id_laws.specs.Activations.{Seat, Outermost, Below, path_at, SeatOf, GoesAt, of_call, of_loop, Live, on_side, by_test, by_index, of_arms, of_turns}
+use Rattle.id_laws.specs.Activations.{Seat, Outermost, Below, path_at, SeatOf, GoesAt, of_call, of_loop, Live, on_side, by_test, of_arms, of_turns}
 use Rattle.id_laws.specs.Activations.{Chosen, has_said}
-use Rattle.id_laws.specs.Activations.{Goes, PathOf, Speaks, Opens, entered}
-use Rattle.id_laws.specs.Topics.{number_stands}
-use Rattle.id_laws.specs.Carried.{Here, Carried, CarriedHas, speaker}
-use Rattle.id_laws.proofs.Arcs.{carries_on, bounds_meet, begins_index, meets_bound, goes_further, hands_index, has_one, adds_one}
+use Rattle.id_laws.specs.Activations.{PathOf, Speaks, Opens, entered}
+use Rattle.id_laws.specs.Carried.{Here, CarriedHas, speaker}
+use Rattle.id_laws.proofs.Arcs.{carries_on}
 use Rattle.id_laws.proofs.Arcs.{Does, enters, joins, opens, passes, gets, returns, varies, advances, resets, gives_back, gets_last}
 use Rattle.id_laws.proofs.Assumed.{IsKnown}
 use Rattle.id_laws.proofs.Iterations.{turned_again as live_again}
 use Rattle.id_laws.proofs.Loops.{LoopOf, last_region, next_at, reset_node, reset_within, start_region}
-use Rattle.id_laws.proofs.Loops.{IsCounted, bounds_mean, bounds_node, bounds_region, counted_of, counts_stands, counts_within}
-use Rattle.id_laws.proofs.Counted.{flag_origin, index_block}
-use Rattle.id_arcs.proofs.RegionsLemmas.{index_loop, index_region}
-use Rattle.id_laws.proofs.Counting.{bound_home, bound_inside, flag_first, flag_next, index_first, index_next}
 use Rattle.id_laws.proofs.LoopFacts.{entering_long, entry_of, first_entering, first_entry, loop_is, next_numbered, variable_of}
 use Rattle.id_laws.proofs.LoopFirings.{entered_in, moved_came, next_moves, reset_moves}
 use Rattle.id_laws.proofs.Opened.{InLoop, live_loop, loop_path, one_seats}
 use Rattle.id_runs.proofs.Serials.{contexts_apart}
+use Rattle.id_laws.proofs.PortsTake.{Takes}
 use Rattle.id_laws.proofs.Regions.{region_of, same_depth}
 use Rattle.id_laws.proofs.Blocks.{a_param}
 use Rattle.id_laws.proofs.Conditionals.{arm_live, arm_of, arms_test, Conditional, conditional, no_within, test_at}
 use Rattle.id_pieces.proofs.EndsLemmas as ends
 use Rattle.id_laws.proofs.HasKinds.{port_taking, binder_thing, expression_thing, operand_of}
-use Rattle.id_laws.proofs.Firings.{IsSettled, alone_fired, both_fired, came, spoken, spoken_on, alone_formed, both_formed, sent_handled}
+use Rattle.id_laws.proofs.Firings.{IsSettled, alone_fired, both_fired, came, spoken, alone_formed, both_formed, sent_handled}
 use Rattle.id_arcs.proofs.NamesSeen.{Sees, listed}
 use Rattle.id_laws.proofs.Triggers.{Home, home, live_turned, one_activation, second_came}
 use Rattle.id_laws.proofs.Speakers.{own_origin, binder_speaks, fed_as}
@@ -165,7 +146,7 @@ module _ (S : Source) (g : Parts) (number : ℕ → ℕ → ℕ) (numbered : Num
       (joins stands.node) refl to in
       let kind_is = port_taking S known inputs n p v stands.within (ap is_thing stands.node) holds in
       let out = spoken S g number numbered known count only s run r quiet h.activation n 0 (op.Merge (port_at P n)) (Alone has.value) has.value fired_so
-      (λ f. merged has.stands (port_at P n) kind_is) in
+      (λ f. merged known has.stands (port_at P n) kind_is) in
       has_spoken S g number numbered known inputs count only s run r quiet h stands refl refl has.stands
       (subst (λ z. Speaks S number run h.activation z has.value)
       (sym (own_origin P known n m stands.within stands.node refl refl (λ q. refl))) out)
@@ -242,10 +223,10 @@ module _ (S : Source) (g : Parts) (number : ℕ → ℕ → ℕ) (numbered : Num
       let fired_so = both_formed S g number numbered known count only s run r quiet a m 0 (SendTo (port_at P t) t 0) (value.Context w.context)
       has.value arg.within (passes arg.node) refl context_in value_in in
       let of_value = port_taking S known inputs v p u y.within (expression_thing (node P v) y.expression) holds in
-      let kind_is : port_at P t ≡ port_of (value_kind u) = ap (λ o. port_of (unwrap_or o sort.Int)) (sym goes.1) ∙ of_value in
+      let kind_is : Takes P u (port_at P t) = subst (Takes P u) (ap (λ o. port_of (unwrap_or o sort.Int)) goes.1) of_value in
       let into = tag_in (at_iteration w.context 0) (number t 0) in
       let out = sent_handled S g number numbered known count only s run r quiet
-      (subst (λ k. FiresAs run (tag_in a (number m 0)) k) (sent_in has.stands (port_at P t) into kind_is) fired_so.fires) (Token into Zero has.value)
+      (subst (λ k. FiresAs run (tag_in a (number m 0)) k) (sent_in known has.stands (port_at P t) into kind_is) fired_so.fires) (Token into Zero has.value)
       (inl refl) in
       let row = a_param (rows P) (called P e) (length (rows P)) t (Among-from_at t (params_at (rows P) (called P e)) i goes.0) in
       let live = subst (Live S number run (at_iteration w.context 0))
@@ -284,17 +265,18 @@ module _ (S : Source) (g : Parts) (number : ℕ → ℕ → ℕ) (numbered : Num
       let fired_so = both_fired S g number numbered known count only s run r quiet t i 1 (op.Back back) (value.Continuation reply) has.value hd.0
       (returns hd.1) refl way_back result in
       let of_body = port_taking S known inputs b (below p (place P n) 0) u row.0 (expression_thing (node P b) row.1) body_has in
-      let back_is : back ≡ port_of (value_kind u) =
+      let result_is : back ≡ port_at P b =
       ap (λ q. port_of (built.result_of (node P q))) end ∙ ap (λ q. port_of (built.result_of q)) def.node
-      ∙ ap (λ o. port_of (unwrap_or o sort.Int)) (sym (known.result_kind d f (as_def def))) ∙ of_body in
+      ∙ ap (λ o. port_of (unwrap_or o sort.Int)) (sym (known.result_kind d f (as_def def))) in
+      let back_is = subst (Takes P u) (sym result_is) of_body in
       let out = sent_handled S g number numbered known count only s run r quiet
-      (subst (λ q. FiresAs run (tag_in t (number i 1)) q) (sent_in has.stands back reply back_is) fired_so.fires) (Token reply Zero has.value) (inl refl) in
+      (subst (λ q. FiresAs run (tag_in t (number i 1)) q) (sent_in known has.stands back reply back_is) fired_so.fires) (Token reply Zero has.value) (inl refl) in
       let there = subst (λ q. Among (Token (tag_in a (number q 0)) Zero has.value) (handled run)) z.ends out in
       let merge_so = alone_fired S g number numbered known count only s run r quiet a n 0 (op.Merge (port_at P n)) Zero has.value x.within
       (gets x.node) refl there in
       let kind_is = port_taking S known inputs n p u x.within (ap is_thing x.node) holds in
       let spoken_so = spoken S g number numbered known count only s run r quiet a n 0 (op.Merge (port_at P n)) (Alone has.value) has.value merge_so
-      (λ q. merged has.stands (port_at P n) kind_is) in
+      (λ q. merged known has.stands (port_at P n) kind_is) in
       has_spoken S g number numbered known inputs count only s run r quiet h x refl refl has.stands (subst (λ q. Speaks S number run a q has.value)
       (sym (own_origin P known n (Call e c) x.within x.node refl refl (λ q. refl))) spoken_so)
 
@@ -399,7 +381,7 @@ module _ (S : Source) (g : Parts) (number : ℕ → ℕ → ℕ) (numbered : Num
       subst (λ (e : Activation × Origin). Speaks S number run e.0 e.1 has.value) {x = ((has.here).activation, speaker P (has.here).row)}
       {y = (q.activation, output (label P c))}
       (λ j. (one j, (ap (speaker P) row_is ∙ binder_speaks P known c (node P c) refl c_binds) j)) has.spoken in
-      let fits = value_fits has.stands (port_at P c) (port_taking S known inputs c _ u c_within (binder_thing (node P c) c_binds) has_holds) in
+      let fits = value_fits known has.stands (port_at P c) (port_taking S known inputs c _ u c_within (binder_thing (node P c) c_binds) has_holds) in
       let comes = subst (λ b. Speaks S number run a (name_in P (region P i) b) has.value) (sym name) (q.comes has.value fits said) in
       let kind_is = port_taking S known inputs m _ u less (ap is_thing is) holds in
       let index : k ≡ carries_on P (i + 1) + slot = number_of.is ∙ ap (λ g. carries_on P g + slot) head in
@@ -408,19 +390,19 @@ module _ (S : Source) (g : Parts) (number : ℕ → ℕ → ℕ) (numbered : Num
       first_entry P (i + 1) slot few ∙ (λ j. Some (entry_of (there j) (row j) 0)) in
       let came_in = entered_in S g number numbered known count only s run r quiet a i slot z.context (entry_of m (label P m) 0)
       has.value z.within z.begins z.opens inside entry
-      (value_fits has.stands (port_at P m) kind_is) comes in
+      (value_fits known has.stands (port_at P m) kind_is) comes in
       let live = subst (Live S number run (at_iteration z.context 0)) (sym (ap (region P) (next_home m is) ∙ var.right ∙ ap top y.block)) z.live in
       label_has S g number numbered known inputs count only s run r quiet m (Next y.name k o v) has.stands
       (at_iteration z.context 0) (z.path_of 0) y.next refl live (variable_does less is) kind_is came_in
 
   -- an iteration of the loop at the row n, with a live region of it
-  record Iteration (p : Path) (n k : ℕ) (a : Activation) (q : Region) : Type 0 where
-    context : Context
-    is : a ≡ at_iteration context k
-    live : Live S number run (at_iteration context k) q
-    path_of : (j : ℕ) → PathOf S number run (at_iteration context j) (below p (place P n) j)
+  pub record Iteration (p : Path) (n k : ℕ) (a : Activation) (q : Region) : Type 0 where
+    pub context : Context
+    pub is : a ≡ at_iteration context k
+    pub live : Live S number run (at_iteration context k) q
+    pub path_of : (j : ℕ) → PathOf S number run (at_iteration context j) (below p (place P n) j)
 
-  iteration : {p : Path} {n k : ℕ} {a : Activation} {q : Region} → PathOf S number run a (below p (place P n) k) → Live S number run a q → Iteration p n k a q
+  pub iteration : {p : Path} {n k : ℕ} {a : Activation} {q : Region} → PathOf S number run a (below p (place P n) k) → Live S number run a q → Iteration p n k a q
   iteration {p} {n} {k} {a} {q} path live = by path.seat path.of_context path.is
     where
       by : (u : Seat) → SeatOf S number run a.context u → below p (place P n) k ≡ path_at u a.iteration → Iteration p n k a q
@@ -446,7 +428,7 @@ module _ (S : Source) (g : Parts) (number : ℕ → ℕ → ℕ) (numbered : Num
     pub path_of : (j : ℕ) → PathOf S number run (at_iteration context j) (below p (place P n) j)
 
   -- by its predicate
-  by_test_tested : {n h w t l : ℕ} (p : Path) (k : ℕ) (b : Truth) → LoopStands P n h w t l
+  pub by_test_tested : {n h w t l : ℕ} (p : Path) (k : ℕ) (b : Truth) → LoopStands P n h w t l
       → CarriedHas S number run (below p (place P n) k) (place P t) (source.Bool b)
       → Holds S (Has (below p (place P n) k) (place P t) (source.Bool b)) → Tested p n k w b
   by_test_tested {n} {h} {w} {t} p k b x has holds =
@@ -467,229 +449,6 @@ module _ (S : Source) (g : Parts) (number : ℕ → ℕ → ℕ) (numbered : Num
         path_of = it.path_of;
       }
 
-  -- ---- of a loop with an index
-
-  -- the loop of its rule
-  record ForLoop (n w x a b l : ℕ) (y : ForStands P n w x a b l) : Type 0 where
-    loop : LoopOf P y.head
-    counted : IsCounted P loop.all
-    switches : (loop.the).switches ≡ w
-    row : n ≡ end_of P y.head
-    lower : (counted.bounds).lower ≡ a
-    upper : (counted.bounds).upper ≡ b
-    index : x ≡ index_row w
-    within : w < length (rows P)
-    right : region P w ≡ top y.head
-    side : region P x ≡ arm_at w true
-
-  for_loop : {n w x a b l : ℕ} (y : ForStands P n w x a b l) → ForLoop n w x a b l y
-  for_loop {w = w} {x = x} {a = a} {b = b} y =
-      let z = loop_is known y.loop in
-      let c = counted_of P (z.loop).all (bounds_mean known z.loop (y.bounds).node) in
-      let both : Bounds (c.bounds).lower (c.bounds).upper ≡ Bounds a b = sym (bounds_node P known y.head z.loop c) ∙ (y.bounds).node in
-      record {
-        loop = z.loop;
-        counted = c;
-        switches = z.switches;
-        row = z.row;
-        lower = cc;
-        upper = cc;
-        index = y.behind;
-        within = z.within;
-        right = z.right;
-        side = index_region P x y.name (y.index).within (y.index).node ∙ ap (λ v. arm_at v true) switches;
-      }
-    where
-      switches : ((index_loop P x y.name (y.index).within (y.index).node).1).switches ≡ w
-      switches = let q = index_loop P x y.name (y.index).within (y.index).node in omega (arith, q.3, y.behind)
-
-  -- its bounds stand where it does
-  loop_beside : {n w x a b l : ℕ} (y : ForStands P n w x a b l) → ForLoop n w x a b l y → region P (bounds_row y.head) ≡ region P n
-  loop_beside y z = bounds_region P known y.head z.loop z.counted ∙ start_region P known y.head z.loop ∙ ap (region P) (sym z.row)
-
-  -- its flag has spoken what chooses a side
-  flag_chosen : {n w x a b l : ℕ} {y : ForStands P n w x a b l} (z : ForLoop n w x a b l y) {e : Activation} {d : Truth}
-      → Speaks S number run e (output (y.head + 3)) (value.Bool d)
-      → Chosen S number run e w d
-  flag_chosen {y = y} z {e} {d} says =
-      let c = z.counted in
-      let test = (((z.loop).all).test).test in
-      has_said (of_turns (ap (node P) (sym z.switches) ∙ (((z.loop).all).test).node))
-      (subst (λ o. Speaks S number run e o (value.Bool d)) (sym (flag_origin P known y.head z.loop c)) says)
-
-  -- what an expression where the loop stands has spoken
-  bound_spoken : {n w x a b l : ℕ} {p : Path} {i : ℤ} (y : ForStands P n w x a b l) (e : ℕ) → HasOperand (Bounds a b) e → (d : Activation)
-      → PathOf S number run d p
-      → Live S number run d (region P (bounds_row y.head)) → CarriedHas S number run p (place P e) (source.Int i)
-      → Speaks S number run d (origin P e) (value.Int i)
-  bound_spoken {p = p} {i = i} y e operand d path live has =
-      let within = (y.bounds).within in
-      let part = subst (λ m. HasOperand m e) (sym (y.bounds).node) operand in
-      let inner = operand_of S known inputs (bounds_row y.head) e within part in
-      let expression = known.operands (bounds_row y.head) e within part in
-      let stands = (known.table).part_stands (bounds_row y.head) e within (subst (λ m. HasNear m e) (sym (y.bounds).node) operand) in
-      let here = thing_here S g number numbered known inputs count only s run r quiet d path e inner.0 expression
-      (subst (Live S number run d) (sym stands.1) live) in
-      subst (Speaks S number run d (origin P e)) (stands_constant (constants.Int i) has.stands)
-      (said_at S g number numbered known inputs count only s run r quiet here e inner.0 expression has)
-
-  -- the bounds stand where the loop does
-  pub bounds_here : {n w x a b l : ℕ} {p : Path} (y : ForStands P n w x a b l) (e : ℕ) → HasOperand (Bounds a b) e → H p (place P n) → H p (place P e)
-  bounds_here {n} {a = a} {b = b} y e operand on =
-      let z = for_loop y in
-      let row = bounds_row y.head in
-      let within = (y.bounds).within in
-      let part = subst (λ m. HasOperand m e) (sym (y.bounds).node) operand in
-      let inner = operand_of S known inputs row e within part in
-      let stands = (known.table).part_stands row e within (subst (λ m. HasNear m e) (sym (y.bounds).node) operand) in
-      same_here S g number numbered known inputs count only s run r quiet on e inner.0 (known.operands row e within part)
-      (subst (Live S number run on.activation) (sym (stands.1 ∙ loop_beside y z))
-      (live_at S g number numbered known inputs count only s run r quiet on y.loop refl refl))
-
-  -- the bounds were compared where the loop is On
-  record Compared (p : Path) (n h : ℕ) (c : Truth) (i : ℤ) : Type 0 where
-    activation : Activation
-    starting : Starting p n h activation
-    said : Speaks S number run activation (output (bounds_row h)) (value.Bool c)
-    lower : ℕ
-    upper : ℕ
-    bounds : node P (bounds_row h) ≡ Bounds lower upper
-    low : Speaks S number run activation (origin P lower) (value.Int i)
-
-  compared : {n w x a b l : ℕ} {p : Path} {lo hi : ℤ} (y : ForStands P n w x a b l) → H p (place P n) → CarriedHas S number run p (place P a) (source.Int lo)
-      → CarriedHas S number run p (place P b) (source.Int hi) → Compared p n y.head (int_le lo hi) lo
-  compared {a = a} {b = b} {lo = lo} {hi = hi} y on low high =
-      let z = for_loop y in
-      let at = starting on y.loop in
-      let d = on.activation in
-      let h = y.head in
-      let row = bounds_row h in
-      let live = subst (Live S number run d) (sym (loop_beside y z))
-      (live_at S g number numbered known inputs count only s run r quiet on y.loop refl refl) in
-      let low_said = bound_spoken y a (inl refl) d on.path_of live low in
-      let high_said = bound_spoken y b (inr refl) d on.path_of live high in
-      let left = came S g number numbered known count only s run r quiet d (origin P a) row 0 Zero (value.Int lo) low_said
-      (fed_as P known (origin P a) row 0 Zero (Bounds a b) (y.bounds).within (y.bounds).node (inl refl)) in
-      let right = came S g number numbered known count only s run r quiet d (origin P b) row 0 One (value.Int hi) high_said
-      (fed_as P known (origin P b) row 0 One (Bounds a b) (y.bounds).within (y.bounds).node (inr (inl refl))) in
-      let fired_so = both_fired S g number numbered known count only s run r quiet d row 0 (op.Binary (dyadic.Comparison Le)) (value.Int lo) (value.Int hi)
-      (y.bounds).within (bounds_meet (y.bounds).node) refl left right in
-      record {
-        activation = d;
-        starting = at;
-        said = spoken S g number numbered known count only s run r quiet d row 0 (op.Binary (dyadic.Comparison Le)) (Both (value.Int lo) (value.Int hi))
-            (value.Bool (int_le lo hi)) fired_so (λ f. refl);
-        lower = a;
-        upper = b;
-        bounds = (y.bounds).node;
-        low = low_said;
-      }
-
-  starts_at : {p : Path} {n h : ℕ} {a : Activation} (z : Starting p n h a) → Opens S number run a (h - 1) z.context
-  starts_at {h = h} {a = a} z = let same : z.start ≡ h - 1 = omega (arith, z.head) in subst (λ i. Opens S number run a i z.context) same z.opens
-
-  -- in the first iteration the loop goes on by its bounds
-  by_bounds_tested : {n w x a b l : ℕ} {p : Path} {lo hi : ℤ} {c : Truth} (y : ForStands P n w x a b l) → int_le lo hi ≡ c → H p (place P n)
-      → CarriedHas S number run p (place P a) (source.Int lo) → CarriedHas S number run p (place P b) (source.Int hi)
-      → Goes S (below p (place P n) 0) w c → Tested p n 0 w c
-  by_bounds_tested {c = c} y is on low high side =
-      let z = for_loop y in
-      let k = compared y on low high in
-      let at = k.starting in
-      let said = subst (λ b. Speaks S number run k.activation (output (bounds_row y.head)) (value.Bool b)) is k.said in
-      record {
-        context = at.context;
-        live = subst (Live S number run (at_iteration at.context 0)) (sym z.right) at.live;
-        chosen = flag_chosen z (flag_first S g number numbered known count only s run r quiet z.loop z.counted k.activation at.context c (starts_at at) said);
-        goes = record { path = _; path_of = at.path_of 0; goes = side };
-        path_of = at.path_of;
-      }
-
-  -- what counts in an iteration with an index
-  record Counted (p : Path) (n k h w : ℕ) (i hi : ℤ) : Type 0 where
-    context : Context
-    body : Live S number run (at_iteration context k) (arm_at w true)
-    index : Speaks S number run (at_iteration context k) (output (h + 1)) (value.Int i)
-    compare : Speaks S number run (at_iteration context k) (output (w + 1)) (value.Bool (int_lt i hi))
-    path_of : (j : ℕ) → PathOf S number run (at_iteration context j) (below p (place P n) j)
-
-  counted_at : {n w x a b l : ℕ} {i hi : ℤ} (p : Path) (k : ℕ) (y : ForStands P n w x a b l)
-      → CarriedHas S number run (below p (place P n) k) (place P x) (source.Int i) → CarriedHas S number run p (place P b) (source.Int hi)
-      → Counted p n k y.head w i hi
-  counted_at {n} {w} {x} {a} {b} {i = i} {hi = hi} p k y has high =
-      let z = for_loop y in
-      let h = y.head in
-      let cn = w + 1 in
-      let row_is = here_is S g number numbered known inputs count only s run r quiet has.here y.index refl in
-      let own : home_of P x ≡ x = ap (home_by (block P x) x) (y.index).node in
-      let in_h : block P x ≡ h = ap (block P) (z.index ∙ ap index_row (sym z.switches)) ∙ index_block P known h z.loop z.counted in
-      let body = subst (Live S number run (has.here).activation) (ap (λ j. region P (home_of P j)) row_is ∙ ap (region P) own ∙ z.side) (has.here).live in
-      let it = iteration (has.here).path_of body in
-      let e = at_iteration it.context k in
-      let label_is : label P x ≡ h + 1 = ap (label_by (block P x) x) (y.index).node ∙ ap (λ j. j + 1) in_h in
-      let index_said : Speaks S number run e (output (h + 1)) (value.Int i) =
-      subst (λ (q : Activation × Origin). Speaks S number run q.0 q.1 (value.Int i)) {x = ((has.here).activation, speaker P (has.here).row)} {y = (e, output (h + 1))}
-      (λ j. (it.is j, (ap (speaker P) row_is ∙ binder_speaks P known x (Index y.name) (y.index).node refl ∙ ap output label_is) j))
-      (subst (Speaks S number run (has.here).activation (speaker P (has.here).row)) (stands_constant (constants.Int i) has.stands) has.spoken) in
-      let arm = arm_live known it.live refl (of_turns (ap (node P) (sym z.switches) ∙ (((z.loop).all).test).node)) in
-      let bound = bound_home S g number numbered known count only s run r quiet z.loop z.counted arm.live z.right in
-      let outer = bound.outer in
-      let up = loop_path S known number run (one_seats S known number run g numbered (contexts_apart g S.inputs count s run r)) z.loop outer (it.path_of k) in
-      let parts = below_is p up.path (place P n) (place P (end_of P h)) k k up.is in
-      let path : PathOf S number run outer.outer p = subst (PathOf S number run outer.outer) (sym parts.0) up.path_of in
-      let start : outer.start ≡ h - 1 = omega (arith, outer.head) in
-      let live = subst (Live S number run outer.outer) (ap (region P) start ∙ sym (bounds_region P known h z.loop z.counted)) outer.live in
-      let high_said = bound_spoken y b (inr refl) outer.outer path live high in
-      let came_up = bound.comes hi (subst (λ j. Speaks S number run outer.outer (origin P j) (value.Int hi)) (sym z.upper) high_said) in
-      let chosen = subst (λ j. Chosen S number run e j true) (sym z.switches) arm.chosen in
-      let inside = bound_inside S g number numbered known count only s run r quiet z.loop z.counted hi chosen came_up in
-      let less : cn < length (rows P) = subst (λ j. j + 1 < length (rows P)) z.switches (counts_within P known h z.loop z.counted _ (omega arith)) in
-      let at : node P cn ≡ Count = ap (λ j. node P (j + 1)) (sym z.switches) ∙ (z.counted).count in
-      let stand = counts_stands P known h z.loop z.counted (((z.loop).the).switches + 1) (omega arith) (omega arith) in
-      let of_h : block P cn ≡ h = ap (λ j. block P (j + 1)) (sym z.switches) ∙ stand.0 in
-      let of_arm : region P cn ≡ arm_at ((z.loop).the).switches true = ap (λ j. region P (j + 1)) (sym z.switches) ∙ stand.1 in
-      let left = came S g number numbered known count only s run r quiet e (output (h + 1)) cn 0 Zero (value.Int i) index_said
-      (subst (λ j. Feeds P (output (j + 1)) cn 0 Zero) of_h (fed_as P known (output (block P cn + 1)) cn 0 Zero Count less at (inl refl))) in
-      let from = name_in P (arm_at ((z.loop).the).switches true) (h + 2) in
-      let right_came = came S g number numbered known count only s run r quiet e from cn 0 One (value.Int hi) inside
-      (subst (λ (q : Region × ℕ). Feeds P (name_in P q.0 (q.1 + 2)) cn 0 One) {x = (region P cn, block P cn)} {y = (arm_at ((z.loop).the).switches true, h)}
-      (λ j. (of_arm j, of_h j)) (fed_as P known (name_in P (region P cn) (block P cn + 2)) cn 0 One Count less at (inr (inl refl)))) in
-      let fired_so = both_fired S g number numbered known count only s run r quiet e cn 0 (op.Binary (dyadic.Comparison Lt)) (value.Int i) (value.Int hi)
-      less (meets_bound at) refl left right_came in
-      record {
-        context = it.context;
-        body = it.live;
-        index = index_said;
-        compare = spoken S g number numbered known count only s run r quiet e cn 0 (op.Binary (dyadic.Comparison Lt)) (Both (value.Int i) (value.Int hi))
-            (value.Bool (int_lt i hi)) fired_so (λ f. refl);
-        path_of = it.path_of;
-      }
-
-  -- in each other one by what counts in the one before
-  by_index_tested : {n w x a b l : ℕ} {i hi : ℤ} {c : Truth} (p : Path) (k : ℕ) (y : ForStands P n w x a b l) → int_lt i hi ≡ c
-      → CarriedHas S number run (below p (place P n) k) (place P x) (source.Int i) → CarriedHas S number run p (place P b) (source.Int hi)
-      → Goes S (below p (place P n) (suc k)) w c → Tested p n (suc k) w c
-  by_index_tested {c = c} p k y is has high side =
-      let z = for_loop y in
-      let m = counted_at p k y has high in
-      let test = ap (node P) (sym z.switches) ∙ (((z.loop).all).test).node in
-      let said = subst (λ (q : ℕ × Truth). Speaks S number run (at_iteration m.context k) (output (q.0 + 1)) (value.Bool q.1)) {x = (_, _)}
-      {y = (((z.loop).the).switches, c)} (λ j. (sym z.switches j, is j)) m.compare in
-      record {
-        context = m.context;
-        live = live_again known z.within test m.body;
-        chosen = flag_chosen z (flag_next S g number numbered known count only s run r quiet z.loop z.counted m.context k c said);
-        goes = record { path = _; path_of = m.path_of (suc k); goes = side };
-        path_of = m.path_of;
-      }
-
-  -- by these facts it was found
-  pub tested : {n h w l : ℕ} {fs : List Fact} (p : Path) (k : ℕ) (b : Truth) → Stands P n (Loop h w l) → GoesOn S n w p k b fs
-      → Every (Carried S number run) fs → Every (Holds S) fs → Tested p n k w b
-  tested p k b x (by_predicate j y) c holds = by_test_tested p k b y c.0 holds.0
-  tested p k b x (by_bounds y is) c holds = by_bounds_tested y is c.0 c.1.0 c.1.1.0 (by_index (by_bounds y is) holds)
-  tested p k b x (facts.by_index j y is) c holds = by_index_tested p j y is c.0 c.1.0 (by_index (facts.by_index j y is) holds)
-
   -- a side of the loop's switches is live where it was chosen
   pub side_live : {n h w l : ℕ} {p : Path} {k : ℕ} {b : Truth} → Stands P n (Loop h w l) → (z : Tested p n k w b)
       → Live S number run (at_iteration z.context k) (arm_at w b)
@@ -702,130 +461,6 @@ module _ (S : Source) (g : Parts) (number : ℕ → ℕ → ℕ) (numbered : Num
   side_here {k = k} e x z within expression right =
       thing_here S g number numbered known inputs count only s run r quiet (at_iteration z.context k) (z.path_of k) e within expression
       (subst (Live S number run (at_iteration z.context k)) (sym right) (side_live x z))
-
-  -- what came to the entry of the index it Has, where the body is live
-  index_has : {n w x a b l : ℕ} {i : ℤ} (p : Path) (k : ℕ) (y : ForStands P n w x a b l) (z : ForLoop n w x a b l y) (t : Tested p n k w true)
-      → Speaks S number run (at_iteration t.context k) (output (y.head + 1)) (value.Int i)
-      → CarriedHas S number run (below p (place P n) k) (place P x) (source.Int i)
-  index_has {n} {w} {x} {i = i} p k y z t says =
-      let e = at_iteration t.context k in
-      let h = y.head in
-      let in_h : block P x ≡ h = ap (block P) (z.index ∙ ap index_row (sym z.switches)) ∙ index_block P known h z.loop z.counted in
-      let own : home_of P x ≡ x = ap (home_by (block P x) x) (y.index).node in
-      let label_is : label P x ≡ h + 1 = ap (label_by (block P x) x) (y.index).node ∙ ap (λ j. j + 1) in_h in
-      let live = side_live y.loop t in
-      record {
-        here = record {
-          activation = e;
-          path_of = t.path_of k;
-          row = x;
-          within = (y.index).within;
-          thing = ap is_thing (y.index).node;
-          place = refl;
-          live = subst (Live S number run e) (sym (ap (region P) own ∙ z.side)) live;
-        };
-        value = value.Int i;
-        stands = number_stands i;
-        spoken = subst (λ o. Speaks S number run e o (value.Int i))
-            (sym (binder_speaks P known x (Index y.name) (y.index).node refl ∙ ap output label_is)) says;
-      }
-
-  -- the first index is the lower bound
-  pub index_begins_carried : {n w x a b l : ℕ} {p : Path} {lo hi : ℤ} (y : ForStands P n w x a b l) → int_le lo hi ≡ true → H p (place P n)
-      → CarriedHas S number run p (place P a) (source.Int lo) → CarriedHas S number run p (place P b) (source.Int hi)
-      → Goes S (below p (place P n) 0) w true
-      → CarriedHas S number run (below p (place P n) 0) (place P x) (source.Int lo)
-  index_begins_carried {a = a} {b = b} {p = p} {lo = lo} {hi = hi} y is on low high side =
-      let z = for_loop y in
-      let k = compared y on low high in
-      let at = k.starting in
-      let d = k.activation in
-      let row = bounds_row y.head in
-      let said = subst (λ c. Speaks S number run d (output row) (value.Bool c)) is k.said in
-      let test = came S g number numbered known count only s run r quiet d (output row) row 1 Zero (value.Bool true) said
-      (fed_as P known (output row) row 1 Zero (Bounds a b) (y.bounds).within (y.bounds).node (inr (inr (inl refl)))) in
-      let both : Bounds k.lower k.upper ≡ Bounds a b = sym k.bounds ∙ (y.bounds).node in
-      let same : k.lower ≡ a = cc in
-      let low_said = subst (λ j. Speaks S number run d (origin P j) (value.Int lo)) same k.low in
-      let first = came S g number numbered known count only s run r quiet d (origin P a) row 1 One (value.Int lo) low_said
-      (fed_as P known (origin P a) row 1 One (Bounds a b) (y.bounds).within (y.bounds).node (inr (inr (inr (inl refl))))) in
-      let fired_so = both_fired S g number numbered known count only s run r quiet d row 1 (op.Switch ports.Int) (value.Bool true) (value.Int lo)
-      (y.bounds).within (begins_index (y.bounds).node) refl test first in
-      let goes_in = spoken_on S g number numbered known count only s run r quiet d row 1 (op.Switch ports.Int) (Both (value.Bool true) (value.Int lo)) true
-      (value.Int lo) fired_so (λ f. refl) in
-      let t : Tested p _ 0 _ true = record {
-        context = at.context;
-        live = subst (Live S number run (at_iteration at.context 0)) (sym z.right) at.live;
-        chosen = flag_chosen z (flag_first S g number numbered known count only s run r quiet z.loop z.counted d at.context true (starts_at at) said);
-        goes = record { path = _; path_of = at.path_of 0; goes = side };
-        path_of = at.path_of;
-      } in
-      index_has p 0 y z t (index_first S g number numbered known count only s run r quiet z.loop z.counted d at.context lo (starts_at at) goes_in)
-
-  -- and each other one is one more than the one before
-  pub index_counts_carried : {n w x a b l : ℕ} {i hi : ℤ} (p : Path) (k : ℕ) (y : ForStands P n w x a b l) → int_lt i hi ≡ true
-      → is_whole (i +ℤ pos 1) ≡ true
-      → CarriedHas S number run (below p (place P n) k) (place P x) (source.Int i) → CarriedHas S number run p (place P b) (source.Int hi)
-      → Goes S (below p (place P n) (suc k)) w true
-      → CarriedHas S number run (below p (place P n) (suc k)) (place P x) (source.Int (i +ℤ pos 1))
-  index_counts_carried {n} {w} {x} {a} {b} {l} {i} {hi} p k y is fits has high side =
-      let z = for_loop y in
-      let m = counted_at p k y has high in
-      let e = at_iteration m.context k in
-      let h = y.head in
-      let cn = w + 1 in
-      let less : cn < length (rows P) = subst (λ j. j + 1 < length (rows P)) z.switches (counts_within P known h z.loop z.counted _ (omega arith)) in
-      let at : node P cn ≡ Count = ap (λ j. node P (j + 1)) (sym z.switches) ∙ (z.counted).count in
-      let stand = counts_stands P known h z.loop z.counted (((z.loop).the).switches + 1) (omega arith) (omega arith) in
-      let of_h : block P cn ≡ h = ap (λ j. block P (j + 1)) (sym z.switches) ∙ stand.0 in
-      let of_arm : region P cn ≡ arm_at w true = ap (λ j. region P (j + 1)) (sym z.switches) ∙ stand.1 ∙ ap (λ j. arm_at j true) z.switches in
-      let said = subst (λ c. Speaks S number run e (output cn) (value.Bool c)) is m.compare in
-      let on = live_turned S g number numbered known count only s run r quiet m.body in
-      let fed : (t : Origin) (part : ℕ) (q : Port) → Among (feed t part q) (feeds_of P cn (region P cn) Count) → Feeds P t cn part q =
-      λ t part q among. fed_as P known t cn part q Count less at among in
-      let go_on = both_fired S g number numbered known count only s run r quiet e cn 1 (op.Switch ports.Signal) (value.Bool true) value.Signal less
-      (goes_further at) refl
-      (came S g number numbered known count only s run r quiet e (output cn) cn 1 Zero (value.Bool true) said (fed (output cn) 1 Zero (inr (inr (inl refl)))))
-      (came S g number numbered known count only s run r quiet e (trigger_of (arm_at w true)) cn 1 One value.Signal on
-      (subst (λ q. Feeds P (trigger_of q) cn 1 One) of_arm (fed (trigger_of (region P cn)) 1 One (inr (inr (inr (inl refl))))))) in
-      let further = spoken_on S g number numbered known count only s run r quiet e cn 1 (op.Switch ports.Signal) (Both (value.Bool true) value.Signal) true
-      value.Signal go_on (λ f. refl) in
-      let hand_on = both_fired S g number numbered known count only s run r quiet e cn 2 (op.Switch ports.Int) (value.Bool true) (value.Int i) less
-      (hands_index at) refl
-      (came S g number numbered known count only s run r quiet e (output cn) cn 2 Zero (value.Bool true) said
-      (fed (output cn) 2 Zero (inr (inr (inr (inr (inl refl)))))))
-      (came S g number numbered known count only s run r quiet e (output (h + 1)) cn 2 One (value.Int i) m.index
-      (subst (λ j. Feeds P (output (j + 1)) cn 2 One) of_h (fed (output (block P cn + 1)) 2 One (inr (inr (inr (inr (inr (inl refl))))))))) in
-      let last = spoken_on S g number numbered known count only s run r quiet e cn 2 (op.Switch ports.Int) (Both (value.Bool true) (value.Int i)) true
-      (value.Int i) hand_on (λ f. refl) in
-      let one_fired = alone_fired S g number numbered known count only s run r quiet e cn 3 (op.Const (constants.Int (pos 1))) Zero value.Signal less
-      (has_one at) refl
-      (came S g number numbered known count only s run r quiet e (part_of cn 1) cn 3 Zero value.Signal further
-      (fed (part_of cn 1) 3 Zero (inr (inr (inr (inr (inr (inr (inl refl))))))))) in
-      let one_more = spoken S g number numbered known count only s run r quiet e cn 3 (op.Const (constants.Int (pos 1))) (Alone value.Signal)
-      (value.Int (pos 1)) one_fired (λ f. refl) in
-      let add_fired = both_fired S g number numbered known count only s run r quiet e cn 4 (op.Binary (dyadic.Arithmetic Add)) (value.Int i) (value.Int (pos 1)) less
-      (adds_one at) refl
-      (came S g number numbered known count only s run r quiet e (part_of cn 2) cn 4 Zero (value.Int i) last
-      (fed (part_of cn 2) 4 Zero (inr (inr (inr (inr (inr (inr (inr (inl refl))))))))))
-      (came S g number numbered known count only s run r quiet e (part_of cn 3) cn 4 One (value.Int (pos 1)) one_more
-      (fed (part_of cn 3) 4 One (inr (inr (inr (inr (inr (inr (inr (inr (inl refl))))))))))) in
-      let sum = spoken S g number numbered known count only s run r quiet e cn 4 (op.Binary (dyadic.Arithmetic Add)) (Both (value.Int i) (value.Int (pos 1)))
-      (value.Int (i +ℤ pos 1)) add_fired (λ f. ap (λ c. fired_by (cond c (Gives (constants.Int (i +ℤ pos 1))) (Fails Overflow))) fits) in
-      let v = ((z.loop).the).switches in
-      let next = index_next S g number numbered known count only s run r quiet z.loop z.counted m.context k (i +ℤ pos 1)
-      (subst (λ j. Speaks S number run e (part_of (j + 1) 4) (value.Int (i +ℤ pos 1))) (sym z.switches) sum) in
-      let test = ap (node P) (sym z.switches) ∙ (((z.loop).all).test).node in
-      let flag = flag_next S g number numbered known count only s run r quiet z.loop z.counted m.context k true
-      (subst (λ j. Speaks S number run e (output (j + 1)) (value.Bool true)) (sym z.switches) said) in
-      let t : Tested p n (suc k) w true = record {
-        context = m.context;
-        live = live_again known z.within test m.body;
-        chosen = flag_chosen z flag;
-        goes = record { path = _; path_of = m.path_of (suc k); goes = side };
-        path_of = m.path_of;
-      } in
-      index_has p (suc k) y z t next
 
   -- a `next` statement stands in the body of its loop, and so does its expression
   next_region : {n h w l m o v : ℕ} → Stands P n (Loop h w l) → (y : NextStands P m h o v) → region P m ≡ arm_at w true
@@ -864,7 +499,7 @@ module _ (S : Source) (g : Parts) (number : ℕ → ℕ → ℕ) (numbered : Num
       let fired_so = alone_fired S g number numbered known count only s run r quiet a m 0 (op.Next (port_at P m)) Zero has.value less
       (advances is) refl to in
       let moves = next_moves S g number numbered known count only s run r quiet a m 0 (port_at P m) has.value fired_so
-      (value_fits has.stands (port_at P m) kind_is) in
+      (value_fits known has.stands (port_at P m) kind_is) in
       let var = variable_of known less is in
       let fed : Feeds P (output m) (label P m) 0 Zero =
       subst (λ j. Feeds P (output j) (label P m) 0 Zero) var.next
@@ -908,7 +543,7 @@ module _ (S : Source) (g : Parts) (number : ℕ → ℕ → ℕ) (numbered : Num
       let reset_so = alone_fired S g number numbered known count only s run r quiet a e 0 (op.Reset (port_at P l)) Zero has.value e_within
       (resets e_node) refl to in
       let moves = reset_moves S g number numbered known count only s run r quiet a e 0 (port_at P l) has.value reset_so
-      (value_fits has.stands (port_at P l) of_last) in
+      (value_fits known has.stands (port_at P l) of_last) in
       let head = (z.loop).head in
       let h_within = (z.loop).within in
       let result = moved_came S g number numbered known count only s run r quiet a (output e) 0 h 1 One has.value moves
@@ -926,16 +561,16 @@ module _ (S : Source) (g : Parts) (number : ℕ → ℕ → ℕ) (numbered : Num
       {x = (outer.start + 1, end_of P (outer.start + 1))} {y = (h, n)}
       (λ i. (outer.head i, (ap (end_of P) outer.head ∙ sym z.row) i)) back in
       let kind_is = port_taking S known inputs n p u x.within (ap is_thing x.node) holds in
-      let port : port_at P (end_of P h) ≡ port_of (value_kind u) = ap (port_at P) (sym z.row) ∙ kind_is in
+      let port : Takes P u (port_at P (end_of P h)) = subst (Takes P u) (ap (port_at P) z.row) kind_is in
       let back_so = both_fired S g number numbered known count only s run r quiet first h 1 (op.Back (port_at P (end_of P h))) (value.Continuation reply)
       has.value h_within (gives_back head) refl way_back result in
       let out = sent_handled S g number numbered known count only s run r quiet
-      (subst (λ f. FiresAs run (tag_in first (number h 1)) f) (sent_in has.stands (port_at P (end_of P h)) reply port) back_so.fires)
+      (subst (λ f. FiresAs run (tag_in first (number h 1)) f) (sent_in known has.stands (port_at P (end_of P h)) reply port) back_so.fires)
       (Token reply Zero has.value) (inl refl) in
       let merge_so = alone_fired S g number numbered known count only s run r quiet b n 0 (op.Merge (port_at P n)) Zero has.value x.within
       (gets_last x.node) refl out in
       let spoken_so = spoken S g number numbered known count only s run r quiet b n 0 (op.Merge (port_at P n)) (Alone has.value)
-      has.value merge_so (λ f. merged has.stands (port_at P n) kind_is) in
+      has.value merge_so (λ f. merged known has.stands (port_at P n) kind_is) in
       let up = loop_path S known number run (one_seats S known number run g numbered (contexts_apart g S.inputs count s run r)) z.loop outer (it.path_of k) in
       let parts = below_is p up.path (place P n) (place P (end_of P h)) k k up.is in
       let out_path : PathOf S number run b p = subst (PathOf S number run b) (sym parts.0) up.path_of in

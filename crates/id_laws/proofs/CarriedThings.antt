@@ -1,5 +1,5 @@
 -- In a quiet run what stands in a live region is carried, and so is what it has spoken.
-use Rattle.std.proofs.Common.{◌≡◌, ℕ, ◌<◌, true, false, List, [], length, refl, sym, ◌∙◌, ap, subst}
+use Rattle.std.proofs.Common.{◌≡◌, ℕ, ◌<◌, true, false, List, length, refl, sym, ◌∙◌, ap, subst}
 use Rattle.id_list.specs.List.{Among}
 use Rattle.id_table.specs.declared.row.Node.{Node}
 use Rattle.id_table.specs.Tables.{HasNear, HasOperand, is_binder, is_expression, is_index, is_next, is_thing}
@@ -16,9 +16,9 @@ use Rattle.id_value.specs.declared.Constant.{Constant}
 use Rattle.id_core.specs.Machines.{World}
 use Rattle.id_source.specs.declared.Path.{Path}
 use Rattle.id_source.specs.declared.SourceValue.{SourceValue}
-use Rattle.id_source.specs.Sources.{Source, AreInputs, value_kind, value_of}
+use Rattle.id_source.specs.Sources.{Source, AreInputs, value_of}
 use Rattle.id_pieces.specs.declared.arc.Origin.{Origin}
-use Rattle.id_pieces.specs.Rows.{home, label, node, origin, port_at, port_of}
+use Rattle.id_pieces.specs.Rows.{home, label, node, origin, port_at}
 use Rattle.id_pieces.specs.Schemas.{Numbered}
 use Rattle.id_runs.specs.Activations.{Activation, tag_in}
 use Rattle.id_runs.specs.Events.{Event}
@@ -28,6 +28,7 @@ use Rattle.id_laws.specs.Activations.{Live, PathOf, Speaks}
 use Rattle.id_laws.specs.Carried.{Here, CarriedHas, speaker}
 use Rattle.id_laws.proofs.Arcs.{Does}
 use Rattle.id_laws.proofs.Assumed.{IsKnown}
+use Rattle.id_laws.proofs.PortsTake.{Takes}
 use Rattle.id_laws.proofs.Regions.{label_row}
 use Rattle.id_laws.proofs.HasKinds.{binder_thing, expression_thing, operand_of}
 use Rattle.id_laws.proofs.Firings.{IsSettled, alone_fired, spoken}
@@ -126,14 +127,14 @@ module _ (S : Source) (g : Parts) (number : ℕ → ℕ → ℕ) (numbered : Num
   pub label_has : {p : Path} (b : ℕ) (m : Node) {w : Value} {v : SourceValue} → StandsFor S number run w v → (a : Activation) → PathOf S number run a p
       → Stands P b m → is_binder m ≡ true
       → Live S number run a (region P (home P b)) → Does P (label P b) 0 (Plain (op.Merge (port_at P b)))
-      → port_at P b ≡ port_of (value_kind v) → Among (Token (tag_in a (number (label P b) 0)) Zero w) (handled run)
+      → Takes P v (port_at P b) → Among (Token (tag_in a (number (label P b) 0)) Zero w) (handled run)
       → CarriedHas S number run p (place P b) v
   label_has b m {w} stands a path_of x binder live does kind_is h =
       let l = label P b in
       let inside = (label_row known x.within (ap is_binder x.node ∙ binder)).within in
       let fired_so = alone_fired S g number numbered known count only s run r quiet a l 0 (op.Merge (port_at P b)) Zero w inside does refl h in
       let out = spoken S g number numbered known count only s run r quiet a l 0 (op.Merge (port_at P b)) (Alone w) w fired_so
-      (λ f. merged stands (port_at P b) kind_is) in
+      (λ f. merged known stands (port_at P b) kind_is) in
       record {
         here = record {
           activation = a;
@@ -153,7 +154,7 @@ module _ (S : Source) (g : Parts) (number : ℕ → ℕ → ℕ) (numbered : Num
   pub own_has : {p : Path} (b : ℕ) (m : Node) {w : Value} {v : SourceValue} → StandsFor S number run w v → (a : Activation) → PathOf S number run a p
       → Stands P b m → is_binder m ≡ true → is_next m ≡ false → is_index m ≡ false
       → Live S number run a (region P b) → Does P b 0 (Plain (op.Merge (port_at P b)))
-      → port_at P b ≡ port_of (value_kind v) → Among (Token (tag_in a (number b 0)) Zero w) (handled run)
+      → Takes P v (port_at P b) → Among (Token (tag_in a (number b 0)) Zero w) (handled run)
       → CarriedHas S number run p (place P b) v
   own_has b m {w} stands a path_of x binder plain named live does kind_is h =
       let own = sym (label_plain P b m x.node plain named) in

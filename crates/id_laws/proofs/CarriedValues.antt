@@ -1,26 +1,34 @@
 -- Values of the source that tokens stand for, and their kinds; rows that are their own labels.
-use Rattle.std.proofs.Common.{◌≡◌, ℕ, true, false, cond, List, refl, sym, ap}
+use Rattle.std.proofs.Common.{◌≡◌, ℕ, Bool as Truth, true, false, cond, List, Option, Some, refl, sym, ◌∙◌, ap}
+use Rattle.id_value.specs.declared.Kind.{Kind}
+use Rattle.id_value.specs.Kinds.{array_kind}
 use Rattle.id_value.specs.declared.Constant.{Constant}
 use Rattle.id_value.specs.declared.Outcome.{Outcome}
 use Rattle.id_value.specs.declared.Outcome.TheVariants.{Gives}
 use Rattle.id_table.specs.declared.row.Node.{Node}
-use Rattle.id_table.specs.declared.row.Node.TheVariants.{Next, Index}
-use Rattle.id_table.specs.Tables.{is_expression, is_index, is_next}
+use Rattle.id_table.specs.declared.row.Node.TheVariants.{Array, Next, Index}
+use Rattle.id_table.specs.Tables.{is_expression, is_index, is_next, is_thing}
 use Rattle.id_check.specs.declared.checked.Checked.{Checked}
 use Rattle.id_instr.specs.declared.instr.PortKind.{PortKind}
 use Rattle.id_instr.specs.declared.instr.PortKind.TheVariants as kinds
+use Rattle.id_instr.specs.Held.{structure_kind}
 use Rattle.id_tag.specs.Kinds.{kind_of, same_kind}
+use Rattle.id_tag.specs.declared.Structure.{Structure}
 use Rattle.id_tag.specs.declared.Value.{Value}
 use Rattle.id_tag.specs.declared.Value.TheVariants as value
 use Rattle.id_tag.specs.declared.Tag.{Tag}
 use Rattle.id_ops.specs.declared.Fired.TheVariants.{Out, Nothing, Sent}
 use Rattle.id_ops.specs.Operators.{constant_value, fired_by}
 use Rattle.id_value.specs.declared.Constant.TheVariants as constants
+use Rattle.id_source.specs.declared.Site.{Site}
 use Rattle.id_source.specs.declared.SourceValue.{SourceValue}
-use Rattle.id_source.specs.Sources.{Source, value_kind, value_of}
+use Rattle.id_source.specs.declared.SourceValue.TheVariants as source
+use Rattle.id_source.specs.Sources.{Source, IsOfKind, value_of}
 use Rattle.id_pieces.specs.Rows.{block, home, home_by, label, label_by, node, port_of}
 use Rattle.id_runs.specs.Events.{Event}
-use Rattle.id_laws.specs.Topics.{StandsFor, number_stands, truth_stands, name_stands}
+use Rattle.id_laws.specs.Topics.{Named, StandsFor, number_stands, truth_stands, name_stands}
+use Rattle.id_laws.proofs.Assumed.{IsKnown}
+use Rattle.id_laws.proofs.PortsTake.{Takes, same_kinds, takes_constant}
 
 stands_is : {S : Source} {number : ℕ → ℕ → ℕ} {run : List Event} {w : Value} {v : SourceValue} (c : Constant) → StandsFor S number run w v → v ≡ value_of c
     → w ≡ constant_value c
@@ -36,18 +44,34 @@ pub stands_constant : {S : Source} {number : ℕ → ℕ → ℕ} {run : List Ev
     → w ≡ constant_value c
 stands_constant c h = stands_is c h refl
 
+-- the ports that take arrays of its kind take a structure
+made_fits : (b : Truth) → same_kind (structure_kind b) (port_of (array_kind b)) ≡ true
+made_fits false = refl
+made_fits true = refl
+
+nested_is : {b c : Truth} {i j k l : ℕ} → Array b i j ≡ Array c k l → b ≡ c
+nested_is e = cc
+
+-- a name is of the kind of its structure
+pub named_kind : {S : Source} {number : ℕ → ℕ → ℕ} {run : List Event} {s : Structure} {x : Site} {o : Option Kind} → IsKnown S.checked
+    → Named S number run s x → IsOfKind S.checked (source.Name x) o → o ≡ Some (array_kind s.nested)
+named_kind {S} known h is =
+    let row = (known.apart).apart is.row h.row (is.stands).within h.within (ap is_thing (is.stands).node) (ap is_thing h.node) (sym is.place ∙ h.place) in
+    is.kind ∙ ap (λ b. Some (array_kind b)) (nested_is (sym (is.stands).node ∙ ap (node S.checked) row ∙ h.node))
+
 -- a value is of the kind of the port that takes it
-pub value_fits : {S : Source} {number : ℕ → ℕ → ℕ} {run : List Event} {w : Value} {v : SourceValue} → StandsFor S number run w v → (k : PortKind)
-    → k ≡ port_of (value_kind v) → same_kind (kind_of w) k ≡ true
-value_fits (number_stands n) k e = ap (λ z. same_kind kinds.Int z) e
-value_fits (truth_stands b) k e = ap (λ z. same_kind kinds.Bool z) e
-value_fits (name_stands s x named) k e = ap (λ z. same_kind kinds.Structure z) e
+pub value_fits : {S : Source} {number : ℕ → ℕ → ℕ} {run : List Event} {w : Value} {v : SourceValue} → IsKnown S.checked → StandsFor S number run w v
+    → (k : PortKind) → Takes S.checked v k → same_kind (kind_of w) k ≡ true
+value_fits {S} known (number_stands n) k e = ap (same_kind kinds.Int) (takes_constant S.checked (constants.Int n) e)
+value_fits {S} known (truth_stands b) k e = ap (same_kind kinds.Bool) (takes_constant S.checked (constants.Bool b) e)
+value_fits known (name_stands s x named) k e =
+    ap (same_kind (structure_kind s.nested)) (e.2 ∙ ap port_of (same_kinds (named_kind known named e.1))) ∙ made_fits s.nested
 
 -- a value goes through a label for values of its kind
-pub merged : {S : Source} {number : ℕ → ℕ → ℕ} {run : List Event} {w : Value} {v : SourceValue} → StandsFor S number run w v → (k : PortKind)
-    → k ≡ port_of (value_kind v)
+pub merged : {S : Source} {number : ℕ → ℕ → ℕ} {run : List Event} {w : Value} {v : SourceValue} → IsKnown S.checked → StandsFor S number run w v
+    → (k : PortKind) → Takes S.checked v k
     → cond (same_kind (kind_of w) k) (Out w) Nothing ≡ Out w
-merged {w = w} h k e = ap (λ z. cond z (Out w) Nothing) (value_fits h k e)
+merged {w = w} known h k e = ap (λ z. cond z (Out w) Nothing) (value_fits known h k e)
 
 no_truth : true ≡ false → ⊥
 no_truth h = cc
@@ -72,7 +96,7 @@ pub gives_out : {o : Outcome} {c : Constant} → o ≡ Gives c → fired_by o �
 gives_out e = ap fired_by e
 
 -- a value of its kind goes into the context
-pub sent_in : {S : Source} {number : ℕ → ℕ → ℕ} {run : List Event} {w : Value} {v : SourceValue} → StandsFor S number run w v → (k : PortKind) (u : Tag)
-    → k ≡ port_of (value_kind v)
+pub sent_in : {S : Source} {number : ℕ → ℕ → ℕ} {run : List Event} {w : Value} {v : SourceValue} → IsKnown S.checked → StandsFor S number run w v
+    → (k : PortKind) (u : Tag) → Takes S.checked v k
     → cond (same_kind (kind_of w) k) (Sent u w) Nothing ≡ Sent u w
-sent_in {w = w} h k u e = ap (λ z. cond z (Sent u w) Nothing) (value_fits h k e)
+sent_in {w = w} known h k u e = ap (λ z. cond z (Sent u w) Nothing) (value_fits known h k e)

@@ -1,8 +1,7 @@
 -- Where the upper bound, the index and the flag of a loop with an index come from.
-use Rattle.std.proofs.Common.{◌≡◌, ℕ, ◌+◌, ◌-◌, ◌<◌, ◌==◌, Bool as Truth, true, false, cond, [], ◌∷◌, ◌++◌}
+use Rattle.std.proofs.Common.{◌≡◌, ℕ, ◌+◌, ◌-◌, ◌==◌, Bool as Truth, true, false, cond, [], ◌∷◌, ◌++◌}
 use Rattle.std.proofs.Common.{refl, sym, ◌∙◌, ap, arith}
 use Rattle.std.proofs.lemmas.Bool.Decides.{nat_tests}
-use Rattle.id_value.specs.declared.Kind.TheVariants as kinds
 use Rattle.id_table.specs.declared.row.Region.{Region}
 use Rattle.id_table.specs.declared.row.Node.TheVariants.{LoopHead, Switches}
 use Rattle.id_table.specs.Rows.{arm_at, at, top}
@@ -11,7 +10,6 @@ use Rattle.id_check.specs.declared.checked.Checked.{Checked}
 use Rattle.id_check.specs.Programs.{region, rows}
 use Rattle.id_desugar.specs.Regions.{bound_of, handed, imports_of, nexts_of, taken}
 use Rattle.id_pieces.specs.Rows.{block, handed_by, home, home_by, label, label_by, name_in, node, origin, origin_of, output, same_region, slot_of}
-use Rattle.id_pieces.specs.Rows as pieces
 use Rattle.id_arcs.proofs.NamesSeen.{named, region_is}
 use Rattle.id_laws.specs.Activations.{of_turns}
 use Rattle.id_laws.proofs.Assumed.{IsKnown}

@@ -1,6 +1,6 @@
 -- In a quiet run what a loop with an index carries on comes to each of its iterations: the index, its upper bound, and
 -- whether it goes on.
-use Rattle.std.proofs.Common.{◌≡◌, ℕ, zero, suc, ◌+◌, ◌-◌, ◌<◌, ◌≤◌, ℤ, inl, inr, Bool as Truth, true, cond, Some, List, [], ◌∷◌, ◌++◌, length, get_or}
+use Rattle.std.proofs.Common.{◌≡◌, ℕ, zero, suc, ◌+◌, ◌-◌, ◌<◌, ℤ, inl, inr, Bool as Truth, true, cond, Some, List, [], ◌∷◌, ◌++◌, length, get_or}
 use Rattle.std.proofs.Common.{slice_get, unwrap_or, refl, sym, ◌∙◌, ap, subst, arith, if◌then◌else◌}
 use Rattle.id_list.specs.List.{Among}
 use Rattle.id_list.proofs.AmongLemmas.{Among-left}
@@ -39,7 +39,8 @@ use Rattle.id_runs.specs.Runs.{Reach, handled}
 use Rattle.id_runs.specs.OneMessage.{Exclusive}
 use Rattle.id_laws.specs.Activations.{of_call, of_loop, Tests, of_arms, of_turns, Opens, Speaks, Decided, at_first, at_next, Chosen, has_said}
 use Rattle.id_laws.specs.Activations.{has_counted, Live, at_start, on_side, entered, again}
-use Rattle.id_laws.proofs.Arcs.{Does, hands, imports_fed, moves_name, turned, carries_on, carried_at, three_carried, three_turned}
+use Rattle.id_laws.proofs.Arcs.{Does, hands, moves_name, turned, carries_on, carried_at, three_carried, three_turned}
+use Rattle.id_laws.proofs.Feeders.{imports_fed}
 use Rattle.id_laws.proofs.Assumed.{IsKnown}
 use Rattle.id_laws.proofs.Calls.{called_head}
 use Rattle.id_laws.proofs.Conditionals.{main_head_is, one_test, tests_no_block}

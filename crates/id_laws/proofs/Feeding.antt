@@ -535,10 +535,10 @@ module _ (S : Source) (known : IsKnown S.checked) (number : ℕ → ℕ → ℕ)
   by_arc {n} v within (to_next {x = x} {k = k} {o = o} {v = e} is) says tells =
       at_node n 0 Zero v (Next x k o e) is (operand_tells n e (Next x k o e) v within is (inr refl) refl tells)
   by_arc {n} v within (to_reset {v = e} is) says tells = at_node n 0 Zero v (Reset e) is (operand_tells n e (Reset e) v within is refl refl tells)
-  by_arc {n} v within (to_low {a = e} {b = f} is) says tells =
-      at_node n 0 Zero v (Array e f) is (operand_tells n e (Array e f) v within is (inl refl) (inl refl) tells)
-  by_arc {n} v within (to_high {a = e} {b = f} is) says tells =
-      at_node n 0 One v (Array e f) is (operand_tells n f (Array e f) v within is (inr refl) (inr refl) tells)
+  by_arc {n} v within (to_low {nested = nested} {a = e} {b = f} is) says tells =
+      at_node n 0 Zero v (Array nested e f) is (operand_tells n e (Array nested e f) v within is (inl refl) (inl refl) tells)
+  by_arc {n} v within (to_high {nested = nested} {a = e} {b = f} is) says tells =
+      at_node n 0 One v (Array nested e f) is (operand_tells n f (Array nested e f) v within is (inr refl) (inr refl) tells)
   by_arc {n} v within (to_target {t = t} {i = i} (of_fetch is)) says tells =
       at_node n 0 Zero v (Fetch t i) is (operand_tells n t (Fetch t i) v within is (inl refl) (inl refl) tells)
   by_arc {n} v within (to_target {t = t} {i = i} (of_store is)) says tells =

@@ -1,6 +1,7 @@
 -- What a firing tells, where its operands tell what their ports want: one case for each part of a row.
 use Rattle.std.proofs.Common.{◌≡◌, inl, inr, ℕ, ℤ, zero, suc, ◌+◌, ◌-◌, ◌<◌, Bool as Truth, true, false, cond, List, length, arith, get_or, refl, sym, ◌∙◌, ap}
 use Rattle.std.proofs.Common.{subst}
+use Rattle.std.specs.Bool.{beq}
 use Rattle.id_table.specs.declared.row.Node.{Node}
 use Rattle.id_table.specs.declared.row.Node.TheVariants.{Head, Param, Literal, Unary, Binary, Split, If, Enter, Arg, Call, Array, Fetch, Address, Store}
 use Rattle.id_table.specs.declared.row.Node.TheVariants.{Binding, Program, Start, LoopHead, Variable, Entries, Switches, Turn, Next, Reset, Loop}
@@ -18,7 +19,7 @@ use Rattle.id_check.specs.Programs.{place, region, rows}
 use Rattle.id_instr.specs.declared.dests.Port.{Port}
 use Rattle.id_instr.specs.declared.dests.Port.TheVariants.{Zero, One}
 use Rattle.id_pieces.specs.declared.arc.Form.{Form}
-use Rattle.id_instr.specs.declared.instr.PortKind.TheVariants.{Signal as SignalKind, Int as IntKind}
+use Rattle.id_instr.specs.declared.instr.PortKind.TheVariants.{Signal as SignalKind}
 use Rattle.id_tag.specs.declared.Tag.{Tag}
 use Rattle.id_tag.specs.declared.Value.{Value}
 use Rattle.id_tag.specs.declared.Value.TheVariants as value
@@ -27,7 +28,7 @@ use Rattle.id_ops.specs.declared.Operands.{Operands}
 use Rattle.id_ops.specs.declared.Operands.TheVariants as operands
 use Rattle.id_ops.specs.declared.Fresh.{Fresh}
 use Rattle.id_ops.specs.declared.Fired.{Fired}
-use Rattle.id_ops.specs.declared.Fired.TheVariants.{Out, Side, Sent, Moved, Nothing}
+use Rattle.id_ops.specs.declared.Fired.TheVariants.{Out, Side, Sent, Moved, Asked, Nothing}
 use Rattle.id_ops.specs.Operators.{fired_switch, fired}
 use Rattle.id_source.specs.declared.Path.{Path}
 use Rattle.id_source.specs.declared.SourceValue.TheVariants as source
@@ -37,7 +38,7 @@ use Rattle.id_source.specs.Facts.{below, without, next_has}
 use Rattle.id_source.specs.Rounds.{Holds}
 use Rattle.id_desugar.specs.Ends.{end_of}
 use Rattle.id_desugar.specs.Regions.{carried, has_index, imports_of}
-use Rattle.id_pieces.specs.Rows.{block, next_of, node, port_at, binary_op, op_by, param_of, port_of, result_of}
+use Rattle.id_pieces.specs.Rows.{block, next_of, node, port_at, binary_op, holds_array, op_by, param_of, port_of, result_of}
 use Rattle.id_runs.specs.Activations.{Activation, at_iteration, tag_in, activation_of}
 use Rattle.id_runs.specs.Events.{Event, FiresOnce}
 use Rattle.id_laws.specs.Activations as Activations
@@ -65,7 +66,7 @@ use Rattle.id_laws.proofs.Seats.{OneSeat}
 use Rattle.id_laws.proofs.TurnedOn.{holds_by, without_none}
 use Rattle.id_laws.proofs.OperatorsAgree.{alone_nothing}
 use Rattle.id_laws.proofs.FiringMeans.{Returned, Passed, Given, Means, OperandsTell, one, two}
-use Rattle.id_laws.proofs.OperatorsTell.{spoken, part_live, shown_has, alloc_means, address_means, fetch_asks, store_by, literal_tells, binding_tells}
+use Rattle.id_laws.proofs.OperatorsTell.{spoken, part_live, shown_has, alloc_means, address_means, where_done, fetch_asks, store_by, literal_tells, binding_tells}
 use Rattle.id_laws.proofs.OperatorsTell.{unary_means, binary_means}
 
 true_false : true ≡ false → ⊥
@@ -475,10 +476,11 @@ module _ (S : Source) (known : IsKnown S.checked) (number : ℕ → ℕ → ℕ)
     one_means part o Zero v (fetches {t = e} {i = i} is) w =
         let x = wanted (Fetch e i) 1 Zero v is w in
         subst (λ z. M part (fired (op_by number o) t (operands.One z) fresh)) (sym x.is)
-        (fetch_asks S known number run seats a n within v _ is x (beside_is (number n 2)))
+        (where_done S known number run seats a n within part (Asked x.cell _) (beq (x.cell).structure.nested (holds_array P n))
+        (fetch_asks S known number run seats a n within v _ is x (beside_is (number n 2))))
     one_means part o One v (fetches {t = e} {i = i} is) w = absurd (wanted (Fetch e i) 1 One v is w)
     one_means part o Zero v (gets_reply {t = e} {i = i} is) w =
-        merged part v (same_kind (kind_of v) IntKind) (spoken S known number run seats a n within (Fetch e i) 2 v is (wanted (Fetch e i) 2 Zero v is w))
+        merged part v (same_kind (kind_of v) (port_at P n)) (spoken S known number run seats a n within (Fetch e i) 2 v is (wanted (Fetch e i) 2 Zero v is w))
     one_means part o One v (gets_reply {t = e} {i = i} is) w = absurd (wanted (Fetch e i) 2 One v is w)
     one_means part o p v (stores is) w = tt
     one_means part o p v (bounds_meet is) w = subst (M part) (sym (alone_nothing (dyadic.Comparison Le) v)) tt
@@ -578,19 +580,19 @@ module _ (S : Source) (known : IsKnown S.checked) (number : ℕ → ℕ → ℕ)
     two_means part o v w at (adds_one is) x y =
         add_tell S known number run seats once a n within is (count_loop known within is).0 (count_loop known within is).1 v w (wanted Count 4 Zero v is x) (wanted Count 4 One w is y)
     two_means part o v w at (answers is) x y = absurd (wanted Program 0 One w is y)
-    two_means part o v w at (allocates {a = e} {b = f} is) x y =
-        alloc_means S known number run seats a n within e f v w fresh is (wanted (Array e f) 0 Zero v is x) (wanted (Array e f) 0 One w is y)
+    two_means part o v w at (allocates {nested = nested} {a = e} {b = f} is) x y =
+        alloc_means S known number run seats a n within nested e f v w fresh is (wanted (Array nested e f) 0 Zero v is x) (wanted (Array nested e f) 0 One w is y)
     two_means part o v w at (addresses {t = e} {i = i} (of_fetch is)) x y =
-        address_means S known number run seats a n within v w (of_fetch is) (wanted (Fetch e i) 0 Zero v is x) (wanted (Fetch e i) 0 One w is y)
+        address_means S known number run seats a n within (holds_array P n) v w (of_fetch is) (wanted (Fetch e i) 0 Zero v is x) (wanted (Fetch e i) 0 One w is y)
     two_means part o v w at (addresses {t = e} {i = i} (of_store is)) x y =
-        address_means S known number run seats a n within v w (of_store is) (wanted (Address e i) 0 Zero v is x) (wanted (Address e i) 0 One w is y)
+        address_means S known number run seats a n within (holds_array P n) v w (of_store is) (wanted (Address e i) 0 Zero v is x) (wanted (Address e i) 0 One w is y)
     two_means part o v w at (fetches {t = e} {i = i} is) x y = absurd (wanted (Fetch e i) 1 One w is y)
     two_means part o v w at (gets_reply {t = e} {i = i} is) x y = absurd (wanted (Fetch e i) 2 One w is y)
     two_means part o v w at (stores {a = d} {v = e} is) x y =
         let c = wanted (Store d e) 0 Zero v is x in
         let put = wanted (Store d e) 0 One w is y in
         subst (λ z. M part (fired (op_by number o) t (operands.Two z w) fresh)) (sym c.is)
-        (store_by S known number run seats a n within v t is c (put.1).stands (shown_has S known number run seats a n within e c.path_of put.1)
+        (store_by S known number run seats a n within (holds_array P d) v t is c (put.1).stands (shown_has S known number run seats a n within e c.path_of put.1)
         (own_tag (number n 0) at))
 
     -- what a firing tells

@@ -1,11 +1,9 @@
 -- The inputs of a program are inputs for each graph that the schemas give it.
-use Rattle.std.proofs.Common.{◌≡◌, ℕ, ◌<◌, Some, List, [], ◌∷◌, length, map, sym, ◌∙◌, ap, subst, inl, inr, refl}
+use Rattle.std.proofs.Common.{◌≡◌, ℕ, Some, List, [], ◌∷◌, length, map, sym, ◌∙◌, ap, subst, inl, inr, refl}
 use Rattle.id_list.specs.List.{Among}
-use Rattle.id_table.specs.declared.row.Node.{Node}
-use Rattle.id_table.specs.declared.row.Node.TheVariants.{Param}
 use Rattle.id_table.specs.Turns.{params_at}
 use Rattle.id_check.specs.declared.checked.Checked.{Checked}
-use Rattle.id_check.specs.Programs.{kind, rows}
+use Rattle.id_check.specs.Programs.{rows}
 use Rattle.id_instr.specs.declared.instr.Block.{Block}
 use Rattle.id_instr.specs.declared.instr.Op.TheVariants.{Merge}
 use Rattle.id_instr.specs.Graph.{Parts}
@@ -14,26 +12,21 @@ use Rattle.id_core.specs.Machines.{AreTaken, TakesInputs}
 use Rattle.id_value.specs.declared.Constant.{Constant}
 use Rattle.id_value.specs.declared.Constant.TheVariants as value
 use Rattle.id_ops.specs.Operators.{constant_value}
-use Rattle.id_source.specs.Sources.{AreFor, AreInputs, SuitsParam, source, constant_kind}
+use Rattle.id_source.specs.Sources.{AreFor, AreInputs, source, constant_kind}
 use Rattle.id_pieces.specs.Rows.{node, port_at, port_of}
 use Rattle.id_pieces.specs.Schemas.{Numbered, Schemas}
 use Rattle.id_laws.specs.Activations.{main_head}
 use Rattle.id_laws.proofs.Arcs.{enters}
 use Rattle.id_laws.proofs.Blocks.{a_param}
 use Rattle.id_laws.proofs.Assumed.{IsKnown}
+use Rattle.id_laws.proofs.HasKinds.{param_suits}
 use Rattle.id_laws.proofs.Start.{main_block, the_block}
-use Rattle.id_laws.proofs.ValidKinds.{port_is}
-use Rattle.id_laws.proofs.Validity.{op_made}
+use Rattle.id_laws.proofs.ValidPorts.{port_is}
+use Rattle.id_laws.proofs.ValidRoles.{op_made}
 
 token_port : (v : Constant) → token_kind (constant_value v) ≡ port_of (constant_kind v)
 token_port (value.Int n) = refl
 token_port (value.Bool b) = refl
-
--- a parameter that suits the value has its kind
-suits_kind : (P : Checked) (known : IsKnown P) (b : ℕ) (v : Constant) → b < length (rows P) → (m : Node) → node P b ≡ m → SuitsParam m v
-    → kind P b ≡ Some (constant_kind v)
-suits_kind P known b v within (Param x k) is h = known.param_kind b x k within is ∙ ap (λ z. Some z) (sym h.0)
-suits_kind P known b v within _ is h = absurd h
 
 module _ (P : Checked) (known : IsKnown P) (g : Parts) (number : ℕ → ℕ → ℕ) (numbered : Numbered P g number) where
   -- labels of parameters of one block take values of their kinds
@@ -44,7 +37,7 @@ module _ (P : Checked) (known : IsKnown P) (g : Parts) (number : ℕ → ℕ →
   entries_take h (b ∷ bs) [] inside own = own
   entries_take h (b ∷ bs) (v ∷ vs) inside own =
       let z = a_param (rows P) h (length (rows P)) b (inside b (inl refl)) in
-      let of_kind = suits_kind P known b v z.within (node P b) refl own.0 in
+      let of_kind = param_suits P known b v z.within (node P b) refl own.0 in
       let kind_is : port_at P b ≡ token_kind (constant_value v) = port_is P b (constant_kind v) of_kind ∙ sym (token_port v) in (
         op_made P known g number numbered z.within (enters (z.param).is) ∙ ap (λ k. Some (Merge k)) kind_is,
         entries_take h bs vs (λ y k. inside y (inr k)) own.1,

@@ -1,25 +1,26 @@
 -- The rows of a checked program are known: the table, the binders and the kinds that the check has found.
-use Rattle.std.proofs.Common.{◌≡◌, inl, inr, ℕ, ◌<◌, ◌+◌, ◌-◌, true, Some, map, length, refl, sym, ◌∙◌, ap, subst, if◌then◌else◌}
+use Rattle.std.proofs.Common.{◌≡◌, inl, inr, ℕ, ◌<◌, ◌+◌, ◌-◌, Bool, true, Some, map, length, refl, sym, ◌∙◌, ap, subst, if◌then◌else◌}
 use Rattle.std.specs.Prelude.{slice_get, unwrap_or}
 use Rattle.id_table.specs.declared.row.Node.{Node}
-use Rattle.id_table.specs.declared.row.Node.TheVariants.{Param, Literal, Name, Unary, Binary, Arg, Call, Def, Block, Binding, Start, LoopHead, Turn, Next, Array, Fetch, Carried, Index}
+use Rattle.id_table.specs.declared.row.Node.TheVariants.{Param, Literal, Name, Unary, Binary, Arg, Call, Def, Block, Binding, Start, LoopHead, Turn, Next, Array, Carried, Index}
 use Rattle.id_table.specs.Tables.{AreApart, is_binder, is_top}
 use Rattle.id_table.specs.Turns.{IsDefOf, params_at}
 use Rattle.id_table.proofs.BlocksLemmas.{Among-from_params_at}
 use Rattle.id_table.proofs.PlacesLemmas.{AreApart-rows_of}
 use Rattle.id_check.specs.declared.checked.Checked.{Checked}
 use Rattle.id_scope.specs.Causes.{defines_main}
-use Rattle.id_scope.specs.Kinds.{link_of}
+use Rattle.id_scope.specs.Kinds.{kind_within, link_of}
 use Rattle.id_check.specs.Programs.{Calls, Stands, binder, kind, region, rows, tree}
 use Rattle.id_check.proofs.ProgramsLemmas.{table_of, bound_name_row, kind_along, kind_fixed, split_row, if_row}
 use Rattle.id_check.proofs.ProgramsLemmas.{def_row, enter_row, callee_row, call_row, next_row, argument_row}
 use Rattle.id_check.proofs.ProgramsLemmas.{argument_call, switches_row}
-use Rattle.id_check.proofs.ProgramsLemmas.{array_row, bounds_row, fetch_row, address_row, store_row}
+use Rattle.id_check.proofs.ProgramsLemmas.{array_row, bounds_row, fetch_row, fetch_kind, address_row, address_kind, store_row}
 use Rattle.id_source.specs.Sources.{head_of}
 use Rattle.id_meaning.proofs.ArgumentsLemmas.{argument-get}
 use Rattle.id_pieces.specs.Rows.{block, called, entering, first_binder, node, outer_at, param_at, param_of}
 use Rattle.id_pieces.specs.Rows as build
 use Rattle.id_value.specs.declared.Kind.TheVariants as kinds
+use Rattle.id_value.specs.Kinds.{array_kind}
 use Rattle.id_list.specs.List.{Among}
 use Rattle.id_desugar.specs.Regions.{imports_of, nexts_of}
 use Rattle.id_laws.specs.Activations.{main_head, Tests, of_arms, of_turns}
@@ -140,9 +141,15 @@ test_by P n t within (of_arms is) = split_row P n t (record { within = within; n
 test_by P n t within (of_turns is) = switches_row P n t (record { within = within; node = is })
 
 -- what names a cell is a structure with a number
-cell_by : (P : Checked) (n t i : ℕ) → n < length (rows P) → Addresses P n t i → (kind P t ≡ Some kinds.Array) × (kind P i ≡ Some kinds.Int)
+cell_by : (P : Checked) (n t i : ℕ) → n < length (rows P) → Addresses P n t i
+    → (nested : Bool) × (kind P t ≡ Some (array_kind nested)) × (kind P i ≡ Some kinds.Int)
 cell_by P n t i within (of_fetch is) = fetch_row P n t i (record { within = within; node = is })
 cell_by P n t i within (of_store is) = address_row P n t i (record { within = within; node = is })
+
+-- what a cell of it holds is of the kind of the elements
+kind_of_cell : (P : Checked) (n t i : ℕ) → n < length (rows P) → Addresses P n t i → kind P n ≡ Some (kind_within (kind P t))
+kind_of_cell P n t i within (of_fetch is) = fetch_kind P n t i (record { within = within; node = is })
+kind_of_cell P n t i within (of_store is) = address_kind P n t i (record { within = within; node = is })
 
 -- the rows of each checked program are known
 pub known : (P : Checked) → IsKnown P
@@ -177,12 +184,12 @@ known P = record {
   arm_kinds = λ n s x y within is. (let z = if_row P n s x y (record { within = within; node = is }) in (sym z.0, sym z.1));
   index_kind = λ n x within is. kind_fixed P n (Index x) kinds.Int (record { within = within; node = is }) refl;
   carried_kind = λ n k within is. kind_fixed P n (Carried k) k (record { within = within; node = is }) refl;
-  array_kind = λ n a b within is. kind_fixed P n (Array a b) _ (record { within = within; node = is }) refl;
-  fetch_kind = λ n t i within is. kind_fixed P n (Fetch t i) _ (record { within = within; node = is }) refl;
+  array_kind = λ {nested} n a b within is. kind_fixed P n (Array nested a b) _ (record { within = within; node = is }) refl;
+  cell_kind = kind_of_cell P;
   range_kinds = λ n a b within is. bounds_row P n a b (record { within = within; node = is });
   bound_kinds = λ n a b within is. array_row P n a b (record { within = within; node = is });
   cell_kinds = cell_by P;
-  stored_kind = λ n a v within is. store_row P n a v (record { within = within; node = is });
+  stored_kind = λ n a v t i within is a_within a_is. store_row P n a v t i (record { within = within; node = is }) (record { within = a_within; node = a_is });
   block_kind = λ n b within is. kind_along P n b (Block b) (record { within = within; node = is }) refl;
   binding_kind = λ n x a within is. kind_along P n a (Binding x a) (record { within = within; node = is }) refl;
   result_kind = λ n h d. def_row P n d.name h d.body d.result (record { within = d.within; node = d.node });

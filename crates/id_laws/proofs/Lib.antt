@@ -1,4 +1,5 @@
 pub mod Arcs
+pub mod Feeders
 pub mod Assumed
 pub mod Calls
 pub mod Stores
@@ -39,6 +40,7 @@ pub mod Movers
 pub mod AllTell
 pub mod Steps
 pub mod WantedKinds
+pub mod PortsTake
 pub mod HasKinds
 pub mod Wholes
 pub mod Firings
@@ -48,10 +50,12 @@ pub mod Speakers
 pub mod CarriedValues
 pub mod CarriedThings
 pub mod CarriedRegions
+pub mod CarriedCounted
 pub mod CarriedFacts
 pub mod OperatorsAgree
 pub mod StartTells
 pub mod ValidCounts
+pub mod OneWay
 pub mod OneSender
 pub mod Observing
 pub mod TagPaths
@@ -69,8 +73,11 @@ pub mod QuietCells
 pub mod Known
 pub mod LabelsShow
 pub mod QuietRuns
+pub mod ValidPorts
 pub mod ValidKinds
 pub mod ValidTests
+pub mod ValidRoles
+pub mod ValidFeeds
 pub mod Validity
 pub mod InputsFit
 pub mod LabelsOnce

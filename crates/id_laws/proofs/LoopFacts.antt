@@ -29,7 +29,9 @@ use Rattle.id_pieces.proofs.EndsLemmas.{loop_same}
 use Rattle.id_pieces.proofs.LoopsLemmas.{entries_are, entries_node, entries_stand, entries_within, next_is, loop_rows, the_loop}
 use Rattle.id_arcs.proofs.NamesSeen.{Sees, handed as by_switches, entered, of_turns as turns}
 use Rattle.id_laws.proofs.Assumed.{IsKnown}
-use Rattle.id_laws.proofs.Arcs.{Does, moves_on, moves_name, takes_in, import_listed, turned, carries_on, behind_turned, three_carried, none_carried}
+use Rattle.id_laws.proofs.Arcs.{Does, moves_on, moves_name, takes_in, turned, carries_on, behind_turned}
+use Rattle.id_laws.proofs.Arcs.{three_carried, none_carried}
+use Rattle.id_laws.proofs.Feeders.{import_listed}
 use Rattle.id_laws.proofs.LoopRows.{carried_rows}
 use Rattle.id_laws.proofs.Loops.{LoopOf, loop_by, loop_of_head, same_loop, start_before, start_node, switches_within, turn_in, turn_node, turn_region, turn_within}
 use Rattle.id_laws.proofs.Regions.{row_within}

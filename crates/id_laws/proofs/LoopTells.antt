@@ -1,5 +1,5 @@
 -- What a loop gives, and what its entries are given, tells what is wanted there.
-use Rattle.std.proofs.Common.{zero, cond, [], ◌∷◌}
+use Rattle.std.proofs.Common.{zero, cond}
 use Rattle.std.proofs.Common.{◌≡◌, ℕ, suc, ◌+◌, ◌-◌, ◌<◌, true, List, length, get_or, refl, sym, ◌∙◌, ap, subst, arith}
 use Rattle.id_table.specs.declared.row.Region.{Region}
 use Rattle.id_table.specs.declared.row.Node.TheVariants.{Program, Start, LoopHead, Variable}

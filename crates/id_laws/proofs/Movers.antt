@@ -1,5 +1,6 @@
 -- What goes to another iteration: a `next` and a `reset`, and these alone.
 use Rattle.std.proofs.Common.{◌≡◌, ℕ, ◌+◌, Bool as Truth, true, false, cond, if◌then◌else◌, refl, sym, ◌∙◌, ap, subst}
+use Rattle.std.specs.Bool.{beq}
 use Rattle.id_value.specs.Bounds.{are_good, is_inside}
 use Rattle.id_value.specs.declared.FaultKind.{FaultKind}
 use Rattle.id_value.specs.declared.Outcome.{Outcome}
@@ -20,8 +21,8 @@ use Rattle.id_ops.specs.declared.Operands.{Operands}
 use Rattle.id_ops.specs.declared.Operands.TheVariants.{One as Alone, Two}
 use Rattle.id_ops.specs.declared.Fresh.{Fresh}
 use Rattle.id_ops.specs.declared.Fired.{Fired}
-use Rattle.id_ops.specs.declared.Fired.TheVariants.{Out, Side, Sent, Moved, Failed, Nothing}
-use Rattle.id_ops.specs.Operators.{fired, fired_by, fired_enter, fired_next, fired_reset}
+use Rattle.id_ops.specs.declared.Fired.TheVariants.{Out, Side, Sent, Moved, Asked, Stored, Failed, Nothing}
+use Rattle.id_ops.specs.Operators.{address_in, fired, fired_by, fired_enter, fired_next, fired_reset, may_hold}
 use Rattle.id_check.specs.declared.checked.Checked.{Checked}
 use Rattle.id_pieces.specs.declared.arc.Form.{Form}
 use Rattle.id_pieces.specs.Rows.{node, op_by}
@@ -82,14 +83,17 @@ moving (op.Send j n) t (Two (Opened c) v) f k w h = absurd (tested (same_kind (k
 moving (op.Send j n) t _ f k w h = cc
 moving (op.Next j) t ops f k w h = refl
 moving (op.Reset j) t ops f k w h = refl
-moving op.Alloc t (Two (Int a) (Int b)) f k w h = absurd (tested_or (are_good a b) _ _ k w h)
-moving op.Alloc t _ f k w h = cc
-moving op.Address t (Two (value.Structure s) (Int i)) f k w h = absurd (tested_or (is_inside s.low s.high i) _ _ k w h)
-moving op.Address t _ f k w h = cc
-moving (op.Fetch r) t (Alone (value.Address c)) f k w h = cc
-moving (op.Fetch r) t _ f k w h = cc
-moving op.Store t (Two (value.Address c) (Int n)) f k w h = cc
-moving op.Store t _ f k w h = cc
+moving (op.Alloc nested) t (Two (Int a) (Int b)) f k w h = absurd (tested_or (are_good a b) _ _ k w h)
+moving (op.Alloc nested) t _ f k w h = cc
+moving (op.Address nested) t (Two (value.Structure s) (Int i)) f k w h =
+    absurd (tested (beq s.nested nested) (address_in s i) k w (tested_or (is_inside s.low s.high i) _ _ k w) h)
+moving (op.Address nested) t _ f k w h = cc
+moving (op.Fetch nested r) t (Alone (value.Address c)) f k w h =
+    absurd (tested (beq c.structure.nested nested) (Asked c _) k w (λ e. cc) h)
+moving (op.Fetch nested r) t _ f k w h = cc
+moving (op.Store nested) t (Two (value.Address c) v) f k w h =
+    absurd (tested (may_hold nested c v) (Stored c v t) k w (λ e. cc) h)
+moving (op.Store nested) t _ f k w h = cc
 
 -- whether an operator does is decided by the row
 pub mover_is : (P : Checked) (number : ℕ → ℕ → ℕ) {n part : ℕ} {o : Form} → Does P n part o → moves (op_by number o) ≡ is_mover (node P n)

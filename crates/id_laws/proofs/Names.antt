@@ -37,8 +37,8 @@ one_tag : {run : List Event} {t u : Tag} {f f' : Fired} (x : FiresAs run t f) (y
 one_tag x y e = cc
 
 -- the operator of an `array` makes structures
-pub makes_structures : {P : Checked} {g : Parts} {number : ℕ → ℕ → ℕ} {n a b : ℕ} → Numbered P g number → n < length (rows P) → node P n ≡ Array a b
-    → op_at g (number n 0) ≡ Some op.Alloc
+pub makes_structures : {P : Checked} {g : Parts} {number : ℕ → ℕ → ℕ} {nested : _} {n a b : ℕ} → Numbered P g number → n < length (rows P) → node P n ≡ Array nested a b
+    → op_at g (number n 0) ≡ Some (op.Alloc nested)
 makes_structures {n = n} numbered within is =
     let m = numbered.made n 0 _ _ (makes within (allocates is)) in
     ap (option_map (λ (i : Instr). i.op)) m.at ∙ ap (λ o. Some o) m.op

@@ -53,8 +53,8 @@ module _ (S : Source) (known : IsKnown S.checked) (g : Parts) (number : ℕ → 
       })
 
   -- an `array` is made by an `alloc`
-  pub array_op : {n low high : ℕ} → n < length (rows P) → node P n ≡ Array low high → op_at g (number n 0) ≡ Some op.Alloc
-  array_op {n} within is = let m = numbered.made n 0 _ _ (makes within (allocates is)) in ap (option_map (λ (i : Instr). i.op)) m.at ∙ ap (λ z. Some z) m.op
+  pub array_op : {nested : _} {n low high : ℕ} → n < length (rows P) → node P n ≡ Array nested low high → op_at g (number n 0) ≡ Some (op.Alloc nested)
+  array_op {n = n} within is = let m = numbered.made n 0 _ _ (makes within (allocates is)) in ap (option_map (λ (i : Instr). i.op)) m.at ∙ ap (λ z. Some z) m.op
 
   -- what a structure is called is what it is shown to be
   pub name_shown : (z : Structure) (x : Site) → Named S number run z x → shown.structure_in g s.elements z ≡ x

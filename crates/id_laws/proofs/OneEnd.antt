@@ -22,7 +22,7 @@ use Rattle.id_runs.specs.Events.{Event, FiresOnce}
 use Rattle.id_runs.specs.Serials.{ContextsApart}
 use Rattle.id_laws.specs.Activations.{of_loop, of_turns, Speaks, Decided, at_first, at_next, Chosen, has_said, has_counted, Live, at_start, on_side, entered, again}
 use Rattle.id_laws.specs.Topics.{AllSpeak, Tells, topic_of}
-use Rattle.id_laws.proofs.Arcs.{imports_fed}
+use Rattle.id_laws.proofs.Feeders.{imports_fed}
 use Rattle.id_laws.proofs.Counted.{bound_first}
 use Rattle.id_laws.proofs.Origins.{flag_tells}
 use Rattle.id_laws.proofs.Assumed.{IsKnown}

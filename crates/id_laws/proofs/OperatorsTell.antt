@@ -1,5 +1,6 @@
 -- What the firings of literals, bindings, operators, arrays and cells tell.
 use Rattle.std.proofs.Common.{◌≡◌, ◌⊎◌, inl, inr, ℕ, ◌<◌, Bool as Truth, true, false, if◌then◌else◌, ℤ, List, length, refl, sym, ◌∙◌, ap, subst}
+use Rattle.std.specs.Bool.{beq}
 use Rattle.id_value.specs.declared.Constant.{Constant}
 use Rattle.id_value.specs.Bounds.{are_good, is_inside}
 use Rattle.id_value.specs.declared.FaultKind.{FaultKind}
@@ -20,8 +21,9 @@ use Rattle.id_tag.specs.declared.Value.TheVariants as value
 use Rattle.id_ops.specs.declared.Operands.TheVariants as operands
 use Rattle.id_ops.specs.declared.Fresh.{Fresh}
 use Rattle.id_ops.specs.declared.Fired.{Fired}
-use Rattle.id_ops.specs.declared.Fired.TheVariants.{Out, Failed}
-use Rattle.id_ops.specs.Operators.{constant_value, fired_by, fired_unary, fired_binary, fired_alloc, fired_address, fired_store, structure_in, address_in}
+use Rattle.id_ops.specs.declared.Fired.TheVariants.{Out, Stored, Failed, Nothing}
+use Rattle.id_ops.specs.Operators.{constant_value, fired_by, fired_unary, fired_binary, fired_alloc, fired_address, fired_store}
+use Rattle.id_ops.specs.Operators.{structure_in, address_in, may_hold}
 use Rattle.id_tag.specs.declared.Structure.{Structure}
 use Rattle.id_source.specs.declared.Path.{Path}
 use Rattle.id_source.specs.declared.Site.{Site}
@@ -166,17 +168,18 @@ module _ (S : Source) (known : IsKnown S.checked) (number : ℕ → ℕ → ℕ)
   store_on_at path live store = turned_on S known seats live path ((known.table).store_turned n within store)
 
   -- what makes a structure: it Has its name
-  structure_means : {e f : ℕ} (lo hi : ℤ) (fresh : Fresh) → node P n ≡ Array e f → Live S number run a (region P n) → {p : Path} → PathOf S number run a p
-      → Holds S (Has p (place P e) (source.Int lo)) → Holds S (Has p (place P f) (source.Int hi)) → M 0 (structure_in fresh lo hi)
-  structure_means {e} {f} lo hi fresh is live {p} path low high = by (are_good lo hi) refl
+  structure_means : {e f : ℕ} (nested : Truth) (lo hi : ℤ) (fresh : Fresh) → node P n ≡ Array nested e f → Live S number run a (region P n) → {p : Path}
+      → PathOf S number run a p
+      → Holds S (Has p (place P e) (source.Int lo)) → Holds S (Has p (place P f) (source.Int hi)) → M 0 (structure_in nested fresh lo hi)
+  structure_means {e} {f} nested lo hi fresh is live {p} path low high = by (are_good lo hi) refl
     where
       s : Structure
-      s = record { element = fresh.element; serial = fresh.structure; low = lo; high = hi }
+      s = record { element = fresh.element; serial = fresh.structure; low = lo; high = hi; nested = nested }
 
       on : Holds S (On p (place P n))
       on = on_at path live (ap is_expression is)
 
-      stands : Stands P n (Array e f)
+      stands : Stands P n (Array nested e f)
       stands = record { within = within; node = is }
 
       by : (b : Truth) → are_good lo hi ≡ b → M 0 (if b then Out (value.Structure s) else Failed BadBounds)
@@ -218,22 +221,27 @@ module _ (S : Source) (known : IsKnown S.checked) (number : ℕ → ℕ → ℕ)
   pub shown_has : {p : Path} (e : ℕ) {v : Value} → PathOf S number run a p → (w : Shown S number run a 0 (place P e) v) → Holds S (Has p (place P e) w.value)
   shown_has {p} e path w = subst (λ z. Holds S (Has z (place P e) w.value)) (without_none w.path ∙ one_path seats w.path_of path) w.holds
 
-  alloc_by : {e f : ℕ} {v w : Value} {x y : SourceValue} (fresh : Fresh) → node P n ≡ Array e f → Live S number run a (region P n) → {p : Path}
-      → PathOf S number run a p
+  alloc_by : {e f : ℕ} {v w : Value} {x y : SourceValue} (nested : Truth) (fresh : Fresh) → node P n ≡ Array nested e f → Live S number run a (region P n)
+      → {p : Path} → PathOf S number run a p
       → StandsFor S number run v x → StandsFor S number run w y → Holds S (Has p (place P e) x) → Holds S (Has p (place P f) y)
-      → M 0 (fired_alloc fresh (operands.Two v w))
-  alloc_by fresh is live path (number_stands lo) (number_stands hi) low high = structure_means lo hi fresh is live path low high
-  alloc_by fresh is live path (number_stands lo) (truth_stands b) low high = tt
-  alloc_by fresh is live path (number_stands lo) (name_stands s x named) low high = tt
-  alloc_by fresh is live path (truth_stands b) y low high = tt
-  alloc_by fresh is live path (name_stands s x named) y low high = tt
+      → M 0 (fired_alloc nested fresh (operands.Two v w))
+  alloc_by nested fresh is live path (number_stands lo) (number_stands hi) low high = structure_means nested lo hi fresh is live path low high
+  alloc_by nested fresh is live path (number_stands lo) (truth_stands b) low high = tt
+  alloc_by nested fresh is live path (number_stands lo) (name_stands s x named) low high = tt
+  alloc_by nested fresh is live path (truth_stands b) y low high = tt
+  alloc_by nested fresh is live path (name_stands s x named) y low high = tt
 
-  pub alloc_means : (e f : ℕ) (v w : Value) (fresh : Fresh) → node P n ≡ Array e f → T (ValueOf e) v → T (ValueOf f) w
-      → M 0 (fired_alloc fresh (operands.Two v w))
-  alloc_means e f v w fresh is t u =
-      let live = part_live e (Array e f) is (inl refl) t.0 in
+  pub alloc_means : (nested : Truth) (e f : ℕ) (v w : Value) (fresh : Fresh) → node P n ≡ Array nested e f → T (ValueOf e) v → T (ValueOf f) w
+      → M 0 (fired_alloc nested fresh (operands.Two v w))
+  alloc_means nested e f v w fresh is t u =
+      let live = part_live e (Array nested e f) is (inl refl) t.0 in
       let path = (t.1).path_of in
-      alloc_by fresh is live path (t.1).stands (u.1).stands (shown_has e path t.1) (shown_has f path u.1)
+      alloc_by nested fresh is live path (t.1).stands (u.1).stands (shown_has e path t.1) (shown_has f path u.1)
+
+  -- what is done under a test alone means what it means where it is done
+  pub where_done : (part : ℕ) (f : Fired) (b : Truth) → M part f → M part (if b then f else Nothing)
+  where_done part f true means = means
+  where_done part f false means = tt
 
   -- the row's cell
   cell_topic : {t i : ℕ} → Addresses P n t i → speaks_of P n (region P n) (node P n) 0 true ≡ CellOf n
@@ -292,24 +300,27 @@ module _ (S : Source) (known : IsKnown S.checked) (number : ℕ → ℕ → ℕ)
       })
       by false out = record { live = live; path = p; path_of = path; faulty = outside parts live path out has index named.holds; shows = address_shows parts }
 
-  address_by : {t i : ℕ} {v w : Value} {x y : SourceValue} {p : Path} → Addresses P n t i → Live S number run a (region P n) → PathOf S number run a p
+  address_by : {t i : ℕ} {v w : Value} {x y : SourceValue} {p : Path} (nested : Truth) → Addresses P n t i → Live S number run a (region P n)
+      → PathOf S number run a p
       → StandsFor S number run v x → StandsFor S number run w y → Holds S (Has p (place P t) x) → Holds S (Has p (place P i) y)
-      → M 0 (fired_address (operands.Two v w))
-  address_by parts live path (name_stands s x named) (number_stands j) has index = cell_means s x j parts live path named has index
-  address_by parts live path (name_stands s x named) (truth_stands b) has index = tt
-  address_by parts live path (name_stands s x named) (name_stands r y other) has index = tt
-  address_by parts live path (number_stands m) y has index = tt
-  address_by parts live path (truth_stands b) y has index = tt
+      → M 0 (fired_address nested (operands.Two v w))
+  address_by nested parts live path (name_stands s x named) (number_stands j) has index =
+      where_done 0 (address_in s j) (beq s.nested nested) (cell_means s x j parts live path named has index)
+  address_by nested parts live path (name_stands s x named) (truth_stands b) has index = tt
+  address_by nested parts live path (name_stands s x named) (name_stands r y other) has index = tt
+  address_by nested parts live path (number_stands m) y has index = tt
+  address_by nested parts live path (truth_stands b) y has index = tt
 
   part_is_near : {t i : ℕ} → Addresses P n t i → HasNear (node P n) t
   part_is_near {t} (of_fetch is) = subst (λ z. HasNear z t) (sym is) (inl refl)
   part_is_near {t} (of_store is) = subst (λ z. HasNear z t) (sym is) (inl refl)
 
-  pub address_means : {t i : ℕ} (v w : Value) → Addresses P n t i → T (ValueOf t) v → T (ValueOf i) w → M 0 (fired_address (operands.Two v w))
-  address_means {t} {i} v w parts x y =
+  pub address_means : {t i : ℕ} (nested : Truth) (v w : Value) → Addresses P n t i → T (ValueOf t) v → T (ValueOf i) w
+      → M 0 (fired_address nested (operands.Two v w))
+  address_means {t} {i} nested v w parts x y =
       let live = subst (Live S number run a) ((known.table).part_stands n t within (part_is_near parts)).1 x.0 in
       let path = (x.1).path_of in
-      address_by parts live path (x.1).stands (y.1).stands (shown_has t path x.1) (shown_has i path y.1)
+      address_by nested parts live path (x.1).stands (y.1).stands (shown_has t path x.1) (shown_has i path y.1)
 
   -- a fetch that has its cell asks for it
   pub fetch_asks : {t i : ℕ} (v : Value) (u : Tag) → node P n ≡ Fetch t i → (x : ShownCell S number run a n v) → u ≡ tag_in a (number n 2)
@@ -341,10 +352,10 @@ module _ (S : Source) (known : IsKnown S.checked) (number : ℕ → ℕ → ℕ)
       by (of_store here) = let bad : Fetch t i ≡ Address x.target x.index = sym is ∙ here in cc
 
   -- a store that has its cell and its value puts it there
-  store_puts : {d e : ℕ} (m : ℤ) (v : Value) (u : Tag) → node P n ≡ Store d e → (x : ShownCell S number run a d v) → {y : SourceValue}
-      → StandsFor S number run (value.Int m) y
-      → Holds S (Has x.path (place P e) y) → u ≡ tag_in a (number n 0) → ToldWrite S number run x.cell (value.Int m) u
-  store_puts {d} {e} m v u is x {y} stands has origin = by x.parts
+  store_puts : {d e : ℕ} {w : Value} {y : SourceValue} (v : Value) (u : Tag) → node P n ≡ Store d e → (x : ShownCell S number run a d v)
+      → StandsFor S number run w y
+      → Holds S (Has x.path (place P e) y) → u ≡ tag_in a (number n 0) → ToldWrite S number run x.cell w u
+  store_puts {d} {e} {w} {y} v u is x stands has origin = by x.parts
     where
       z : Rattle.id_laws.proofs.Stores.AddressAt P n d
       z = address_at known within is
@@ -352,7 +363,7 @@ module _ (S : Source) (known : IsKnown S.checked) (number : ℕ → ℕ → ℕ)
       live : Live S number run a (region P n)
       live = subst (Live S number run a) z.region x.live
 
-      told : node P d ≡ Address x.target x.index → ToldWrite S number run x.cell (value.Int m) u
+      told : node P d ≡ Address x.target x.index → ToldWrite S number run x.cell w u
       told here = record {
         activation = a;
         row = n;
@@ -374,16 +385,15 @@ module _ (S : Source) (known : IsKnown S.checked) (number : ℕ → ℕ → ℕ)
             (store_on_at x.path_of live (ap is_store is), (x.has_target, (x.has_index, (has, ((x.named).holds, tt)))));
       }
 
-      by : Addresses P d x.target x.index → ToldWrite S number run x.cell (value.Int m) u
+      by : Addresses P d x.target x.index → ToldWrite S number run x.cell w u
       by (of_fetch here) = let bad : Fetch x.target x.index ≡ Address z.target z.index = sym here ∙ z.node in cc
       by (of_store here) = told here
 
-  pub store_by : {d e : ℕ} {w : Value} {y : SourceValue} (v : Value) (u : Tag) → node P n ≡ Store d e → (x : ShownCell S number run a d v)
+  pub store_by : {d e : ℕ} {w : Value} {y : SourceValue} (nested : Truth) (v : Value) (u : Tag) → node P n ≡ Store d e → (x : ShownCell S number run a d v)
       → StandsFor S number run w y
-      → Holds S (Has x.path (place P e) y) → u ≡ tag_in a (number n 0) → M 0 (fired_store u (operands.Two (value.Address x.cell) w))
-  store_by v u is x (number_stands m) has origin = store_puts m v u is x (number_stands m) has origin
-  store_by v u is x (truth_stands b) has origin = tt
-  store_by v u is x (name_stands s y named) has origin = tt
+      → Holds S (Has x.path (place P e) y) → u ≡ tag_in a (number n 0) → M 0 (fired_store nested u (operands.Two (value.Address x.cell) w))
+  store_by {w = w} nested v u is x stands has origin =
+      where_done 0 (Stored x.cell w u) (may_hold nested x.cell w) (store_puts v u is x stands has origin)
 
   pub literal_tells : (c : Constant) (v : Value) → node P n ≡ Literal c → T (Turned (region P n)) v → M 0 (Out (constant_value c))
   literal_tells c v is w =

@@ -261,7 +261,7 @@ module _ (S : Source) (known : IsKnown S.checked) (number : ℕ → ℕ → ℕ)
       go (If s x y) is = own (If s x y) is refl refl
       go (Call s c) is = own (Call s c) is refl refl
       go (Loop g u l) is = own (Loop g u l) is refl refl
-      go (Array x y) is = own (Array x y) is refl refl
+      go (Array nested x y) is = own (Array nested x y) is refl refl
       go (Fetch x y) is =
           subst (λ z. Tells S number run a z v)
           (ap (λ z. topic_of P (origin_of P w (region P w) z)) is ∙ ap (λ z. speaks_of P w (region P w) z 2 true) is) tells

@@ -31,7 +31,6 @@ use Rattle.id_source.specs.declared.Put.{Put}
 use Rattle.id_source.specs.declared.Ask.{Ask}
 use Rattle.id_laws.proofs.Wholes.{AreWhole, wholes}
 use Rattle.id_source.specs.declared.SourceValue.{SourceValue}
-use Rattle.id_source.specs.declared.SourceValue.TheVariants as source
 use Rattle.id_source.specs.declared.Fact.{Fact}
 use Rattle.id_source.specs.declared.Fact.TheVariants as fact
 use Rattle.id_source.specs.Facts.{put}

@@ -1,8 +1,9 @@
 -- A quiet run of a schemas' graph has shown everything.
 use Rattle.std.proofs.Common.{◌≡◌, inl, inr, ℕ, ◌<◌, Bool as Truth, true, false, cond, Option, Some, None, List, [], ◌∷◌, length, slice_get, ℤ, refl, sym}
-use Rattle.std.proofs.Common.{◌∙◌, ap, subst}
+use Rattle.std.proofs.Common.{◌∙◌, ap, subst, unwrap_or}
 use Rattle.std.specs.Option.{option_and_then}
 use Rattle.id_value.specs.declared.Kind.{Kind}
+use Rattle.id_value.specs.declared.Kind.TheVariants as kinds
 use Rattle.id_value.specs.Bounds.{is_inside}
 use Rattle.id_value.specs.declared.Constant.TheVariants as constants
 use Rattle.id_value.specs.declared.FaultKind.{FaultKind}
@@ -53,12 +54,12 @@ use Rattle.id_source.specs.declared.NameValue.{NameValue}
 use Rattle.id_source.specs.declared.Fact.{Fact}
 use Rattle.id_source.specs.declared.Fact.TheVariants.{Has}
 use Rattle.id_source.specs.Names.{IsNameValue}
-use Rattle.id_source.specs.Sources.{Source, AreInputs, body_of, main_body, value_kind, value_of}
+use Rattle.id_source.specs.Sources.{Source, AreInputs, body_of, main_body, value_of}
 use Rattle.id_source.specs.Facts.{outermost, FaultRule, unary_fails, binary_fails, bad_bounds, out_of_fetch, out_of_store, second_store}
 use Rattle.id_source.specs.Rounds.{Every, Holds, FaultFree, Answers, IsAnswer}
 use Rattle.id_pieces.specs.declared.arc.Origin.{Origin}
 use Rattle.id_desugar.specs.Ends.{end_of}
-use Rattle.id_pieces.specs.Rows.{label, node, answer_row, binary_op, origin, output, port_at, port_of, result_of}
+use Rattle.id_pieces.specs.Rows.{label, node, answer_row, binary_op, holds_array, origin, output, port_at, port_of, result_of}
 use Rattle.id_pieces.specs.Rows as built
 use Rattle.id_pieces.specs.Schemas.{Feeds, Numbered}
 use Rattle.id_runs.specs.Activations.{Activation, main_activation, tag_in}
@@ -80,12 +81,13 @@ use Rattle.id_laws.proofs.Arcs.{returns, unary, binary, allocates, addresses}
 use Rattle.id_laws.proofs.Assumed.{IsKnown}
 use Rattle.id_laws.proofs.FiringMeans.{IsBacked}
 use Rattle.id_runs.proofs.OneMessage.{fired_once}
-use Rattle.id_laws.proofs.CarriedFacts.{address_part, carried, one_structure, body_region, structure_of}
+use Rattle.id_laws.proofs.CarriedFacts.{address_made, address_part, carried, cells_of, one_structure, body_region, structure_of}
 use Rattle.id_laws.proofs.CarriedThings.{constant_spoken, here_is, operand_spoken, said_at}
 use Rattle.id_laws.proofs.CarriedValues.{sent_in, stands_constant}
 use Rattle.id_pieces.proofs.EndsLemmas.{end_is}
 use Rattle.id_laws.proofs.Firings.{IsSettled, PartFired, alone_fired, both_fired, came, sent_handled, start_handled}
-use Rattle.id_laws.proofs.HasKinds.{Has_kind, port_taking, operand_of, binder_thing, expression_thing}
+use Rattle.id_laws.proofs.HasKinds.{port_taking, operand_of, binder_thing, expression_thing}
+use Rattle.id_laws.proofs.PortsTake.{Takes, takes_constant}
 use Rattle.id_laws.proofs.Speakers.{expression_speaks, binder_speaks, fed_as}
 use Rattle.id_laws.proofs.Observing.{message_handled}
 use Rattle.id_laws.proofs.QuietCells.{asks_shown, cells_shown, no_second as two_stores, none_found, structures_shown, waiting_only, waiting_shown}
@@ -95,12 +97,6 @@ use Rattle.id_laws.proofs.Triggers.{one_activation, main_is, main_within}
 use Rattle.id_laws.proofs.Seats.{main_path}
 use Rattle.id_laws.proofs.TagPaths.{path_shown}
 use Rattle.id_runs.proofs.Enters.{entered_by}
-
--- a value goes to where a procedure returns values of its kind
-returned : {S : Source} {number : ℕ → ℕ → ℕ} {run : List Event} {w : Value} {v : SourceValue} → StandsFor S number run w v → (k : Kind) (t : Tag)
-    → value_kind v ≡ k
-    → cond (same_kind (kind_of w) (port_of k)) (Sent t w) Nothing ≡ Sent t w
-returned h k t e = sent_in h (port_of k) t (ap port_of (sym e))
 
 some_is : {A : Type 0} {x y : A} → Some x ≡ Some y → x ≡ y
 some_is h = cc
@@ -124,11 +120,12 @@ went_failed h = cc
 true_false : true ≡ false → ⊥
 true_false h = cc
 
--- ports that take a value of the source are for values
-value_passes : (v : SourceValue) → is_value (port_of (value_kind v)) ≡ true
-value_passes (source.Int n) = refl
-value_passes (source.Bool b) = refl
-value_passes (source.Name x) = refl
+-- ports for values of a kind are for values
+value_passes : (k : Kind) → is_value (port_of k) ≡ true
+value_passes kinds.Int = refl
+value_passes kinds.Bool = refl
+value_passes kinds.Array = refl
+value_passes kinds.Nested = refl
 
 out_is : {u v : Value} → Out u ≡ Out v → u ≡ v
 out_is h = cc
@@ -205,8 +202,9 @@ module _ (S : Source) (g : Parts) (number : ℕ → ℕ → ℕ) (numbered : Num
       let thing = expression_thing (node P (main_body P)) b.1 in
       let d = known.main in
       let body_is : main_body P ≡ d.body = ap body_of d.node in
-      let kind_is : value_kind v ≡ d.result = some_is (sym (Has_kind S known inputs (main_body P) outermost v b.0 thing has) ∙ ap (kind_at P) body_is ∙
-      known.result_kind P.main main d) in
+      let taken = port_taking S known inputs (main_body P) outermost v b.0 thing has in
+      let result_is : port_at P (main_body P) ≡ port_of d.result =
+      ap (λ o. port_of (unwrap_or o kinds.Int)) (ap (kind_at P) body_is ∙ known.result_kind P.main main d) in
       let c : CarriedHas S number run outermost (place P (main_body P)) v = carried S g number numbered known inputs count only s run r settled no_second _
       has in
       let row_is = here_is S g number numbered known inputs count only s run r settled (c.here) (record { within = b.0; node = refl }) thing in
@@ -227,7 +225,7 @@ module _ (S : Source) (g : Parts) (number : ℕ → ℕ → ℕ) (numbered : Num
       let k = result_of (node P (end_of P main)) in
       let fired_so = both_fired S g number numbered known count only s run r settled main_activation main 1 (op.Back (port_of k))
       (value.Continuation back_tag) c.value within (returns is) refl continuation result in
-      let gone = returned c.stands k back_tag (kind_is ∙ sym main_kind) in
+      let gone = sent_in known c.stands (port_of k) back_tag (subst (Takes P v) (result_is ∙ ap port_of (sym main_kind)) taken) in
       let out = sent_handled S g number numbered known count only s run r settled
       (subst (λ f. FiresAs run (tag_in main_activation (number main 1)) f) gone fired_so.fires) (Token back_tag Zero c.value) (inl refl) in
       (c.value, c.stands, subst (λ t. Among (Token t Zero c.value) (handled run)) answer_tag out)
@@ -274,10 +272,10 @@ module _ (S : Source) (g : Parts) (number : ℕ → ℕ → ℕ) (numbered : Num
   carry f h = carried S g number numbered known inputs count only s run r settled no_second f h
 
   -- no index is outside
-  never_outside : {w : Value} {y : Site} {j lo hi : ℤ} (a : Activation) (n t i : ℕ) → n < length (rows P) → Addresses P n t i → is_inside lo hi j ≡ false
-      → CarriedShape S number run y lo hi → Feeds P (origin P t) n 0 Zero → Feeds P (origin P i) n 0 One
+  never_outside : {w : Value} {y : Site} {p : Path} {j lo hi : ℤ} (a : Activation) (n t i : ℕ) → n < length (rows P) → Addresses P n t i
+      → is_inside lo hi j ≡ false → Holds S (Has p (place P t) (source.Name y)) → CarriedShape S number run y lo hi → Feeds P (origin P t) n 0 Zero → Feeds P (origin P i) n 0 One
       → StandsFor S number run w (source.Name y) → Speaks S number run a (origin P t) w → Speaks S number run a (origin P i) (value.Int j) → ⊥
-  never_outside {w} {y} {j} {lo} {hi} a n t i within parts out shaped to_target to_index stands target index =
+  never_outside {w} {y} {p} {j} {lo} {hi} a n t i within parts out holds shaped to_target to_index stands target index =
       let c = structure_of S g number numbered known inputs count only s run r settled no_second stands refl in
       let same : shaped.structure ≡ c.0 = one_structure S g number numbered known inputs count only s run r settled no_second shaped.named c.2 in
       let low : lo ≡ (c.0).low = shaped.low ∙ ap (λ (y : Structure). y.low) same in
@@ -286,10 +284,12 @@ module _ (S : Source) (g : Parts) (number : ℕ → ℕ → ℕ) (numbered : Num
       let left = came S g number numbered known count only s run r settled a (origin P t) n 0 Zero (value.Structure c.0)
       (subst (Speaks S number run a (origin P t)) c.1 target) to_target in
       let right = came S g number numbered known count only s run r settled a (origin P i) n 0 One (value.Int j) index to_index in
-      no_failure a n 0 op.Address (Two (value.Structure c.0) (value.Int j)) OutOfBounds
-      (both_fired S g number numbered known count only s run r settled a n 0 op.Address (value.Structure c.0) (value.Int j) within
+      let made = op.Address (holds_array P n) in
+      let of_cells = cells_of S g number numbered known inputs count only s run r settled no_second within parts c.2 holds in
+      no_failure a n 0 made (Two (value.Structure c.0) (value.Int j)) OutOfBounds
+      (both_fired S g number numbered known count only s run r settled a n 0 made (value.Structure c.0) (value.Int j) within
       (addresses parts) refl left right)
-      (λ q. ap (λ b. cond b (Out (value.Address (record { structure = c.0; index = j }))) (Failed OutOfBounds)) bad)
+      (λ q. address_made c.0 j of_cells ∙ ap (λ b. cond b (Out (value.Address (record { structure = c.0; index = j }))) (Failed OutOfBounds)) bad)
 
   no_fault_by : {fs : List Fact} {f : SourceFault} → FaultRule S fs f → Every (Holds S) fs → ⊥
   no_fault_by (unary_fails {n = n} {a = m} {o = o} {p = p} {k = k} c x is) h =
@@ -321,27 +321,27 @@ module _ (S : Source) (g : Parts) (number : ℕ → ℕ → ℕ) (numbered : Num
       no_failure a n 0 made (Two (constant_value c) (constant_value d)) k
       (both_fired S g number numbered known count only s run r settled a n 0 made (constant_value c) (constant_value d) x.within
       (binary x.node) refl left right)
-      (λ f. agree_at o c d (tag_in a (number n 0)) f (port_at P m) (port_taking S known inputs m p (value_of c) inner.0 inner.1 h.1.0) ∙ ap fired_by is)
-  no_fault_by (bad_bounds {n = n} {a = e} {b = f} {p = p} {lo = lo} {hi = hi} x bad) h =
+      (λ f. agree_at o c d (tag_in a (number n 0)) f (port_at P m) (takes_constant P c (port_taking S known inputs m p (value_of c) inner.0 inner.1 h.1.0)) ∙ ap fired_by is)
+  no_fault_by (bad_bounds {n = n} {a = e} {b = f} {nested = nested} {p = p} {lo = lo} {hi = hi} x bad) h =
       let on : Here S number run p (place P n) = carry _ h.0 in
       let low : CarriedHas S number run p (place P e) (source.Int lo) = carry _ h.1.0 in
       let high : CarriedHas S number run p (place P f) (source.Int hi) = carry _ h.1.1.0 in
       let a = on.activation in
       let left = came S g number numbered known count only s run r settled a (origin P e) n 0 Zero (value.Int lo)
       (constant_spoken S g number numbered known inputs count only s run r settled (constants.Int lo) on e x refl (inl refl) low)
-      (fed_as P known (origin P e) n 0 Zero (Array e f) x.within x.node (inl refl)) in
+      (fed_as P known (origin P e) n 0 Zero (Array nested e f) x.within x.node (inl refl)) in
       let right = came S g number numbered known count only s run r settled a (origin P f) n 0 One (value.Int hi)
       (constant_spoken S g number numbered known inputs count only s run r settled (constants.Int hi) on f x refl (inr refl) high)
-      (fed_as P known (origin P f) n 0 One (Array e f) x.within x.node (inr (inl refl))) in
-      no_failure a n 0 op.Alloc (Two (value.Int lo) (value.Int hi)) BadBounds
-      (both_fired S g number numbered known count only s run r settled a n 0 op.Alloc (value.Int lo) (value.Int hi) x.within
+      (fed_as P known (origin P f) n 0 One (Array nested e f) x.within x.node (inr (inl refl))) in
+      no_failure a n 0 (op.Alloc nested) (Two (value.Int lo) (value.Int hi)) BadBounds
+      (both_fired S g number numbered known count only s run r settled a n 0 (op.Alloc nested) (value.Int lo) (value.Int hi) x.within
       (allocates x.node) refl left right)
-      (λ q. ap (λ b. cond b (Out (value.Structure (record { element = q.element; serial = q.structure; low = lo; high = hi }))) (Failed BadBounds)) bad)
+      (λ q. ap (λ b. cond b (Out (value.Structure (record { element = q.element; serial = q.structure; low = lo; high = hi; nested = nested }))) (Failed BadBounds)) bad)
   no_fault_by (out_of_fetch {n = n} {t = t} {i = i} {p = p} {s = y} {j = j} {lo = lo} {hi = hi} x out) h =
       let on : Here S number run p (place P n) = carry _ h.0 in
       let target : CarriedHas S number run p (place P t) (source.Name y) = carry _ h.1.0 in
       let index : CarriedHas S number run p (place P i) (source.Int j) = carry _ h.1.1.0 in
-      never_outside on.activation n t i x.within (of_fetch x.node) out (carry _ h.1.1.1.0)
+      never_outside on.activation n t i x.within (of_fetch x.node) out h.1.0 (carry _ h.1.1.1.0)
       (fed_as P known (origin P t) n 0 Zero (Fetch t i) x.within x.node (inl refl))
       (fed_as P known (origin P i) n 0 One (Fetch t i) x.within x.node (inr (inl refl)))
       target.stands (operand_spoken S g number numbered known inputs count only s run r settled on t x refl (inl refl) target)
@@ -352,7 +352,7 @@ module _ (S : Source) (g : Parts) (number : ℕ → ℕ → ℕ) (numbered : Num
       let index : CarriedHas S number run p (place P i) (source.Int j) = carry _ h.1.1.0 in
       let in_target = address_part S g number numbered known inputs count only s run r settled no_second on x t (inl refl) (inl refl) in
       let in_index = address_part S g number numbered known inputs count only s run r settled no_second on x i (inr refl) (inr refl) in
-      never_outside on.activation x.address t i (x.parts).within (of_store (x.parts).node) out (carry _ h.1.1.1.0)
+      never_outside on.activation x.address t i (x.parts).within (of_store (x.parts).node) out h.1.0 (carry _ h.1.1.1.0)
       (fed_as P known (origin P t) x.address 0 Zero (Address t i) (x.parts).within (x.parts).node (inl refl))
       (fed_as P known (origin P i) x.address 0 One (Address t i) (x.parts).within (x.parts).node (inr (inl refl)))
       target.stands (said_at S g number numbered known inputs count only s run r settled on t in_target.0 in_target.1 target)
@@ -441,7 +441,8 @@ module _ (S : Source) (g : Parts) (number : ℕ → ℕ → ℕ) (numbered : Num
       let h = handled_by run _ brought.1 in
       let record_it = to_record g S.inputs count s run r h.0 h.1 in
       let payload_is : (record_it.0).message.payload ≡ Token (tag_in a (number (label P b) 0)) brought.0 c.value = (record_it.2).payload ∙ sym h.2 in
-      let merges = ap is_value (port_taking S known inputs b n.path n.value x.within thing holds) ∙ value_passes n.value in
+      let taken = port_taking S known inputs b n.path n.value x.within thing holds in
+      let merges = ap is_value taken.2 ∙ value_passes taken.0 in
       let path_is = path_shown S known g number numbered count s run r backed (tag_in a (number (label P b) 0)) n.path (c.here).live (c.here).path_of in
       filter_map_has (λ (u : EventView). shown.name_in g tag_path name_of u.message.payload) (events s) record_it.0 n (among_events s record_it.0 record_it.1)
       (ap (shown.name_in g tag_path name_of) payload_is ∙ label_shows n b a brought.0 c.value c.stands x.within x.binds x.here path_is merges)

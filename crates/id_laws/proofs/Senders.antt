@@ -1,6 +1,7 @@
 -- Each token that an event sends came one of the ways, each read was asked by a fetch, and each write stored by a store.
 use Rattle.std.proofs.Common.{◌≡◌, ◌⊎◌, inl, inr, ℕ, ℤ, ◌+◌, ◌<◌, ◌-◌, length, arith, Bool as Truth, true, false}
 use Rattle.std.proofs.Common.{cond, Some, List, slice_get, refl, sym, ◌∙◌, ap, subst}
+use Rattle.std.specs.Bool.{beq}
 use Rattle.id_value.specs.declared.FaultKind.TheVariants.{BadBounds, OutOfBounds}
 use Rattle.id_value.specs.Bounds.{are_good, is_inside}
 use Rattle.id_value.specs.declared.Outcome.{Outcome}
@@ -37,7 +38,8 @@ use Rattle.id_ops.specs.declared.Operands.TheVariants.{One as Alone, Two}
 use Rattle.id_ops.specs.declared.Fresh.{Fresh}
 use Rattle.id_ops.specs.declared.Fired.{Fired}
 use Rattle.id_ops.specs.declared.Fired.TheVariants.{Out, Side, Entered, Sent, Moved, Asked, Stored, Failed, Nothing}
-use Rattle.id_ops.specs.Operators.{fired, fired_by, fired_enter, fired_next, fired_reset, tag_within}
+use Rattle.id_ops.specs.Operators.{address_in, fired, fired_by, fired_enter, fired_next, fired_reset}
+use Rattle.id_ops.specs.Operators.{may_hold, tag_within}
 use Rattle.id_valid.specs.Roles.{op_at}
 use Rattle.id_record.specs.Sends.{beside, moved_to}
 use Rattle.id_core.specs.Steps.{token_to}
@@ -117,15 +119,29 @@ reset_sends : (k : PortKind) (ops : Operands) (u : Tag) (w : Value) → fired_re
 reset_sends k (Alone v) u w h = moves_sends 0 v (same_kind (kind_of v) k) u w h
 reset_sends k (Two v x) u w h = cc
 
-bounds_send : (f : Fresh) (lo hi : ℤ) (b : Truth) (u : Tag) (w : Value)
-    → cond b (Out (Made (record { element = f.element; serial = f.structure; low = lo; high = hi }))) (Failed BadBounds) ≡ Sent u w → ⊥
-bounds_send f lo hi true u w h = cc
-bounds_send f lo hi false u w h = cc
+structure_sends : (x : Structure) (b : Truth) (u : Tag) (w : Value)
+    → cond b (Out (Made x)) (Failed BadBounds) ≡ Sent u w → ⊥
+structure_sends x true u w h = cc
+structure_sends x false u w h = cc
 
 index_sends : (s : Structure) (i : ℤ) (b : Truth) (u : Tag) (w : Value)
     → cond b (Out (At (record { structure = s; index = i }))) (Failed OutOfBounds) ≡ Sent u w → ⊥
 index_sends s i true u w h = cc
 index_sends s i false u w h = cc
+
+address_sends : (s : Structure) (i : ℤ) (b : Truth) (u : Tag) (w : Value)
+    → cond b (address_in s i) Nothing ≡ Sent u w → ⊥
+address_sends s i true u w h = index_sends s i (is_inside s.low s.high i) u w h
+address_sends s i false u w h = cc
+
+fetch_sends : (c : Cell) (r : Tag) (b : Truth) (u : Tag) (w : Value) → cond b (Asked c r) Nothing ≡ Sent u w → ⊥
+fetch_sends c r true u w h = cc
+fetch_sends c r false u w h = cc
+
+store_sends : (c : Cell) (v : Value) (t : Tag) (b : Truth) (u : Tag) (w : Value)
+    → cond b (Stored c v t) Nothing ≡ Sent u w → ⊥
+store_sends c v t true u w h = cc
+store_sends c v t false u w h = cc
 
 pub sent_back : (o : Op) (t : Tag) (ops : Operands) (f : Fresh) (u : Tag) (w : Value) → fired o t ops f ≡ Sent u w
     → SentBack o ops u w ⊎ SentIn o ops u w
@@ -153,14 +169,15 @@ sent_back (op.Send k n) t (Two (Opened c) v) f u w h =
 sent_back (op.Send k n) t _ f u w h = cc
 sent_back (op.Next k) t ops f u w h = absurd (next_sends k t.iteration ops u w h)
 sent_back (op.Reset k) t ops f u w h = absurd (reset_sends k ops u w h)
-sent_back op.Alloc t (Two (Int a) (Int b)) f u w h = absurd (bounds_send f a b (are_good a b) u w h)
-sent_back op.Alloc t _ f u w h = cc
-sent_back op.Address t (Two (Made s) (Int i)) f u w h = absurd (index_sends s i (is_inside s.low s.high i) u w h)
-sent_back op.Address t _ f u w h = cc
-sent_back (op.Fetch r) t (Alone (At d)) f u w h = cc
-sent_back (op.Fetch r) t _ f u w h = cc
-sent_back op.Store t (Two (At d) (Int n)) f u w h = cc
-sent_back op.Store t _ f u w h = cc
+sent_back (op.Alloc nested) t (Two (Int a) (Int b)) f u w h = absurd (structure_sends _ (are_good a b) u w h)
+sent_back (op.Alloc nested) t _ f u w h = cc
+sent_back (op.Address nested) t (Two (Made s) (Int i)) f u w h = absurd (address_sends s i (beq s.nested nested) u w h)
+sent_back (op.Address nested) t _ f u w h = cc
+sent_back (op.Fetch nested r) t (Alone (At d)) f u w h =
+    absurd (fetch_sends d _ (beq d.structure.nested nested) u w h)
+sent_back (op.Fetch nested r) t _ f u w h = cc
+sent_back (op.Store nested) t (Two (At d) v) f u w h = absurd (store_sends d v t (may_hold nested d v) u w h)
+sent_back (op.Store nested) t _ f u w h = cc
 
 -- ---- the ways
 

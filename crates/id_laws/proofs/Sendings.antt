@@ -1,5 +1,5 @@
 -- What sends to a tag of its own, and into a context: the way back of a block, arguments, and the first values and imports of a loop.
-use Rattle.std.proofs.Common.{◌≡◌, ℕ, suc, ◌<◌, true, length, refl, sym, ap}
+use Rattle.std.proofs.Common.{◌≡◌, ℕ, suc, ◌<◌, Bool, true, length, refl, sym, ◌∙◌, ap}
 use Rattle.id_list.proofs.AmongLemmas.{Among-from_at}
 use Rattle.id_table.specs.declared.row.Region.{Region}
 use Rattle.id_table.specs.declared.row.Node.{Node}
@@ -192,7 +192,7 @@ pub record Fetches (P : Checked) (number : ℕ → ℕ → ℕ) (n part r : ℕ)
   pub second : part ≡ 1
   pub reply : r ≡ number n 2
 
-pub is_fetch : (P : Checked) (number : ℕ → ℕ → ℕ) (part n : ℕ) (o : Form) (r : ℕ) → Does P n part o → op_by number o ≡ op.Fetch r → Fetches P number n part r
+pub is_fetch : {nested : _} (P : Checked) (number : ℕ → ℕ → ℕ) (part n : ℕ) (o : Form) (r : ℕ) → Does P n part o → op_by number o ≡ op.Fetch nested r → Fetches P number n part r
 is_fetch P number part n o r (fetches {t = t} {i = i} is) e =
     let same : number n 2 ≡ r = cc in
     record { target = t; index = i; node = is; second = refl; reply = sym same }
@@ -238,7 +238,7 @@ pub record Stores (P : Checked) (n part : ℕ) : Type 0 where
   pub node : node P n ≡ Store address stored
   pub first : part ≡ 0
 
-pub is_store : (P : Checked) (number : ℕ → ℕ → ℕ) (part n : ℕ) (o : Form) → Does P n part o → op_by number o ≡ op.Store → Stores P n part
+pub is_store : {nested : _} (P : Checked) (number : ℕ → ℕ → ℕ) (part n : ℕ) (o : Form) → Does P n part o → op_by number o ≡ op.Store nested → Stores P n part
 is_store P number part n o (stores {a = a} {v = v} is) e = record { address = a; stored = v; node = is; first = refl }
 is_store P number part n o (starts is) e = cc
 is_store P number part n o (returns is) e = cc
@@ -277,14 +277,17 @@ is_store P number part n o (adds_one is) e = cc
 is_store P number part n o (answers is) e = cc
 
 -- an `alloc` is that of an array's row
-pub record Allocates (P : Checked) (n part : ℕ) : Type 0 where
+pub record Allocates (P : Checked) (nested : Bool) (n part : ℕ) : Type 0 where
   pub low : ℕ
   pub high : ℕ
-  pub node : node P n ≡ Array low high
+  pub node : node P n ≡ Array nested low high
   pub first : part ≡ 0
 
-pub is_alloc : (P : Checked) (number : ℕ → ℕ → ℕ) (part n : ℕ) (o : Form) → Does P n part o → op_by number o ≡ op.Alloc → Allocates P n part
-is_alloc P number part n o (allocates {a = a} {b = b} is) e = record { low = a; high = b; node = is; first = refl }
+pub is_alloc : {nested : Bool} (P : Checked) (number : ℕ → ℕ → ℕ) (part n : ℕ) (o : Form) → Does P n part o → op_by number o ≡ op.Alloc nested
+    → Allocates P nested n part
+is_alloc {nested} P number part n o (allocates {nested = m} {a = a} {b = b} is) e =
+    let same : m ≡ nested = cc in
+    record { low = a; high = b; node = is ∙ ap (λ z. Array z a b) same; first = refl }
 is_alloc P number part n o (starts is) e = cc
 is_alloc P number part n o (returns is) e = cc
 is_alloc P number part n o (enters is) e = cc

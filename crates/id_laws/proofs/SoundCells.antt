@@ -93,7 +93,7 @@ filter_differ {A} {B} {C} f h k (x ∷ xs) same differ = go (f x) refl (filter_d
       rest,
     )
 
-array_no_program : {low high : ℕ} → Array low high ≡ Program → ⊥
+array_no_program : {nested : _} {low high : ℕ} → Array nested low high ≡ Program → ⊥
 array_no_program e = cc
 
 -- what stands for a structure is its name
@@ -128,14 +128,14 @@ module _ (S : Source) (known : IsKnown S.checked) (g : Parts) (number : ℕ → 
     named : Named S number run z name
     site_is : site_of t ≡ name
 
-  making : {t : Tag} {z : Structure} → FiresAs run t (Out (value.Structure z)) → op_at g t.instr ≡ Some op.Alloc → Making t z
+  making : {t : Tag} {z : Structure} → FiresAs run t (Out (value.Structure z)) → op_at g t.instr ≡ Some (op.Alloc z.nested) → Making t z
   making {t} {z} y at =
       let m = firing_tells S known g number numbered run (seats S known g number numbered run count s r) (structures_apart g S.inputs count s run r) backed run r
       (λ q h. all_tell S known g number numbered run count s r backed q (inr h)) y in
       let p = m.0 in
       let part = p.is_part in
       let k = numbered.made p.row p.part part.form part.place part.makes in
-      let op_is : op_by number part.form ≡ op.Alloc =
+      let op_is : op_by number part.form ≡ op.Alloc z.nested =
       sym k.op ∙ some_is (sym (ap (option_map (λ (i : Instr). i.op)) k.at) ∙ ap (λ (u : Tag). op_at g u.instr) p.at ∙ at) in
       let row = is_alloc P number p.part p.row part.form (doing part.makes).does op_is in
       let tells = m.1 (λ e. array_no_program (sym row.node ∙ e)) (subst (λ u. FiresAs run u (Out (value.Structure z))) (sym p.at) y) in

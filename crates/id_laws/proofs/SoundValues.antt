@@ -121,7 +121,7 @@ expresses P n part o d e gives = go d gives
     go (advances is) h = no is refl
     go (resets is) h = no is refl
     go (gets_last {h = i} {w = w} {l = l} is) h = by 0 (Loop i w l) is (λ b. refl) refl refl
-    go (allocates {a = a} {b = b} is) h = by 0 (Array a b) is (λ b. refl) refl refl
+    go (allocates {nested = nested} {a = a} {b = b} is) h = by 0 (Array nested a b) is (λ b. refl) refl refl
     go (addresses (of_fetch is)) h = other_part is h (λ z. cc)
     go (addresses (of_store is)) h = no is refl
     go (fetches is) h = other_part is h (λ z. cc)

@@ -223,10 +223,10 @@ module _ (P : Checked) (known : IsKnown P) where
         not_answer = λ z. let bad : Loop g u l ≡ Program = sym is ∙ z in cc;
         stays = ap is_mover is;
       })
-      go (Array x y) is =
-          at_node (Array x y) is (record {
+      go (Array nested x y) is =
+          at_node (Array nested x y) is (record {
             is_part = part_of within (allocates is);
-            not_answer = λ z. let bad : Array x y ≡ Program = sym is
+            not_answer = λ z. let bad : Array nested x y ≡ Program = sym is
                 ∙ z in cc;
             stays = ap is_mover is;
           })
@@ -407,8 +407,8 @@ module _ (P : Checked) (known : IsKnown P) where
   }))
   by_arc {n} within (to_next {x = x} {k = k} {o = o} {v = v} is) = inl (steady _ is refl refl (operand_source n v (Next x k o v) within is (inr refl) refl))
   by_arc {n} within (to_reset {v = v} is) = inl (steady _ is refl refl (operand_source n v (Reset v) within is refl refl))
-  by_arc {n} within (to_low {a = e} {b = f} is) = inl (steady _ is refl refl (operand_source n e (Array e f) within is (inl refl) (inl refl)))
-  by_arc {n} within (to_high {a = e} {b = f} is) = inl (steady _ is refl refl (operand_source n f (Array e f) within is (inr refl) (inr refl)))
+  by_arc {n} within (to_low {nested = nested} {a = e} {b = f} is) = inl (steady _ is refl refl (operand_source n e (Array nested e f) within is (inl refl) (inl refl)))
+  by_arc {n} within (to_high {nested = nested} {a = e} {b = f} is) = inl (steady _ is refl refl (operand_source n f (Array nested e f) within is (inr refl) (inr refl)))
   by_arc {n} within (to_target {t = t} {i = i} (of_fetch is)) = inl (steady _ is refl refl (operand_source n t (Fetch t i) within is (inl refl) (inl refl)))
   by_arc {n} within (to_target {t = t} {i = i} (of_store is)) = inl (steady _ is refl refl (operand_source n t (Address t i) within is (inl refl) (inl refl)))
   by_arc {n} within (to_index {t = t} {i = i} (of_fetch is)) = inl (steady _ is refl refl (operand_source n i (Fetch t i) within is (inr refl) (inr refl)))

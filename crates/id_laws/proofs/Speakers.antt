@@ -65,7 +65,7 @@ module _ (P : Checked) (known : IsKnown P) where
       by (Call s c) is h = ap (speaker_of P n) is
       by (Block b) is h = ap (speaker_of P n) is
       by (Loop g w l) is h = ap (speaker_of P n) is
-      by (Array a b) is h = ap (speaker_of P n) is
+      by (Array nested a b) is h = ap (speaker_of P n) is
       by (Fetch t i) is h = ap (speaker_of P n) is
       by _ is h = absurd (true_false (sym h))
 

@@ -36,10 +36,10 @@ starts_as t c x (Some (op.Back k)) h = absurd h
 starts_as t c x (Some (op.Send k n)) h = absurd h
 starts_as t c x (Some (op.Next k)) h = absurd h
 starts_as t c x (Some (op.Reset k)) h = absurd h
-starts_as t c x (Some op.Alloc) h = absurd h
-starts_as t c x (Some op.Address) h = absurd h
-starts_as t c x (Some (op.Fetch r)) h = absurd h
-starts_as t c x (Some op.Store) h = absurd h
+starts_as t c x (Some (op.Alloc nested)) h = absurd h
+starts_as t c x (Some (op.Address nested)) h = absurd h
+starts_as t c x (Some (op.Fetch nested r)) h = absurd h
+starts_as t c x (Some (op.Store nested)) h = absurd h
 
 -- both are sent
 pub first_sent : (g : Parts) (t : Tag) (c : Context) (b r : ℕ) → op_at g t.instr ≡ Some (op.Enter b r)

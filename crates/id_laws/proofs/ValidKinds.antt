@@ -1,100 +1,65 @@
 -- What an arc brings is of the kind that its port takes.
-use Rattle.std.proofs.Common.{◌≡◌, inl, inr, ℕ, zero, suc, ◌<◌, ◌≤◌, ◌+◌, ◌-◌, true, false, Some, List, ◌∷◌, ◌++◌, [], map, length, unwrap_or, get_or, refl, sym, ◌∙◌, ap, subst, arith}
+use Rattle.std.proofs.Common.{◌≡◌, inl, inr, ℕ, zero, suc, ◌<◌, ◌≤◌, ◌+◌, ◌-◌, true, Some, List, ◌∷◌, ◌++◌, [], map, length, get_or, refl, sym, ◌∙◌, ap, subst, arith}
 use Rattle.id_list.specs.List.{Among}
 use Rattle.id_list.proofs.AmongLemmas.{Among-either, Among-from_map}
 use Rattle.id_value.specs.declared.Kind.{Kind}
 use Rattle.id_value.specs.declared.Kind.TheVariants as kinds
-use Rattle.id_value.specs.declared.Constant.{Constant}
-use Rattle.id_value.specs.declared.Constant.TheVariants as constants
-use Rattle.id_value.specs.declared.UnaryOp.{UnaryOp}
-use Rattle.id_value.specs.declared.UnaryOp.TheVariants as before
 use Rattle.id_table.specs.declared.row.Row.{Row}
 use Rattle.id_table.specs.declared.row.Region.{Region}
-use Rattle.id_table.specs.declared.row.Node.{Node}
-use Rattle.id_table.specs.declared.row.Node.TheVariants.{Head, Param, Literal, Name, Unary, Binary, Split, If, Block}
-use Rattle.id_table.specs.declared.row.Node.TheVariants.{Binding, Def, Program, Enter, Arg, Call, Array, Fetch}
-use Rattle.id_table.specs.declared.row.Node.TheVariants.{Address, Store}
-use Rattle.id_table.specs.declared.row.Node.TheVariants.{Start, LoopHead, Variable, Entries, Switches, Turn, NextUse, Next, Body, Reset, Loop}
-use Rattle.id_table.specs.declared.row.Node.TheVariants.{Bounds, Carried, Within, Count, Index, Span}
+use Rattle.id_table.specs.declared.row.Node.TheVariants.{Head, Literal, Unary, Binary, Split, If, Binding, Program}
+use Rattle.id_table.specs.declared.row.Node.TheVariants.{Enter, Arg, Array, Fetch, Address, Store, Start, LoopHead}
+use Rattle.id_table.specs.declared.row.Node.TheVariants.{Entries, Switches, Turn, Next, Reset, Bounds, Carried, Count}
 use Rattle.id_table.specs.Loops.{IsLoop, IsLoopOf}
 use Rattle.id_table.specs.Rows.{arm_at, at}
-use Rattle.id_table.specs.Tables.{HasPart, HasOperand, begins_block, is_binder, is_block, is_carried, is_expression, is_in_loop, is_within}
-use Rattle.id_table.proofs.RegionLemmas.{HasPart-operand}
+use Rattle.id_table.specs.Tables.{HasPart, begins_block, is_carried, is_expression, is_in_loop}
 use Rattle.id_check.specs.declared.checked.Checked.{Checked}
-use Rattle.id_scope.specs.Kinds.{constant_kind, unary_kind, binary_kind}
+use Rattle.id_scope.specs.Kinds.{unary_kind}
 use Rattle.id_check.specs.Programs.{kind, region, rows}
-use Rattle.id_check.proofs.ProgramsLemmas.{unary_row, bound_name_row, loop_row, next_row, split_row, switches_row}
+use Rattle.id_check.proofs.ProgramsLemmas.{unary_row, loop_row, next_row, split_row, switches_row}
 use Rattle.id_instr.specs.declared.dests.Port.{Port}
 use Rattle.id_instr.specs.declared.dests.Port.TheVariants.{Zero, One}
 use Rattle.id_instr.specs.declared.instr.PortKind.{PortKind}
-use Rattle.id_instr.specs.declared.instr.PortKind.TheVariants.{Signal, Bool as TruthPort, Int as IntPort, Address as AddressPort, Context}
-use Rattle.id_instr.specs.Ports as ports
-use Rattle.id_instr.specs.Ports.{operand_kind, outcome_kind, port_kind, sends}
-use Rattle.id_desugar.specs.Regions.{carried, has_index, nexts_of}
+use Rattle.id_instr.specs.declared.instr.PortKind.TheVariants.{Signal, Bool as TruthPort, Int as IntPort, Context}
+use Rattle.id_instr.specs.Held.{address_kind, held_kind, structure_kind}
+use Rattle.id_instr.specs.Ports.{operand_kind, port_kind}
+use Rattle.id_desugar.specs.Regions.{carried, has_index, nexts_of, imports_of}
 use Rattle.id_pieces.specs.declared.arc.Origin.{Origin}
 use Rattle.id_desugar.specs.Ends.{end_of, next_of}
-use Rattle.id_desugar.specs.Regions.{imports_of}
-use Rattle.id_pieces.specs.Rows.{node, port_of, port_at, binary_op, result_of, body_of, output, trigger_of, name_in}
-use Rattle.id_pieces.specs.Rows.{named_in, origin_of, origin, op_by, param_of}
-use Rattle.id_pieces.specs.Rows.{block, entering, entries_row, label, label_by, first_binder, part_of, turn_row}
+use Rattle.id_pieces.specs.Rows.{node, port_of, port_at, holds_array, binary_op, result_of, body_of, output, trigger_of}
+use Rattle.id_pieces.specs.Rows.{name_in, origin, op_by, param_of, block, entering, first_binder, part_of, turn_row}
 use Rattle.id_pieces.specs.Schemas.{Feeds}
 use Rattle.id_laws.specs.Activations.{Begins, of_call, of_loop, Tests, of_arms, of_turns}
 use Rattle.id_laws.specs.Topics.{Addresses, of_fetch, of_store}
 use Rattle.id_laws.proofs.Stores.{address_at}
 use Rattle.id_laws.proofs.Arcs.{Does, starts, returns, constant, unary, binary, turns_on, hands, joins, names, fed}
 use Rattle.id_laws.proofs.Arcs.{sends_in, gives_back, varies, takes_in, moves_on, moves_name, advances, resets}
-use Rattle.id_laws.proofs.Arcs.{gets_last, allocates, addresses, fetches, gets_reply, stores, entered_at}
-use Rattle.id_laws.proofs.Arcs.{bounds_meet, begins_index, carries, meets_bound, goes_further, hands_index, has_one, adds_one, turned, carries_on}
-use Rattle.id_laws.proofs.Arcs.{behind_turned, carried_at, three_carried, three_turned}
-use Rattle.id_laws.proofs.Arcs.{to_carried_context, to_first_index, to_first_bound, to_first_flag, to_next_index, to_next_bound, to_next_flag}
-use Rattle.id_laws.proofs.Arcs.{to_lower, to_upper, to_first_test, to_first, to_carried, to_index_now, to_bound, to_further_test, to_further}
-use Rattle.id_laws.proofs.Arcs.{to_last_test, to_last, to_one, to_add, to_add_one}
-use Rattle.id_laws.proofs.Arcs.{Arc, to_back, to_literal, to_unary, to_left, to_right, to_test, to_trigger, to_import_test, to_import, to_then, to_else}
-use Rattle.id_laws.proofs.Arcs.{to_label, opens, passes, gets, to_enter, to_context, to_argument, to_loop_context, to_entering, to_head}
-use Rattle.id_laws.proofs.Arcs.{to_loop_back, to_variable, to_entry, to_turn, to_turn_name, to_next, to_reset, to_low}
-use Rattle.id_laws.proofs.Arcs.{to_high, to_target, to_index, to_fetch, to_store, to_stored}
+use Rattle.id_laws.proofs.Arcs.{allocates, addresses, fetches, stores, entered_at, bounds_meet, begins_index, carries}
+use Rattle.id_laws.proofs.Arcs.{meets_bound, goes_further, hands_index, has_one, adds_one, turned, carries_on}
+use Rattle.id_laws.proofs.Arcs.{behind_turned, carried_at, three_carried, three_turned, to_carried_context}
+use Rattle.id_laws.proofs.Arcs.{to_first_index, to_first_bound, to_first_flag, to_next_index, to_next_bound}
+use Rattle.id_laws.proofs.Arcs.{to_next_flag, to_lower, to_upper, to_first_test, to_first, to_carried, to_index_now}
+use Rattle.id_laws.proofs.Arcs.{to_bound, to_further_test, to_further, to_last_test, to_last, to_one, to_add}
+use Rattle.id_laws.proofs.Arcs.{to_add_one, Arc, to_back, to_literal, to_unary, to_left, to_right, to_test, to_trigger}
+use Rattle.id_laws.proofs.Arcs.{to_import_test, to_import, to_then, to_else, to_label, opens, passes, to_enter}
+use Rattle.id_laws.proofs.Arcs.{to_context, to_argument, to_loop_context, to_entering, to_head, to_loop_back}
+use Rattle.id_laws.proofs.Arcs.{to_variable, to_entry, to_turn, to_turn_name, to_next, to_reset, to_low, to_high}
+use Rattle.id_laws.proofs.Arcs.{to_target, to_index, to_fetch, to_store, to_stored}
 use Rattle.id_pieces.proofs.EndsLemmas.{end_is, HeadOf, of_procedure, of_arm, region_of, turn_low}
 use Rattle.std.proofs.lemmas.Bool.{cases_lt}
 use Rattle.id_pieces.proofs.EndsLemmas as ends
-use Rattle.id_pieces.proofs.LoopsLemmas.{carried_nodes, switches_high, switches_low, turn_nodes, the_loop, entries_node, entries_stand, entries_within, next_is, reset_is, start_head, turn_block, turn_is}
-use Rattle.id_arcs.proofs.ImportsLemmas.{name_seen, split_seen, switches_seen, first_seen, loop_seen, turn_seen, upper_seen}
+use Rattle.id_pieces.proofs.LoopsLemmas.{carried_nodes, switches_high, switches_low, turn_nodes, the_loop, next_is, reset_is, start_head, turn_block, turn_is}
+use Rattle.id_arcs.proofs.ImportsLemmas.{split_seen, switches_seen, first_seen, loop_seen, turn_seen, upper_seen}
 use Rattle.id_arcs.proofs.RowLemmas.{IsSeen}
-use Rattle.id_laws.proofs.Assumed.{IsKnown, is_handed}
+use Rattle.id_laws.proofs.Assumed.{IsKnown}
 use Rattle.id_laws.proofs.Loops.{LoopKind, plain as by_predicate, counted as with_index, counted_of, has_three, kind_of}
 use Rattle.id_laws.proofs.Speakers.{within_origin}
-use Rattle.id_arcs.proofs.NamesSeen.{Comes, HasSwitches, from_entry, from_label, from_switch, comes, listed}
-use Rattle.id_arcs.proofs.NamesSeen as seen
-use Rattle.id_laws.proofs.LoopRows.{BinderAt, HandedAt, carried_row, carried_rows, entered_as, entering_binds, handed_at, handed_binder, handed_carried}
-use Rattle.id_laws.proofs.LoopRows.{import_binds, label_at}
+use Rattle.id_arcs.proofs.NamesSeen.{listed}
+use Rattle.id_laws.proofs.LoopRows.{carried_row, carried_rows, entered_as, entering_binds, handed_at, handed_binder}
+use Rattle.id_laws.proofs.LoopRows.{handed_carried, import_binds}
 use Rattle.id_laws.proofs.WantedKinds.{operands_of}
 use Rattle.id_pieces.specs.declared.arc.Form.{Form}
 use Rattle.id_laws.proofs.Calls.{arg_at}
-
-some_is : {A : Type 0} {x y : A} → Some x ≡ Some y → x ≡ y
-some_is h = cc
-
--- the ports for a thing of some kind
-pub port_is : (P : Checked) (e : ℕ) (k : Kind) → kind P e ≡ Some k → port_at P e ≡ port_of k
-port_is P e k is = ap (λ o. port_of (unwrap_or o kinds.Int)) is
-
--- the ports for two things of one kind are of one kind
-pub same_ports : (P : Checked) (e a : ℕ) → kind P e ≡ kind P a → port_at P e ≡ port_at P a
-same_ports P e a is = ap (λ o. port_of (unwrap_or o kinds.Int)) is
-
-literal_port : (c : Constant) → ports.constant_kind c ≡ port_of (constant_kind c)
-literal_port (constants.Int n) = refl
-literal_port (constants.Bool b) = refl
-
-unary_port : (o : UnaryOp) → ports.unary_kind o ≡ port_of (unary_kind o)
-unary_port before.Neg = refl
-unary_port before.Not = refl
-
--- the part of the row n sends this kind
-pub record Sender (P : Checked) (n part : ℕ) (k : PortKind) : Type 0 where
-  pub within : n < length (rows P)
-  pub form : Form
-  pub does : Does P n part form
-  pub out : (number : ℕ → ℕ → ℕ) → sends (op_by number form) ≡ Some k
+use Rattle.id_laws.proofs.ValidPorts.{SentBy, Operand, Sender, sender, named_sender, operand, cell_at, port_is, same_ports, unary_port}
 
 -- the part of the row n takes this kind at the port
 pub record Taker (P : Checked) (n part : ℕ) (p : Port) (k : PortKind) : Type 0 where
@@ -113,180 +78,11 @@ module _ (P : Checked) (known : IsKnown P) where
   abbrev R : List Row
   R = rows P
 
-  -- an expression stands at the row
-  abbrev pub Operand : ℕ → Type 0
-  Operand a = (a < length R) × (is_expression (node P a) ≡ true)
-
-  pub operand : (n a : ℕ) (m : Node) → n < length R → node P n ≡ m → HasOperand m a → Operand a
-  operand n a m within is part =
-      let here = subst (λ z. HasOperand z a) (sym is) part in
-      let less = (((known.table).formed).each n within).parts a (HasPart-operand (node P n) a here) in
-      (omega (arith, within, less.1), known.operands n a within here)
-
-  -- ---- what sends
-
-  -- the row that gives the value of an expression has its kind
-  value_kind : (bound e : ℕ) → e < bound → Operand e → kind P (at R e).value ≡ kind P e
-  value_kind zero e small x = absurd (omega (arith, small))
-  value_kind (suc bound) e small x = go (node P e) refl (value_kind bound)
-    where
-      itself : is_block (node P e) ≡ false → is_within (node P e) ≡ false → kind P (at R e).value ≡ kind P e
-      itself plain own = ap (kind P) ((known.table).value_self e x.0 plain own)
-
-      go : (m : Node) → node P e ≡ m → ((i : ℕ) → i < bound → Operand i → kind P (at R i).value ≡ kind P i) → kind P (at R e).value ≡ kind P e
-      go (Block b) m rest =
-          let has_part : HasPart (node P e) b = subst (λ z. HasPart z b) (sym m) refl in
-          let less = (((known.table).formed).each e x.0).parts b has_part in
-          ap (kind P) ((known.table).value_block e b x.0 m)
-          ∙ rest b (omega (arith, less.1, small)) (operand e b (Block b) x.0 m refl)
-          ∙ sym (known.block_kind e b x.0 m)
-      go Head m rest = itself (ap is_block m) (ap is_within m)
-      go (Param y k) m rest = itself (ap is_block m) (ap is_within m)
-      go (Literal c) m rest = itself (ap is_block m) (ap is_within m)
-      go (Array y z) m rest = itself (ap is_block m) (ap is_within m)
-      go (Fetch y z) m rest = itself (ap is_block m) (ap is_within m)
-      go (Address y z) m rest = itself (ap is_block m) (ap is_within m)
-      go (Store y z) m rest = itself (ap is_block m) (ap is_within m)
-      go (Name y) m rest = itself (ap is_block m) (ap is_within m)
-      go (Unary o y) m rest = itself (ap is_block m) (ap is_within m)
-      go (Binary o y z) m rest = itself (ap is_block m) (ap is_within m)
-      go (Split t) m rest = itself (ap is_block m) (ap is_within m)
-      go (If s y z) m rest = itself (ap is_block m) (ap is_within m)
-      go (Enter y) m rest = itself (ap is_block m) (ap is_within m)
-      go (Arg s k y) m rest = itself (ap is_block m) (ap is_within m)
-      go (Call s c) m rest = itself (ap is_block m) (ap is_within m)
-      go (Binding y z) m rest = itself (ap is_block m) (ap is_within m)
-      go (Def y h k b) m rest = itself (ap is_block m) (ap is_within m)
-      go Program m rest = itself (ap is_block m) (ap is_within m)
-      go Start m rest = itself (ap is_block m) (ap is_within m)
-      go (LoopHead y) m rest = itself (ap is_block m) (ap is_within m)
-      go Variable m rest = itself (ap is_block m) (ap is_within m)
-      go Entries m rest = itself (ap is_block m) (ap is_within m)
-      go (Switches y) m rest = itself (ap is_block m) (ap is_within m)
-      go Turn m rest = itself (ap is_block m) (ap is_within m)
-      go (NextUse y) m rest = itself (ap is_block m) (ap is_within m)
-      go (Next y k o z) m rest = itself (ap is_block m) (ap is_within m)
-      go Body m rest = itself (ap is_block m) (ap is_within m)
-      go (Reset y) m rest = itself (ap is_block m) (ap is_within m)
-      go (Loop y w l) m rest = itself (ap is_block m) (ap is_within m)
-      go (Bounds y z) m rest = itself (ap is_block m) (ap is_within m)
-      go (Carried k) m rest = itself (ap is_block m) (ap is_within m)
-      go (Within f) m rest = let bad : false ≡ true = sym (ap is_expression m) ∙ x.1 in cc
-      go Count m rest = itself (ap is_block m) (ap is_within m)
-      go (Index y) m rest = itself (ap is_block m) (ap is_within m)
-      go Span m rest = itself (ap is_block m) (ap is_within m)
-
-  -- the label of a binder sends its kind
-  label_sender : (b : ℕ) → b < length R → is_binder (node P b) ≡ true → Sender P (label P b) 0 (port_at P b)
-  label_sender b within e = let z = label_at P b within e in record { within = z.within; form = _; does = z.does; out = λ f. refl }
-
-  -- and so does what a loop carries on for its index
-  handed_sender : (b : ℕ) → b < length R → is_handed (node P b) ≡ true → Sender P (label P b) 0 (port_at P b)
-  handed_sender b within e = go (node P b) refl e
-    where
-      go : (m : Node) → node P b ≡ m → is_handed m ≡ true → Sender P (label P b) 0 (port_at P b)
-      go (Param y k) is h = label_sender b within (ap is_binder is)
-      go (Binding y a) is h = label_sender b within (ap is_binder is)
-      go (Next y k o v) is h = label_sender b within (ap is_binder is)
-      go (Index y) is h = label_sender b within (ap is_binder is)
-      go (Carried k) is h =
-          subst (λ l. Sender P l 0 (port_at P b)) (sym (ap (label_by (block P b) b) is))
-          (record { within = within; form = _; does = (carried_row P b k is).does; out = λ f. refl })
-      go _ is h = let bad : false ≡ true = h in cc
-
-  abbrev SentBy : PortKind → Origin → Type 0
-  SentBy k s = Sender P s.row s.part k
-
-  tests_of : {n t : ℕ} → HasSwitches P n t → Tests P n t
-  tests_of (seen.of_arms is) = of_arms is
-  tests_of (seen.of_turns is) = of_turns is
-
-  -- where a region has a name, or what a loop carries on, its kind is sent
-  named_sender : (r : Region) (b : ℕ) → HandedAt P b → IsSeen P r b → SentBy (port_at P b) (name_in P r b)
-  named_sender r b handed there = by (comes P r b there.sees)
-    where
-      by : Comes P r b → SentBy (port_at P b) (name_in P r b)
-      by (from_label is from) = subst (SentBy (port_at P b)) (sym from) (handed_sender b handed.within handed.handed)
-      by (from_switch n t k c less is few at_slot rest at from) =
-          subst (SentBy (port_at P b)) (sym from)
-          (record { within = less; form = _; does = hands k (tests_of is) few; out = λ f. ap (λ z. Some (port_at P z)) at_slot })
-      by (from_entry h s k less is few at_slot rest at from) =
-          let e = entries_row P h in
-          let of_block : block P e ≡ h = (entries_stand P h s less is e (omega arith) (omega arith)).0 in
-          let few_here : k < length (imports_of P (block P e)) = subst (λ g. k < length (imports_of P g)) (sym of_block) few in
-          subst (SentBy (port_at P b)) (sym from)
-          (record {
-            within = entries_within P h s less is;
-            form = _;
-            does = takes_in k (entries_node P h s less is) few_here;
-            out = λ f. ap (λ g. Some (port_at P (get_or (imports_of P g) k 0))) of_block ∙ ap (λ z. Some (port_at P z)) at_slot;
-          })
-
-  abbrev Gives : ℕ → Type 0
-  Gives v = SentBy (port_at P v) (origin_of P v (region P v) (node P v))
-
-  -- what gives the value of an expression that is no block sends its kind
-  giver : (v : ℕ) → Operand v → is_block (node P v) ≡ false → Gives v
-  giver v x plain = go (node P v) refl
-    where
-      own : (m : Node) → node P v ≡ m → origin_of P v (region P v) m ≡ output v → Sender P v 0 (port_at P v) → Gives v
-      own m is from s = subst (SentBy (port_at P v)) (sym (ap (origin_of P v (region P v)) is ∙ from)) s
-
-      go : (m : Node) → node P v ≡ m → Gives v
-      go (Name y) is =
-          let z = name_seen P v y x.0 is in
-          let b = z.row in
-          let bound = bound_name_row P v y (record { within = x.0; node = is }) in
-          let binder : BinderAt P b = subst (BinderAt P) (some_is (sym (bound.1).binder ∙ z.binds))
-          (record { within = (bound.1).within; binds = (bound.1).is_binder }) in
-          let from : origin_of P v (region P v) (node P v) ≡ name_in P (region P v) b =
-          ap (origin_of P v (region P v)) is ∙ ap (named_in P (region P v) v) z.binds in
-          let same = same_ports P b v (sym (known.name_kind v y b x.0 is z.binds)) in
-          subst (SentBy (port_at P v)) (sym from) (subst (λ k. SentBy k (name_in P (region P v) b)) same (named_sender (region P v) b (handed_binder P b binder) z.seen))
-      go (Literal c) is =
-          let here = port_is P v (constant_kind c) (known.literal_kind v c x.0 is) in
-          own (Literal c) is refl (record { within = x.0; form = _; does = constant is; out = λ f. ap (λ k. Some k) (literal_port c ∙ sym here) })
-      go (Unary o a) is =
-          let here = port_is P v (unary_kind o) (known.unary_kinds v a o x.0 is) in
-          own (Unary o a) is refl (record { within = x.0; form = _; does = unary is; out = λ f. ap (λ k. Some k) (unary_port o ∙ sym here) })
-      go (Binary o a b) is =
-          let s = operands_of P v a b o (record { within = x.0; node = is }) in
-          let here = port_is P v (binary_kind o) (known.binary_kinds v a b o x.0 is) in
-          own (Binary o a b) is refl
-          (record {
-            within = x.0;
-            form = _;
-            does = binary is;
-            out = λ f. ap (λ k. Some k) (ap (λ k. outcome_kind (binary_op o k)) (port_is P a s.kind_of s.left) ∙ s.sent ∙ sym here);
-          })
-      go (If s y z) is = own (If s y z) is refl (record { within = x.0; form = _; does = joins is; out = λ f. refl })
-      go (Call s c) is = own (Call s c) is refl (record { within = x.0; form = _; does = gets is; out = λ f. refl })
-      go (Loop h w l) is = own (Loop h w l) is refl (record { within = x.0; form = _; does = gets_last is; out = λ f. refl })
-      go (Array y z) is =
-          let here = port_is P v kinds.Array (known.array_kind v y z x.0 is) in
-          own (Array y z) is refl (record { within = x.0; form = _; does = allocates is; out = λ f. ap (λ k. Some k) (sym here) })
-      go (Fetch y z) is =
-          let here = port_is P v kinds.Int (known.fetch_kind v y z x.0 is) in
-          subst (SentBy (port_at P v)) (sym (ap (origin_of P v (region P v)) is))
-          (record { within = x.0; form = _; does = gets_reply is; out = λ f. ap (λ k. Some k) (sym here) })
-      go (Block b) is = let bad : true ≡ false = sym (ap is_block is) ∙ plain in cc
-      go _ is = let bad : false ≡ true = sym (ap is_expression is) ∙ x.1 in cc
-
-  -- what gives the value of an expression sends its kind
-  pub sender : (e : ℕ) → Operand e → SentBy (port_at P e) (origin P e)
-  sender e x =
-      let w = (at R e).value in
-      let stands = (known.table).value_stands e x.0 x.1 in
-      subst (λ k. SentBy k (origin P e)) (same_ports P w e (value_kind (suc e) e (omega arith) x))
-      (giver w (omega (arith, stands.0, x.0), stands.1) stands.2)
-
-  -- ---- arcs
-
   -- the trigger of a row's region sends signals
-  trigger_sender : (n : ℕ) → n < length R → (node P n ≡ Program → ⊥) → SentBy Signal (trigger_of (region P n))
+  trigger_sender : (n : ℕ) → n < length R → (node P n ≡ Program → ⊥) → SentBy P Signal (trigger_of (region P n))
   trigger_sender n within other = let r = region_of P (known.table) n within other in by (region P n) r.below r.head
     where
-      by : (r : Region) → r.head < length R → HeadOf P (known.table) r → SentBy Signal (trigger_of r)
+      by : (r : Region) → r.head < length R → HeadOf P (known.table) r → SentBy P Signal (trigger_of r)
       by r below (of_procedure is top_is) = record { within = below; form = _; does = starts (ap begins_block is); out = λ f. refl }
       by r below (ends.of_loop is top_is) = record { within = below; form = _; does = starts (ap begins_block is); out = λ f. refl }
       by r below (of_arm is) = record { within = below; form = _; does = turns_on (of_arms is); out = λ f. refl }
@@ -299,11 +95,11 @@ module _ (P : Checked) (known : IsKnown P) where
       let body_is : b ≡ def.body = ap body_of def.node in
       let parts = (((known.table).formed).each (end_of P n) def.within).parts def.body (subst (λ z. HasPart z def.body) (sym def.node) (inr refl)) in
       let expression = ((known.table).head_is (end_of P n) def.name n def.body def.result def.within def.node).2 in
-      let x : Operand b = subst Operand (sym body_is) (omega (arith, def.within, parts.1), expression) in
+      let x : Operand P b = subst (Operand P) (sym body_is) (omega (arith, def.within, parts.1), expression) in
       let of_kind : kind P b ≡ Some def.result = ap (kind P) body_is ∙ known.result_kind (end_of P n) n def in
       record {
         kind = port_at P b;
-        source = sender b x;
+        source = sender P known b x;
         target = record {
           within = within;
           form = _;
@@ -313,17 +109,17 @@ module _ (P : Checked) (known : IsKnown P) where
       }
 
   -- the parts that name a cell
-  cell_operands : (n t i : ℕ) → n < length R → Addresses P n t i → Operand t × Operand i
-  cell_operands n t i within (of_fetch is) = (operand n t (Fetch t i) within is (inl refl), operand n i (Fetch t i) within is (inr refl))
-  cell_operands n t i within (of_store is) = (operand n t (Address t i) within is (inl refl), operand n i (Address t i) within is (inr refl))
+  cell_operands : (n t i : ℕ) → n < length R → Addresses P n t i → Operand P t × Operand P i
+  cell_operands n t i within (of_fetch is) = (operand P known n t (Fetch t i) within is (inl refl), operand P known n i (Fetch t i) within is (inr refl))
+  cell_operands n t i within (of_store is) = (operand P known n t (Address t i) within is (inl refl), operand P known n i (Address t i) within is (inr refl))
 
   test_kind : (n t : ℕ) → n < length R → Tests P n t → kind P t ≡ Some kinds.Bool
   test_kind n t within (of_arms is) = split_row P n t (record { within = within; node = is })
   test_kind n t within (of_turns is) = switches_row P n t (record { within = within; node = is })
 
   -- what switches go by is sent: the value of a predicate, or of the flag of a loop with an index
-  test_sender : (n t : ℕ) → n < length R → Tests P n t → SentBy (port_at P t) (origin P t)
-  test_sender n t within (of_arms is) = sender t (operand n t (Split t) within is refl)
+  test_sender : (n t : ℕ) → n < length R → Tests P n t → SentBy P (port_at P t) (origin P t)
+  test_sender n t within (of_arms is) = sender P known t (operand P known n t (Split t) within is refl)
   test_sender n t within (of_turns is) =
       let z = (known.table).switches_of n t within is in
       by (kind_of P ((known.table).loop_is z.0 (block P n) z.1)) z.1 z.2
@@ -331,17 +127,17 @@ module _ (P : Checked) (known : IsKnown P) where
       less : t < length R
       less = let part = (((known.table).formed).each n within).parts t (subst (λ m. HasPart m t) (sym is) refl) in omega (arith, within, part.1)
 
-      by : {q h w l : ℕ} {x : IsLoop R q h w l} → LoopKind P x → (c : IsLoopOf R q h) → w ≡ n → SentBy (port_at P t) (origin P t)
+      by : {q h w l : ℕ} {x : IsLoop R q h w l} → LoopKind P x → (c : IsLoopOf R q h) → w ≡ n → SentBy P (port_at P t) (origin P t)
       by {x = x} (by_predicate none expression turn first) c same =
           let both : Switches t ≡ Switches (x.test).test = sym is ∙ ap (node P) (sym same) ∙ (x.test).node in
           let one : (x.test).test ≡ t = cc in
-          sender t (less, subst (λ j. is_expression (node P j) ≡ true) one expression)
+          sender P known t (less, subst (λ j. is_expression (node P j) ≡ true) one expression)
       by {h = h} {x = x} (with_index k) c same =
           let both : Switches t ≡ Switches (x.test).test = sym is ∙ ap (node P) (sym same) ∙ (x.test).node in
           let one : (x.test).test ≡ t = cc in
           let flag = carried_row P (h + 3) kinds.Bool k.flag in
           let port : port_at P (h + 3) ≡ port_at P t = same_ports P (h + 3) t (flag.kind ∙ sym (test_kind n t within (of_turns is))) in
-          subst (SentBy (port_at P t)) (sym (within_origin P known t (h + 3) less (ap (node P) (sym one) ∙ k.test) k.flag))
+          subst (SentBy P (port_at P t)) (sym (within_origin P known t (h + 3) less (ap (node P) (sym one) ∙ k.test) k.flag))
           (record { within = flag.within; form = _; does = flag.does; out = λ f. ap (λ j. Some j) port })
 
   test_port : (n t : ℕ) → n < length R → Tests P n t → Some TruthPort ≡ Some (port_at P t)
@@ -388,7 +184,7 @@ module _ (P : Checked) (known : IsKnown P) where
       let name = behind_get (carried P h) (entering P h) k in
       record {
         kind = port_at P b;
-        source = named_sender (region P n) b (handed_binder P b (entering_binds P h n b head.1 among)) (seen_at_start n b within is among);
+        source = named_sender P known (region P n) b (handed_binder P b (entering_binds P h n b head.1 among)) (seen_at_start n b within is among);
         target = record {
           within = within;
           form = _;
@@ -398,7 +194,7 @@ module _ (P : Checked) (known : IsKnown P) where
       }
 
   -- what goes to the entries of what it carries on
-  begin_typed : (n k : ℕ) (s : Origin) (o : PortKind) → n < length R → node P n ≡ Start → has_index P (n + 1) ≡ true → k < 3 → SentBy o s
+  begin_typed : (n k : ℕ) (s : Origin) (o : PortKind) → n < length R → node P n ≡ Start → has_index P (n + 1) ≡ true → k < 3 → SentBy P o s
       → port_at P (get_or (carried P (n + 1)) k 0) ≡ o → Typed P s n (suc k) One
   begin_typed n k s o within is has less source port = record {
     kind = o;
@@ -444,7 +240,7 @@ module _ (P : Checked) (known : IsKnown P) where
       record { row = q; loop = c; below = omega (arith, low, high, c.within); head = (x.before_test).head }
 
   -- what hands on what is carried on
-  hands_typed : (n k : ℕ) (s : Origin) (o : PortKind) → n < length R → node P n ≡ Turn → has_index P (block P n) ≡ true → k < 3 → SentBy o s
+  hands_typed : (n k : ℕ) (s : Origin) (o : PortKind) → n < length R → node P n ≡ Turn → has_index P (block P n) ≡ true → k < 3 → SentBy P o s
       → port_at P (get_or (carried P (block P n)) k 0) ≡ o → Typed P s n (suc k) Zero
   hands_typed n k s o within is has less source port =
       let h = block P n in
@@ -493,15 +289,15 @@ module _ (P : Checked) (known : IsKnown P) where
 
   -- the upper bound is seen in the body
   bound_sender : {q : ℕ} (n : ℕ) → n < length R → (c : IsLoopOf R q (block P n)) → ((known.table).loop_is q (block P n) c).carried ≡ 3
-      → region P n ≡ arm_at c.switches true → SentBy IntPort (name_in P (region P n) (block P n + 2))
+      → region P n ≡ arm_at c.switches true → SentBy P IntPort (name_in P (region P n) (block P n + 2))
   bound_sender {q} n within c three right =
       let h = block P n in
       let x = (known.table).loop_is q h c in
       let i = inside {n = n} c in
       let z = carried_nodes (x.before_test).carried three in
       let port = port_is P (h + 2) kinds.Int (carried_row P (h + 2) kinds.Int z.1).kind in
-      subst (λ o. SentBy o (name_in P (region P n) (h + 2))) port
-      (named_sender (region P n) (h + 2) (handed_carried P (h + 2) kinds.Int z.1) (upper_seen P q h n c x three right))
+      subst (λ o. SentBy P o (name_in P (region P n) (h + 2))) port
+      (named_sender P known (region P n) (h + 2) (handed_carried P (h + 2) kinds.Int z.1) (upper_seen P q h n c x three right))
 
   -- what hands imports on goes to their entries
   entry_typed : (n k : ℕ) → n < length R → node P n ≡ Entries → k < length (imports_of P (block P n))
@@ -575,7 +371,7 @@ module _ (P : Checked) (known : IsKnown P) where
           go (suc (suc (suc j))) l = absurd (omega (arith, l))
 
   -- what counts has the index from its entry
-  index_sender : (n : ℕ) → n < length R → node P n ≡ Count → SentBy IntPort (output (block P n + 1))
+  index_sender : (n : ℕ) → n < length R → node P n ≡ Count → SentBy P IntPort (output (block P n + 1))
   index_sender n within is =
       let z = (known.table).count_of n within is in
       let x = (known.table).loop_is z.0 (block P n) z.1 in
@@ -591,7 +387,7 @@ module _ (P : Checked) (known : IsKnown P) where
   }
   by_arc {n} within (to_unary {o = o} {a = a} is) = record {
     kind = port_at P a;
-    source = sender a (operand n a (Unary o a) within is refl);
+    source = sender P known a (operand P known n a (Unary o a) within is refl);
     target = record {
       within = within;
       form = _;
@@ -604,7 +400,7 @@ module _ (P : Checked) (known : IsKnown P) where
       let left = port_is P a s.kind_of s.left in
       record {
         kind = port_at P a;
-        source = sender a (operand n a (Binary o a b) within is (inl refl));
+        source = sender P known a (operand P known n a (Binary o a b) within is (inl refl));
         target = record {
           within = within;
           form = _;
@@ -616,7 +412,7 @@ module _ (P : Checked) (known : IsKnown P) where
       let s = operands_of P n a b o (record { within = within; node = is }) in
       record {
         kind = port_at P b;
-        source = sender b (operand n b (Binary o a b) within is (inr refl));
+        source = sender P known b (operand P known n b (Binary o a b) within is (inr refl));
         target = record {
           within = within;
           form = _;
@@ -644,17 +440,17 @@ module _ (P : Checked) (known : IsKnown P) where
       let among = listed (imports_of P n) k less in
       record {
         kind = port_at P b;
-        source = named_sender (region P n) b (handed_at P n t b within is among) (import_at_switches n t b within is among);
+        source = named_sender P known (region P n) b (handed_at P n t b within is among) (import_at_switches n t b within is among);
         target = record { within = within; form = _; does = hands k is less; into = λ f. refl };
       }
   by_arc {n} within (to_then {s = s} {x = x} {y = y} is) = record {
     kind = port_at P x;
-    source = sender x (operand n x (If s x y) within is (inl refl));
+    source = sender P known x (operand P known n x (If s x y) within is (inl refl));
     target = record { within = within; form = _; does = joins is; into = λ f. ap (λ k. Some k) (same_ports P n x (known.arm_kinds n s x y within is).0) };
   }
   by_arc {n} within (to_else {s = s} {x = x} {y = y} is) = record {
     kind = port_at P y;
-    source = sender y (operand n y (If s x y) within is (inr refl));
+    source = sender P known y (operand P known n y (If s x y) within is (inr refl));
     target = record { within = within; form = _; does = joins is; into = λ f. ap (λ k. Some k) (same_ports P n y (known.arm_kinds n s x y within is).1) };
   }
   by_arc {n} within (to_enter is) = record {
@@ -671,7 +467,7 @@ module _ (P : Checked) (known : IsKnown P) where
       }
   by_arc {n} within (to_argument {e = e} {k = k} {v = v} is) = record {
     kind = port_at P v;
-    source = sender v (operand n v (Arg e k v) within is refl);
+    source = sender P known v (operand P known n v (Arg e k v) within is refl);
     target = record {
       within = within;
       form = _;
@@ -681,7 +477,7 @@ module _ (P : Checked) (known : IsKnown P) where
   }
   by_arc {n} within (to_label {x = x} {a = a} is) = record {
     kind = port_at P a;
-    source = sender a (operand n a (Binding x a) within is refl);
+    source = sender P known a (operand P known n a (Binding x a) within is refl);
     target = record { within = within; form = _; does = names is; into = λ f. ap (λ k. Some k) (same_ports P n a (known.binding_kind n x a within is)) };
   }
   by_arc {n} within (to_loop_context k is less) =
@@ -703,7 +499,7 @@ module _ (P : Checked) (known : IsKnown P) where
       let less = bounds_before n within in
       let port = port_is P b kinds.Int (known.range_kinds (n - 1) a b less at).1 in
       begin_typed n 1 _ IntPort within is has (omega arith)
-      (subst (λ o. SentBy o (origin P b)) port (sender b (operand (n - 1) b (Bounds a b) less at (inr refl)))) (begin_ports n within is has).1
+      (subst (λ o. SentBy P o (origin P b)) port (sender P known b (operand P known (n - 1) b (Bounds a b) less at (inr refl)))) (begin_ports n within is has).1
   by_arc {n} within (to_first_flag {a = a} {b = b} is at has) =
       begin_typed n 2 _ TruthPort within is has (omega arith)
       (record { within = bounds_before n within; form = _; does = bounds_meet at; out = λ f. refl }) (begin_ports n within is has).2
@@ -744,7 +540,7 @@ module _ (P : Checked) (known : IsKnown P) where
       let i = inside ((known.table).turn_of n within is).1 in
       record {
         kind = port_at P b;
-        source = named_sender (region P n) b (handed_binder P b (import_binds P h (h - 1) b i.head among)) (turn_seen P n b within is among);
+        source = named_sender P known (region P n) b (handed_binder P b (import_binds P h (h - 1) b i.head among)) (turn_seen P n b within is among);
         target = record {
           within = within;
           form = _;
@@ -767,7 +563,7 @@ module _ (P : Checked) (known : IsKnown P) where
       (turn_ports n within is has).2
   by_arc {n} within (to_next {x = x} {k = k} {o = o} {v = v} is) = record {
     kind = port_at P v;
-    source = sender v (operand n v (Next x k o v) within is refl);
+    source = sender P known v (operand P known n v (Next x k o v) within is refl);
     target = record {
       within = within;
       form = _;
@@ -777,12 +573,12 @@ module _ (P : Checked) (known : IsKnown P) where
   }
   by_arc {n} within (to_reset {v = v} is) = record {
     kind = port_at P v;
-    source = sender v (operand n v (Reset v) within is refl);
+    source = sender P known v (operand P known n v (Reset v) within is refl);
     target = record { within = within; form = _; does = resets is; into = λ f. refl };
   }
-  by_arc {n} within (to_low {a = a} {b = b} is) = record {
+  by_arc {n} within (to_low {nested = nested} {a = a} {b = b} is) = record {
     kind = port_at P a;
-    source = sender a (operand n a (Array a b) within is (inl refl));
+    source = sender P known a (operand P known n a (Array nested a b) within is (inl refl));
     target = record {
       within = within;
       form = _;
@@ -791,9 +587,9 @@ module _ (P : Checked) (known : IsKnown P) where
           (sym (port_is P a kinds.Int (known.bound_kinds n a b within is).0));
     };
   }
-  by_arc {n} within (to_high {a = a} {b = b} is) = record {
+  by_arc {n} within (to_high {nested = nested} {a = a} {b = b} is) = record {
     kind = port_at P b;
-    source = sender b (operand n b (Array a b) within is (inr refl));
+    source = sender P known b (operand P known n b (Array nested a b) within is (inr refl));
     target = record {
       within = within;
       form = _;
@@ -804,7 +600,7 @@ module _ (P : Checked) (known : IsKnown P) where
   }
   by_arc {n} within (to_lower {a = a} {b = b} is) = record {
     kind = port_at P a;
-    source = sender a (operand n a (Bounds a b) within is (inl refl));
+    source = sender P known a (operand P known n a (Bounds a b) within is (inl refl));
     target = record {
       within = within;
       form = _;
@@ -814,7 +610,7 @@ module _ (P : Checked) (known : IsKnown P) where
   }
   by_arc {n} within (to_upper {a = a} {b = b} is) = record {
     kind = port_at P b;
-    source = sender b (operand n b (Bounds a b) within is (inr refl));
+    source = sender P known b (operand P known n b (Bounds a b) within is (inr refl));
     target = record {
       within = within;
       form = _;
@@ -829,7 +625,7 @@ module _ (P : Checked) (known : IsKnown P) where
   }
   by_arc {n} within (to_first {a = a} {b = b} is) = record {
     kind = port_at P a;
-    source = sender a (operand n a (Bounds a b) within is (inl refl));
+    source = sender P known a (operand P known n a (Bounds a b) within is (inl refl));
     target = record {
       within = within;
       form = _;
@@ -889,51 +685,49 @@ module _ (P : Checked) (known : IsKnown P) where
     source = record { within = within; form = _; does = has_one is; out = λ f. refl };
     target = record { within = within; form = _; does = adds_one is; into = λ f. refl };
   }
-  by_arc {n} within (to_target {t = t} {i = i} is) = record {
-    kind = port_at P t;
-    source = sender t (cell_operands n t i within is).0;
-    target = record {
-      within = within;
-      form = _;
-      does = addresses is;
-      into = λ f. ap (λ k. Some k)
-          (sym (port_is P t kinds.Array (known.cell_kinds n t i within is).0));
-    };
-  }
+  by_arc {n} within (to_target {t = t} {i = i} is) =
+      let c = cell_at P known n t i within is in
+      record {
+        kind = port_at P t;
+        source = sender P known t (cell_operands n t i within is).0;
+        target = record {
+          within = within;
+          form = _;
+          does = addresses is;
+          into = λ f. ap (λ b. Some (structure_kind b)) c.holds ∙ ap (λ k. Some k) (sym c.target);
+        };
+      }
   by_arc {n} within (to_index {t = t} {i = i} is) = record {
     kind = port_at P i;
-    source = sender i (cell_operands n t i within is).1;
-    target = record {
-      within = within;
-      form = _;
-      does = addresses is;
-      into = λ f. ap (λ k. Some k)
-          (sym (port_is P i kinds.Int (known.cell_kinds n t i within is).1));
-    };
+    source = sender P known i (cell_operands n t i within is).1;
+    target = record { within = within; form = _; does = addresses is; into = λ f. ap (λ k. Some k) (sym (cell_at P known n t i within is).index) };
   }
   by_arc {n} within (to_fetch is) = record {
-    kind = AddressPort;
+    kind = address_kind (holds_array P n);
     source = record { within = within; form = _; does = addresses (of_fetch is); out = λ f. refl };
     target = record { within = within; form = _; does = fetches is; into = λ f. refl };
   }
   by_arc {n} within (to_store {a = a} is) =
       let z = address_at known within is in
       record {
-        kind = AddressPort;
+        kind = address_kind (holds_array P a);
         source = record { within = z.within; form = _; does = addresses (of_store z.node); out = λ f. refl };
         target = record { within = within; form = _; does = stores is; into = λ f. refl };
       }
-  by_arc {n} within (to_stored {a = a} {v = v} is) = record {
-    kind = port_at P v;
-    source = sender v (operand n v (Store a v) within is refl);
-    target = record {
-      within = within;
-      form = _;
-      does = stores is;
-      into = λ f. ap (λ k. Some k)
-          (sym (port_is P v kinds.Int (known.stored_kind n a v within is)));
-    };
-  }
+  by_arc {n} within (to_stored {a = a} {v = v} is) =
+      let z = address_at known within is in
+      let c = cell_at P known a z.target z.index z.within (of_store z.node) in
+      let same = same_ports P v a (known.stored_kind n a v z.target z.index within is z.within z.node) in
+      record {
+        kind = port_at P v;
+        source = sender P known v (operand P known n v (Store a v) within is refl);
+        target = record {
+          within = within;
+          form = _;
+          does = stores is;
+          into = λ f. ap (λ b. Some (held_kind b)) c.holds ∙ ap (λ k. Some k) (sym (same ∙ c.held));
+        };
+      }
 
   pub typed : (s : Origin) (n part : ℕ) (p : Port) → Feeds P s n part p → Typed P s n part p
   typed s n part p h = by_arc h.within (fed h)

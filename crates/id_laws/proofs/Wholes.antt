@@ -1,6 +1,6 @@
 -- What a place of a source Has, where it is a number, is one of the language, if literals and inputs are.
 use Rattle.std.proofs.Common.{◌≡◌, inl, inr, ℕ, zero, suc, ◌<◌, ℤ, Bool as Truth, true, false, cond, List, [], ◌∷◌, refl, sym, ◌∙◌, subst, arith}
-use Rattle.std.specs.Prelude.{neg_ℤ, pos, negsuc, ◌+ℤ◌, ◌-ℤ◌, ◌*ℤ◌, ◌&&◌, int_lt, int_div, int_rem}
+use Rattle.std.specs.Prelude.{neg_ℤ, pos, negsuc, ◌+ℤ◌, ◌-ℤ◌, ◌*ℤ◌, int_lt, int_div, int_rem}
 use Rattle.std.proofs.Common.{int_eq}
 use Rattle.std.specs.Prelude.{unsigned_abs, slice_get, None, Some}
 use Rattle.std.proofs.lemmas.Int.{rem_below}

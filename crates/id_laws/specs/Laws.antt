@@ -32,7 +32,7 @@ use Rattle.id_table.specs.declared.row.Node.TheVariants.{Fetch}
 use Rattle.id_table.specs.Rows.{at}
 use Rattle.id_table.specs.Tables.{is_binder, is_expression, is_thing}
 use Rattle.id_check.specs.Programs.{kind, place, rows}
-use Rattle.id_source.specs.Sources.{Source, AreInputs, value_kind}
+use Rattle.id_source.specs.Sources.{Source, AreInputs, IsOfKind}
 use Rattle.id_source.specs.Facts.{site}
 use Rattle.id_source.specs.Rounds.{Holds, Faulty, FaultFree, Answers, IsAnswer, IsCoherent, IsWaiting}
 use Rattle.id_source.specs.Names.{IsNameValue}
@@ -193,4 +193,4 @@ Labels = (P : Checked) (g : Parts) → (schemas : Schemas P g) → AreLabels P g
 abbrev pub Kinded : Type 0
 Kinded = (S : Source) (n : ℕ) (p : Path) (v : SourceValue) → AreInputs S.checked S.inputs
     → n < length (rows S.checked) → is_thing (at (rows S.checked) n).node ≡ true
-    → Holds S (Has p (place S.checked n) v) → kind S.checked n ≡ Some (value_kind v)
+    → Holds S (Has p (place S.checked n) v) → IsOfKind S.checked v (kind S.checked n)

@@ -1,6 +1,7 @@
 -- What each instruction speaks of and what each port wants, and when a value tells it under an activation
 -- (docs/MEANING.md, "Laws").
-use Rattle.std.specs.Prelude.{◌≡◌, ◌<◌, ◌+◌, ◌-◌, ℕ, zero, suc, ℤ, pos, Bool as Truth, true, false, List, get_or, length}
+use Rattle.std.specs.Prelude.{◌≡◌, ◌<◌, ◌+◌, ◌-◌, ℕ, zero, suc, ℤ, pos, Bool as Truth, true, false}
+use Rattle.std.specs.Prelude.{List, get_or, length}
 use Rattle.std.specs.Prelude.{if◌then◌else◌, unwrap_or, int_le, int_lt, ◌+ℤ◌}
 use Rattle.id_value.specs.Results.{is_whole}
 use Rattle.id_value.specs.Bounds.{is_inside}
@@ -188,7 +189,7 @@ speaks_of P n r Turn part side =
 speaks_of P n r (Next x k o v) part side = NameIn (top (block P n)) n
 speaks_of P n r (Reset v) part side = ResultOf (block P n)
 speaks_of P n r (Loop h w l) part side = ValueOf n
-speaks_of P n r (Array a b) part side = ValueOf n
+speaks_of P n r (Array nested a b) part side = ValueOf n
 speaks_of P n r (Fetch t i) zero side = CellOf n
 speaks_of P n r (Fetch t i) (suc (suc part)) side = ValueOf n
 speaks_of P n r (Address t i) part side = CellOf n
@@ -237,8 +238,8 @@ wants P n r Turn part Zero =
 wants P n r (Next x k o v) part Zero = ValueOf v
 wants P n r (Reset v) part Zero = ValueOf v
 wants P n r (Loop h w l) part Zero = ValueOf n
-wants P n r (Array a b) part Zero = ValueOf a
-wants P n r (Array a b) part One = ValueOf b
+wants P n r (Array nested a b) part Zero = ValueOf a
+wants P n r (Array nested a b) part One = ValueOf b
 wants P n r (Fetch t i) zero Zero = ValueOf t
 wants P n r (Fetch t i) zero One = ValueOf i
 wants P n r (Fetch t i) (suc zero) Zero = CellOf n
@@ -283,7 +284,7 @@ pub record Named (S : Source) (number : ℕ → ℕ → ℕ) (run : List Event) 
   pub low : ℕ
   pub high : ℕ
   pub within : row < length (rows S.checked)
-  pub node : node S.checked row ≡ Array low high
+  pub node : node S.checked row ≡ Array s.nested low high
   pub live : activations.Live S number run activation (region S.checked row)
   pub made : FiresAs run (tag_in activation (number row 0)) (Out (value.Structure s))
   pub path_of : activations.PathOf S number run activation x.path

@@ -4,6 +4,7 @@ use Rattle.std.proofs.Common.{length, refl, sym, ap, subst, ◌∙◌, arith}
 use Rattle.std.specs.Prelude.{◌*◌, ◌/◌, ◌%◌, ◌^◌, ℤ, true, false}
 use Rattle.id_ops.specs.declared.Fired.{Fired}
 use Rattle.id_ops.specs.declared.Fired.TheVariants as fired
+use Rattle.id_tag.specs.Plains.{cell_of}
 use Rattle.id_tag.specs.declared.Tag.{Tag}
 use Rattle.id_tag.specs.declared.Value.{Value}
 use Rattle.id_tag.specs.declared.Value.TheVariants as value
@@ -13,9 +14,9 @@ use Rattle.id_line.specs.declared.line.Kind.{Kind}
 use Rattle.id_line.specs.declared.line.Effect.{Effect}
 use Rattle.id_line.specs.declared.line.Kind.TheVariants as kind
 use Rattle.id_line.specs.Events.{value_of}
-use Rattle.id_line.specs.Lines.{Beside, HasNumbers, IsCelled, IsPacked, IsThere}
+use Rattle.id_line.specs.Lines.{Beside, HasNumbers, IsCelled, IsNumbered, IsPacked, IsThere}
 use Rattle.id_line.specs.Lines.{IsNamed, Names, carried_value, cell_at, cell_in, context_of, high_half}
-use Rattle.id_line.specs.Lines.{joined, low_half, no_replies, number_of, own, port_at}
+use Rattle.id_line.specs.Lines.{joined, kept_in, low_half, no_replies, number_of, own, port_at}
 use Rattle.id_line.specs.Lines.{reaction_of, read, saying, structure_at, tag_at, target_in, told}
 use Rattle.std.specs.Int.{cast_signed, cast_unsigned, w32, w64}
 use Rattle.std.proofs.lemmas.Int.{of_z-to_z, to_z-of_z}
@@ -88,6 +89,31 @@ low_half-joined h l high low =
     let rest : (h * 2 ^ 32 + l) % 2 ^ 32 ≡ l = omega (arith, high, low) in
     ap (λ n. n % 2 ^ 32) (half-bits h l high low) ∙ rest
 
+-- a number of 64 bits that is read out of a field of 64
+read-bits : (m : ℕ) → m < 2 ^ 64 → cast_unsigned w64 (cast_signed w64 (cast_unsigned w64 (cast_signed w64 m))) ≡ m
+read-bits m fits = ap (λ k. cast_unsigned w64 (cast_signed w64 k)) (of_z-to_z w64 m fits) ∙ of_z-to_z w64 m fits
+
+-- the cell of a structure that a line keeps, and the lower half beside its name
+module _ (n r : ℤ) (name place from : ℕ) (has_name : name < 2 ^ 32) (has_place : place < 2 ^ 64) (has_from : from < 2 ^ 32)
+    (is_value : n ≡ cast_signed w64 place) (is_result : r ≡ joined name from) where
+  result-bits : cast_unsigned w64 (cast_signed w64 (cast_unsigned w64 r)) ≡ name * 2 ^ 32 + from
+  result-bits =
+      let below : name * 2 ^ 32 + from < 2 ^ 64 = omega (arith, has_name, has_from) in
+      ap (λ k. cast_unsigned w64 (cast_signed w64 (cast_unsigned w64 k))) is_result ∙ read-bits (name * 2 ^ 32 + from) below
+
+  pub kept-cell : kept_in (cast_signed w64 (cast_unsigned w64 n)) (cast_signed w64 (cast_unsigned w64 r)) ≡ cell_of (record { name = name; place = place })
+  kept-cell =
+      let upper : (name * 2 ^ 32 + from) / 2 ^ 32 ≡ name = omega (arith, has_name, has_from) in
+      ap (λ k. cell_of (record { name = k / 2 ^ 32; place = cast_unsigned w64 (cast_signed w64 (cast_unsigned w64 n)) })) result-bits
+      ∙ ap (λ k. cell_of (record { name = k; place = cast_unsigned w64 (cast_signed w64 (cast_unsigned w64 n)) })) upper
+      ∙ ap (λ k. cell_of (record { name = name; place = cast_unsigned w64 (cast_signed w64 (cast_unsigned w64 k)) })) is_value
+      ∙ ap (λ k. cell_of (record { name = name; place = k })) (read-bits place has_place)
+
+  pub kept-from : low_half (cast_signed w64 (cast_unsigned w64 r)) ≡ from
+  kept-from =
+      let lower : (name * 2 ^ 32 + from) % 2 ^ 32 ≡ from = omega (arith, has_name, has_from) in
+      ap (λ k. k % 2 ^ 32) result-bits ∙ lower
+
 -- a number of 32 bits with a sign that is read out of a field of 64
 pub from-field : (f : ℤ → ℤ) (j m : ℤ) → SFits w64 j → SFits w32 m → f j ≡ cast_signed w32 (cast_unsigned w32 m)
     → f (cast_signed w64 (cast_unsigned w64 j)) ≡ m
@@ -124,9 +150,9 @@ target-line t l named result =
 
 -- what an event names is named by its line
 pub names-line : (f : Fired) (v : Value) (t : Tag) (l : Line) → Names f v t → IsNamed t l → l.result ≡ number_of f t → Names f v (target_in l)
-names-line (fired.Out (value.Structure s)) v t l names named result = ap (λ u. u.context) (target-line t l named result) ∙ names
+names-line (fired.Out (value.Structure s)) v t l names named result = subst (IsNumbered s) (sym (target-line t l named result)) names
 names-line (fired.Out w) v t l names named result = names
-names-line (fired.Side b (value.Structure s)) v t l names named result = ap (λ u. u.context) (target-line t l named result) ∙ names
+names-line (fired.Side b (value.Structure s)) v t l names named result = subst (IsNumbered s) (sym (target-line t l named result)) names
 names-line (fired.Side b w) v t l names named result = names
 names-line (fired.Moved i w) v t l names named result =
     let same = target-line t l named result in
@@ -139,10 +165,10 @@ names-line (fired.Failed f) v t l names named result = tt
 names-line fired.Nothing value.Signal t l names named result = tt
 names-line fired.Nothing (value.Int n) t l names named result = tt
 names-line fired.Nothing (value.Bool b) t l names named result = tt
-names-line fired.Nothing (value.Structure s) t l names named result = ap (λ u. u.context) (target-line t l named result) ∙ names
+names-line fired.Nothing (value.Structure s) t l names named result = subst (IsNumbered s) (sym (target-line t l named result)) names
 names-line fired.Nothing (value.Address c) t l names named result =
     let same = target-line t l named result in
-    (ap (λ u. u.context) same ∙ names.0, ap (λ u. cast_signed w32 u.iteration) same ∙ names.1)
+    (subst (IsNumbered c.structure) (sym same) names.0, ap (λ u. cast_signed w32 u.iteration) same ∙ names.1)
 names-line fired.Nothing (value.Context c) t l names named result = tt
 names-line fired.Nothing (value.Continuation u) t l names named result = target-line t l named result ∙ names
 

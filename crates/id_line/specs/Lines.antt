@@ -3,6 +3,7 @@ use Rattle.std.specs.Prelude.{◌≡◌, ◌==◌, if◌then◌else◌, ℕ, zer
 use Rattle.std.specs.Prelude.{true, false}
 use Rattle.std.specs.Prelude.{List, Option, None, Some, length, slice_index_or}
 use Rattle.std.specs.Int.{cast_signed, cast_unsigned, w32, w64}
+use Rattle.std.specs.Int.RustNames.{unsigned_abs}
 use Rattle.id_tag.specs.declared.Cell.{Cell}
 use Rattle.id_tag.specs.declared.Context.{Context}
 use Rattle.id_tag.specs.declared.Structure.{Structure}
@@ -14,7 +15,7 @@ use Rattle.id_tag.specs.declared.Sender.{Sender}
 use Rattle.id_tag.specs.declared.Sender.TheVariants.{Start, Element}
 use Rattle.id_tag.specs.declared.Payload.{Payload}
 use Rattle.id_tag.specs.declared.Payload.TheVariants.{Token, Read, Write}
-use Rattle.id_tag.specs.Plains.{context_of as context_named, structure_of}
+use Rattle.id_tag.specs.Plains.{cell_of, context_of as context_named, made_by, structure_of}
 use Rattle.id_ops.specs.declared.Fired.{Fired}
 use Rattle.id_ops.specs.declared.Fired.TheVariants as fired
 use Rattle.id_value.specs.declared.FaultKind.{FaultKind}
@@ -87,19 +88,14 @@ abbrev pub port_at : ℕ → Port
 port_at zero = Zero
 port_at (suc n) = One
 
--- the element and the serial number of a structure, as those of a context
-abbrev pub numbers_of : Structure → Context
-numbers_of s = record { element = s.element; serial = s.serial }
+-- the tag has a structure's maker and serial number as those of its context
+abbrev pub IsNumbered : Structure → Tag → Type 0
+IsNumbered s t = made_by t.context.element t.context.serial s.low s.high ≡ s
 
--- the structure with the element and the serial number of a tag's context, and with the halves of a number as its
--- bounds
+-- the structure whose maker and serial number are those of a tag's context, and whose bounds are the halves of a number
 abbrev pub structure_at : Tag → ℤ → Structure
-structure_at t n = record {
-  element = t.context.element;
-  serial = t.context.serial;
-  low = cast_signed w32 (high_half n);
-  high = cast_signed w32 (low_half n);
-}
+structure_at t n =
+    made_by t.context.element t.context.serial (cast_signed w32 (high_half n)) (cast_signed w32 (low_half n))
 
 -- its cell whose index is the tag's iteration, as a number with a sign
 abbrev pub cell_at : Tag → ℤ → Cell
@@ -115,14 +111,38 @@ carried_value t kind.Context n = Some (value.Context (context_of n))
 carried_value t kind.Continuation n = Some (value.Continuation t)
 carried_value t kind.Structure n = Some (value.Structure (structure_at t n))
 carried_value t kind.Address n = Some (value.Address (cell_at t n))
-carried_value t _ n = None
+carried_value t kind.Aside n = None
+carried_value t kind.Near n = None
+carried_value t kind.Passed n = None
+carried_value t kind.Given n = None
+carried_value t kind.StructureWaits n = None
+carried_value t kind.StructureOut n = None
+carried_value t kind.StructureOnTrue n = None
+carried_value t kind.StructureOnFalse n = None
+carried_value t kind.StructureMoved n = None
+carried_value t kind.StructureAddressed n = None
+carried_value t kind.StructureStored n = None
+carried_value t kind.TrueSwitched n = None
+carried_value t kind.FalseSwitched n = None
+carried_value t kind.IntAllocated n = None
+carried_value t kind.IntAddressed n = None
+carried_value t kind.IntStored n = None
+carried_value t kind.AddressWaits n = None
+carried_value t kind.AddressAsked n = None
+carried_value t kind.AddressStored n = None
+carried_value t kind.AddressFilled n = None
+carried_value t kind.ReadDeferred n = None
+carried_value t kind.ReadAnswered n = None
+carried_value t kind.ReadGiven n = None
+carried_value t kind.Written n = None
+carried_value t kind.WrittenStructure n = None
 
--- the tag has the element and the serial number of the structure that the value is, if it is one
+-- the tag has the maker and the serial number of the structure that the value is, if it is one
 abbrev pub HasNumbers : Value → Tag → Type 0
 HasNumbers value.Signal t = Unit {0}
 HasNumbers (value.Int n) t = Unit {0}
 HasNumbers (value.Bool b) t = Unit {0}
-HasNumbers (value.Structure s) t = t.context ≡ numbers_of s
+HasNumbers (value.Structure s) t = IsNumbered s t
 HasNumbers (value.Address c) t = Unit {0}
 HasNumbers (value.Context c) t = Unit {0}
 HasNumbers (value.Continuation u) t = Unit {0}
@@ -133,8 +153,8 @@ abbrev pub NamedBy : Value → Tag → Type 0
 NamedBy value.Signal t = Unit {0}
 NamedBy (value.Int n) t = Unit {0}
 NamedBy (value.Bool b) t = Unit {0}
-NamedBy (value.Structure s) t = t.context ≡ numbers_of s
-NamedBy (value.Address c) t = (t.context ≡ numbers_of c.structure) × (cast_signed w32 t.iteration ≡ c.index)
+NamedBy (value.Structure s) t = IsNumbered s t
+NamedBy (value.Address c) t = IsNumbered c.structure t × (cast_signed w32 t.iteration ≡ c.index)
 NamedBy (value.Context c) t = Unit {0}
 NamedBy (value.Continuation u) t = t ≡ u
 
@@ -212,7 +232,10 @@ reaction_of effect.Sent n t v = went (fired.Sent t v)
 reaction_of effect.Own n t v = went (fired.Out v)
 reaction_of effect.OwnOnTrue n t v = went (fired.Side true v)
 reaction_of effect.OwnOnFalse n t v = went (fired.Side false v)
-reaction_of _ n t v = went fired.Nothing
+reaction_of effect.Nothing n t v = went fired.Nothing
+reaction_of effect.StructureAddressed n t v = went fired.Nothing
+reaction_of effect.IntAddressed n t v = went fired.Nothing
+reaction_of effect.AddressAsked n t v = went fired.Nothing
 
 -- the tag that the event of a line names beside that of its message
 abbrev pub target_in : Line → Tag
@@ -263,6 +286,18 @@ pub record Told : Type 0 where
 abbrev pub token_told : Tag → Port → Value → Fired → Told
 token_told t p v f = record { payload = Token t p v; fired = f; replies = no_replies }
 
+-- the structure that a line keeps in its two numbers, as the cell of it whose index is the number of replies
+abbrev pub kept_in : ℤ → ℤ → Cell
+kept_in n r = cell_of (record { name = high_half r; place = cast_unsigned w64 n })
+
+-- that structure as a value
+abbrev pub kept_value : ℤ → ℤ → Value
+kept_value n r = value.Structure (kept_in n r).structure
+
+-- the replies of such a line
+abbrev pub kept_replies : ℤ → ℤ → Replies
+kept_replies n r = record { from = low_half r; count = unsigned_abs (kept_in n r).index }
+
 -- what the event of a line of this kind says, with the tag and the port of its message, its two numbers, and the cell
 -- that it names
 abbrev pub told : Kind → Tag → Port → ℤ → ℤ → Cell → Told
@@ -277,6 +312,7 @@ told kind.StructureMoved t p n r c =
     token_told t p (value.Structure c.structure) (fired.Moved (index_of r) (value.Structure c.structure))
 told kind.StructureAddressed t p n r c =
     token_told t p (value.Structure c.structure) (fired.Out (value.Address c))
+told kind.StructureStored t p n r c = token_told t p (kept_value n r) (fired.Stored c (kept_value n r) t)
 told kind.TrueSwitched t p n r c =
     token_told t p (value.Bool true) (fired.Side true (value.Structure c.structure))
 told kind.FalseSwitched t p n r c =
@@ -288,15 +324,34 @@ told kind.AddressWaits t p n r c = token_told t p (value.Address c) fired.Nothin
 told kind.AddressAsked t p n r c =
     token_told t p (value.Address c) (fired.Asked c (record t { instr = low_half r }))
 told kind.AddressStored t p n r c = token_told t p (value.Address c) (fired.Stored c (value.Int r) t)
+told kind.AddressFilled t p n r c = token_told t p (value.Address c) (fired.Stored c (kept_value n r) t)
 told kind.ReadDeferred t p n r c = record { payload = Read c t; fired = fired.Nothing; replies = no_replies }
 told kind.ReadAnswered t p n r c =
     record { payload = Read c t; fired = fired.Sent t (value.Int r); replies = no_replies }
+told kind.ReadGiven t p n r c =
+    record { payload = Read c t; fired = fired.Sent t (kept_value n r); replies = no_replies }
 told kind.Written t p n r c = record {
   payload = Write c (value.Int n) t;
   fired = fired.Nothing;
   replies = record { from = high_half r; count = low_half r };
 }
-told _ t p n r c = token_told t p value.Signal fired.Nothing
+told kind.WrittenStructure t p n r c = record {
+  payload = Write c (kept_value n r) t;
+  fired = fired.Nothing;
+  replies = kept_replies n r;
+}
+told kind.Signal t p n r c = token_told t p value.Signal fired.Nothing
+told kind.Int t p n r c = token_told t p value.Signal fired.Nothing
+told kind.True t p n r c = token_told t p value.Signal fired.Nothing
+told kind.False t p n r c = token_told t p value.Signal fired.Nothing
+told kind.Context t p n r c = token_told t p value.Signal fired.Nothing
+told kind.Continuation t p n r c = token_told t p value.Signal fired.Nothing
+told kind.Aside t p n r c = token_told t p value.Signal fired.Nothing
+told kind.Structure t p n r c = token_told t p value.Signal fired.Nothing
+told kind.Address t p n r c = token_told t p value.Signal fired.Nothing
+told kind.Near t p n r c = token_told t p value.Signal fired.Nothing
+told kind.Passed t p n r c = token_told t p value.Signal fired.Nothing
+told kind.Given t p n r c = token_told t p value.Signal fired.Nothing
 
 -- what the event of a line with this effect says that has the numbers of its cell, with the tag and the port of its
 -- message, the number of an instruction, and the cell
@@ -347,7 +402,7 @@ port_for (Write c v t) = Zero
 abbrev pub cell_in : List Cell → Line → Cell
 cell_in cs l =
     slice_index_or cs l.to
-    (record { structure = record { element = 0; serial = 0; low = pos 0; high = pos 0 }; index = pos 0 })
+    (record { structure = made_by 0 0 (pos 0) (pos 0); index = pos 0 })
 
 -- the event of a line that says this
 abbrev pub saying : Line → Told → Handled
@@ -357,6 +412,10 @@ saying l x = record {
   reaction = went x.fired;
   replies = x.replies;
 }
+
+-- the event of a line of this kind, which names a cell beside it
+abbrev pub beside_read : Beside → Line → Kind → Handled
+beside_read b l k = saying l (told k (tag_at l) (port_at (l.position / 2 ^ 31)) l.value l.result (cell_in b.cells l))
 
 -- the event of a line of this kind
 abbrev pub read : Beside → Line → Kind → Handled
@@ -375,7 +434,27 @@ read b l kind.Passed = saying l
 read b l kind.Given = saying l
     (told_given l.effect (tag_at l) (port_at (l.position / 2 ^ 31)) (given_to l) (given_in l))
 read b l kind.Aside = slice_index_or b.asides (index_of l.value) (own l value.Signal)
-read b l k = saying l (told k (tag_at l) (port_at (l.position / 2 ^ 31)) l.value l.result (cell_in b.cells l))
+read b l kind.StructureWaits = beside_read b l kind.StructureWaits
+read b l kind.StructureOut = beside_read b l kind.StructureOut
+read b l kind.StructureOnTrue = beside_read b l kind.StructureOnTrue
+read b l kind.StructureOnFalse = beside_read b l kind.StructureOnFalse
+read b l kind.StructureMoved = beside_read b l kind.StructureMoved
+read b l kind.StructureAddressed = beside_read b l kind.StructureAddressed
+read b l kind.StructureStored = beside_read b l kind.StructureStored
+read b l kind.TrueSwitched = beside_read b l kind.TrueSwitched
+read b l kind.FalseSwitched = beside_read b l kind.FalseSwitched
+read b l kind.IntAllocated = beside_read b l kind.IntAllocated
+read b l kind.IntAddressed = beside_read b l kind.IntAddressed
+read b l kind.IntStored = beside_read b l kind.IntStored
+read b l kind.AddressWaits = beside_read b l kind.AddressWaits
+read b l kind.AddressAsked = beside_read b l kind.AddressAsked
+read b l kind.AddressStored = beside_read b l kind.AddressStored
+read b l kind.AddressFilled = beside_read b l kind.AddressFilled
+read b l kind.ReadDeferred = beside_read b l kind.ReadDeferred
+read b l kind.ReadAnswered = beside_read b l kind.ReadAnswered
+read b l kind.ReadGiven = beside_read b l kind.ReadGiven
+read b l kind.Written = beside_read b l kind.Written
+read b l kind.WrittenStructure = beside_read b l kind.WrittenStructure
 
 -- the event of a line
 abbrev pub unpacked : Beside → Line → Handled
@@ -396,7 +475,27 @@ IsThere b l kind.Near = Unit {0}
 IsThere b l kind.Passed = Unit {0}
 IsThere b l kind.Given = Unit {0}
 IsThere b l kind.Aside = index_of l.value < length b.asides
-IsThere b l k = l.to < length b.cells
+IsThere b l kind.StructureWaits = l.to < length b.cells
+IsThere b l kind.StructureOut = l.to < length b.cells
+IsThere b l kind.StructureOnTrue = l.to < length b.cells
+IsThere b l kind.StructureOnFalse = l.to < length b.cells
+IsThere b l kind.StructureMoved = l.to < length b.cells
+IsThere b l kind.StructureAddressed = l.to < length b.cells
+IsThere b l kind.StructureStored = l.to < length b.cells
+IsThere b l kind.TrueSwitched = l.to < length b.cells
+IsThere b l kind.FalseSwitched = l.to < length b.cells
+IsThere b l kind.IntAllocated = l.to < length b.cells
+IsThere b l kind.IntAddressed = l.to < length b.cells
+IsThere b l kind.IntStored = l.to < length b.cells
+IsThere b l kind.AddressWaits = l.to < length b.cells
+IsThere b l kind.AddressAsked = l.to < length b.cells
+IsThere b l kind.AddressStored = l.to < length b.cells
+IsThere b l kind.AddressFilled = l.to < length b.cells
+IsThere b l kind.ReadDeferred = l.to < length b.cells
+IsThere b l kind.ReadAnswered = l.to < length b.cells
+IsThere b l kind.ReadGiven = l.to < length b.cells
+IsThere b l kind.Written = l.to < length b.cells
+IsThere b l kind.WrittenStructure = l.to < length b.cells
 
 -- the line's event is there
 abbrev pub IsWithin : Beside → Line → Type 0
@@ -430,7 +529,27 @@ IsCelled kind.Near = ⊥
 IsCelled kind.Passed = ⊥
 IsCelled kind.Given = ⊥
 IsCelled kind.Aside = ⊥
-IsCelled k = Unit {0}
+IsCelled kind.StructureWaits = Unit {0}
+IsCelled kind.StructureOut = Unit {0}
+IsCelled kind.StructureOnTrue = Unit {0}
+IsCelled kind.StructureOnFalse = Unit {0}
+IsCelled kind.StructureMoved = Unit {0}
+IsCelled kind.StructureAddressed = Unit {0}
+IsCelled kind.StructureStored = Unit {0}
+IsCelled kind.TrueSwitched = Unit {0}
+IsCelled kind.FalseSwitched = Unit {0}
+IsCelled kind.IntAllocated = Unit {0}
+IsCelled kind.IntAddressed = Unit {0}
+IsCelled kind.IntStored = Unit {0}
+IsCelled kind.AddressWaits = Unit {0}
+IsCelled kind.AddressAsked = Unit {0}
+IsCelled kind.AddressStored = Unit {0}
+IsCelled kind.AddressFilled = Unit {0}
+IsCelled kind.ReadDeferred = Unit {0}
+IsCelled kind.ReadAnswered = Unit {0}
+IsCelled kind.ReadGiven = Unit {0}
+IsCelled kind.Written = Unit {0}
+IsCelled kind.WrittenStructure = Unit {0}
 
 -- the event stands in the line and in the cell that stands beside it at this index
 pub record IsPackedBeside (e : Handled) (i : ℕ) (l : Line) (c : Cell) : Type 0 where

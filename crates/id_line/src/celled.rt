@@ -1,6 +1,6 @@
 //! The lines of events that name a cell or a structure, which stands in a list beside the lines.
 
-ghost use Rattle.std.specs.Prelude.{◌≡◌, ◌/◌, ◌^◌, ℤ, pos, IsTrue, IfSome};
+ghost use Rattle.std.specs.Prelude.{◌≡◌, ◌<◌, ◌/◌, ◌^◌, ℤ, pos, IsTrue, IfSome};
 ghost use Rattle.id_tag.specs.declared.Payload.TheVariants.{Read, Write};
 ghost use Rattle.id_tag.specs.declared.Cell.{Cell};
 ghost use Rattle.id_tag.specs.declared.Value.TheVariants as value;
@@ -8,7 +8,8 @@ ghost use Rattle.id_tag.specs.declared.Tag.{Tag};
 ghost use Rattle.id_instr.specs.declared.dests.Port.{Port};
 ghost use Rattle.id_ops.specs.declared.Fired.TheVariants as firings;
 ghost use Rattle.id_line.specs.Events.{tag_of};
-ghost use Rattle.id_line.specs.Lines.{IsCelled, IsPackedBeside, handled, no_replies, port_for};
+ghost use Rattle.id_line.specs.Lines.{IsCelled, IsPackedBeside, handled, kept_in, kept_replies, kept_value};
+ghost use Rattle.id_line.specs.Lines.{no_replies, port_for};
 ghost use Rattle.id_line.specs.Lines.{port_at, saying, tag_at, token_told, told};
 
 use crate::line::{Effect, Handled, Handling, Kind, Line, NO_REPLIES, Replies, Written, line_of};
@@ -18,7 +19,7 @@ use crate::reading::{message_at, tag_at, went};
 use crate::step::Verdict;
 use id_instr::Port;
 use id_ops::Fired;
-use id_tag::{Cell, Payload, Structure, Tag, Value};
+use id_tag::{Cell, Payload, PlainCell, Structure, Tag, Value, plain_cell};
 
 /// A line, and the cell that its event names.
 #[derive(Clone, Copy)]
@@ -87,13 +88,8 @@ fn scene_of(event: &Handling<'_>) -> Option<Scene>
         }) }
 {
     let replies = event.replies;
-    if let Payload::Write {
-        cell,
-        value: Value::Int(number),
-        ..
-    } = event.message.payload
-    {
-        return written(cell, number, &event.reaction.fired, replies);
+    if let Payload::Write { cell, value, .. } = event.message.payload {
+        return written(cell, value, &event.reaction.fired, replies);
     }
     if replies.from != 0 || replies.count != 0 {
         return None;
@@ -105,12 +101,12 @@ fn scene_of(event: &Handling<'_>) -> Option<Scene>
     }
 }
 
-/// What a line keeps of the write of a number to a cell.
+/// What a line keeps of the write of a value to a cell.
 #[inline(always)]
-pub fn written(cell: Cell, number: i64, fired: &Fired, replies: Replies) -> Option<Scene>
+pub fn written(cell: Cell, value: Value, fired: &Fired, replies: Replies) -> Option<Scene>
     ensures kind { IfSome result (λ s. IsCelled s.kind) }
     ensures told { IfSome result (λ s. (t : Tag) (p : Port) → told s.kind t p s.value s.result s.cell
-        ≡ record { payload = Write cell (value.Int number) t; fired = fired.now; replies = replies }) }
+        ≡ record { payload = Write cell value t; fired = fired.now; replies = replies }) }
 {
     let Fired::Nothing = *fired else {
         return None;
@@ -118,12 +114,70 @@ pub fn written(cell: Cell, number: i64, fired: &Fired, replies: Replies) -> Opti
     if replies.from as u64 > 0xffff_ffff || replies.count as u64 > 0xffff_ffff {
         return None;
     }
-    Some(Scene {
-        kind: Kind::Written,
-        value: number,
-        result: joined(replies.from as u64, replies.count as u64),
-        cell,
+    match value {
+        Value::Int(number) => Some(Scene {
+            kind: Kind::Written,
+            value: number,
+            result: joined(replies.from as u64, replies.count as u64),
+            cell,
+        }),
+        Value::Structure(structure) => {
+            let kept = numbers_of(structure, replies)?;
+            Some(scene_of_kept(Kind::WrittenStructure, kept, cell))
+        }
+        _ => None,
+    }
+}
+
+/// A structure in the two numbers of a line.
+#[derive(Clone, Copy)]
+struct Kept {
+    value: i64,
+    result: i64,
+}
+
+/// The structure, and replies, in the two numbers of a line, where they are small.
+#[inline(always)]
+fn numbers_of(structure: Structure, replies: Replies) -> Option<Kept>
+    requires { replies.from < 2 ^ 32 }
+    ensures structure { IfSome result (λ k. kept_value k.value k.result ≡ value.Structure structure) }
+    ensures replies { IfSome result (λ k. kept_replies k.value k.result ≡ replies) }
+{
+    if replies.count > 0x1f_ffff {
+        return None;
+    }
+    let counted = Cell {
+        structure,
+        index: replies.count as i64,
+    };
+    let PlainCell { name, place } = plain_cell(counted)?;
+    Some(Kept {
+        value: place.cast_signed(),
+        result: joined(u64::from(name), replies.from as u64),
     })
+}
+
+/// What needs no more than its kind, the structure that goes to a cell or comes from it, and that cell.
+#[inline(always)]
+fn scene_of_kept(kind: Kind, kept: Kept, cell: Cell) -> Scene
+    ensures { result ≡ record { kind = kind; value = kept.value; result = kept.result; cell = cell } }
+{
+    Scene {
+        kind,
+        value: kept.value,
+        result: kept.result,
+        cell,
+    }
+}
+
+/// The structure that a line keeps in its two numbers, as the cell of it whose index is the number of replies.
+#[inline(always)]
+fn kept_in(line: &Line) -> Cell
+    ensures { result ≡ kept_in line.now.value line.now.result }
+{
+    let name = high_half(line.result);
+    let place = line.value.cast_unsigned();
+    PlainCell { name, place }.cell()
 }
 
 /// What a line keeps of a read of a cell.
@@ -139,19 +193,33 @@ fn scene_of_read(cell: Cell, reply: Tag, fired: &Fired) -> Option<Scene>
     }
 }
 
-/// What a line keeps of a read of a cell to whose reply a number is sent.
+/// What a line keeps of a read of a cell to whose reply a value is sent.
 fn scene_of_answer(cell: Cell, reply: Tag, to: Tag, sent: Value) -> Option<Scene>
     ensures kind { IfSome result (λ s. IsCelled s.kind) }
     ensures told { IfSome result (λ s. (p : Port) → told s.kind reply p s.value s.result s.cell
         ≡ record { payload = Read cell reply; fired = firings.Sent to sent; replies = no_replies }) }
 {
-    let Value::Int(number) = sent else {
-        return None;
-    };
     if is_same_tag(reply, to) {
-        Some(of_result(Kind::ReadAnswered, number, cell))
+        scene_of_given(cell, sent)
     } else {
         None
+    }
+}
+
+/// What a line keeps of a read of a cell whose reply gets this value.
+#[inline(always)]
+pub fn scene_of_given(cell: Cell, sent: Value) -> Option<Scene>
+    ensures kind { IfSome result (λ s. IsCelled s.kind) }
+    ensures told { IfSome result (λ s. (t : Tag) (p : Port) → told s.kind t p s.value s.result s.cell
+        ≡ record { payload = Read cell t; fired = firings.Sent t sent; replies = no_replies }) }
+{
+    match sent {
+        Value::Int(number) => Some(of_result(Kind::ReadAnswered, number, cell)),
+        Value::Structure(structure) => {
+            let kept = numbers_of(structure, NO_REPLIES)?;
+            Some(scene_of_kept(Kind::ReadGiven, kept, cell))
+        }
+        _ => None,
     }
 }
 
@@ -162,7 +230,7 @@ fn scene_of_token(tag: Tag, value: Value, fired: &Fired) -> Option<Scene>
         ≡ token_told tag p value fired.now) }
 {
     match value {
-        Value::Structure(structure) => scene_of_structure(structure, fired),
+        Value::Structure(structure) => scene_of_structure(tag, structure, fired),
         Value::Address(cell) => scene_of_address(tag, cell, fired),
         Value::Int(number) => scene_of_number(tag, number, fired),
         Value::Bool(truth) => scene_of_truth(truth, fired),
@@ -171,18 +239,36 @@ fn scene_of_token(tag: Tag, value: Value, fired: &Fired) -> Option<Scene>
 }
 
 /// What a line keeps of a token that is a structure.
-fn scene_of_structure(structure: Structure, fired: &Fired) -> Option<Scene>
+fn scene_of_structure(tag: Tag, structure: Structure, fired: &Fired) -> Option<Scene>
     ensures kind { IfSome result (λ s. IsCelled s.kind) }
-    ensures told { IfSome result (λ s. (t : Tag) (p : Port) → told s.kind t p s.value s.result s.cell
-        ≡ token_told t p (value.Structure structure) fired.now) }
+    ensures told { IfSome result (λ s. (p : Port) → told s.kind tag p s.value s.result s.cell
+        ≡ token_told tag p (value.Structure structure) fired.now) }
 {
     match *fired {
         Fired::Nothing => Some(scene_of_kind(Kind::StructureWaits, first_cell(structure))),
         Fired::Out(sent) => scene_of_out(structure, sent),
         Fired::Side(side, sent) => scene_of_side(structure, side, sent),
         Fired::Moved(iteration, sent) => scene_of_moved(structure, iteration, sent),
+        Fired::Stored {
+            cell,
+            value,
+            origin,
+        } if is_structure(value, structure) && is_same_tag(tag, origin) => {
+            scene_of_stored(structure, cell)
+        }
         _ => None,
     }
+}
+
+/// What a line keeps of a token that is a structure, which goes to a cell.
+#[inline(always)]
+pub fn scene_of_stored(structure: Structure, cell: Cell) -> Option<Scene>
+    ensures kind { IfSome result (λ s. IsCelled s.kind) }
+    ensures told { IfSome result (λ s. (t : Tag) (p : Port) → told s.kind t p s.value s.result s.cell
+        ≡ token_told t p (value.Structure structure) (firings.Stored cell (value.Structure structure) t)) }
+{
+    let kept = numbers_of(structure, NO_REPLIES)?;
+    Some(scene_of_kept(Kind::StructureStored, kept, cell))
 }
 
 /// What a line keeps of a token that is a structure, where this goes out for it: the structure, or one of its cells.
@@ -281,9 +367,9 @@ fn scene_of_address(tag: Tag, cell: Cell, fired: &Fired) -> Option<Scene>
         Fired::Asked { cell: asked, reply } => scene_of_fetch(tag, cell, asked, reply),
         Fired::Stored {
             cell: to,
-            value: Value::Int(number),
+            value,
             origin,
-        } => scene_of_store(tag, cell, to, number, origin),
+        } => scene_of_store(tag, cell, to, value, origin),
         _ => None,
     }
 }
@@ -301,16 +387,33 @@ fn scene_of_fetch(tag: Tag, cell: Cell, asked: Cell, reply: Tag) -> Option<Scene
     }
 }
 
-/// What a line keeps of an address that lets a number be stored in a cell, where that is its own.
-fn scene_of_store(tag: Tag, cell: Cell, to: Cell, number: i64, origin: Tag) -> Option<Scene>
+/// What a line keeps of an address that lets a value be stored in a cell, where that is its own.
+fn scene_of_store(tag: Tag, cell: Cell, to: Cell, sent: Value, origin: Tag) -> Option<Scene>
     ensures kind { IfSome result (λ s. IsCelled s.kind) }
     ensures told { IfSome result (λ s. (p : Port) → told s.kind tag p s.value s.result s.cell
-        ≡ token_told tag p (value.Address cell) (firings.Stored to (value.Int number) origin)) }
+        ≡ token_told tag p (value.Address cell) (firings.Stored to sent origin)) }
 {
     if is_same_cell(cell, to) && is_same_tag(tag, origin) {
-        Some(of_result(Kind::AddressStored, number, cell))
+        scene_of_filled(cell, sent)
     } else {
         None
+    }
+}
+
+/// What a line keeps of the address of this cell, which lets a value be stored there.
+#[inline(always)]
+pub fn scene_of_filled(cell: Cell, sent: Value) -> Option<Scene>
+    ensures kind { IfSome result (λ s. IsCelled s.kind) }
+    ensures told { IfSome result (λ s. (t : Tag) (p : Port) → told s.kind t p s.value s.result s.cell
+        ≡ token_told t p (value.Address cell) (firings.Stored cell sent t)) }
+{
+    match sent {
+        Value::Int(number) => Some(of_result(Kind::AddressStored, number, cell)),
+        Value::Structure(structure) => {
+            let kept = numbers_of(structure, NO_REPLIES)?;
+            Some(scene_of_kept(Kind::AddressFilled, kept, cell))
+        }
+        _ => None,
     }
 }
 
@@ -462,6 +565,10 @@ pub fn told(line: &Line, cell: Cell) -> Content
             )
         }
         Kind::StructureAddressed => by_token(line, structure, Fired::Out(Value::Address(cell))),
+        Kind::StructureStored => {
+            let own = Value::Structure(kept_in(line).structure);
+            by_token(line, own, stored(cell, own, tag))
+        }
         Kind::TrueSwitched => by_token(line, Value::Bool(true), Fired::Side(true, structure)),
         Kind::FalseSwitched => by_token(line, Value::Bool(false), Fired::Side(false, structure)),
         Kind::IntAllocated => by_token(line, Value::Int(line.value), Fired::Out(structure)),
@@ -472,7 +579,10 @@ pub fn told(line: &Line, cell: Cell) -> Content
                 Fired::Out(Value::Address(cell)),
             )
         }
-        Kind::IntStored => by_token(line, Value::Int(line.value), stored(cell, line.value, tag)),
+        Kind::IntStored => {
+            let own = Value::Int(line.value);
+            by_token(line, own, stored(cell, own, tag))
+        }
         Kind::AddressWaits => by_token(line, Value::Address(cell), Fired::Nothing),
         Kind::AddressAsked => {
             let reply = Tag {
@@ -482,7 +592,12 @@ pub fn told(line: &Line, cell: Cell) -> Content
             by_token(line, Value::Address(cell), Fired::Asked { cell, reply })
         }
         Kind::AddressStored => {
-            by_token(line, Value::Address(cell), stored(cell, line.result, tag))
+            let number = Value::Int(line.result);
+            by_token(line, Value::Address(cell), stored(cell, number, tag))
+        }
+        Kind::AddressFilled => {
+            let sent = Value::Structure(kept_in(line).structure);
+            by_token(line, Value::Address(cell), stored(cell, sent, tag))
         }
         Kind::ReadDeferred => Content {
             payload: Payload::Read { cell, reply: tag },
@@ -492,6 +607,11 @@ pub fn told(line: &Line, cell: Cell) -> Content
         Kind::ReadAnswered => Content {
             payload: Payload::Read { cell, reply: tag },
             fired: Fired::Sent(tag, Value::Int(line.result)),
+            replies: NO_REPLIES,
+        },
+        Kind::ReadGiven => Content {
+            payload: Payload::Read { cell, reply: tag },
+            fired: Fired::Sent(tag, Value::Structure(kept_in(line).structure)),
             replies: NO_REPLIES,
         },
         Kind::Written => Content {
@@ -506,8 +626,35 @@ pub fn told(line: &Line, cell: Cell) -> Content
                 count: low_half(line.result) as usize,
             },
         },
-        _ => by_token(line, Value::Signal, Fired::Nothing),
+        Kind::WrittenStructure => {
+            let kept = kept_in(line);
+            Content {
+                payload: Payload::Write {
+                    cell,
+                    value: Value::Structure(kept.structure),
+                    origin: tag,
+                },
+                fired: Fired::Nothing,
+                replies: Replies {
+                    from: low_half(line.result) as usize,
+                    count: kept.index.unsigned_abs() as usize,
+                },
+            }
+        }
+        Kind::Signal | Kind::Int | Kind::True | Kind::False => no_cell(line),
+        Kind::Context | Kind::Continuation | Kind::Aside => no_cell(line),
+        Kind::Structure | Kind::Address | Kind::Near => no_cell(line),
+        Kind::Passed | Kind::Given => no_cell(line),
     }
+}
+
+/// What stands for the event of a line that names no cell.
+#[cold]
+fn no_cell(line: &Line) -> Content
+    ensures { record { payload = result.payload; fired = result.fired; replies = result.replies }
+        ≡ token_told (tag_at line.now) (port_at (line.now.position / 2 ^ 31)) value.Signal firings.Nothing }
+{
+    by_token(line, Value::Signal, Fired::Nothing)
 }
 
 /// A token of this value for a line's port under its tag, and what was fired.
@@ -527,14 +674,14 @@ pub fn by_token(line: &Line, value: Value, fired: Fired) -> Content
     }
 }
 
-/// A number that goes to a cell from the store of this tag.
+/// A value that goes to a cell from the store of this tag.
 #[inline(always)]
-fn stored(cell: Cell, number: i64, origin: Tag) -> Fired
-    ensures { result ≡ firings.Stored cell (value.Int number) origin }
+fn stored(cell: Cell, value: Value, origin: Tag) -> Fired
+    ensures { result ≡ firings.Stored cell value origin }
 {
     Fired::Stored {
         cell,
-        value: Value::Int(number),
+        value,
         origin,
     }
 }

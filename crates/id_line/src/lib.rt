@@ -16,7 +16,7 @@ mod step;
 
 pub use celled::{
     Celled, Content, Scene, by_token, first_cell, of_number, of_result, packed_beside, saying,
-    scene_of_kind, told, written,
+    scene_of_filled, scene_of_given, scene_of_kind, scene_of_stored, told, written,
 };
 pub use line::{
     Carried, Effect, Exit, Handled, Handling, Kind, Line, NO_REPLIES, Reaction, Replies, Written,

@@ -1,14 +1,12 @@
 //! How the record keeps an event: in one line, in one with a cell beside it, or aside where it fits in neither.
 
-ghost use Rattle.std.specs.Prelude.{◌≡◌, ◌≢◌, ◌<◌, ◌≤◌, ◌^◌, ℤ, pos, true, false};
+ghost use Rattle.std.specs.Prelude.{◌≡◌, ◌<◌, ◌≤◌, ◌^◌, ℤ, pos, true, false};
 ghost use Rattle.std.specs.Prelude.{Some, IfSome, IsTrue};
-ghost use Rattle.id_tag.specs.declared.Cell.{Cell};
 ghost use Rattle.id_tag.specs.declared.Tag.{Tag};
 ghost use Rattle.id_tag.specs.declared.Value.{Value};
 ghost use Rattle.id_tag.specs.declared.Payload.TheVariants.{Token};
 ghost use Rattle.id_ops.specs.declared.Fired.TheVariants as firings;
 ghost use Rattle.id_tag.specs.declared.Value.TheVariants as value;
-ghost use Rattle.id_tag.specs.declared.Value.TheVariants.{Address};
 ghost use Rattle.id_line.specs.declared.step.Verdict.TheVariants.{Went, Failed};
 ghost use Rattle.id_line.specs.declared.line.Kind.TheVariants.{Aside};
 ghost use Rattle.id_line.specs.Lines.{HasNumbers, HasRoom, IsLineOf, IsNarrowed, IsPacked, IsSmall};
@@ -23,7 +21,7 @@ use crate::payload::value_of;
 use crate::step::Verdict;
 use id_instr::Port;
 use id_ops::{Fired, tag_within};
-use id_tag::{Cell, Context, Message, Payload, Sender, Tag, Value};
+use id_tag::{Context, Message, Payload, Sender, Tag, Value, maker_of};
 use id_value::FaultKind;
 
 /// What comes of a message: what is fired, and what the event comes to.
@@ -95,13 +93,16 @@ pub struct Carried {
 
 /// What the value of a line stands for: of `Int` it is the number, of `Context` its element and serial number, and of
 /// `Aside`, where the whole event stands aside, its index there. `Continuation` stands for the tag that the event
-/// names. Of `Structure` its halves are the bounds, and the event names a tag with the structure's element and serial
+/// names. Of `Structure` its halves are the bounds, and the event names a tag with the structure's maker and serial
 /// number; of `Address` the tag's iteration is the index too. `Near` is of an event that names the cell that `Address`
 /// would stand for, of which the effect says the rest. `Passed` is of an event that sends a word to the tag that it
 /// names, for a message that carries the context of that tag: it is the number of the word, and the effect says which
 /// that is. `Given` is of an event that sends a structure to an instruction, at iteration 0: its halves are the bounds,
 /// and those of the result the names of the structure and of the instruction's context. The kinds behind it are of
-/// events that name a cell, and say all of them but their numbers.
+/// events that name a cell, and say all of them but their numbers. `StructureStored`, `AddressFilled`, `ReadGiven` and
+/// `WrittenStructure` are of events by which a structure goes to that cell or comes from it: the value is the place of
+/// a cell of that structure, whose index is the number of replies, and the halves of the result are the structure's
+/// name and where the replies stand.
 #[derive(Clone, Copy)]
 pub enum Kind {
     Signal,
@@ -122,6 +123,7 @@ pub enum Kind {
     StructureOnFalse,
     StructureMoved,
     StructureAddressed,
+    StructureStored,
     TrueSwitched,
     FalseSwitched,
     IntAllocated,
@@ -130,9 +132,12 @@ pub enum Kind {
     AddressWaits,
     AddressAsked,
     AddressStored,
+    AddressFilled,
     ReadDeferred,
     ReadAnswered,
+    ReadGiven,
     Written,
+    WrittenStructure,
 }
 
 /// Where a value went out: to the only side of its operator, or on this side of a switch.
@@ -188,10 +193,9 @@ pub fn packed(event: &Handling<'_>) -> Option<Line>
     match (
         carry(value, &event.reaction.fired),
         effect_of(value, event.reaction),
+        target(value, &event.reaction.fired),
     ) {
-        (Some(carried), Some(effect)) => {
-            narrowed(event, carried, effect, target(value, &event.reaction.fired))
-        }
+        (Some(carried), Some(effect), Some(to)) => narrowed(event, carried, effect, to),
         _ => None,
     }
 }
@@ -238,7 +242,6 @@ pub fn whole(event: &Handling<'_>) -> Handled
 fn carry(value: Value, fired: &Fired) -> Option<Carried>
     ensures value { IfSome result
         (λ c. (t : Tag) → Names fired.now value t → carried_value t c.kind c.value ≡ Some value) }
-    ensures no_address { IfSome result (λ _. (c : Cell) → value ≢ Address c) }
 {
     match value {
         Value::Signal => Some(of_kind(Kind::Signal)),
@@ -280,61 +283,61 @@ fn carry_context(context: Context) -> Option<Carried>
     }
 }
 
-/// The tag that an event names beside that of its message.
+/// The tag that an event names beside that of its message, of which a line has no address.
 #[inline(always)]
-fn target(value: Value, fired: &Fired) -> Tag
-    requires { (c : Cell) → value ≢ Address c }
-    ensures { Names fired.now value result }
+fn target(value: Value, fired: &Fired) -> Option<Tag>
+    ensures { IfSome result (Names fired.now value) }
 {
     match *fired {
         Fired::Out(sent) => numbered_by(sent),
         Fired::Side(_, sent) => numbered_by(sent),
         Fired::Moved(iteration, sent) => moved_by(iteration, sent),
-        Fired::Entered(context) => tag_within(context, 0),
-        Fired::Sent(tag, _) => tag,
+        Fired::Entered(context) => Some(tag_within(context, 0)),
+        Fired::Sent(tag, _) => Some(tag),
         Fired::Nothing => named_by(value),
-        Fired::Asked { .. } | Fired::Stored { .. } | Fired::Failed(_) => NO_TAG,
+        Fired::Asked { .. } | Fired::Stored { .. } | Fired::Failed(_) => Some(NO_TAG),
     }
 }
 
 /// A tag of this iteration, with the numbers of the structure that the value is, if it is one.
 #[inline(always)]
-fn moved_by(iteration: u64, value: Value) -> Tag
-    ensures iteration { result.iteration ≡ iteration }
-    ensures numbers { HasNumbers value result }
+fn moved_by(iteration: u64, value: Value) -> Option<Tag>
+    ensures iteration { IfSome result (λ t. t.iteration ≡ iteration) }
+    ensures numbers { IfSome result (HasNumbers value) }
 {
-    Tag {
+    let numbered = numbered_by(value)?;
+    Some(Tag {
         iteration,
-        ..numbered_by(value)
-    }
+        ..numbered
+    })
 }
 
-/// A tag with the numbers of the structure that the value is, or else any.
+/// A tag with the numbers of the structure that the value is, where they fit, or else any.
 #[inline(always)]
-fn numbered_by(value: Value) -> Tag
-    ensures { HasNumbers value result }
+fn numbered_by(value: Value) -> Option<Tag>
+    ensures { IfSome result (HasNumbers value) }
 {
     match value {
-        Value::Structure(structure) => Tag {
+        Value::Structure(structure) => Some(Tag {
             context: Context {
-                element: structure.element,
+                element: u32::from(maker_of(structure)?),
                 serial: structure.serial,
             },
             iteration: 0,
             instr: 0,
-        },
-        _ => NO_TAG,
+        }),
+        _ => Some(NO_TAG),
     }
 }
 
 /// The tag that a value names, or one with the numbers of the structure that it is, or else any.
 #[inline(always)]
-fn named_by(value: Value) -> Tag
-    requires { (c : Cell) → value ≢ Address c }
-    ensures { NamedBy value result }
+fn named_by(value: Value) -> Option<Tag>
+    ensures { IfSome result (NamedBy value) }
 {
     match value {
-        Value::Continuation(tag) => tag,
+        Value::Continuation(tag) => Some(tag),
+        Value::Address(_) => None,
         _ => numbered_by(value),
     }
 }

@@ -8,7 +8,7 @@ use crate::line::{Effect, Handled, Line, NO_REPLIES, Reaction};
 use crate::numbers::{element_at, high_half, instr_at, low_half, port_at};
 use crate::step::Verdict;
 use id_ops::Fired;
-use id_tag::{Cell, Context, Message, Payload, Sender, Structure, Tag, Value};
+use id_tag::{Cell, Context, Message, Payload, Sender, Structure, Tag, Value, made_by};
 use id_value::FaultKind;
 
 /// The tag that the event of a line names beside that of its message.
@@ -31,12 +31,12 @@ pub fn target_in(line: &Line) -> Tag
 pub fn structure_in(line: &Line) -> Structure
     ensures { result ≡ structure_at (target_in line.now) line.now.value }
 {
-    Structure {
-        element: element_at(line.to),
-        serial: u64::from(low_half(line.result)),
-        low: i64::from(high_half(line.value).cast_signed()),
-        high: i64::from(low_half(line.value).cast_signed()),
-    }
+    made_by(
+        element_at(line.to),
+        u64::from(low_half(line.result)),
+        i64::from(high_half(line.value).cast_signed()),
+        i64::from(low_half(line.value).cast_signed()),
+    )
 }
 
 /// The cell whose address a line carries.
@@ -153,7 +153,9 @@ fn fired_in(line: &Line, value: Value) -> Fired
         Effect::Own => Fired::Out(value),
         Effect::OwnOnTrue => Fired::Side(true, value),
         Effect::OwnOnFalse => Fired::Side(false, value),
-        _ => Fired::Nothing,
+        Effect::Stuck | Effect::Nothing => Fired::Nothing,
+        Effect::StructureAddressed | Effect::IntAddressed => Fired::Nothing,
+        Effect::AddressAsked => Fired::Nothing,
     }
 }
 

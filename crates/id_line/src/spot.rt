@@ -3,7 +3,7 @@
 ghost use Rattle.std.specs.Prelude.{◌≡◌, IfSome};
 ghost use Rattle.id_line.specs.Spots.{cell_at};
 
-use id_tag::{Cell, Structure, small, tiny};
+use id_tag::{Cell, made_by, maker_of, small};
 
 /// A cell in 20 bytes.
 #[derive(Clone, Copy)]
@@ -12,7 +12,7 @@ pub struct Spot {
     low: i32,
     high: i32,
     index: i32,
-    element: u8,
+    maker: u8,
 }
 
 const _: () = prove!(size_of::<Spot>() == 20);
@@ -24,12 +24,12 @@ impl Spot {
         ensures { result ≡ cell_at self.now }
     {
         Cell {
-            structure: Structure {
-                element: u32::from(self.element),
-                serial: u64::from(self.serial),
-                low: i64::from(self.low),
-                high: i64::from(self.high),
-            },
+            structure: made_by(
+                u32::from(self.maker),
+                u64::from(self.serial),
+                i64::from(self.low),
+                i64::from(self.high),
+            ),
             index: i64::from(self.index),
         }
     }
@@ -45,7 +45,7 @@ pub fn spot_of(cell: Cell) -> Option<Spot>
         low: narrow(cell.structure.low)?,
         high: narrow(cell.structure.high)?,
         index: narrow(cell.index)?,
-        element: tiny(cell.structure.element)?,
+        maker: maker_of(cell.structure)?,
     })
 }
 

@@ -388,9 +388,9 @@ part-turned R n a (Loop h w l) e k = elim (Among-either a (some_row (lower_at R 
     by_upper _ f i = absurd i
 part-turned R n a (Block b) e (inl q) = let P : ℕ → Type 0 = λ c. Turns R n c in subst P (sym q) (body e)
 part-turned R n a (Block b) e (inr f) = absurd f
-part-turned R n a (Array b c) e (inl q) = let P : ℕ → Type 0 = λ d. Turns R n d in subst P (sym q) (low e)
-part-turned R n a (Array b c) e (inr (inl q)) = let P : ℕ → Type 0 = λ d. Turns R n d in subst P (sym q) (high e)
-part-turned R n a (Array b c) e (inr (inr f)) = absurd f
+part-turned R n a (Array nested b c) e (inl q) = let P : ℕ → Type 0 = λ d. Turns R n d in subst P (sym q) (low e)
+part-turned R n a (Array nested b c) e (inr (inl q)) = let P : ℕ → Type 0 = λ d. Turns R n d in subst P (sym q) (high e)
+part-turned R n a (Array nested b c) e (inr (inr f)) = absurd f
 part-turned R n a (Fetch b c) e (inl q) = let P : ℕ → Type 0 = λ d. Turns R n d in subst P (sym q) (fetched e)
 part-turned R n a (Fetch b c) e (inr (inl q)) = let P : ℕ → Type 0 = λ d. Turns R n d in subst P (sym q) (fetch_index e)
 part-turned R n a (Fetch b c) e (inr (inr f)) = absurd f

@@ -1,5 +1,5 @@
 -- The facts of a round, worked out by path and row.
-use Rattle.std.specs.Prelude.{◌≡◌, ◌<◌, ℕ, zero, suc, ℤ}
+use Rattle.std.specs.Prelude.{◌≡◌, ◌<◌, ℕ, zero, suc, ℤ, Bool as Truth}
 use Rattle.std.specs.Prelude.{false, List, [], ◌∷◌, ◌++◌, length, AllPairs, IsPermutation}
 use Rattle.std.specs.declared.cmp.Ordering.{Ordering}
 use Rattle.std.specs.Ordering.{bool_cmp, int_cmp, is_lt, nat_cmp, ordering_then}
@@ -83,11 +83,12 @@ facts_in P fs (g ∷ gs) = fact_of P fs g ∷ facts_in P fs gs
 pub record IsArrayOn (P : Checked) (fs : List RowFact) (i : ℕ) : Type 0 where
   pub path : Trail
   pub array : ℕ
+  pub nested : Truth
   pub low : ℕ
   pub high : ℕ
   pub within : i < length fs
   pub on : fact_at fs i ≡ row.On path array
-  pub stands : (at (rows P) array).node ≡ node.Array low high
+  pub stands : (at (rows P) array).node ≡ node.Array nested low high
 
 -- the fact speaks of structures that an `array` made
 abbrev pub NamesArray : Checked → List RowFact → RowValue → Type 0

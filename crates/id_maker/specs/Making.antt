@@ -29,7 +29,7 @@ pub record IsAdded (i : ℕ) (U V : Parts) : Type 0 where
 -- the tree of this form of two expressions
 abbrev pub pair_tree : Pairing → Tree → Tree → ℕ → Tree
 pair_tree (Binary o) a b p = binary o a b p
-pair_tree Array a b p = array a b p
+pair_tree (Array nested) a b p = array nested a b p
 pair_tree Fetch a b p = fetch a b p
 
 -- the trees of expressions, in order

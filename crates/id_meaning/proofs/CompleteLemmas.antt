@@ -29,7 +29,7 @@ use Rattle.id_facts.specs.declared.facts.RowValue.TheVariants.{Int, Bool, Name}
 use Rattle.id_facts.specs.declared.facts.Trail.{Trail}
 use Rattle.id_facts.specs.declared.facts.Trail.TheVariants.{Outermost, Below}
 use Rattle.id_source.specs.Sources.{Source, main_body, value_of}
-use Rattle.id_source.specs.Facts.{ForStands, GoesOn, LoopStands, StoreStands, Rule, ask, below, between, put, shape, site, without}
+use Rattle.id_source.specs.Facts.{ForStands, GoesOn, StoreStands, Rule, ask, below, between, put, shape, site, without}
 use Rattle.id_source.specs.Facts as rule
 use Rattle.id_source.specs.Rounds.{Every, Rounds}
 use Rattle.id_links.specs.Links.{BodyTurns, arm_of, far_from, of_binding, of_next, of_store}
@@ -776,14 +776,14 @@ module _ (S : Source) (k : ℕ) (fs : List RowFact) (s : IsRound S k fs) where
         known = (z.known, tt);
         is = ap (λ r. fact.Has r (place S.checked n) v) z.is_path ∙ ap (λ w. fact.Has (Of z.path) (place S.checked n) w) z.is_value;
       }
-  complete (rule.bounds_low_on {n = n} {a = a} {b = b} {p = p} st) h = on-rises n a p (node.Array a b) st refl refl (low st.node) h.0
-  complete (rule.bounds_high_on {n = n} {a = a} {b = b} {p = p} st) h = on-rises n b p (node.Array a b) st refl refl (high st.node) h.0
-  complete (rule.shape_made {n = n} {a = a} {b = b} {p = p} {lo = lo} {hi = hi} st e) h =
-      let y = known-on n p (node-thing S n (node.Array a b) st refl) h.0 in
+  complete (rule.bounds_low_on {n = n} {a = a} {b = b} {nested = nested} {p = p} st) h = on-rises n a p (node.Array nested a b) st refl refl (low st.node) h.0
+  complete (rule.bounds_high_on {n = n} {a = a} {b = b} {nested = nested} {p = p} st) h = on-rises n b p (node.Array nested a b) st refl refl (high st.node) h.0
+  complete (rule.shape_made {n = n} {a = a} {b = b} {nested = nested} {p = p} {lo = lo} {hi = hi} st e) h =
+      let y = known-on n p (node-thing S n (node.Array nested a b) st refl) h.0 in
       let o = on-by y.0 n y.2 in
       let i = there (On y.0 n) y.2 in
-      let z = number-at y.0 a p lo i (part-thing S n a (node.Array a b) st (inl refl)) y.1 h.1.0 in
-      let w = number-at y.0 b p hi i (part-thing S n b (node.Array a b) st (inr refl)) y.1 h.1.1.0 in
+      let z = number-at y.0 a p lo i (part-thing S n a (node.Array nested a b) st (inl refl)) y.1 h.1.0 in
+      let w = number-at y.0 b p hi i (part-thing S n b (node.Array nested a b) st (inr refl)) y.1 h.1.1.0 in
       record {
         premises = On y.0 n ∷ Has y.0 a (Int lo) ∷ Has y.0 b (Int hi) ∷ [];
         given = Shape o.0 lo hi;
@@ -794,12 +794,12 @@ module _ (S : Source) (k : ℕ) (fs : List RowFact) (s : IsRound S k fs) where
     where
       called : (i n : ℕ) (q : Trail) → IsOnBy fs i q n → site (Of q) (place S.checked n) ≡ Called i
       called i n q b = sym (ap (λ g. site (Of (path_of g)) (place S.checked (row_of g))) b.fact)
-  complete (rule.array_has {n = n} {a = a} {b = b} {p = p} {lo = lo} {hi = hi} st e) h =
-      let y = known-on n p (node-thing S n (node.Array a b) st refl) h.0 in
+  complete (rule.array_has {n = n} {a = a} {b = b} {nested = nested} {p = p} {lo = lo} {hi = hi} st e) h =
+      let y = known-on n p (node-thing S n (node.Array nested a b) st refl) h.0 in
       let o = on-by y.0 n y.2 in
       let i = there (On y.0 n) y.2 in
-      let z = number-at y.0 a p lo i (part-thing S n a (node.Array a b) st (inl refl)) y.1 h.1.0 in
-      let w = number-at y.0 b p hi i (part-thing S n b (node.Array a b) st (inr refl)) y.1 h.1.1.0 in
+      let z = number-at y.0 a p lo i (part-thing S n a (node.Array nested a b) st (inl refl)) y.1 h.1.0 in
+      let w = number-at y.0 b p hi i (part-thing S n b (node.Array nested a b) st (inr refl)) y.1 h.1.1.0 in
       record {
         premises = On y.0 n ∷ Has y.0 a (Int lo) ∷ Has y.0 b (Int hi) ∷ [];
         given = Has y.0 n (Name o.0);

@@ -278,10 +278,10 @@ module _ (S : Source) (c : Cells) (chained : AreChained c) where
         arms-given s a b t (values c g p t) x st sp (λ v i. has g p t v here i) h
     if-given s a b _ x e f h = absurd h
 
-    array-given : (a b : ℕ) (x : RowFact) → (at (rows S.checked) n).node ≡ node.Array a b → Among x (arrays p n i (values c g p a) (values c g p b)) → Given x
-    array-given a b x e h =
+    array-given : (nested : Truth) (a b : ℕ) (x : RowFact) → (at (rows S.checked) n).node ≡ node.Array nested a b → Among x (arrays p n i (values c g p a) (values c g p b)) → Given x
+    array-given nested a b x e h =
         let r = arrays-among p n i (values c g p a) (values c g p b) x h in
-        let st = stands n (node.Array a b) e refl in
+        let st = stands n (node.Array nested a b) e refl in
         let l = has g p a (Int r.lo) here r.lowest in
         let m = has g p b (Int r.hi) here r.highest in
         elim r.is [
@@ -401,7 +401,7 @@ module _ (S : Source) (c : Cells) (chained : AreChained c) where
     from-on-given (node.Binary u a b) x e h = binary-given u a b x e h
     from-on-given (node.If s a b) x e h = if-given s a b (at (rows S.checked) s).node x e refl h
     from-on-given (node.Block b) x e h = block-given b x e h
-    from-on-given (node.Array a b) x e h = array-given a b x e h
+    from-on-given (node.Array nested a b) x e h = array-given nested a b x e h
     from-on-given (node.Fetch t j) x e h = fetches-given t j (values c g p t) (values c g p j) x (stands n (node.Fetch t j) e refl)
         (λ v k. has g p t v here k) (λ v k. has g p j v here k) h
     from-on-given (node.Store a y) x e h = store-at-given a y (at (rows S.checked) a).node x e refl h

@@ -156,6 +156,7 @@ module _ (P : Checked) (fs news : List RowFact) (b : AreBefore fs) where
   array-grown i a = record {
     path = a.path;
     array = a.array;
+    nested = a.nested;
     low = a.low;
     high = a.high;
     within = (let l = length-append fs news in let k = a.within in omega (arith, l));

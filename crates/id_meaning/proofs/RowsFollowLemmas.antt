@@ -353,40 +353,40 @@ module _ (S : Source) (l : Links) (W : Queues) (c : Cells) (chained : AreChained
 
   -- ---- structures
 
-  array-at : (g : RowFact) (p : Trail) (n a b i : ℕ) (lo hi : ℤ) (x : RowFact) → Stands S.checked n (node.Array a b) → IsOnBy (items c) i p n
+  array-at : {nested : Truth} (g : RowFact) (p : Trail) (n a b i : ℕ) (lo hi : ℤ) (x : RowFact) → Stands S.checked n (node.Array nested a b) → IsOnBy (items c) i p n
       → are_good lo hi ≡ true → IsMade p n i lo hi x → Among (Int lo) (values c g p a) → Among (Int hi) (values c g p b)
       → Among x (given S.checked c g p n)
-  array-at g p n a b i lo hi x st o e m u w =
-      given-at S c chained g p n (node.Array a b) x st.node
-      (found-at S c chained g p n i (node.Array a b) x (found-by S c chained found o) (arrays-in p n i lo hi (values c g p a) (values c g p b) x u w e m))
+  array-at {nested} g p n a b i lo hi x st o e m u w =
+      given-at S c chained g p n (node.Array nested a b) x st.node
+      (found-at S c chained g p n i (node.Array nested a b) x (found-by S c chained found o) (arrays-in p n i lo hi (values c g p a) (values c g p b) x u w e m))
 
-  made-follows : (p : Trail) (n a b i : ℕ) (lo hi : ℤ) (x : RowFact) → Stands S.checked n (node.Array a b) → IsOnBy (items c) i p n → are_good lo hi ≡ true
+  made-follows : {nested : Truth} (p : Trail) (n a b i : ℕ) (lo hi : ℤ) (x : RowFact) → Stands S.checked n (node.Array nested a b) → IsOnBy (items c) i p n → are_good lo hi ≡ true
       → IsMade p n i lo hi x → AllAmong (items c) (On p n ∷ Has p a (Int lo) ∷ Has p b (Int hi) ∷ [])
       → (g : RowFact) → Among g (On p n ∷ Has p a (Int lo) ∷ Has p b (Int hi) ∷ []) → Among x (effects S.checked l W c g)
-  made-follows p n a b i lo hi x st o e m known g (inl q) =
+  made-follows {nested} p n a b i lo hi x st o e m known g (inl q) =
       from g (On p n) x q (from-given S l W c p n x (array-at (On p n) p n a b i lo hi x st o e m
       (seen-on p p n a (Int lo) known.1.0) (seen-on p p n b (Int hi) known.1.1.0)))
-  made-follows p n a b i lo hi x st o e m known g (inr (inl q)) =
+  made-follows {nested} p n a b i lo hi x st o e m known g (inr (inl q)) =
       let f = Has p a (Int lo) in
       let w = array-order S.checked n a b st in
-      from g f x q (from-reader S l W c p a (Int lo) n x (reads-part n a (node.Array a b) st (inl refl) (inl refl))
+      from g f x q (from-reader S l W c p a (Int lo) n x (reads-part n a (node.Array nested a b) st (inl refl) (inl refl))
       (array-at f p n a b i lo hi x st o e m (seen-self p a (Int lo)) (seen-by p p a b (Int hi) (Int lo) (λ z. omega arith) known.1.1.0)))
-  made-follows p n a b i lo hi x st o e m known g (inr (inr (inl q))) =
+  made-follows {nested} p n a b i lo hi x st o e m known g (inr (inr (inl q))) =
       let f = Has p b (Int hi) in
       let w = array-order S.checked n a b st in
-      from g f x q (from-reader S l W c p b (Int hi) n x (reads-part n b (node.Array a b) st (inr refl) (inr (inl refl)))
+      from g f x q (from-reader S l W c p b (Int hi) n x (reads-part n b (node.Array nested a b) st (inr refl) (inr (inl refl)))
       (array-at f p n a b i lo hi x st o e m (seen-by p p b a (Int lo) (Int hi) (λ z. omega arith) known.1.0) (seen-self p b (Int hi))))
-  made-follows p n a b i lo hi x st o e m known g (inr (inr (inr h))) = absurd h
+  made-follows {nested} p n a b i lo hi x st o e m known g (inr (inr (inr h))) = absurd h
 
-  pub made_shape-follows : (p : Trail) (n a b i : ℕ) (lo hi : ℤ) → Stands S.checked n (node.Array a b) → IsOnBy (items c) i p n → are_good lo hi ≡ true
+  pub made_shape-follows : {nested : Truth} (p : Trail) (n a b i : ℕ) (lo hi : ℤ) → Stands S.checked n (node.Array nested a b) → IsOnBy (items c) i p n → are_good lo hi ≡ true
       → AllAmong (items c) (On p n ∷ Has p a (Int lo) ∷ Has p b (Int hi) ∷ [])
       → (g : RowFact) → Among g (On p n ∷ Has p a (Int lo) ∷ Has p b (Int hi) ∷ []) → Among (Shape i lo hi) (effects S.checked l W c g)
-  made_shape-follows p n a b i lo hi st o e known g h = made-follows p n a b i lo hi (Shape i lo hi) st o e (inl refl) known g h
+  made_shape-follows {nested} p n a b i lo hi st o e known g h = made-follows p n a b i lo hi (Shape i lo hi) st o e (inl refl) known g h
 
-  pub made_name-follows : (p : Trail) (n a b i : ℕ) (lo hi : ℤ) → Stands S.checked n (node.Array a b) → IsOnBy (items c) i p n → are_good lo hi ≡ true
+  pub made_name-follows : {nested : Truth} (p : Trail) (n a b i : ℕ) (lo hi : ℤ) → Stands S.checked n (node.Array nested a b) → IsOnBy (items c) i p n → are_good lo hi ≡ true
       → AllAmong (items c) (On p n ∷ Has p a (Int lo) ∷ Has p b (Int hi) ∷ [])
       → (g : RowFact) → Among g (On p n ∷ Has p a (Int lo) ∷ Has p b (Int hi) ∷ []) → Among (Has p n (Name i)) (effects S.checked l W c g)
-  made_name-follows p n a b i lo hi st o e known g h = made-follows p n a b i lo hi (Has p n (Name i)) st o e (inr refl) known g h
+  made_name-follows {nested} p n a b i lo hi st o e known g h = made-follows p n a b i lo hi (Has p n (Name i)) st o e (inr refl) known g h
 
   fetch-at : (g : RowFact) (p : Trail) (n t i s : ℕ) (j lo hi : ℤ) → Stands S.checked n (node.Fetch t i) → is_inside lo hi j ≡ true → Known (On p n)
       → Known (Shape s lo hi) → Among (Name s) (values c g p t) → Among (Int j) (values c g p i) → Among (Ask p n s j) (given S.checked c g p n)

@@ -78,9 +78,9 @@ pub data RowRule (S : Source) (fs : List RowFact) : List RowFact → RowFact →
       → RowRule S fs (On p n ∷ Has p t (Bool b) ∷ Has p (arm_of b x y) v ∷ []) (Has p n v)
   block : {p : Trail} {n b : ℕ} {v : RowValue} → Stands S.checked n (node.Block b) → RowRule S fs (On p n ∷ Has p b v ∷ []) (Has p n v)
   binding : {p : Trail} {n x a : ℕ} {v : RowValue} → Stands S.checked n (node.Binding x a) → RowRule S fs (Has p a v ∷ []) (Has p n v)
-  made_shape : {p : Trail} {n a b i : ℕ} {lo hi : ℤ} → Stands S.checked n (node.Array a b) → IsOnBy fs i p n → are_good lo hi ≡ true
+  made_shape : {p : Trail} {n a b i : ℕ} {nested : Truth} {lo hi : ℤ} → Stands S.checked n (node.Array nested a b) → IsOnBy fs i p n → are_good lo hi ≡ true
       → RowRule S fs (On p n ∷ Has p a (Int lo) ∷ Has p b (Int hi) ∷ []) (Shape i lo hi)
-  made_name : {p : Trail} {n a b i : ℕ} {lo hi : ℤ} → Stands S.checked n (node.Array a b) → IsOnBy fs i p n → are_good lo hi ≡ true
+  made_name : {p : Trail} {n a b i : ℕ} {nested : Truth} {lo hi : ℤ} → Stands S.checked n (node.Array nested a b) → IsOnBy fs i p n → are_good lo hi ≡ true
       → RowRule S fs (On p n ∷ Has p a (Int lo) ∷ Has p b (Int hi) ∷ []) (Has p n (Name i))
   asked : {p : Trail} {n t i s : ℕ} {j lo hi : ℤ} → Stands S.checked n (node.Fetch t i) → is_inside lo hi j ≡ true
       → RowRule S fs (On p n ∷ Has p t (Name s) ∷ Has p i (Int j) ∷ Shape s lo hi ∷ []) (Ask p n s j)
@@ -181,8 +181,9 @@ module _ (S : Source) (k : ℕ) (fs : List RowFact) (s : IsRound S k fs) where
   name-by : (i n : ℕ) (p : Trail) → IsOnBy fs i p n → name_at S.checked fs i ≡ site (Of p) (place S.checked n)
   name-by i n p b = ap (λ g. site (Of (path_of g)) (place S.checked (row_of g))) b.fact
 
-  array-by : (i n a b : ℕ) (p : Trail) → Stands S.checked n (node.Array a b) → IsOnBy fs i p n → IsArrayOn S.checked fs i
-  array-by i n a b p st o = record { path = p; array = n; low = a; high = b; within = o.within; on = o.fact; stands = st.node }
+  array-by : {nested : Truth} (i n a b : ℕ) (p : Trail) → Stands S.checked n (node.Array nested a b) → IsOnBy fs i p n → IsArrayOn S.checked fs i
+  array-by {nested} i n a b p st o =
+      record { path = p; array = n; nested = nested; low = a; high = b; within = o.within; on = o.fact; stands = st.node }
 
   on-sound : (p : Trail) (n a : ℕ) → IsThing S a → Among (On p n) fs → Rule S (fact.On (Of p) (place S.checked n) ∷ []) (fact.On (Of p) (place S.checked a))
       → Sound (On p a)
@@ -220,12 +221,12 @@ module _ (S : Source) (k : ℕ) (fs : List RowFact) (s : IsRound S k fs) where
       let w = (around-within (rows S.checked) n m i.inside).1 in
       let tb : Stands S.checked m (node.Binding x a) = record { within = omega arith; node = f } in
       on-sound p n a (part-thing S m a (node.Binding x a) tb refl) h (rule.statement_on st i tb)
-  turned-sound p n a l k (low {b = b} e) h =
-      let st : Stands S.checked n (node.Array a b) = record { within = l; node = e } in
-      on-sound p n a (part-thing S n a (node.Array a b) st (inl refl)) h (rule.bounds_low_on st)
-  turned-sound p n a l k (high {a = b} e) h =
-      let st : Stands S.checked n (node.Array b a) = record { within = l; node = e } in
-      on-sound p n a (part-thing S n a (node.Array b a) st (inr refl)) h (rule.bounds_high_on st)
+  turned-sound p n a l k (low {nested = nested} {b = b} e) h =
+      let st : Stands S.checked n (node.Array nested a b) = record { within = l; node = e } in
+      on-sound p n a (part-thing S n a (node.Array nested a b) st (inl refl)) h (rule.bounds_low_on st)
+  turned-sound p n a l k (high {nested = nested} {a = b} e) h =
+      let st : Stands S.checked n (node.Array nested b a) = record { within = l; node = e } in
+      on-sound p n a (part-thing S n a (node.Array nested b a) st (inr refl)) h (rule.bounds_high_on st)
   turned-sound p n a l k (fetched {i = i} e) h =
       let st : Stands S.checked n (node.Fetch a i) = record { within = l; node = e } in
       on-sound p n a (part-thing S n a (node.Fetch a i) st (inl refl)) h (rule.fetch_target_on st)
@@ -422,9 +423,9 @@ module _ (S : Source) (k : ℕ) (fs : List RowFact) (s : IsRound S k fs) where
           (only (On p n) h.0, (only (Has p a (Int lo)) h.1.0, (only (Has p b (Int hi)) h.1.1.0, tt))),
         )),
       )
-  sound (made_name {p = p} {n = n} {a = a} {b = b} {i = i} {lo = lo} {hi = hi} st o e) h =
+  sound (made_name {p = p} {n = n} {a = a} {b = b} {i = i} {nested = nested} {lo = lo} {hi = hi} st o e) h =
       let F : Site → Type 0 = λ x. Rounds S (suc k) (fact.Has (Of p) (place S.checked n) (value.Name x)) in (
-        node-thing S n (node.Array a b) st refl,
+        node-thing S n (node.Array nested a b) st refl,
         array-by i n a b p st o,
         begun (On p n) h.0,
         subst F (sym (name-by i n p o)) (inr (

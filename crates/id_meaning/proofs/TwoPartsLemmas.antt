@@ -1,5 +1,5 @@
 -- Two operands of one row are different rows.
-use Rattle.std.proofs.Common.{◌≡◌, inl, inr, ◌<◌, ◌+◌, ◌-◌, ℕ, zero, suc, true, false, List, [], ◌∷◌, length, refl, sym, ◌∙◌, subst, arith}
+use Rattle.std.proofs.Common.{◌≡◌, inl, inr, ◌<◌, ◌+◌, ◌-◌, ℕ, zero, suc, Bool, true, false, List, [], ◌∷◌, length, refl, sym, ◌∙◌, subst, arith}
 use Rattle.id_list.specs.List.{Among}
 use Rattle.id_list.proofs.AmongLemmas.{Among-either}
 use Rattle.id_value.specs.declared.BinaryOp.{BinaryOp}
@@ -28,7 +28,7 @@ use Rattle.id_source.specs.Facts.{StoreStands}
 abbrev Two : Node → Type 0
 Two (Binary o a b) = a < b
 Two (Bounds a b) = a < b
-Two (Array a b) = a < b
+Two (Array nested a b) = a < b
 Two (Fetch t i) = t < i
 Two _ = Unit {0}
 
@@ -157,10 +157,10 @@ mutual
       let u = push V s p (size T) (Bounds (last U) (last V)) (order s T d g) (add-two s U g (add-two s T d h)) in
       let n = nexts-two b 3 I e (counting-two b W x q p (begin-two s A ss q p u)) in
       end-two s o p (size T) (size A) (size D) (last L) L (add-two o D f (push N b p (last I) Body tt n))
-  add-two s T (by_array {a} {b} {p} d e) h =
+  add-two s T (by_array {nested} {a} {b} {p} d e) h =
       let U = add s T a in
       let V = add s U b in
-      push V s p (size T) (Array (last U) (last V)) (order s T d e) (add-two s U e (add-two s T d h))
+      push V s p (size T) (Array nested (last U) (last V)) (order s T d e) (add-two s U e (add-two s T d h))
   add-two s T (by_fetch {t} {i} {p} d e) h =
       let U = add s T t in
       let V = add s U i in
@@ -237,8 +237,8 @@ two-at P n z st = subst Two st.node (two-of P (at (rows P) n) (row-among (rows P
 pub binary-order : (P : Checked) (n a b : ℕ) (o : BinaryOp) → Stands P n (Binary o a b) → a < b
 binary-order P n a b o st = two-at P n (Binary o a b) st
 
-pub array-order : (P : Checked) (n a b : ℕ) → Stands P n (Array a b) → a < b
-array-order P n a b st = two-at P n (Array a b) st
+pub array-order : {nested : Bool} (P : Checked) (n a b : ℕ) → Stands P n (Array nested a b) → a < b
+array-order {nested} P n a b st = two-at P n (Array nested a b) st
 
 pub bounds-order : (P : Checked) (n a b : ℕ) → Stands P n (Bounds a b) → a < b
 bounds-order P n a b st = two-at P n (Bounds a b) st

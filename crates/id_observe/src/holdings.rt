@@ -207,6 +207,7 @@ const NOTHING: Structure = Structure {
     serial: 0,
     low: 0,
     high: 0,
+    nested: false,
 };
 
 /// The structure with its name.

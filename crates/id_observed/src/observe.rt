@@ -132,8 +132,9 @@ fn is_value(kind: PortKind) -> bool
     ensures { result ≡ is_value kind }
 {
     match kind {
-        PortKind::Int | PortKind::Bool | PortKind::Structure => true,
-        PortKind::Signal | PortKind::Address | PortKind::Context | PortKind::Continuation => false,
+        PortKind::Int | PortKind::Bool | PortKind::Structure | PortKind::Structures => true,
+        PortKind::Signal | PortKind::Address | PortKind::Addresses => false,
+        PortKind::Context | PortKind::Continuation => false,
     }
 }
 

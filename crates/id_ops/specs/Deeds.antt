@@ -13,6 +13,6 @@ abbrev pub fired_by_deed : Tag → Deed → Fired
 fired_by_deed t (Addressed c) = fired.Out (value.Address (cell_of c))
 fired_by_deed t (Asked c r) =
     fired.Asked (cell_of c) (record { context = t.context; iteration = t.iteration; instr = r })
-fired_by_deed t (Stored c n) = fired.Stored (cell_of c) (value.Int n) t
+fired_by_deed t (Stored c v) = fired.Stored (cell_of c) (whole v) t
 fired_by_deed t (Switched b v) = fired.Side b (whole v)
 fired_by_deed t (Passed u v) = fired.Sent (target_tag u) (whole v)

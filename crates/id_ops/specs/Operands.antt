@@ -2,7 +2,8 @@
 use Rattle.std.specs.Prelude.{◌≡◌, IsTrue, Some, None}
 use Rattle.id_instr.specs.declared.instr.Op.{Op}
 use Rattle.id_instr.specs.declared.instr.Op.TheVariants.{Fetch, Store}
-use Rattle.id_instr.specs.declared.instr.PortKind.TheVariants.{Int, Context}
+use Rattle.id_instr.specs.declared.instr.PortKind.TheVariants.{Context}
+use Rattle.id_instr.specs.Held.{held_kind}
 use Rattle.id_instr.specs.declared.dests.Port.TheVariants.{Zero, One as OnePort}
 use Rattle.id_instr.specs.Ports.{port_kind, sends, two_sides}
 use Rattle.id_tag.specs.Kinds.{kind_of}
@@ -18,14 +19,15 @@ Suits op (Two v w) = (port_kind op Zero ≡ Some (kind_of v)) × (port_kind op O
 
 -- a value that goes out is of the kind that the operator sends, to a side only where it has two; where a context is
 -- opened the operator sends contexts, and one that goes to a single tag is of the kind of port 1; only a `fetch` asks,
--- for the instruction that it names, and only a `store` stores, and then a number
+-- for the instruction that it names, and only a `store` stores, and then what the cell holds: of a nested structure or
+-- of one that is not, as the cell is
 abbrev pub IsOfKind : Op → Fired → Type 0
 IsOfKind op (Out v) = sends op ≡ Some (kind_of v)
 IsOfKind op (Side b v) = (sends op ≡ Some (kind_of v)) × IsTrue (two_sides op)
 IsOfKind op (Moved i v) = sends op ≡ Some (kind_of v)
 IsOfKind op (Entered c) = sends op ≡ Some Context
 IsOfKind op (Sent _ v) = port_kind op OnePort ≡ Some (kind_of v)
-IsOfKind op (Asked c t) = op ≡ Fetch t.instr
-IsOfKind op (Stored c v t) = (op ≡ Store) × (kind_of v ≡ Int)
+IsOfKind op (Asked c t) = op ≡ Fetch c.structure.nested t.instr
+IsOfKind op (Stored c v t) = (op ≡ Store c.structure.nested) × (kind_of v ≡ held_kind c.structure.nested)
 IsOfKind op (Failed _) = Unit {0}
 IsOfKind op Nothing = Unit {0}

@@ -1,5 +1,6 @@
 -- What each operator does with its operands (docs/MACHINE.md, "Firing").
-use Rattle.std.specs.Prelude.{ℕ, ◌+◌, ℤ, Bool as Truth, true, if◌then◌else◌}
+use Rattle.std.specs.Prelude.{ℕ, ◌+◌, ℤ, Bool as Truth, true, if◌then◌else◌, ◌&&◌}
+use Rattle.std.specs.Bool.{beq}
 use Rattle.id_value.specs.declared.Constant.{Constant}
 use Rattle.id_value.specs.declared.Constant.TheVariants as constant
 use Rattle.id_value.specs.declared.UnaryOp.{UnaryOp}
@@ -14,7 +15,9 @@ use Rattle.id_instr.specs.declared.instr.Dyadic.TheVariants as class
 use Rattle.id_instr.specs.declared.instr.Op.{Op}
 use Rattle.id_instr.specs.declared.instr.Op.TheVariants.{Const, Unary, Binary, Merge, Switch, Back, Enter, Send, Next}
 use Rattle.id_instr.specs.declared.instr.Op.TheVariants.{Reset, Alloc, Address, Fetch, Store}
+use Rattle.id_instr.specs.Held.{held_kind}
 use Rattle.id_tag.specs.Kinds.{kind_of, same_kind}
+use Rattle.id_tag.specs.declared.Cell.{Cell}
 use Rattle.id_tag.specs.declared.Context.{Context}
 use Rattle.id_tag.specs.declared.Tag.{Tag}
 use Rattle.id_tag.specs.declared.Structure.{Structure}
@@ -95,37 +98,51 @@ abbrev pub fired_reset : PortKind → Operands → Fired
 fired_reset k (One v) = if same_kind (kind_of v) k then Moved 0 v else Nothing
 fired_reset k (Two _ _) = Nothing
 
--- the next structure of the element, with these bounds, where they are good
-abbrev pub structure_in : Fresh → ℤ → ℤ → Fired
-structure_in fresh lo hi =
+-- the next structure of the element, nested or not, with these bounds, where they are good
+abbrev pub structure_in : Truth → Fresh → ℤ → ℤ → Fired
+structure_in nested fresh lo hi =
     if are_good lo hi
-    then Out (Made (record { element = fresh.element; serial = fresh.structure; low = lo; high = hi }))
+    then Out (Made (record {
+      element = fresh.element;
+      serial = fresh.structure;
+      low = lo;
+      high = hi;
+      nested = nested;
+    }))
     else Failed BadBounds
 
--- `alloc`: two numbers make the next structure of the element, with these as its bounds
-abbrev pub fired_alloc : Fresh → Operands → Fired
-fired_alloc fresh (Two (Int lo) (Int hi)) = structure_in fresh lo hi
-fired_alloc fresh _ = Nothing
+-- `alloc`: two numbers make the next structure of the element, nested or not, with these as its bounds
+abbrev pub fired_alloc : Truth → Fresh → Operands → Fired
+fired_alloc nested fresh (Two (Int lo) (Int hi)) = structure_in nested fresh lo hi
+fired_alloc nested fresh _ = Nothing
 
 -- the structure's cell at an index, where that is inside its bounds
 abbrev pub address_in : Structure → ℤ → Fired
 address_in s i =
     if is_inside s.low s.high i then Out (At (record { structure = s; index = i })) else Failed OutOfBounds
 
--- `address`: a structure and a number make the address of that cell
-abbrev pub fired_address : Operands → Fired
-fired_address (Two (Made s) (Int i)) = address_in s i
-fired_address _ = Nothing
+-- `address`: a structure, nested or not, and a number make the address of that cell
+abbrev pub fired_address : Truth → Operands → Fired
+fired_address nested (Two (Made s) (Int i)) = if beq s.nested nested then address_in s i else Nothing
+fired_address nested _ = Nothing
 
--- `fetch`: an address asks for its cell's value, for the instruction r under the context and iteration of the operands
-abbrev pub fired_fetch : ℕ → Tag → Operands → Fired
-fired_fetch r t (One (At c)) = Asked c (record { context = t.context; iteration = t.iteration; instr = r })
-fired_fetch r t _ = Nothing
+-- `fetch`: the address of a cell of a structure, nested or not, asks for the cell's value, for the instruction r under
+-- the context and iteration of the operands
+abbrev pub fired_fetch : Truth → ℕ → Tag → Operands → Fired
+fired_fetch nested r t (One (At c)) =
+    if beq c.structure.nested nested
+    then Asked c (record { context = t.context; iteration = t.iteration; instr = r })
+    else Nothing
+fired_fetch nested r t _ = Nothing
 
--- `store`: a number goes to the cell at an address, and its origin is the tag of the operands
-abbrev pub fired_store : Tag → Operands → Fired
-fired_store t (Two (At c) (Int n)) = Stored c (Int n) t
-fired_store t _ = Nothing
+-- whether a value is for the cells of structures that are nested or not, of which this cell is one
+abbrev pub may_hold : Truth → Cell → Value → Truth
+may_hold nested c v = beq c.structure.nested nested && same_kind (kind_of v) (held_kind nested)
+
+-- `store`: a value of the kind that it holds goes to the cell at an address, and its origin is the tag of the operands
+abbrev pub fired_store : Truth → Tag → Operands → Fired
+fired_store nested t (Two (At c) v) = if may_hold nested c v then Stored c v t else Nothing
+fired_store nested t _ = Nothing
 
 -- what the operator does under a tag, with its operands and the next numbers of the element
 abbrev pub fired : Op → Tag → Operands → Fresh → Fired
@@ -139,10 +156,10 @@ fired (Enter b r) t operands fresh = fired_enter fresh.context operands
 fired (Send k n) t operands fresh = fired_send k n operands
 fired (Next k) t operands fresh = fired_next k t.iteration operands
 fired (Reset k) t operands fresh = fired_reset k operands
-fired Alloc t operands fresh = fired_alloc fresh operands
-fired Address t operands fresh = fired_address operands
-fired (Fetch r) t operands fresh = fired_fetch r t operands
-fired Store t operands fresh = fired_store t operands
+fired (Alloc nested) t operands fresh = fired_alloc nested fresh operands
+fired (Address nested) t operands fresh = fired_address nested operands
+fired (Fetch nested r) t operands fresh = fired_fetch nested r t operands
+fired (Store nested) t operands fresh = fired_store nested t operands
 
 -- the side to which a firing sends: the true side, unless a switch goes to the false side
 abbrev pub side_of : Fired → Truth

@@ -1,12 +1,12 @@
 //! What an operator of arrays, or a `send`, does with plain operands, in small numbers.
 
 ghost use Rattle.std.specs.Prelude.{◌≡◌, IfSome};
-ghost use Rattle.id_tag.specs.Plains.{structure_of, whole};
+ghost use Rattle.id_tag.specs.Plains.{cell_of, structure_of, whole};
 ghost use Rattle.id_tag.specs.declared.Tag.{Tag};
 ghost use Rattle.id_ops.specs.declared.Fresh.{Fresh};
 ghost use Rattle.id_ops.specs.declared.Operands.TheVariants.{One, Two};
 ghost use Rattle.id_ops.specs.Deeds.{fired_by_deed};
-ghost use Rattle.id_ops.specs.Operators.{address_in, fired, fired_send, fired_switch};
+ghost use Rattle.id_ops.specs.Operators.{address_in, fired, fired_fetch, fired_send, fired_store, fired_switch};
 ghost use Rattle.id_tag.specs.declared.Value.TheVariants as values;
 
 use crate::Fired;
@@ -23,8 +23,8 @@ pub enum Deed {
     /// The cell is asked for its value, which is to go to port 0 of the instruction of this number, in the context and
     /// at the iteration of the operands.
     Asked(PlainCell, u32),
-    /// The number goes to the cell, from the store of the tag of the operands.
-    Stored(PlainCell, i64),
+    /// The value goes to the cell, from the store of the tag of the operands.
+    Stored(PlainCell, Plain),
     /// The value goes to each destination on this side under the tag of the operands.
     Switched(bool, Plain),
     /// The word or the structure goes to port 0 of this tag.
@@ -43,9 +43,9 @@ impl Deed {
                 cell: cell.cell(),
                 reply: Tag { instr, ..tag },
             },
-            Deed::Stored(cell, number) => Fired::Stored {
+            Deed::Stored(cell, value) => Fired::Stored {
                 cell: cell.cell(),
-                value: Value::Int(number),
+                value: value.value(),
                 origin: tag,
             },
             Deed::Switched(side, value) => Fired::Side(side, value.value()),
@@ -60,8 +60,21 @@ pub fn deed_on(op: Op, operand: Plain) -> Option<Deed>
     ensures { IfSome result (λ d. (t : Tag) (f : Fresh) → fired op t (One (whole operand)) f ≡ fired_by_deed t d) }
 {
     match op {
-        Op::Fetch { reply } => Some(Deed::Asked(operand.cell()?, reply)),
+        Op::Fetch { nested, reply } => asked(nested, operand.cell()?, reply),
         _ => None,
+    }
+}
+
+/// What a `fetch` from structures that are nested or not does with the address of this cell.
+#[inline(always)]
+fn asked(nested: bool, cell: PlainCell, reply: u32) -> Option<Deed>
+    ensures { IfSome result
+        (λ d. (t : Tag) → fired_fetch nested reply t (One (values.Address (cell_of cell))) ≡ fired_by_deed t d) }
+{
+    if cell.is_nested() == nested {
+        Some(Deed::Asked(cell, reply))
+    } else {
+        None
     }
 }
 
@@ -74,14 +87,27 @@ pub fn deed_on_two(op: Op, left: Plain, right: Plain) -> Option<Deed>
 {
     match (op, left, right) {
         (Op::Switch(kind), Plain::Bool(side), _) => switched(kind, side != 0, right),
-        (Op::Address, Plain::Structure(name, low, high), Plain::Int(index)) => addressed(
-            name, low, high, index,
-        ),
-        (Op::Store, Plain::Address(name, place), Plain::Int(number)) => {
-            Some(Deed::Stored(PlainCell { name, place }, number))
+        (Op::Address { nested }, Plain::Structure(name, low, high), Plain::Int(index))
+            if left.kind() == PortKind::of_structure(nested) => addressed(name, low, high, index),
+        (Op::Store { nested }, Plain::Address(name, place), _) => {
+            stored(nested, PlainCell { name, place }, right)
         }
         (Op::Send { kind, target }, Plain::Context(_), _) => passed(kind, target, left, right),
         _ => None,
+    }
+}
+
+/// What a `store` to structures that are nested or not does with this value for a cell.
+#[inline(always)]
+fn stored(nested: bool, cell: PlainCell, value: Plain) -> Option<Deed>
+    ensures { IfSome result
+        (λ d. (t : Tag)
+        → fired_store nested t (Two (values.Address (cell_of cell)) (whole value)) ≡ fired_by_deed t d) }
+{
+    if cell.is_nested() == nested && value.kind() == PortKind::of_held(nested) {
+        Some(Deed::Stored(cell, value))
+    } else {
+        None
     }
 }
 
@@ -91,8 +117,8 @@ fn switched(kind: PortKind, side: bool, value: Plain) -> Option<Deed>
     ensures { IfSome result
         (λ d. (t : Tag) → fired_switch kind (Two (values.Bool side) (whole value)) ≡ fired_by_deed t d) }
 {
-    match (kind, value) {
-        (PortKind::Structure, Plain::Structure(_, _, _)) => Some(Deed::Switched(side, value)),
+    match value {
+        Plain::Structure(_, _, _) if value.kind() == kind => Some(Deed::Switched(side, value)),
         _ => None,
     }
 }

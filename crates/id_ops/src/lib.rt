@@ -15,7 +15,7 @@ ghost use Rattle.id_ops.specs.Operands.{Suits, IsOfKind};
 ghost use Rattle.id_ops.specs.Operators.{constant_value, fired_by, fired_const, fired_unary, fired_binary, fired_merge};
 ghost use Rattle.id_ops.specs.Operators.{fired_switch, fired_back, fired_enter, tag_within, fired_send, fired_next};
 ghost use Rattle.id_ops.specs.Operators.{fired_reset, structure_in, fired_alloc, address_in};
-ghost use Rattle.id_ops.specs.Operators.{fired_address, fired_fetch, fired_store, fired};
+ghost use Rattle.id_ops.specs.Operators.{fired_address, fired_fetch, fired_store, fired, may_hold};
 
 mod deed;
 mod shot;
@@ -108,10 +108,10 @@ fn fire_op(op: Op, tag: Tag, operands: Operands, fresh: Fresh) -> Fired
         Op::Send { kind, target } => fire_send(kind, target, operands),
         Op::Next(kind) => fire_next(kind, tag.iteration, operands),
         Op::Reset(kind) => fire_reset(kind, operands),
-        Op::Alloc => fire_alloc(fresh, operands),
-        Op::Address => fire_address(operands),
-        Op::Fetch { reply } => fire_fetch(reply, tag, operands),
-        Op::Store => fire_store(tag, operands),
+        Op::Alloc { nested } => fire_alloc(nested, fresh, operands),
+        Op::Address { nested } => fire_address(nested, operands),
+        Op::Fetch { nested, reply } => fire_fetch(nested, reply, tag, operands),
+        Op::Store { nested } => fire_store(nested, tag, operands),
     }
 }
 
@@ -246,17 +246,17 @@ fn fire_reset(kind: PortKind, operands: Operands) -> Fired
     }
 }
 
-fn fire_alloc(fresh: Fresh, operands: Operands) -> Fired
-    ensures { result ≡ fired_alloc fresh operands }
+fn fire_alloc(nested: bool, fresh: Fresh, operands: Operands) -> Fired
+    ensures { result ≡ fired_alloc nested fresh operands }
 {
     match operands {
-        Operands::Two(Value::Int(low), Value::Int(high)) => structure_in(fresh, low, high),
+        Operands::Two(Value::Int(low), Value::Int(high)) => structure_in(nested, fresh, low, high),
         _ => Fired::Nothing,
     }
 }
 
-fn structure_in(fresh: Fresh, low: i64, high: i64) -> Fired
-    ensures { result ≡ structure_in fresh low high }
+fn structure_in(nested: bool, fresh: Fresh, low: i64, high: i64) -> Fired
+    ensures { result ≡ structure_in nested fresh low high }
 {
     if bounds_are_good(low, high) {
         Fired::Out(Value::Structure(Structure {
@@ -264,19 +264,19 @@ fn structure_in(fresh: Fresh, low: i64, high: i64) -> Fired
             serial: fresh.structure,
             low,
             high,
+            nested,
         }))
     } else {
         Fired::Failed(FaultKind::BadBounds)
     }
 }
 
-fn fire_address(operands: Operands) -> Fired
-    ensures { result ≡ fired_address operands }
+fn fire_address(nested: bool, operands: Operands) -> Fired
+    ensures { result ≡ fired_address nested operands }
 {
     match operands {
-        Operands::Two(Value::Structure(structure), Value::Int(index)) => {
-            address_in(structure, index)
-        }
+        Operands::Two(Value::Structure(structure), Value::Int(index))
+            if structure.nested == nested => address_in(structure, index),
         _ => Fired::Nothing,
     }
 }
@@ -291,11 +291,11 @@ fn address_in(structure: Structure, index: i64) -> Fired
     }
 }
 
-fn fire_fetch(reply: u32, tag: Tag, operands: Operands) -> Fired
-    ensures { result ≡ fired_fetch reply tag operands }
+fn fire_fetch(nested: bool, reply: u32, tag: Tag, operands: Operands) -> Fired
+    ensures { result ≡ fired_fetch nested reply tag operands }
 {
     match operands {
-        Operands::One(Value::Address(cell)) => Fired::Asked {
+        Operands::One(Value::Address(cell)) if cell.structure.nested == nested => Fired::Asked {
             cell,
             reply: Tag {
                 instr: reply,
@@ -306,17 +306,26 @@ fn fire_fetch(reply: u32, tag: Tag, operands: Operands) -> Fired
     }
 }
 
-fn fire_store(tag: Tag, operands: Operands) -> Fired
-    ensures { result ≡ fired_store tag operands }
+fn fire_store(nested: bool, tag: Tag, operands: Operands) -> Fired
+    ensures { result ≡ fired_store nested tag operands }
 {
     match operands {
-        Operands::Two(Value::Address(cell), Value::Int(number)) => Fired::Stored {
-            cell,
-            value: Value::Int(number),
-            origin: tag,
-        },
+        Operands::Two(Value::Address(cell), value) if may_hold(nested, cell, value) => {
+            Fired::Stored {
+                cell,
+                value,
+                origin: tag,
+            }
+        }
         _ => Fired::Nothing,
     }
+}
+
+/// Whether a value is for the cells of structures that are nested or not, of which this cell is one.
+fn may_hold(nested: bool, cell: Cell, value: Value) -> bool
+    ensures { result ≡ may_hold nested cell value }
+{
+    cell.structure.nested == nested && value.has_kind(PortKind::of_held(nested))
 }
 
 /// The tag of an instruction in a context, at iteration 0. Takes no memory.

@@ -1,6 +1,6 @@
 //! What an instruction does with plain operands where it sends a word or a structure on, as most do, in small numbers.
 
-ghost use Rattle.std.specs.Prelude.{◌≡◌, ◌≢◌, ◌<◌, ◌-◌, ◌^◌, ℕ, true, false, None, IfSome};
+ghost use Rattle.std.specs.Prelude.{◌≡◌, ◌≢◌, ◌<◌, ◌-◌, ◌^◌, ℕ, Bool, true, false, None, IfSome};
 ghost use Rattle.std.specs.Option.{is_some};
 ghost use Rattle.id_instr.specs.declared.instr.Op.TheVariants.{Alloc, Next};
 ghost use Rattle.id_instr.specs.declared.instr.PortKind.{PortKind};
@@ -108,7 +108,7 @@ pub fn shoot_one(op: Op, iteration: u64, operand: Plain) -> Option<Shot>
 pub fn shoot_two(op: Op, left: Plain, right: Plain) -> Option<Shot>
     ensures fired { IfSome result
         (λ s. (t : Tag) (f : Fresh) → fired op t (Two (whole left) (whole right)) f ≡ fired_of s) }
-    ensures none { result ≡ None → op ≢ Alloc → (t : Tag) (f : Fresh)
+    ensures none { result ≡ None → ((b : Bool) → op ≢ Alloc b) → (t : Tag) (f : Fresh)
         → sends_on (fired op t (Two (whole left) (whole right)) f) ≡ false }
     ensures own { IfSome result (λ s. IsOwn s right) }
     ensures brief { IfSome result (λ s. (iteration : ℕ) → IsBrief iteration s) }

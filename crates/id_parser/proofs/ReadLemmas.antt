@@ -37,6 +37,18 @@ IsRead-next e q = let l = ap length e in record {
   fits = q.fits;
 }
 
+-- a part beside others of this height
+pub IsRead-higher : {ts us : List Token} {d h k : ℕ} (m : ℕ) → IsRead ts us d h → d + m ≤ 200 → k ≡ max m h → IsRead ts us d k
+IsRead-higher m q r i = record { behind = q.behind; some = omega (arith, q.some, i); fits = omega (arith, q.fits, r, i) }
+
+-- a part behind a word that may be left out
+pub IsRead-later : {ts us vs : List Token} {d h : ℕ} → length us ≤ length ts → IsRead us vs d h → IsRead ts vs d h
+IsRead-later l q = record {
+  behind = record { ends = q.behind.ends; shorter = omega (arith, q.behind.shorter, l) };
+  some = q.some;
+  fits = q.fits;
+}
+
 -- a part with something behind it
 pub IsRead-closed : {ts us vs : List Token} {d h : ℕ} → IsRead ts us d h → IsBehind vs us → IsRead ts vs d h
 IsRead-closed p b = record { behind = record { ends = b.ends; shorter = omega (arith, p.behind.shorter, b.shorter) }; some = p.some; fits = p.fits }

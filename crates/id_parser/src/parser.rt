@@ -3,7 +3,7 @@
 //! A reader takes the tokens from its part on, and how many expressions stand round the part.
 //! It gives the part back with the tokens behind it.
 
-ghost use Rattle.std.specs.Prelude.{Some, ◌≡◌, ◌≢◌, ◌+◌, ◌<◌, ◌≤◌, ◌↔◌, IsTrue, MatchResult};
+ghost use Rattle.std.specs.Prelude.{Some, ◌≡◌, ◌≢◌, ◌+◌, ◌<◌, ◌≤◌, ◌↔◌, ◌∷◌, length, max, IsTrue, MatchResult};
 ghost use Rattle.id_text.specs.Tokens.{EndsOnce};
 ghost use Rattle.id_grammar.specs.Tree.{tree_of, stmt_tree, none};
 ghost use Rattle.id_grammar.specs.Grammar.{Expression, Grouped, Negation, Unary, Postfix, Atom, Arguments};
@@ -12,7 +12,7 @@ ghost use Rattle.id_grammar.specs.Readers.{first_kind, second_kind, last_word, m
 ghost use Rattle.id_grammar.specs.Readers.{IsPrefix, Leads, Fails, Grows, Stunts, Encloses, Exposes};
 ghost use Rattle.id_grammar.specs.Readers.{Surrounds, Bares, Indexes, Misindexes, Adds, Assigns, Misassigns};
 ghost use Rattle.id_grammar.specs.Readers.{Gathers, IsGathered, Applies, Misapplies, Hands, passed, Rises};
-ghost use Rattle.id_grammar.specs.Readers.{Ranges, Misranges};
+ghost use Rattle.id_grammar.specs.Readers.{Stores, Misstores, Ranges, Misranges};
 
 use id_grammar::{
     ArgumentList, IndexPart, Level, MAX_NESTING, Part, Scope, Statement, StatementList, TreeError,
@@ -347,7 +347,7 @@ fn parse_atom(alloc: Global, tokens: &[Token], depth: usize) -> Result<(Part, &[
     }
 }
 
-/// `array = "array" "(" expr "," expr ")"`
+/// `array = "array" [ "array" ] "(" expr "," expr ")"`
 #[cycle(expr)]
 fn parse_array(alloc: Global, tokens: &[Token], depth: usize) -> Result<(Part, &[Token]), TreeError>
     requires ends { EndsOnce tokens.now }
@@ -360,15 +360,33 @@ fn parse_array(alloc: Global, tokens: &[Token], depth: usize) -> Result<(Part, &
 {
     let inner = depth + 1;
     let (first, behind) = found!(enter(tokens, inner + 1));
+    let nested = begins_with(behind, Keyword::Array);
     let (low, begun) = found!(parse_between(
         alloc,
-        behind,
+        behind_array(behind),
         Symbol::LeftParen,
         Symbol::Comma,
         inner
     ));
     let (high, rest) = found!(parse_enclosed(alloc, begun, Word::Sign(Symbol::RightParen), inner));
-    with_rest(array(alloc, low, high, first.start), rest)
+    with_rest(array(alloc, nested, low, high, first.start), rest)
+}
+
+/// The tokens, or those behind the word `array` where they begin with it.
+fn behind_array(tokens: &[Token]) -> &[Token]
+    requires { EndsOnce tokens.now }
+    ensures ends { EndsOnce result.now }
+    ensures shorter { length result.now ≤ length tokens.now }
+    ensures word { first_kind tokens.now ≡ TokenKind.Key Keyword.Array
+        → (t : Token) × (tokens.now ≡ t ∷ result.now) }
+    ensures none { first_kind tokens.now ≢ TokenKind.Key Keyword.Array → result.now ≡ tokens.now }
+{
+    if begins_with(tokens, Keyword::Array) {
+        let (_, behind) = split(tokens);
+        behind
+    } else {
+        tokens
+    }
 }
 
 /// `"(" expr ")"`
@@ -609,7 +627,7 @@ fn parse_statement(
     Ok((binding(x, value, place), rest))
 }
 
-/// A store, from behind its name: `store = NAME "[" expr "]" "=" expr ";"`
+/// A store, from behind its name: `store = NAME "[" expr "]" [ "[" expr "]" ] "=" expr ";"`
 #[cycle(expr)]
 fn parse_store(
     alloc: Global,
@@ -629,16 +647,49 @@ fn parse_store(
 {
     let (first, opened) = split(tokens);
     let bracket = Word::Sign(Symbol::RightBracket);
-    let (index, closed) = found!(parse_enclosed(alloc, opened, bracket, depth));
+    let (index, read) = found!(parse_expression(alloc, opened, depth));
+    let closed = found!(expect_word(read, bracket));
+    let target = name(x, place);
+    if begins_with_sign(closed, Symbol::LeftBracket) {
+        let (last, begun) = found!(enter(closed, depth + index.height + 1));
+        let inner = found!(fetch(alloc, target, index, first.start));
+        let (index, ended) = found!(parse_enclosed(alloc, begun, bracket, depth));
+        parse_stored(alloc, inner, index, last.start, ended, depth)
+    } else {
+        parse_stored(alloc, target, index, first.start, closed, depth)
+    }
+}
+
+/// The rest of a store with this target and this index, whose last `[` is at this place: `"=" expr ";"`
+#[inline(always)]
+#[cycle(expr)]
+fn parse_stored(
+    alloc: Global,
+    target: Part,
+    index: Part,
+    place: u32,
+    tokens: &[Token],
+    depth: usize,
+) -> Result<(Statement, &[Token]), TreeError>
+    requires ends { EndsOnce tokens.now }
+    requires room { depth < MAX_NESTING }
+    requires target { depth + target.height ≤ MAX_NESTING }
+    requires index { depth + index.height ≤ MAX_NESTING }
+    ensures { MatchResult result
+        (λ y. IsRead tokens.now y.1.now depth y.0.height
+        × ((o : Scope) → Stores tokens.now o depth (tree_of target.expr) (tree_of index.expr) place
+        (max target.height index.height) y.1.now (stmt_tree y.0.stmt) y.0.height))
+        (λ x. (o : Scope) → Misstores tokens.now o depth (tree_of target.expr) (tree_of index.expr) place
+        (max target.height index.height) x) }
+{
     let (value, rest) = found!(parse_between(
         alloc,
-        closed,
+        tokens,
         Symbol::Becomes,
         Symbol::Semicolon,
         depth
     ));
-    let target = name(x, place);
-    let statement = found!(store(alloc, target, index, value, first.start));
+    let statement = found!(store(alloc, target, index, value, place));
     Ok((statement, rest))
 }
 

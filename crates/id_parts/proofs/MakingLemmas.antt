@@ -1,5 +1,5 @@
 -- What the maker adds at a form is what the definition adds.
-use Rattle.std.proofs.Common.{◌≡◌, ◌<◌, ℕ, suc, ◌+◌, get_or, drop, true, List, [], ◌∷◌, length, refl, sym, ap, ◌∙◌, arith, Box, Global, IfOk, OnOk, Result}
+use Rattle.std.proofs.Common.{◌≡◌, ◌<◌, ℕ, suc, ◌+◌, get_or, drop, Bool, true, List, [], ◌∷◌, length, refl, sym, ap, ◌∙◌, arith, Box, Global, IfOk, OnOk, Result}
 use Rattle.std.proofs.lemmas.List.{drop_more}
 use Rattle.std.proofs.lemmas.Result.{IfOk-weaker, on_ok_weaker}
 use mathlib.Core.Former.{Count}
@@ -138,7 +138,7 @@ pair_ending s m a b p T =
 
 pair_ends : (s : Stand) (m : Pairing) (a b : Tree) (p : ℕ) (T : Parts) → pair_ending s m a b p T ≡ add s T (pair_tree m a b p)
 pair_ends s (pair.Binary o) a b p T = refl
-pair_ends s pair.Array a b p T = refl
+pair_ends s (pair.Array nested) a b p T = refl
 pair_ends s pair.Fetch a b p T = refl
 
 pub pair_row : (s : Stand) (T U V : Parts) (m : Pairing) (a b : Tree) (n : Node) (p f i j : ℕ) → n ≡ pair_node m i j → f ≡ size T
@@ -356,9 +356,9 @@ pub binary_tree : (e : Expr) (o : BinaryOp) (place : ℕ) (b : Box Pair Global) 
     → binary o (tree_of v.first) (tree_of v.second) place ≡ tree_of e
 binary_tree e o place b v h0 h1 = ap (λ x. binary o (tree_of x.first) (tree_of x.second) place) h0 ∙ ap tree_of (sym h1)
 
-pub array_tree : (e : Expr) (place : ℕ) (b : Box Pair Global) (v : Pair) → v ≡ b.value → e ≡ Array place b
-    → array (tree_of v.first) (tree_of v.second) place ≡ tree_of e
-array_tree e place b v h0 h1 = ap (λ x. array (tree_of x.first) (tree_of x.second) place) h0 ∙ ap tree_of (sym h1)
+pub array_tree : (nested : Bool) (e : Expr) (place : ℕ) (b : Box Pair Global) (v : Pair) → v ≡ b.value → e ≡ Array place nested b
+    → array nested (tree_of v.first) (tree_of v.second) place ≡ tree_of e
+array_tree nested e place b v h0 h1 = ap (λ x. array nested (tree_of x.first) (tree_of x.second) place) h0 ∙ ap tree_of (sym h1)
 
 pub fetch_tree : (e : Expr) (place : ℕ) (b : Box Pair Global) (v : Pair) → v ≡ b.value → e ≡ Fetch place b
     → fetch (tree_of v.first) (tree_of v.second) place ≡ tree_of e

@@ -95,7 +95,14 @@ fn add_expr<'a>(maker: &mut Maker<'a>, stand: Stand, expr: &'a Expr) -> Result<u
         Expr::Block { place, inside } => add_block(maker, stand, inside, *place),
         Expr::Loop { place, inside } => add_loop(maker, stand, inside, *place),
         Expr::For { place, inside } => add_for(maker, stand, inside, *place),
-        Expr::Array { place, inside } => add_pair(maker, stand, Pairing::Array, inside, *place),
+        Expr::Array {
+            place,
+            nested,
+            inside,
+        } => {
+            let form = Pairing::Array { nested: *nested };
+            add_pair(maker, stand, form, inside, *place)
+        }
         Expr::Fetch { place, inside } => add_pair(maker, stand, Pairing::Fetch, inside, *place),
     }
 }

@@ -53,7 +53,7 @@ brought-elsewhere (Write c v t) not = refl
 -- what is no `alloc` makes no structure
 pub made_by-none : (o : Option Op) (f : Fired) → is_alloc o ≡ false → made_by o f ≡ None
 made_by-none None f not = refl
-made_by-none (Some Alloc) f not = cc
+made_by-none (Some (Alloc nested)) f not = cc
 made_by-none (Some (Const v)) f not = refl
 made_by-none (Some (Unary u)) f not = refl
 made_by-none (Some (Binary u)) f not = refl
@@ -64,14 +64,14 @@ made_by-none (Some (Enter b r)) f not = refl
 made_by-none (Some (Send k n)) f not = refl
 made_by-none (Some (Next k)) f not = refl
 made_by-none (Some (Reset k)) f not = refl
-made_by-none (Some Address) f not = refl
-made_by-none (Some (Fetch r)) f not = refl
-made_by-none (Some Store) f not = refl
+made_by-none (Some (Address nested)) f not = refl
+made_by-none (Some (Fetch nested r)) f not = refl
+made_by-none (Some (Store nested)) f not = refl
 
 -- what is no `enter` enters no context
 entered_by-none : (o : Option Op) (ms : List Message) → is_enter o ≡ false → entered_by o ms ≡ None
 entered_by-none None ms not = refl
-entered_by-none (Some Alloc) ms not = refl
+entered_by-none (Some (Alloc nested)) ms not = refl
 entered_by-none (Some (Const v)) ms not = refl
 entered_by-none (Some (Unary u)) ms not = refl
 entered_by-none (Some (Binary u)) ms not = refl
@@ -82,9 +82,9 @@ entered_by-none (Some (Enter b r)) ms not = cc
 entered_by-none (Some (Send k n)) ms not = refl
 entered_by-none (Some (Next k)) ms not = refl
 entered_by-none (Some (Reset k)) ms not = refl
-entered_by-none (Some Address) ms not = refl
-entered_by-none (Some (Fetch r)) ms not = refl
-entered_by-none (Some Store) ms not = refl
+entered_by-none (Some (Address nested)) ms not = refl
+entered_by-none (Some (Fetch nested r)) ms not = refl
+entered_by-none (Some (Store nested)) ms not = refl
 
 entered-none : (g : Parts) (x : Payload) (ms : List Message) → is_enter (op_at g (tag_of x).instr) ≡ false → entered g x ms ≡ None
 entered-none g (Token t p v) ms not = entered_by-none (op_at g t.instr) ms not

@@ -57,22 +57,23 @@ entered_by-alike (Some (Enter b r)) p ms alike none = cc
 entered_by-alike o p ms alike none = refl
 
 -- and makes nothing where its like made nothing
-made_by-out : (f : Fired) → ((s : Structure) → f ≢ Out (value.Structure s)) → made_by (Some Alloc) f ≡ None
-made_by-out (Out (value.Structure s)) none = absurd (none s refl)
-made_by-out f none = refl
+made_by-out : (nested : Bool) (f : Fired) → ((s : Structure) → f ≢ Out (value.Structure s)) → made_by (Some (Alloc nested)) f ≡ None
+made_by-out nested (Out (value.Structure s)) none = absurd (none s refl)
+made_by-out nested f none = refl
 
-made_by-alike : (o p : Option Op) (f : Fired) → is_alike o p ≡ true → (p ≡ Some Alloc → (s : Structure) → f ≢ Out (value.Structure s)) → made_by o f ≡ None
-made_by-alike (Some Alloc) (Some Alloc) f alike none = made_by-out f (none refl)
-made_by-alike (Some Alloc) p f alike none = cc
+made_by-alike : (o p : Option Op) (f : Fired) → is_alike o p ≡ true
+    → ((nested : Bool) → p ≡ Some (Alloc nested) → (s : Structure) → f ≢ Out (value.Structure s)) → made_by o f ≡ None
+made_by-alike (Some (Alloc nested)) (Some (Alloc other)) f alike none = made_by-out nested f (none other refl)
+made_by-alike (Some (Alloc nested)) p f alike none = cc
 made_by-alike o p f alike none = refl
 
 made_by-sent : (o : Option Op) (t : Tag) (a : ReadAnswer) → made_by o (answer_fired t a) ≡ None
-made_by-sent (Some Alloc) t (Now v) = refl
-made_by-sent (Some Alloc) t Deferred = refl
+made_by-sent (Some (Alloc nested)) t (Now v) = refl
+made_by-sent (Some (Alloc nested)) t Deferred = refl
 made_by-sent o t a = refl
 
 made_by-nothing : (o : Option Op) → made_by o Nothing ≡ None
-made_by-nothing (Some Alloc) = refl
+made_by-nothing (Some (Alloc nested)) = refl
 made_by-nothing o = refl
 
 -- an event that does not tell enters nothing
@@ -93,7 +94,7 @@ makes-nothing : (g h : Parts) → DoAlike g h → (n : ℕ) (s : State) (x : Pay
 makes-nothing g h alike n s (Token t p v) not =
     let f = (outcome h (next_numbers n s) s.waiting s.cells (Token t p v)).fired in
     made_by-alike (op_at g t.instr) (op_at h t.instr) f (alike t.instr)
-    (λ is. alloc-makes_nothing h (next_numbers n s) s.waiting s.cells t p v is (or-second (t.instr == 0) (makes v f) not))
+    (λ nested is. alloc-makes_nothing h (next_numbers n s) s.waiting s.cells t p v nested is (or-second (t.instr == 0) (makes v f) not))
 makes-nothing g h alike n s (Read c t) not = made_by-sent (op_at g t.instr) t (read_answer (get s.cells c))
 makes-nothing g h alike n s (Write c v t) not = made_by-nothing (op_at g t.instr)
 

@@ -88,7 +88,7 @@ path_of g es t = record { steps = steps_to g (enter_in g es) (length es) t }
 
 -- the structure that was made where this operator fired so: an `alloc` makes what it gives
 abbrev pub made_by : Option Op → Fired → Option Structure
-made_by (Some Alloc) (Out (value.Structure s)) = Some s
+made_by (Some (Alloc nested)) (Out (value.Structure s)) = Some s
 made_by _ _ = None
 
 -- the structure that an event made
@@ -155,7 +155,7 @@ makings_of g es = filter_map (making_of g) es
 
 -- whether an instruction is an `alloc`
 abbrev pub is_alloc : Option Op → Bool
-is_alloc (Some Alloc) = true
+is_alloc (Some (Alloc nested)) = true
 is_alloc _ = false
 
 -- whether it is an `enter`
@@ -166,7 +166,7 @@ is_enter _ = false
 -- whether the other instruction is an `enter` or an `alloc` where this one is
 abbrev pub is_alike : Option Op → Option Op → Bool
 is_alike (Some (Enter b r)) o = is_enter o
-is_alike (Some Alloc) o = is_alloc o
+is_alike (Some (Alloc nested)) o = is_alloc o
 is_alike _ o = true
 
 -- each instruction that enters contexts or makes structures does so in the other graph too

@@ -79,7 +79,7 @@ fn is_alike(op: Option<Op>, other: Option<Op>) -> bool
 {
     match op {
         Some(Op::Enter { .. }) => is_enter(other),
-        Some(Op::Alloc) => is_alloc(other),
+        Some(Op::Alloc { .. }) => is_alloc(other),
         _ => true,
     }
 }
@@ -195,7 +195,7 @@ fn is_enter(op: Option<Op>) -> bool
 pub fn is_alloc(op: Option<Op>) -> bool
     ensures { result ≡ is_alloc op }
 {
-    matches!(op, Some(Op::Alloc))
+    matches!(op, Some(Op::Alloc { .. }))
 }
 
 /// Adds the tag under which an event entered a context, if it did, where an instruction took what came and sent
@@ -338,7 +338,7 @@ fn made(graph: &Graph, tag: Tag, fired: Fired) -> Option<Structure>
     ensures { result ≡ made_by (op_at graph.now tag.instr) fired }
 {
     match (op_at(graph, tag.instr), fired) {
-        (Some(Op::Alloc), Fired::Out(Value::Structure(structure))) => Some(structure),
+        (Some(Op::Alloc { .. }), Fired::Out(Value::Structure(structure))) => Some(structure),
         _ => None,
     }
 }

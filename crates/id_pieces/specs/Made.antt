@@ -100,7 +100,7 @@ graph_by P order F =
 -- where the form is a `send`, its entry has a number that an instruction can have, and so has the reply of a `fetch`
 abbrev pub Fits : List ℕ → Form → Type 0
 Fits F (SendTo k n j) = number_by F n j < 2 ^ 32
-Fits F (FetchAt n) = number_by F n 2 < 2 ^ 32
+Fits F (FetchAt nested n) = number_by F n 2 < 2 ^ 32
 Fits F _ = Unit {0}
 
 -- and so have the entries of each loop's imports

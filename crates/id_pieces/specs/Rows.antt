@@ -5,6 +5,7 @@ use Rattle.std.specs.Prelude.{List, [], ◌∷◌, ◌++◌, length, map, Option
 use Rattle.std.specs.Bool.{beq}
 use Rattle.id_value.specs.declared.Kind.{Kind}
 use Rattle.id_value.specs.declared.Kind.TheVariants as kind
+use Rattle.id_value.specs.Kinds.{is_array}
 use Rattle.id_value.specs.declared.BinaryOp.{BinaryOp}
 use Rattle.id_value.specs.declared.BinaryOp.TheVariants as class
 use Rattle.id_value.specs.declared.Comparison.TheVariants.{Eq, Ne, Lt, Le}
@@ -37,7 +38,7 @@ use Rattle.id_instr.specs.declared.instr.Op.TheVariants.{Store as StoreOp}
 use Rattle.id_instr.specs.declared.instr.Dyadic.{Dyadic}
 use Rattle.id_instr.specs.declared.instr.Dyadic.TheVariants as dyadic
 use Rattle.id_instr.specs.declared.instr.PortKind.{PortKind}
-use Rattle.id_instr.specs.declared.instr.PortKind.TheVariants.{Signal, Int, Bool, Structure}
+use Rattle.id_instr.specs.declared.instr.PortKind.TheVariants.{Signal, Int, Bool, Structure, Structures}
 use Rattle.id_instr.specs.declared.dests.Port.{Port}
 use Rattle.id_instr.specs.declared.dests.Port.TheVariants.{Zero, One}
 use Rattle.id_pieces.specs.declared.arc.Origin.{Origin}
@@ -59,10 +60,15 @@ abbrev pub port_of : Kind → PortKind
 port_of kind.Int = Int
 port_of kind.Bool = Bool
 port_of kind.Array = Structure
+port_of kind.Nested = Structures
 
 -- the kind of the ports that take the value of the row: each expression and binder of a checked program has a kind
 abbrev pub port_at : Checked → ℕ → PortKind
 port_at P n = port_of (unwrap_or (checked.kind P n) kind.Int)
+
+-- whether the row, a fetch or a store's address, is about a cell that holds an array: one of a nested structure
+abbrev pub holds_array : Checked → ℕ → Truth
+holds_array P n = is_array (unwrap_or (checked.kind P n) kind.Int)
 
 -- the instruction of a binary operator, where ports of this kind take the value of its left operand: there are two
 -- instructions for each of `==` and `<>`
@@ -171,7 +177,7 @@ abbrev pub op_by : (ℕ → ℕ → ℕ) → Form → Op
 op_by number (Plain o) = o
 op_by number (EnterAt h c) = EnterOp (number h 0) (number c 0)
 op_by number (SendTo k n j) = Send k (number n j)
-op_by number (FetchAt n) = FetchOp (number n 2)
+op_by number (FetchAt nested n) = FetchOp nested (number n 2)
 
 -- an instruction of this operator at a place for each of these binders, for values of its kind
 abbrev pub for_each : Checked → (PortKind → Op) → ℕ → List ℕ → List Piece
@@ -222,10 +228,11 @@ made_of P n e Body = []
 made_of P n e (Reset v) = piece (Plain (ResetOp (port_at P v))) e ∷ []
 made_of P n e Span = []
 made_of P n e (Loop h w l) = piece (Plain (Merge (port_at P n))) e ∷ []
-made_of P n e (Array a b) = piece (Plain Alloc) e ∷ []
-made_of P n e (Fetch t i) = piece (Plain AddressOp) e ∷ piece (FetchAt n) e ∷ piece (Plain (Merge Int)) e ∷ []
-made_of P n e (Address t i) = piece (Plain AddressOp) e ∷ []
-made_of P n e (Store a v) = piece (Plain StoreOp) e ∷ []
+made_of P n e (Array nested a b) = piece (Plain (Alloc nested)) e ∷ []
+made_of P n e (Fetch t i) = piece (Plain (AddressOp (holds_array P n))) e ∷ piece (FetchAt (holds_array P n) n) e
+    ∷ piece (Plain (Merge (port_at P n))) e ∷ []
+made_of P n e (Address t i) = piece (Plain (AddressOp (holds_array P n))) e ∷ []
+made_of P n e (Store a v) = piece (Plain (StoreOp (holds_array P a))) e ∷ []
 made_of P n e (Block b) = []
 made_of P n e (Binding x a) = piece (Plain (Merge (port_at P n))) e ∷ []
 made_of P n e (Def x h k b) = []
@@ -387,7 +394,7 @@ feeds_of P n r Body = []
 feeds_of P n r (Reset v) = feed (origin P v) 0 Zero ∷ []
 feeds_of P n r Span = []
 feeds_of P n r (Loop h w l) = []
-feeds_of P n r (Array a b) = feed (origin P a) 0 Zero ∷ feed (origin P b) 0 One ∷ []
+feeds_of P n r (Array nested a b) = feed (origin P a) 0 Zero ∷ feed (origin P b) 0 One ∷ []
 feeds_of P n r (Fetch t i) = feed (origin P t) 0 Zero ∷ feed (origin P i) 0 One ∷ feed (output n) 1 Zero ∷ []
 feeds_of P n r (Address t i) = feed (origin P t) 0 Zero ∷ feed (origin P i) 0 One ∷ []
 feeds_of P n r (Store a v) = feed (output a) 0 Zero ∷ feed (origin P v) 0 One ∷ []

@@ -31,8 +31,8 @@ abbrev pub HasSide : Op → Truth → Type 0
 HasSide (Switch k) b = Unit {0}
 HasSide (Back k) b = ⊥
 HasSide (Send k t) b = ⊥
-HasSide (Fetch r) b = ⊥
-HasSide Store b = ⊥
+HasSide (Fetch nested r) b = ⊥
+HasSide (Store nested) b = ⊥
 HasSide _ b = b ≡ true
 
 -- the instruction of this number has this form of operator and this place

@@ -43,8 +43,10 @@ pub enum Form {
         row: usize,
         part: usize,
     },
-    /// The `fetch` of the fetch at the row `row`, whose reply comes to the last part of it.
+    /// The `fetch` of the fetch at the row `row`, from a structure that is nested or not, whose reply comes to the last
+    /// part of it.
     FetchAt {
+        nested: bool,
         row: usize,
     },
 }

@@ -2,7 +2,7 @@
 
 ghost use Rattle.std.specs.Prelude.{◌≡◌};
 ghost use Rattle.id_check.specs.Programs as programs;
-ghost use Rattle.id_pieces.specs.Rows.{binary_op, port_at, port_of};
+ghost use Rattle.id_pieces.specs.Rows.{binary_op, holds_array, port_at, port_of};
 
 use id_check::Checked;
 use id_instr::{Dyadic, PortKind};
@@ -16,6 +16,7 @@ pub fn port_of(kind: Kind) -> PortKind
         Kind::Int => PortKind::Int,
         Kind::Bool => PortKind::Bool,
         Kind::Array => PortKind::Structure,
+        Kind::Nested => PortKind::Structures,
     }
 }
 
@@ -24,6 +25,13 @@ pub fn port_at(checked: &Checked, n: usize) -> PortKind
     ensures { result ≡ port_at checked.now n }
 {
     port_of(kind_at(checked, n).unwrap_or(Kind::Int))
+}
+
+/// Whether the row, which is a fetch or a store's address, is about a cell that holds an array.
+pub fn holds_array(checked: &Checked, n: usize) -> bool
+    ensures { result ≡ holds_array checked.now n }
+{
+    kind_at(checked, n).unwrap_or(Kind::Int).is_array()
 }
 
 /// The kind of a row.

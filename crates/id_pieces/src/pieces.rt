@@ -15,7 +15,8 @@ ghost use Rattle.id_pieces.specs.Rows.{param_entry, switches, variable_entries};
 ghost use Rattle.id_pieces.specs.Rows as rows;
 ghost use Rattle.id_pieces.specs.Slots.{AreColumns};
 ghost use Rattle.id_pieces.specs.declared.arc.Form.TheVariants.{Plain, EnterAt, FetchAt};
-ghost use Rattle.id_instr.specs.declared.instr.Op.TheVariants.{Merge, Back, Next, Switch, Address, Binary, Const};
+ghost use Rattle.id_instr.specs.declared.instr.Op.TheVariants.{Merge, Back, Next, Switch, Address};
+ghost use Rattle.id_instr.specs.declared.instr.Op.TheVariants.{Store, Binary, Const};
 ghost use Rattle.id_instr.specs.declared.instr.PortKind.TheVariants.{Signal, Int};
 
 use crate::arc::{Form, Piece};
@@ -23,7 +24,7 @@ use crate::calls::{called, param_of};
 use crate::columns::Columns;
 use crate::error::BuildError;
 use crate::loops::{entries_row, nexts_at};
-use crate::operators::{binary_op, port_at, port_of};
+use crate::operators::{binary_op, holds_array, port_at, port_of};
 use id_check::Checked;
 use id_desugar::{carried_count, first_variable, row_at};
 use id_instr::{Dyadic, Op, PortKind};
@@ -75,9 +76,9 @@ fn push_row(
         Node::Name { .. } | Node::Block { .. } | Node::Index { .. } | Node::Def { .. } => Ok(()),
         Node::Next { .. } => push(pieces, Op::Next(port_at(checked, n)), place),
         Node::Loop { .. } => push(pieces, Op::Merge(port_at(checked, n)), place),
-        Node::Array { .. } => push(pieces, Op::Alloc, place),
-        Node::Fetch { .. } => push_fetch(n, place, pieces),
-        Node::Store { .. } => push(pieces, Op::Store, place),
+        Node::Array { nested, .. } => push(pieces, Op::Alloc { nested }, place),
+        Node::Fetch { .. } => push_fetch(checked, n, place, pieces),
+        Node::Store { address, .. } => push_store(checked, address, place, pieces),
         _ => push_marker(checked, columns, n, place, node, pieces),
     }
 }
@@ -122,7 +123,7 @@ fn push_marker(
             push_of_loop(checked, columns, n, place, node, pieces)
         }
         Node::Reset { value } => push(pieces, Op::Reset(port_at(checked, value)), place),
-        Node::Address { .. } => push(pieces, Op::Address, place),
+        Node::Address { .. } => push_address(checked, n, place, pieces),
         Node::Program => push_answer(checked, pieces),
         _ => Ok(()),
     }
@@ -408,15 +409,53 @@ fn push_send(
     push_form(pieces, Form::SendTo { kind, row, part }, place)
 }
 
-/// Adds the address, the `fetch` and the merge for the reply of the fetch at the row n.
-fn push_fetch(n: usize, place: usize, pieces: &mut Vec<Piece>) -> Result<(), BuildError>
-    ensures pieces { OnOk result (pieces.new.items ≡ pieces.old.items ++ rows.piece (Plain Address) place
-        ∷ rows.piece (FetchAt n) place ∷ rows.piece (Plain (Merge Int)) place ∷ []) }
+/// Adds the address of the cell that the row n is about, which is a fetch or a store's address.
+fn push_address(
+    checked: &Checked,
+    n: usize,
+    place: usize,
+    pieces: &mut Vec<Piece>,
+) -> Result<(), BuildError>
+    ensures pieces { OnOk result (pieces.new.items ≡ pieces.old.items
+        ++ rows.piece (Plain (Address (rows.holds_array checked.now n))) place ∷ []) }
     ensures memory { IfErr result (λ e. e ≡ BuildError.Memory) }
 {
-    push(pieces, Op::Address, place)?;
-    push_form(pieces, Form::FetchAt { row: n }, place)?;
-    push(pieces, Op::Merge(PortKind::Int), place)?;
+    let nested = holds_array(checked, n);
+    push(pieces, Op::Address { nested }, place)
+}
+
+/// Adds the `store` of the store whose address is at this row.
+fn push_store(
+    checked: &Checked,
+    address: usize,
+    place: usize,
+    pieces: &mut Vec<Piece>,
+) -> Result<(), BuildError>
+    ensures pieces { OnOk result (pieces.new.items ≡ pieces.old.items
+        ++ rows.piece (Plain (Store (rows.holds_array checked.now address))) place ∷ []) }
+    ensures memory { IfErr result (λ e. e ≡ BuildError.Memory) }
+{
+    let nested = holds_array(checked, address);
+    push(pieces, Op::Store { nested }, place)
+}
+
+/// Adds the address, the `fetch` and the merge for the reply of the fetch at the row n.
+fn push_fetch(
+    checked: &Checked,
+    n: usize,
+    place: usize,
+    pieces: &mut Vec<Piece>,
+) -> Result<(), BuildError>
+    ensures pieces { OnOk result (pieces.new.items ≡ pieces.old.items
+        ++ rows.piece (Plain (Address (rows.holds_array checked.now n))) place
+        ∷ rows.piece (FetchAt (rows.holds_array checked.now n) n) place
+        ∷ rows.piece (Plain (Merge (rows.port_at checked.now n))) place ∷ []) }
+    ensures memory { IfErr result (λ e. e ≡ BuildError.Memory) }
+{
+    let nested = holds_array(checked, n);
+    push_address(checked, n, place, pieces)?;
+    push_form(pieces, Form::FetchAt { nested, row: n }, place)?;
+    push(pieces, Op::Merge(port_at(checked, n)), place)?;
     Ok(())
 }
 

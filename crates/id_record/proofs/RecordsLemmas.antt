@@ -14,6 +14,7 @@ use Rattle.id_ops.specs.declared.Fired.TheVariants as fired
 use Rattle.id_ops.specs.Operators.{side_of}
 use Rattle.id_tag.specs.declared.Payload.{Payload}
 use Rattle.id_tag.specs.declared.Tag.{Tag}
+use Rattle.id_tag.specs.Plains.{made_by}
 use Rattle.id_tag.specs.declared.Value.TheVariants as value
 use Rattle.id_line.specs.declared.line.Handled.{Handled}
 use Rattle.id_tag.specs.declared.Cell.{Cell}
@@ -187,7 +188,7 @@ cell_last : (asides : List Handled) (cells : List Cell) (c : Cell) (e : Handled)
     → unpacked (record { asides = asides; cells = cells ++ c ∷ [] }) l ≡ e
 cell_last asides cells c e l packed =
     let d : Beside = record { asides = asides; cells = cells ++ c ∷ [] } in
-    let none : Cell = record { structure = record { element = 0; serial = 0; low = pos 0; high = pos 0 }; index = pos 0 } in
+    let none : Cell = record { structure = made_by 0 0 (pos 0) (pos 0); index = pos 0 } in
     let named : cell_in (cells ++ c ∷ []) l ≡ c = ap (λ i. get_or (cells ++ c ∷ []) i none) packed.index ∙
     get_or_from_slice_get (cells ++ c ∷ []) (length cells) c none (get_last cells c) in
     celled-read d l l.kind packed.kind

@@ -57,10 +57,10 @@ HasSecond-valid g n (Some (Back k)) graph valid is = tt
 HasSecond-valid g n (Some (Send k t)) graph valid is = tt
 HasSecond-valid g n (Some (Next k)) graph valid is = tt
 HasSecond-valid g n (Some (Reset k)) graph valid is = tt
-HasSecond-valid g n (Some Alloc) graph valid is = tt
-HasSecond-valid g n (Some Address) graph valid is = tt
-HasSecond-valid g n (Some (Fetch r)) graph valid is = tt
-HasSecond-valid g n (Some Store) graph valid is = tt
+HasSecond-valid g n (Some (Alloc nested)) graph valid is = tt
+HasSecond-valid g n (Some (Address nested)) graph valid is = tt
+HasSecond-valid g n (Some (Fetch nested r)) graph valid is = tt
+HasSecond-valid g n (Some (Store nested)) graph valid is = tt
 
 -- so many payloads start a block
 pub length-started : (o : Option Op) (t : Tag) (c : Context) → length (started o t c) ≡ count_started o
@@ -75,10 +75,10 @@ length-started (Some (Back k)) t c = refl
 length-started (Some (Send k n)) t c = refl
 length-started (Some (Next k)) t c = refl
 length-started (Some (Reset k)) t c = refl
-length-started (Some Alloc) t c = refl
-length-started (Some Address) t c = refl
-length-started (Some (Fetch r)) t c = refl
-length-started (Some Store) t c = refl
+length-started (Some (Alloc nested)) t c = refl
+length-started (Some (Address nested)) t c = refl
+length-started (Some (Fetch nested r)) t c = refl
+length-started (Some (Store nested)) t c = refl
 
 -- a context that is entered goes to each destination, and then the block is started
 pub length-entered : (o : Option Op) (ds : List Dest) (t : Tag) (c : Context) → length (sent o ds t (Entered c)) ≡ length ds + count_started o

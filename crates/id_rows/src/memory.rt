@@ -63,6 +63,7 @@ fn cell(index: i64) -> Cell {
             serial: 1,
             low: 0,
             high: 99,
+            nested: false,
         },
         index,
     }

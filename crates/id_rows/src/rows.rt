@@ -99,6 +99,7 @@ fn first_cell() -> Cell {
             serial: 1,
             low: 1,
             high: 3,
+            nested: false,
         },
         index: 1,
     }

@@ -320,7 +320,7 @@ module _ {size : ℕ} {P : Checked} (h : IsPlacedWithin size P) where
       go Body is at = absurd cc
       go (Reset v) is at = its (one_place _ k f e at) (reset_within n v m.within is)
       go (Loop g w l) is at = own (one_place _ k f e at) (ap is_thing is)
-      go (ArrayRow a b) is at = own (one_place _ k f e at) (ap is_thing is)
+      go (ArrayRow nested a b) is at = own (one_place _ k f e at) (ap is_thing is)
       go (Fetch t i) is at = own (three_place _ _ _ k f e refl refl at) (ap is_thing is)
       go (Address t i) is at = its (one_place _ k f e at) (address_within n t i m.within is)
       go (Store a v) is at = own (one_place _ k f e at) (ap is_thing is)

@@ -109,10 +109,10 @@ nothing_sent (Some (op.Enter b r)) ms e = e
 nothing_sent (Some (op.Send k n)) ms e = refl
 nothing_sent (Some (op.Next k)) ms e = refl
 nothing_sent (Some (op.Reset k)) ms e = refl
-nothing_sent (Some op.Alloc) ms e = refl
-nothing_sent (Some op.Address) ms e = refl
-nothing_sent (Some (op.Fetch r)) ms e = refl
-nothing_sent (Some op.Store) ms e = refl
+nothing_sent (Some (op.Alloc nested)) ms e = refl
+nothing_sent (Some (op.Address nested)) ms e = refl
+nothing_sent (Some (op.Fetch nested r)) ms e = refl
+nothing_sent (Some (op.Store nested)) ms e = refl
 
 -- an `enter` makes a context or comes to nothing
 enter_fires : (f : Fired) (next : Context) (ops : Operands) → f ≡ fired_enter next ops → (f ≡ fires.Nothing) ⊎ (f ≡ fires.Entered next)
@@ -132,10 +132,10 @@ op_fires f (op.Enter b r) t ops fresh ms e = inr (enter_fires f fresh.context op
 op_fires f (op.Send k n) t ops fresh ms e = inl refl
 op_fires f (op.Next k) t ops fresh ms e = inl refl
 op_fires f (op.Reset k) t ops fresh ms e = inl refl
-op_fires f op.Alloc t ops fresh ms e = inl refl
-op_fires f op.Address t ops fresh ms e = inl refl
-op_fires f (op.Fetch r) t ops fresh ms e = inl refl
-op_fires f op.Store t ops fresh ms e = inl refl
+op_fires f (op.Alloc nested) t ops fresh ms e = inl refl
+op_fires f (op.Address nested) t ops fresh ms e = inl refl
+op_fires f (op.Fetch nested r) t ops fresh ms e = inl refl
+op_fires f (op.Store nested) t ops fresh ms e = inl refl
 
 -- an event of the run has entered the context
 pub record WasEntered (run : List Event) (o : Option Context) : Type 0 where

@@ -1,5 +1,6 @@
 -- An `enter` alone makes a context.
-use Rattle.std.proofs.Common.{◌≡◌, ℕ, ℤ, ◌+◌, Bool as Truth, true, false, cond, refl}
+use Rattle.std.proofs.Common.{◌≡◌, ◌≢◌, ℕ, ℤ, ◌+◌, Bool as Truth, true, false, cond, refl}
+use Rattle.std.specs.Bool.{beq}
 use Rattle.id_value.specs.declared.FaultKind.TheVariants.{BadBounds, OutOfBounds}
 use Rattle.id_value.specs.Bounds.{are_good, is_inside}
 use Rattle.id_value.specs.declared.Outcome.{Outcome}
@@ -13,34 +14,23 @@ use Rattle.id_tag.specs.Kinds.{kind_of, same_kind}
 use Rattle.id_tag.specs.declared.Context.{Context}
 use Rattle.id_tag.specs.declared.Tag.{Tag}
 use Rattle.id_tag.specs.declared.Structure.{Structure}
-use Rattle.id_tag.specs.declared.Value.{Value}
 use Rattle.id_tag.specs.declared.Value.TheVariants.{Signal, Int, Bool, Structure as Made, Address as At, Context as Opened, Continuation}
 use Rattle.id_ops.specs.declared.Operands.{Operands}
 use Rattle.id_ops.specs.declared.Operands.TheVariants.{One as Alone, Two}
 use Rattle.id_ops.specs.declared.Fresh.{Fresh}
-use Rattle.id_ops.specs.declared.Fired.TheVariants.{Out, Side, Moved, Entered, Sent, Failed, Nothing}
-use Rattle.id_ops.specs.Operators.{fired, fired_by, tag_within}
+use Rattle.id_ops.specs.declared.Fired.{Fired}
+use Rattle.id_ops.specs.declared.Fired.TheVariants.{Out, Side, Moved, Entered, Sent, Asked, Stored, Failed, Nothing}
+use Rattle.id_ops.specs.Operators.{address_in, fired, fired_by, may_hold, tag_within}
 
-merge_enters : (v : Value) (b : Truth) (c : Context) → cond b (Out v) Nothing ≡ Entered c → ⊥
-merge_enters v true c h = cc
-merge_enters v false c h = cc
+-- what is done where a test holds makes none
+tested_enters : (f : Fired) (b : Truth) (c : Context) → f ≢ Entered c → cond b f Nothing ≡ Entered c → ⊥
+tested_enters f true c not h = not h
+tested_enters f false c not h = cc
 
-switch_enters : (d : Truth) (v : Value) (b : Truth) (c : Context) → cond b (Side d v) Nothing ≡ Entered c → ⊥
-switch_enters d v true c h = cc
-switch_enters d v false c h = cc
-
-moved_enters : (i : ℕ) (v : Value) (b : Truth) (c : Context) → cond b (Moved i v) Nothing ≡ Entered c → ⊥
-moved_enters i v true c h = cc
-moved_enters i v false c h = cc
-
-sent_enters : (u : Tag) (v : Value) (b : Truth) (c : Context) → cond b (Sent u v) Nothing ≡ Entered c → ⊥
-sent_enters u v true c h = cc
-sent_enters u v false c h = cc
-
-bounds_enter : (f : Fresh) (lo hi : ℤ) (b : Truth) (c : Context)
-    → cond b (Out (Made (record { element = f.element; serial = f.structure; low = lo; high = hi }))) (Failed BadBounds) ≡ Entered c → ⊥
-bounds_enter f lo hi true c h = cc
-bounds_enter f lo hi false c h = cc
+bounds_enter : (nested : Truth) (f : Fresh) (lo hi : ℤ) (b : Truth) (c : Context)
+    → cond b (Out (Made (record { element = f.element; serial = f.structure; low = lo; high = hi; nested = nested }))) (Failed BadBounds) ≡ Entered c → ⊥
+bounds_enter nested f lo hi true c h = cc
+bounds_enter nested f lo hi false c h = cc
 
 index_enters : (s : Structure) (i : ℤ) (b : Truth) (c : Context) → cond b (Out (At (record { structure = s; index = i }))) (Failed OutOfBounds) ≡ Entered c → ⊥
 index_enters s i true c h = cc
@@ -67,24 +57,26 @@ entered_by (op.Binary (class.Arithmetic o)) t (Two (Int a) (Int b)) f c h = absu
 entered_by (op.Binary (class.Comparison o)) t (Two (Int a) (Int b)) f c h = cc
 entered_by (op.Binary (class.Truth o)) t (Two (Bool a) (Bool b)) f c h = cc
 entered_by (op.Binary o) t _ f c h = cc
-entered_by (op.Merge k) t (Alone v) f c h = absurd (merge_enters v (same_kind (kind_of v) k) c h)
+entered_by (op.Merge k) t (Alone v) f c h = absurd (tested_enters (Out v) (same_kind (kind_of v) k) c (λ e. cc) h)
 entered_by (op.Merge k) t (Two v x) f c h = cc
-entered_by (op.Switch k) t (Two (Bool b) v) f c h = absurd (switch_enters b v (same_kind (kind_of v) k) c h)
+entered_by (op.Switch k) t (Two (Bool b) v) f c h = absurd (tested_enters (Side b v) (same_kind (kind_of v) k) c (λ e. cc) h)
 entered_by (op.Switch k) t _ f c h = cc
-entered_by (op.Back k) t (Two (Continuation y) v) f c h = absurd (sent_enters y v (same_kind (kind_of v) k) c h)
+entered_by (op.Back k) t (Two (Continuation y) v) f c h = absurd (tested_enters (Sent y v) (same_kind (kind_of v) k) c (λ e. cc) h)
 entered_by (op.Back k) t _ f c h = cc
 entered_by (op.Enter b r) t ops f c h = record { block = b; reply = r; is = refl }
-entered_by (op.Send k n) t (Two (Opened d) v) f c h = absurd (sent_enters (tag_within d n) v (same_kind (kind_of v) k) c h)
+entered_by (op.Send k n) t (Two (Opened d) v) f c h = absurd (tested_enters (Sent (tag_within d n) v) (same_kind (kind_of v) k) c (λ e. cc) h)
 entered_by (op.Send k n) t _ f c h = cc
-entered_by (op.Next k) t (Alone v) f c h = absurd (moved_enters (t.iteration + 1) v (same_kind (kind_of v) k) c h)
+entered_by (op.Next k) t (Alone v) f c h = absurd (tested_enters (Moved (t.iteration + 1) v) (same_kind (kind_of v) k) c (λ e. cc) h)
 entered_by (op.Next k) t (Two v x) f c h = cc
-entered_by (op.Reset k) t (Alone v) f c h = absurd (moved_enters 0 v (same_kind (kind_of v) k) c h)
+entered_by (op.Reset k) t (Alone v) f c h = absurd (tested_enters (Moved 0 v) (same_kind (kind_of v) k) c (λ e. cc) h)
 entered_by (op.Reset k) t (Two v x) f c h = cc
-entered_by op.Alloc t (Two (Int a) (Int b)) f c h = absurd (bounds_enter f a b (are_good a b) c h)
-entered_by op.Alloc t _ f c h = cc
-entered_by op.Address t (Two (Made s) (Int i)) f c h = absurd (index_enters s i (is_inside s.low s.high i) c h)
-entered_by op.Address t _ f c h = cc
-entered_by (op.Fetch r) t (Alone (At d)) f c h = cc
-entered_by (op.Fetch r) t _ f c h = cc
-entered_by op.Store t (Two (At d) (Int n)) f c h = cc
-entered_by op.Store t _ f c h = cc
+entered_by (op.Alloc nested) t (Two (Int a) (Int b)) f c h = absurd (bounds_enter nested f a b (are_good a b) c h)
+entered_by (op.Alloc nested) t _ f c h = cc
+entered_by (op.Address nested) t (Two (Made s) (Int i)) f c h =
+    absurd (tested_enters (address_in s i) (beq s.nested nested) c (index_enters s i (is_inside s.low s.high i) c) h)
+entered_by (op.Address nested) t _ f c h = cc
+entered_by (op.Fetch nested r) t (Alone (At d)) f c h =
+    absurd (tested_enters (Asked d (record { context = t.context; iteration = t.iteration; instr = r })) (beq d.structure.nested nested) c (λ e. cc) h)
+entered_by (op.Fetch nested r) t _ f c h = cc
+entered_by (op.Store nested) t (Two (At d) v) f c h = absurd (tested_enters (Stored d v t) (may_hold nested d v) c (λ e. cc) h)
+entered_by (op.Store nested) t _ f c h = cc

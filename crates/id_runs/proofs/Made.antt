@@ -2,6 +2,8 @@
 use Rattle.std.proofs.Common.{◌≡◌, ◌≢◌, ◌⊎◌, inl, inr, pos, Bool, true, false, ◌&&◌, cond, Option, Some, None, List, [], ◌∷◌, ℕ, refl, sym, ◌∙◌, ap, subst}
 use Rattle.std.specs.Ordering.{int_eq}
 use Rattle.std.specs.Option.{option_or}
+use Rattle.std.specs.Prelude.{option_map}
+use Rattle.id_instr.specs.declared.instr.Instr.{Instr}
 use Rattle.id_instr.specs.declared.instr.Op.{Op}
 use Rattle.id_instr.specs.declared.instr.Op.TheVariants as op
 use Rattle.id_instr.specs.Graph.{Parts}
@@ -12,6 +14,7 @@ use Rattle.id_tag.specs.declared.Value.TheVariants as value
 use Rattle.id_tag.specs.Tags.{same_structure}
 use Rattle.id_ops.specs.declared.Fired.{Fired}
 use Rattle.id_ops.specs.declared.Fired.TheVariants as fires
+use Rattle.id_ops.specs.Operators.{fired}
 use Rattle.id_slot.specs.declared.ReadAnswer.TheVariants.{Now, Deferred}
 use Rattle.id_core.specs.Events.{EventView, tag_of}
 use Rattle.id_core.specs.Machines.{World}
@@ -24,7 +27,8 @@ use Rattle.id_runs.specs.Runs.{Reach}
 use Rattle.id_runs.proofs.Keys.{both_true}
 use Rattle.id_runs.proofs.Cells.{same_itself, one_from_same}
 use Rattle.id_runs.proofs.RecordsOfRuns.{Shows, from_record, to_record, recorded, among_events}
-use Rattle.id_runs.proofs.Serials.{structures_apart}
+use Rattle.id_runs.proofs.Serials.{allocated_next, structures_apart}
+use Rattle.id_runs.proofs.Waiting.{has_fired}
 
 -- ---- tests of structures
 
@@ -80,23 +84,38 @@ maker_in-is g es s e t among is each =
     ]
 
 -- what was made was given by an `alloc`
-made_by-some : (o : Option Op) (f : Fired) (s : Structure) → made_by o f ≡ Some s → (o ≡ Some op.Alloc) × (f ≡ fires.Out (value.Structure s))
-made_by-some (Some op.Alloc) (fires.Out (value.Structure r)) s e = let is : r ≡ s = cc in (refl, (λ j. fires.Out (value.Structure (is j))))
+made_by-some : (o : Option Op) (f : Fired) (s : Structure) → made_by o f ≡ Some s →
+    (nested : Bool) × (o ≡ Some (op.Alloc nested)) × (f ≡ fires.Out (value.Structure s))
+made_by-some (Some (op.Alloc nested)) (fires.Out (value.Structure r)) s e =
+    let is : r ≡ s = cc in
+    (nested, refl, (λ j. fires.Out (value.Structure (is j))))
 made_by-some _ _ s e = cc
-
--- and an event whose instruction gives so makes it
-makes_from : (g : Parts) (h : Event) (s : Structure) → op_at g (tag_of (payload_of h)).instr ≡ Some op.Alloc → fired_in h ≡ fires.Out (value.Structure s) →
-    Makes g h s
-makes_from g (Took n t p v Waits) s o f = cc
-makes_from g (Took n t p v Blocked) s o f = cc
-makes_from g (Took n t p v (Fires ops h)) s o f = (o, f)
-makes_from g (Looked n c t (Now v)) s o f = cc
-makes_from g (Looked n c t Deferred) s o f = cc
-makes_from g (Wrote n c v w a) s o f = cc
 
 module _ (g : Parts) (vs : List Constant) (count : ℕ) (s : World) (run : List Event) (r : Reach g vs count s run) where
   abbrev all : List EventView
   all = events_of s.elements
+
+  -- a structure that an `alloc` gave is nested where it makes nested ones
+  nested_as : {nested : Bool} {t : Tag} {x : Structure} → FiresAs run t (fires.Out (value.Structure x)) → op_at g t.instr ≡ Some (op.Alloc nested)
+      → x.nested ≡ nested
+  nested_as {nested} {t} {x} y at =
+      let z = has_fired g vs count s run r y in
+      let known : Some (z.instr).op ≡ Some (op.Alloc nested) = sym (ap (option_map (λ (i : Instr). i.op)) z.at) ∙ at in
+      let is : (z.instr).op ≡ op.Alloc nested = cc in
+      (allocated_next nested y.operands z.fresh x (sym (z.is ∙ ap (λ o. fired o t y.operands z.fresh) is))).2
+
+  -- an event whose instruction gives so makes it
+  makes_from : (nested : Bool) (h : Event) (x : Structure) → Among h run → op_at g (tag_of (payload_of h)).instr ≡ Some (op.Alloc nested)
+      → fired_in h ≡ fires.Out (value.Structure x) → Makes g h x
+  makes_from nested (Took n t p v Waits) x a o f = cc
+  makes_from nested (Took n t p v Blocked) x a o f = cc
+  makes_from nested (Took n t p v (Fires ops h)) x a o f =
+      let y : FiresAs run t (fires.Out (value.Structure x)) =
+      record { element = n; port = p; value = v; operands = ops; among = subst (λ z. Among (Took n t p v (Fires ops z)) run) f a } in
+      (o ∙ ap (λ b. Some (op.Alloc b)) (sym (nested_as y o)), f)
+  makes_from nested (Looked n c t (Now v)) x a o f = cc
+  makes_from nested (Looked n c t Deferred) x a o f = cc
+  makes_from nested (Wrote n c v w k) x a o f = cc
 
   -- which structure an event has made
   made_is : (h : Event) (v : EventView) → Shows g v h → (x : Structure) → Makes g h x → (made g v ≡ Some x)
@@ -117,19 +136,19 @@ module _ (g : Parts) (vs : List Constant) (count : ℕ) (s : World) (run : List 
   maker_itself {t} y v shows x makes = maker_said y v shows x x makes ∙ ap (λ b. cond b (Some t) None) (structure_itself x)
 
   -- an event that says that it made a structure, has
-  makes_said : (v : EventView) (h : Event) → Shows g v h → (x : Structure) → made g v ≡ Some x → Makes g h x
-  makes_said v h shows x e =
+  makes_said : (v : EventView) (h : Event) → Among h run → Shows g v h → (x : Structure) → made g v ≡ Some x → Makes g h x
+  makes_said v h among shows x e =
       let z = made_by-some (op_at g (tag_of (payload_of h)).instr) (fired_in h) x
       ((λ j. made_by (op_at g (tag_of (sym shows.payload j)).instr) (sym shows.fired j)) ∙ e) in
-      makes_from g h x z.0 z.1
+      makes_from z.0 h x among z.1 z.2
 
   -- an event that has not made the structure does not say so
-  said_none : (v : EventView) (h : Event) → Shows g v h → (x : Structure) → (maker_of g v x ≡ None) ⊎ Makes g h x
-  said_none v h shows x = go (made g v) refl
+  said_none : (v : EventView) (h : Event) → Among h run → Shows g v h → (x : Structure) → (maker_of g v x ≡ None) ⊎ Makes g h x
+  said_none v h among shows x = go (made g v) refl
     where
       of_made : (y : Structure) (b : Bool) → same_structure y x ≡ b → made g v ≡ Some y → (maker_of g v x ≡ None) ⊎ Makes g h x
       of_made y true same e =
-          inr (subst (Makes g h) (one_structure y x same) (makes_said v h shows y e))
+          inr (subst (Makes g h) (one_structure y x same) (makes_said v h among shows y e))
       of_made y false same e = inl (ap (if_made (tag_of v.message.payload) x) e ∙ ap (λ b. cond b (Some (tag_of v.message.payload)) None) same)
 
       go : (o : Option Structure) → made g v ≡ o → (maker_of g v x ≡ None) ⊎ Makes g h x
@@ -137,7 +156,7 @@ module _ (g : Parts) (vs : List Constant) (count : ℕ) (s : World) (run : List 
       go (Some y) e = of_made y (same_structure y x) refl e
 
   -- a structure that was made, was so under that tag
-  pub made_under : {t : Tag} {x : Structure} → FiresAs run t (fires.Out (value.Structure x)) → op_at g t.instr ≡ Some op.Alloc → maker_in g all x ≡ Some t
+  pub made_under : {t : Tag} {x : Structure} → FiresAs run t (fires.Out (value.Structure x)) → op_at g t.instr ≡ Some (op.Alloc x.nested) → maker_in g all x ≡ Some t
   made_under {t} {x} y at =
       let h = fired_event y in
       let makes : Makes g h x = (at, refl) in
@@ -145,7 +164,7 @@ module _ (g : Parts) (vs : List Constant) (count : ℕ) (s : World) (run : List 
       maker_in-is g all x z.0 t (among_events s z.0 z.1) (maker_itself y z.0 z.2 x makes)
       (λ v k.
       let w = from_record g vs count s run r v (recorded s v k) in
-      elim (said_none v w.0 w.2 x) [
+      elim (said_none v w.0 w.1 w.2 x) [
         | inl none ↦ inl none
         | inr other ↦ inr (maker_itself y v (subst (Shows g v) (structures_apart g vs count s run r w.0 h w.1 y.among x x other makes refl refl) w.2) x makes)
       ])
@@ -154,7 +173,7 @@ module _ (g : Parts) (vs : List Constant) (count : ℕ) (s : World) (run : List 
   pub record MadeBy (v : EventView) (x : Structure) : Type 0 where
     pub tag : Tag
     pub fires : FiresAs run tag (fires.Out (value.Structure x))
-    pub alloc : op_at g tag.instr ≡ Some op.Alloc
+    pub alloc : op_at g tag.instr ≡ Some (op.Alloc x.nested)
     pub at : tag_of v.message.payload ≡ tag
     pub shows : Shows g v (fired_event fires)
 
@@ -162,7 +181,7 @@ module _ (g : Parts) (vs : List Constant) (count : ℕ) (s : World) (run : List 
   pub made_shown : (v : EventView) → Among v all → (x : Structure) → made g v ≡ Some x → MadeBy v x
   made_shown v among x e =
       let w = from_record g vs count s run r v (recorded s v among) in
-      by w.0 w.1 w.2 (makes_said v w.0 w.2 x e)
+      by w.0 w.1 w.2 (makes_said v w.0 w.1 w.2 x e)
     where
       by : (h : Event) → Among h run → Shows g v h → Makes g h x → MadeBy v x
       by (Took n t p u Waits) a shows makes = absurd makes
@@ -178,7 +197,7 @@ module _ (g : Parts) (vs : List Constant) (count : ℕ) (s : World) (run : List 
       by (Wrote n c u w a) b shows makes = absurd makes
 
   -- and each that made one says so
-  pub shown_made : {t : Tag} {x : Structure} → FiresAs run t (fires.Out (value.Structure x)) → op_at g t.instr ≡ Some op.Alloc
+  pub shown_made : {t : Tag} {x : Structure} → FiresAs run t (fires.Out (value.Structure x)) → op_at g t.instr ≡ Some (op.Alloc x.nested)
       → (v : EventView) × Among v all × (made g v ≡ Some x) × (tag_of v.message.payload ≡ t)
   shown_made {t} {x} y at =
       let z = to_record g vs count s run r (fired_event y) y.among in

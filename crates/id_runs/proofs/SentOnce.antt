@@ -73,10 +73,10 @@ started_apart k (Some (Back j)) t c = omega (arith, count_none k)
 started_apart k (Some (Send j n)) t c = omega (arith, count_none k)
 started_apart k (Some (Next j)) t c = omega (arith, count_none k)
 started_apart k (Some (Reset j)) t c = omega (arith, count_none k)
-started_apart k (Some Alloc) t c = omega (arith, count_none k)
-started_apart k (Some Address) t c = omega (arith, count_none k)
-started_apart k (Some (Fetch r)) t c = omega (arith, count_none k)
-started_apart k (Some Store) t c = omega (arith, count_none k)
+started_apart k (Some (Alloc nested)) t c = omega (arith, count_none k)
+started_apart k (Some (Address nested)) t c = omega (arith, count_none k)
+started_apart k (Some (Fetch nested r)) t c = omega (arith, count_none k)
+started_apart k (Some (Store nested)) t c = omega (arith, count_none k)
 
 -- and they are in the context
 started_within : (o : Option Op) (t : Tag) (c : Context) (x : Payload) → Among x (started o t c) → (tag_of x).context ≡ c
@@ -92,10 +92,10 @@ started_within (Some (Back j)) t c x h = absurd h
 started_within (Some (Send j n)) t c x h = absurd h
 started_within (Some (Next j)) t c x h = absurd h
 started_within (Some (Reset j)) t c x h = absurd h
-started_within (Some Alloc) t c x h = absurd h
-started_within (Some Address) t c x h = absurd h
-started_within (Some (Fetch r)) t c x h = absurd h
-started_within (Some Store) t c x h = absurd h
+started_within (Some (Alloc nested)) t c x h = absurd h
+started_within (Some (Address nested)) t c x h = absurd h
+started_within (Some (Fetch nested r)) t c x h = absurd h
+started_within (Some (Store nested)) t c x h = absurd h
 
 -- the key of a message tells its tag
 tag_of_key : (x y : Payload) → key_of x ≡ key_of y → tag_of x ≡ tag_of y

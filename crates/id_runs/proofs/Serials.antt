@@ -50,24 +50,27 @@ next_entered _ next c e = cc
 entered_next : (o : Op) (t : Tag) (ops : Operands) (next : Fresh) (c : Context) → fired o t ops next ≡ fires.Entered c → c ≡ next.context
 entered_next o t ops next c e = next_entered ops next c (subst (λ z. fired z t ops next ≡ fires.Entered c) (entered_by o t ops next c e).is e)
 
--- the numbers of a structure are the next ones
-abbrev IsNext : Fresh → Structure → Type 0
-IsNext next s = (s.element ≡ next.element) × (s.serial ≡ next.structure)
+-- the numbers of a structure are the next ones, and it is nested where this is true
+abbrev pub IsNext : Bool → Fresh → Structure → Type 0
+IsNext nested next s = (s.element ≡ next.element) × (s.serial ≡ next.structure) × (s.nested ≡ nested)
 
-structure_next : (next : Fresh) (lo hi : ℤ) (s : Structure) → structure_in next lo hi ≡ fires.Out (value.Structure s) → IsNext next s
-structure_next next lo hi s e = by (are_good lo hi) e
+structure_next : (nested : Bool) (next : Fresh) (lo hi : ℤ) (s : Structure) → structure_in nested next lo hi ≡ fires.Out (value.Structure s) →
+    IsNext nested next s
+structure_next nested next lo hi s e = by (are_good lo hi) e
   where
-    by : (b : Bool) → cond b (fires.Out (value.Structure (record { element = next.element; serial = next.structure; low = lo; high = hi })))
+    by : (b : Bool)
+        → cond b (fires.Out (value.Structure (record { element = next.element; serial = next.structure; low = lo; high = hi; nested = nested })))
         (fires.Failed BadBounds) ≡ fires.Out (value.Structure s)
-        → IsNext next s
+        → IsNext nested next s
     by true e =
-        let is : (record { element = next.element; serial = next.structure; low = lo; high = hi }) ≡ s = cc in
-        (sym (ap (λ (x : Structure). x.element) is), sym (ap (λ (x : Structure). x.serial) is))
+        let is : (record { element = next.element; serial = next.structure; low = lo; high = hi; nested = nested }) ≡ s = cc in
+        (sym (ap (λ (x : Structure). x.element) is), sym (ap (λ (x : Structure). x.serial) is), sym (ap (λ (x : Structure). x.nested) is))
     by false e = cc
 
-allocated_next : (ops : Operands) (next : Fresh) (s : Structure) → fired_alloc next ops ≡ fires.Out (value.Structure s) → IsNext next s
-allocated_next (operands.Two (value.Int lo) (value.Int hi)) next s e = structure_next next lo hi s e
-allocated_next _ next s e = cc
+pub allocated_next : (nested : Bool) (ops : Operands) (next : Fresh) (s : Structure) → fired_alloc nested next ops ≡ fires.Out (value.Structure s) →
+    IsNext nested next s
+allocated_next nested (operands.Two (value.Int lo) (value.Int hi)) next s e = structure_next nested next lo hi s e
+allocated_next nested _ next s e = cc
 
 -- an arrival that enters a block does so in the next context
 abbrev EntersBy : Arrival → Context → Type 0
@@ -85,24 +88,26 @@ by_offer next i t Taken c h = let e = h.1 in cc
 abbrev GivesBy : Arrival → Structure → Type 0
 GivesBy a s = (ops : Operands) × (a ≡ Fires ops (fires.Out (value.Structure s)))
 
-fires_next : (next : Fresh) (i : Instr) (t : Tag) (ops : Operands) (s : Structure) → i.op ≡ Alloc → GivesBy (fires_on next i t ops) s → IsNext next s
+fires_next : (next : Fresh) (i : Instr) (t : Tag) (ops : Operands) (s : Structure) → i.op ≡ Alloc s.nested → GivesBy (fires_on next i t ops) s
+    → IsNext s.nested next s
 fires_next next i t ops s is h =
     let e : fires_on next i t ops ≡ Fires h.0 (fires.Out (value.Structure s)) = h.1 in
     let f : fired i.op t ops next ≡ fires.Out (value.Structure s) = cc in
-    allocated_next ops next s (ap (λ o. fired o t ops next) (sym is) ∙ f)
+    allocated_next s.nested ops next s (ap (λ o. fired o t ops next) (sym is) ∙ f)
 
-offer_next : (next : Fresh) (i : Instr) (t : Tag) (a : Offered) (s : Structure) → i.op ≡ Alloc → GivesBy (offered_to next i t a) s → IsNext next s
+offer_next : (next : Fresh) (i : Instr) (t : Tag) (a : Offered) (s : Structure) → i.op ≡ Alloc s.nested → GivesBy (offered_to next i t a) s
+    → IsNext s.nested next s
 offer_next next i t Kept s is h = let e = h.1 in cc
 offer_next next i t (Pair v w) s is h = fires_next next i t (operands.Two v w) s is h
 offer_next next i t Taken s is h = let e = h.1 in cc
 
-ports_next : (next : Fresh) (i : Instr) (t : Tag) (a : Offered) (v : Value) (s : Structure) (b : Bool) → i.op ≡ Alloc
-    → GivesBy (cond b (offered_to next i t a) (fires_on next i t (operands.One v))) s → IsNext next s
+ports_next : (next : Fresh) (i : Instr) (t : Tag) (a : Offered) (v : Value) (s : Structure) (b : Bool) → i.op ≡ Alloc s.nested
+    → GivesBy (cond b (offered_to next i t a) (fires_on next i t (operands.One v))) s → IsNext s.nested next s
 ports_next next i t a v s true is h = offer_next next i t a s is h
 ports_next next i t a v s false is h = fires_next next i t (operands.One v) s is h
 
-arrival_next : (next : Fresh) (o : Option Instr) (w : Store) (t : Tag) (p : Port) (v : Value) (s : Structure) → option_map (λ (i : Instr). i.op) o ≡ Some Alloc
-    → GivesBy (arrival_at next o w t p v) s → IsNext next s
+arrival_next : (next : Fresh) (o : Option Instr) (w : Store) (t : Tag) (p : Port) (v : Value) (s : Structure)
+    → option_map (λ (i : Instr). i.op) o ≡ Some (Alloc s.nested) → GivesBy (arrival_at next o w t p v) s → IsNext s.nested next s
 arrival_next next None w t p v s is h = let e = h.1 in cc
 arrival_next next (Some i) w t p v s is h = ports_next next i t (offer_answer w t p v) v s (two_ports i.op) (cc) h
 
@@ -140,7 +145,7 @@ enters_next g n e (Write d v w) c h = absurd h
 
 -- and a structure that an event makes takes one
 makes_by : (g : Parts) (n : ℕ) (t : Tag) (p : Port) (v : Value) (a : Arrival) (s : Structure) → Makes g (Took n t p v a) s →
-    (op_at g t.instr ≡ Some Alloc) × GivesBy a s
+    (op_at g t.instr ≡ Some (Alloc s.nested)) × GivesBy a s
 makes_by g n t p v Waits s h = absurd h
 makes_by g n t p v Blocked s h = absurd h
 makes_by g n t p v (Fires ops f) s h = (h.0, (ops, ap (Fires ops) h.1))
@@ -152,7 +157,7 @@ takes_structure g (Took n t p v (Fires ops f)) s h = (λ j. allocated_in (h.0 j)
 takes_structure g (Looked n c t a) s h = absurd h
 takes_structure g (Wrote n c v w a) s h = absurd h
 
-makes_next : (g : Parts) (n : ℕ) (e : State) (x : Payload) (s : Structure) → Makes g (happens g n e x) s → IsNext (next_numbers n e) s
+makes_next : (g : Parts) (n : ℕ) (e : State) (x : Payload) (s : Structure) → Makes g (happens g n e x) s → IsNext s.nested (next_numbers n e) s
 makes_next g n e (Token t p v) s h =
     let z = makes_by g n t p v _ s h in
     arrival_next (next_numbers n e) (slice_get g.instrs t.instr) e.waiting t p v s z.0 z.1

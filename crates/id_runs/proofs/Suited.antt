@@ -12,9 +12,6 @@ use Rattle.id_tag.specs.declared.Value.{Value}
 use Rattle.id_tag.specs.declared.Payload.{Payload}
 use Rattle.id_tag.specs.declared.Payload.TheVariants.{Token, Read, Write}
 use Rattle.id_tag.specs.declared.Cell.{Cell}
-use Rattle.id_tag.specs.declared.Value.TheVariants as value
-use Rattle.id_instr.specs.declared.instr.Op.TheVariants.{Merge}
-use Rattle.id_instr.specs.declared.instr.PortKind.TheVariants.{Int}
 use Rattle.id_slot.specs.declared.WriteAnswer.TheVariants.{Readers}
 use Rattle.id_record.specs.Records.{sent_by}
 use Rattle.id_tag.specs.declared.Message.{Message}
@@ -26,10 +23,10 @@ use Rattle.id_ops.specs.declared.Fired.{Fired}
 use Rattle.id_ops.specs.Operators.{fired, side_of}
 use Rattle.id_ops.specs.Operands.{Suits}
 use Rattle.id_ops.proofs.OperandsLemmas.{fires-from_Suits}
-use Rattle.id_firing.specs.Fits.{Fits, PayloadFits, TokenFits, ContinuationFits, AddressFits}
+use Rattle.id_firing.specs.Fits.{Fits, PayloadFits, TokenFits}
 use Rattle.id_desk.proofs.FitsLemmas.{TokenFits-later}
 use Rattle.id_desk.proofs.OutcomeLemmas.{one_port}
-use Rattle.id_desk.proofs.SentLemmas.{OperandsFit, fired_fits, kind_at_op, sent_fits}
+use Rattle.id_desk.proofs.SentLemmas.{OperandsFit, fired_fits, kind_at_op, reply_fits, sent_fits}
 use Rattle.id_core.specs.Steps.{sent}
 use Rattle.id_core.specs.Machines.{World, TakesInputs, block_messages, run, start}
 use Rattle.id_core.proofs.MachinesLemmas.{start_fits}
@@ -108,28 +105,8 @@ module _ (g : Parts) (vs : List Constant) (count : ℕ) (valid : IsValid g) (tak
       record { stamp = (m.0).stamp; fits = subst (PayloadFits g (m.0).stamp) (sym m.2) fits }
 
   -- an answer fits where its read and the write of its value do
-  reply_fits : (c : Cell) (t w : Tag) (v : Value) → FitsOnce g (Read c t) → FitsOnce g (Write c v w) → FitsOnce g (Token t Zero v)
-  reply_fits c t w v x y = by v ((y.fits).kind)
-    where
-      at : {u : Value} → kind_of u ≡ Int → ContinuationFits g x.stamp t Zero u → AddressFits u → FitsOnce g (Token t Zero u)
-      at is fits inside = record {
-        stamp = x.stamp;
-        fits = record {
-          kind = kind_at_op g t.instr Zero (Merge Int) ((x.fits).reply).merge ∙ ap (λ k. Some k) (sym is);
-          in_time = ((x.fits).reply).in_time;
-          continuation = fits;
-          address = inside;
-        };
-      }
-
-      by : (u : Value) → kind_of u ≡ Int → FitsOnce g (Token t Zero u)
-      by (value.Int n) is = at is tt tt
-      by value.Signal is = cc
-      by (value.Bool b) is = cc
-      by (value.Structure s) is = cc
-      by (value.Address d) is = cc
-      by (value.Context d) is = cc
-      by (value.Continuation u) is = cc
+  answer_fits : (c : Cell) (t w : Tag) (v : Value) → FitsOnce g (Read c t) → FitsOnce g (Write c v w) → FitsOnce g (Token t Zero v)
+  answer_fits c t w v x y = record { stamp = x.stamp; fits = reply_fits g x.stamp c v t (y.fits).kind (x.fits).reply }
 
   -- and so does one that an event of a run sends, where what was handled does
   answers_fit : (s : World) (events : List Event) → Reach g vs count s events → ((x : Payload) → Among x (handled events) → FitsOnce g x)
@@ -138,7 +115,7 @@ module _ (g : Parts) (vs : List Constant) (count : ℕ) (valid : IsValid g) (tak
       let z = reply_sound events (cell_at count s) (cells_exact g vs count s events r) t v e x in
       let asks = (z.1).1 in
       let puts = (z.2).2 in
-      reply_fits z.0 t (z.2).0 v
+      answer_fits z.0 t (z.2).0 v
       (fit (Read z.0 t) (Among-map payload_of (Looked asks.element z.0 t (z.1).0) events asks.among))
       (fit (Write z.0 v (z.2).0) (Among-map payload_of (Wrote puts.element z.0 v (z.2).0 (Readers (z.2).1)) events puts.among))
 

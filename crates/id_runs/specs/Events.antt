@@ -117,7 +117,7 @@ Enters (Wrote n d v w a) c = ⊥
 abbrev pub Makes : Parts → Event → Structure → Type 0
 Makes g (Took n t p v Waits) s = ⊥
 Makes g (Took n t p v Blocked) s = ⊥
-Makes g (Took n t p v (Fires ops f)) s = (op_at g t.instr ≡ Some Alloc) × (f ≡ Out (value.Structure s))
+Makes g (Took n t p v (Fires ops f)) s = (op_at g t.instr ≡ Some (Alloc s.nested)) × (f ≡ Out (value.Structure s))
 Makes g (Looked n c t a) s = ⊥
 Makes g (Wrote n c v w a) s = ⊥
 

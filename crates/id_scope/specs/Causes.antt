@@ -2,7 +2,8 @@
 use Rattle.std.specs.Prelude.{◌≡◌, ◌⊎◌, ◌<◌, ◌≤◌, ◌+◌, ℕ, zero, suc, Bool as Truth, true, false}
 use Rattle.std.specs.Prelude.{List, [], ◌∷◌, ◌++◌, length, nat_eq, nat_lt, Option, None, Some, if◌then◌else◌}
 use Rattle.id_value.specs.declared.Kind.{Kind}
-use Rattle.id_value.specs.declared.Kind.TheVariants.{Int, Bool, Array}
+use Rattle.id_value.specs.declared.Kind.TheVariants.{Int, Bool, Array, Nested}
+use Rattle.id_value.specs.Kinds.{is_array, same_kind}
 use Rattle.id_value.specs.declared.BinaryOp.{BinaryOp}
 use Rattle.id_value.specs.declared.BinaryOp.TheVariants as class
 use Rattle.id_value.specs.declared.Comparison.TheVariants.{Eq, Ne}
@@ -47,13 +48,6 @@ abbrev pub unknown : Option ℕ → ℕ → List CheckCause
 unknown None place = Unknown place ∷ []
 unknown (Some b) place = []
 
--- whether two kinds are one
-abbrev pub same_kind : Kind → Kind → Truth
-same_kind Int Int = true
-same_kind Bool Bool = true
-same_kind Array Array = true
-same_kind _ _ = false
-
 -- the cause where this kind is wanted of the part at a place, and that is found
 abbrev pub unless_found : Kind → Option Kind → ℕ → List CheckCause
 unless_found wanted None e = []
@@ -74,6 +68,7 @@ wrong_equals R κ None a b = []
 wrong_equals R κ (Some Int) a b = wrong R κ Int b
 wrong_equals R κ (Some Bool) a b = wrong R κ Bool b
 wrong_equals R κ (Some Array) a b = WrongKind (at R a).place Int Array ∷ []
+wrong_equals R κ (Some Nested) a b = WrongKind (at R a).place Int Nested ∷ []
 
 -- the causes in the operands of an operator
 abbrev pub wrong_operands : List Row → (ℕ → Option Kind) → BinaryOp → ℕ → ℕ → List CheckCause
@@ -88,9 +83,14 @@ abbrev pub wrong_like : List Row → (ℕ → Option Kind) → Option Kind → �
 wrong_like R κ None y = []
 wrong_like R κ (Some k) y = wrong R κ k y
 
+-- the cause where an array of any kind is wanted of the part at a place, and this is found
+abbrev pub unless_array : Option Kind → ℕ → List CheckCause
+unless_array None e = []
+unless_array (Some found) e = if is_array found then [] else (WrongKind e Array found ∷ [])
+
 -- the causes in the target and the index of a fetch or a store
 abbrev pub wrong_cell : List Row → (ℕ → Option Kind) → ℕ → ℕ → List CheckCause
-wrong_cell R κ t i = wrong R κ Array t ++ wrong R κ Int i
+wrong_cell R κ t i = unless_array (κ t) (at R t).place ++ wrong R κ Int i
 
 -- the head of the definition at a row of this node
 abbrev pub head_in : Node → Option ℕ
@@ -129,7 +129,7 @@ wrong_argument R κ (Some h) c k v = if is_count R h c then wrong_like R κ (κ 
 
 -- whether an array is a parameter at a row of this node
 abbrev pub is_array_param : Node → Truth
-is_array_param (Param x Array) = true
+is_array_param (Param x k) = is_array k
 is_array_param _ = false
 
 -- the first of these parameters that is an array
@@ -144,8 +144,9 @@ wrong_params R x e ps =
     (if nat_eq x 0 then array_param R ps else []) ++ (if nat_lt 16 (length ps) then (TooManyParams e ∷ []) else [])
 
 -- the causes in a row at a place, with this binder if it is about a name: of a predicate the kind `bool` is wanted, of
--- an `else` arm that of the `then` arm, of the expression of a `next` that of its variable, of bounds and of the value
--- of a store `int`; a definition's are those in its parameters, and of its body the kind of the result is wanted
+-- an `else` arm that of the `then` arm, of the expression of a `next` that of its variable, of bounds `int`, and of the
+-- value of a store that of its address, which is what the cell holds; a definition's are those in its parameters, and
+-- of its body the kind of the result is wanted
 abbrev pub causes_in : List Row → (ℕ → Option Kind) → Option ℕ → ℕ → Node → List CheckCause
 causes_in R κ o e (Name x) = unknown o e
 causes_in R κ o e (Unary p a) = wrong R κ (unary_kind p) a
@@ -159,10 +160,10 @@ causes_in R κ o e (Bounds a b) = wrong_both R κ Int a b
 causes_in R κ o e (Switches t) = wrong R κ Bool t
 causes_in R κ o e (NextUse x) = unknown o e
 causes_in R κ o e (Next x k u v) = wrong_like R κ (κ u) v
-causes_in R κ o e (node.Array a b) = wrong_both R κ Int a b
+causes_in R κ o e (node.Array nested a b) = wrong_both R κ Int a b
 causes_in R κ o e (Fetch t i) = wrong_cell R κ t i
 causes_in R κ o e (Address t i) = wrong_cell R κ t i
-causes_in R κ o e (Store a v) = wrong R κ Int v
+causes_in R κ o e (Store a v) = wrong_like R κ (κ a) v
 causes_in R κ o e (Def x h k b) = wrong R κ k b ++ wrong_params R x e (params_at R h)
 causes_in R κ o e _ = []
 

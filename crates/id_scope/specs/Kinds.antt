@@ -1,7 +1,8 @@
 -- The kinds of rows: each is found by one chain (docs/LANGUAGE.md, "Kinds").
-use Rattle.std.specs.Prelude.{◌≡◌, ℕ, ◌<◌, List, length, Option, None, Some}
+use Rattle.std.specs.Prelude.{◌≡◌, ℕ, ◌<◌, List, length, Option, None, Some, unwrap_or}
 use Rattle.id_value.specs.declared.Kind.{Kind}
-use Rattle.id_value.specs.declared.Kind.TheVariants.{Int, Bool, Array}
+use Rattle.id_value.specs.declared.Kind.TheVariants.{Int, Bool}
+use Rattle.id_value.specs.Kinds.{array_kind, element_kind}
 use Rattle.id_value.specs.declared.Constant.{Constant}
 use Rattle.id_value.specs.declared.Constant.TheVariants as constant
 use Rattle.id_value.specs.declared.UnaryOp.{UnaryOp}
@@ -14,12 +15,12 @@ use Rattle.id_table.specs.declared.row.Node.TheVariants.{Head, Param, Literal, N
 use Rattle.id_table.specs.declared.row.Node.TheVariants.{Split, If, Enter, Arg, Call, Block, Binding, Def, Program}
 use Rattle.id_table.specs.declared.row.Node.TheVariants.{Start, LoopHead, Variable, Entries, Switches, Turn, NextUse}
 use Rattle.id_table.specs.declared.row.Node.TheVariants.{Next, Body, Reset, Loop, Fetch, Address, Store}
-use Rattle.id_table.specs.declared.row.Node.TheVariants.{Bounds, Carried, Within, Count, Index, Span}
+use Rattle.id_table.specs.declared.row.Node.TheVariants.{Bounds, Carried, Count, Index, Span}
 use Rattle.id_table.specs.declared.row.Node.TheVariants as node
 use Rattle.id_table.specs.Rows.{at}
 use Rattle.id_scope.specs.Scopes.{user_of}
 pub use Rattle.id_scope.specs.declared.kinds.Link.{Link}
-pub use Rattle.id_scope.specs.declared.kinds.Link.TheVariants.{Fixed, To, Nowhere}
+pub use Rattle.id_scope.specs.declared.kinds.Link.TheVariants.{Fixed, To, Within, Nowhere}
 
 -- the kind of a literal
 abbrev pub constant_kind : Constant → Kind
@@ -43,7 +44,8 @@ link_of_name None = Nowhere
 link_of_name (Some b) = To b
 
 -- where the chain of a row goes on, which has this binder if it is about a name: that of a call to its procedure's
--- definition, that of a loop's variable to the use of the same name outside, and that of a loop to its last expression
+-- definition, that of a loop's variable to the use of the same name outside, that of a loop to its last expression, and
+-- that of a fetch, or of a store's address, to its target, of whose elements it has the kind
 abbrev pub link_of : Option ℕ → Node → Link
 link_of o Head = Nowhere
 link_of o (Param x k) = Fixed k
@@ -62,7 +64,7 @@ link_of o (LoopHead s) = Nowhere
 link_of o (Carried k) = Fixed k
 link_of o Variable = Nowhere
 link_of o Entries = Nowhere
-link_of o (Within f) = Fixed Bool
+link_of o (node.Within f) = Fixed Bool
 link_of o (Switches t) = Nowhere
 link_of o Count = Nowhere
 link_of o Turn = Nowhere
@@ -73,9 +75,9 @@ link_of o Body = Nowhere
 link_of o (Reset v) = Nowhere
 link_of o Span = Nowhere
 link_of o (Loop h w l) = To l
-link_of o (node.Array a b) = Fixed Array
-link_of o (Fetch t i) = Fixed Int
-link_of o (Address t i) = Nowhere
+link_of o (node.Array nested a b) = Fixed (array_kind nested)
+link_of o (Fetch t i) = Within t
+link_of o (Address t i) = Within t
 link_of o (Store a v) = Nowhere
 link_of o (Block b) = To b
 link_of o (Binding x a) = To a
@@ -86,11 +88,16 @@ link_of o Program = Nowhere
 abbrev pub link_at : List Row → (ℕ → Option ℕ) → ℕ → Link
 link_at R β i = link_of (β (user_of i (at R i).node)) (at R i).node
 
+-- the kind of what an element holds of an array of this kind, and `int` where there is none
+abbrev pub kind_within : Option Kind → Kind
+kind_within o = element_kind (unwrap_or o Int)
+
 -- the chain of the row i ends so, where l says how each goes on
 pub data EndsIn (l : ℕ → Link) : ℕ → Option Kind → Type 0 where
   in_kind : {i : ℕ} (k : Kind) → l i ≡ Fixed k → EndsIn l i (Some k)
   in_nothing : {i : ℕ} → l i ≡ Nowhere → EndsIn l i None
   further : {i : ℕ} {o : Option Kind} (j : ℕ) → l i ≡ To j → EndsIn l j o → EndsIn l i o
+  within : {i : ℕ} {o : Option Kind} (j : ℕ) → l i ≡ Within j → EndsIn l j o → EndsIn l i (Some (kind_within o))
 
 -- κ gives each row its kind, where β gives the names their binders: the one that its chain ends in, and `int` where
 -- the chain comes back to itself

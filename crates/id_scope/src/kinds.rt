@@ -1,10 +1,11 @@
 //! The kind of each row, found by its chain.
 
-ghost use Rattle.std.specs.Prelude.{◌≡◌, ◌<◌, ◌≤◌, ◌+◌, ◌^◌, ◌⊎◌, ℕ, [], not, get_or, length, IfOk, OnOk, Some, None};
+ghost use Rattle.std.specs.Prelude.{◌≡◌, ◌<◌, ◌≤◌, ◌+◌, ◌^◌, ◌⊎◌, ℕ, [], not, get_or, length, IfOk};
+ghost use Rattle.std.specs.Prelude.{IfSome, OnOk, Some, None};
 ghost use Rattle.id_list.specs.List.{Among};
 ghost use Rattle.id_table.specs.Tables.{HasPart, IsFormed};
 ghost use Rattle.id_scope.specs.Kinds as kinds;
-ghost use Rattle.id_scope.specs.Kinds.{AreKinds, To, Nowhere};
+ghost use Rattle.id_scope.specs.Kinds.{AreKinds, Nowhere};
 ghost use Rattle.id_scope.specs.Chains as chains;
 ghost use Rattle.id_scope.specs.Chains.{IsGoing, IsFilling, IsState};
 
@@ -16,12 +17,21 @@ use std::alloc::{AllocError, Global};
 /// The most rows whose kinds are looked for. No text comes near it.
 const MOST: usize = 0xffff_ffff;
 
-/// Where the chain of a row goes on: it ends in a kind, it goes on to another row, or it ends without a kind.
+/// Where the chain of a row goes on: it ends in a kind; it goes on to another row, or to an array, of whose elements it
+/// has the kind; or it ends without a kind.
 #[derive(Clone, Copy)]
 pub enum Link {
     Fixed(Kind),
     To(u32),
+    Within(u32),
     Nowhere,
+}
+
+/// A row through which a chain was followed, and whether it has the kind of the elements of the next one.
+#[derive(Clone, Copy)]
+pub struct Pass {
+    pub row: usize,
+    pub within: bool,
 }
 
 /// The kind of each row, if it has one; these are the binders of the names.
@@ -72,13 +82,52 @@ fn follow(links: &[Link], link: Link) -> Link
     ensures { (l : ℕ → Link) (i : ℕ) → l i ≡ link
         → ((j : ℕ) → j < length links.now → IsState l 0 j (get_or links.now j Nowhere)) → IsState l 0 i result }
 {
-    if let Link::To(next) = link {
-        let next = next as usize;
-        if next < links.len() && is_end(links[next]) {
-            return links[next];
-        }
+    let Some(end) = known_at(links, link) else {
+        return link;
+    };
+    if is_within(link) {
+        link_within(end)
+    } else {
+        end
     }
-    link
+}
+
+/// What the link behind this one comes to, if there is one and that is known from these rows. Takes no memory.
+fn known_at(links: &[Link], link: Link) -> Option<Link>
+    ensures { IfSome result (λ k. (j : ℕ) × (chains.goes_to link ≡ Some j) × (j < length links.now)
+        × (k ≡ get_or links.now j Nowhere) × chains.IsEnd k) }
+{
+    let pass = next_of(link)?;
+    if pass < links.len() && is_end(links[pass]) {
+        Some(links[pass])
+    } else {
+        None
+    }
+}
+
+/// The row to which the chain goes on behind the link.
+fn next_of(link: Link) -> Option<usize>
+    ensures { result ≡ chains.goes_to link }
+{
+    match link {
+        Link::To(next) | Link::Within(next) => Some(next as usize),
+        Link::Fixed(_) | Link::Nowhere => None,
+    }
+}
+
+/// Whether a row with this link has the kind of the elements of the next one.
+fn is_within(link: Link) -> bool
+    ensures { (q : ℕ) → chains.goes_to link ≡ Some q → (r : ℕ)
+        → link ≡ chains.link_of_pass (record { row = r; within = result }) q }
+{
+    matches!(link, Link::Within(_))
+}
+
+/// The link to the kind of what an element holds of an array whose chain ends at this link.
+fn link_within(link: Link) -> Link
+    ensures { result ≡ chains.link_within link }
+{
+    Link::Fixed(kind_of(link).unwrap_or(Kind::Int).element())
 }
 
 /// Whether the chain ends at the link.
@@ -87,7 +136,7 @@ fn is_end(link: Link) -> bool
 {
     match link {
         Link::Fixed(_) | Link::Nowhere => true,
-        Link::To(_) => false,
+        Link::To(_) | Link::Within(_) => false,
     }
 }
 
@@ -114,41 +163,49 @@ pub fn binder_at(binders: &[Option<u32>], i: usize) -> Option<usize>
 
 /// Finds the kind that the chain of the row comes to, and gives it to all rows on the way. A chain that comes back to
 /// itself meets the mark that was left there, and gives `int`.
-fn settle(links: &mut Vec<Link>, passed: &mut Vec<usize>, start: usize) -> Result<(), AllocError>
+fn settle(links: &mut Vec<Link>, passed: &mut Vec<Pass>, start: usize) -> Result<(), AllocError>
     requires start { start < length links.old.items }
     requires passed { passed.old.items ≡ [] }
     requires targets { (i j : ℕ) → i < length links.old.items
-        → get_or links.old.items i Nowhere ≡ To j → j < length links.old.items }
+        → chains.goes_to (get_or links.old.items i Nowhere) ≡ Some j → j < length links.old.items }
     ensures passed { OnOk result (passed.new.items ≡ []) }
     ensures long { OnOk result (length links.new.items ≡ length links.old.items) }
     ensures targets { OnOk result ((i j : ℕ) → i < length links.new.items
-        → get_or links.new.items i Nowhere ≡ To j → j < length links.new.items) }
+        → chains.goes_to (get_or links.new.items i Nowhere) ≡ Some j → j < length links.new.items) }
     ensures going { OnOk result ((l : ℕ → Link) → IsGoing l (length links.old.items) start links.old.items
         → IsGoing l (length links.old.items) (start + 1) links.new.items) }
 {
     let mut at = start;
-    while let Link::To(next) = links[at] {
-        passed.push(at)?;
+    while let Some(next) = next_of(links[at]) {
+        passed.push(Pass {
+            row: at,
+            within: is_within(links[at]),
+        })?;
         links[at] = Link::Fixed(Kind::Int);
-        at = next as usize;
+        at = next;
     }
     let end = links[at];
     fill(links, passed, end);
     Ok(())
 }
 
-/// Gives the link to the rows that were passed.
-fn fill(links: &mut Vec<Link>, passed: &mut Vec<usize>, end: Link)
-    requires { (p : ℕ) → Among p passed.old.items → p < length links.old.items }
+/// Gives the rows that were passed the links that follow from this one, at which the chain of the row behind them ends.
+fn fill(links: &mut Vec<Link>, passed: &mut Vec<Pass>, end: Link)
+    requires passed { (p : ℕ) → Among p (chains.rows_of passed.old.items) → p < length links.old.items }
+    requires end { chains.IsEnd end }
     ensures passed { passed.new.items ≡ [] }
     ensures long { length links.new.items ≡ length links.old.items }
-    ensures same { (i : ℕ) → (get_or links.new.items i Nowhere ≡ end)
+    ensures same { (i : ℕ) → chains.IsEnd (get_or links.new.items i Nowhere)
         ⊎ (get_or links.new.items i Nowhere ≡ get_or links.old.items i Nowhere) }
-    ensures filling { (l : ℕ → Link) (n m : ℕ) → IsFilling l n m passed.old.items end links.old.items
-        → IsFilling l n m [] end links.new.items }
+    ensures filling { (l : ℕ → Link) (n m q : ℕ) → IsFilling l n m passed.old.items q end links.old.items
+        → (r : ℕ) × (k : Link) × IsFilling l n m [] r k links.new.items }
 {
-    while let Some(p) = passed.pop() {
-        links[p] = end;
+    let mut link = end;
+    while let Some(pass) = passed.pop() {
+        if pass.within {
+            link = link_within(link);
+        }
+        links[pass.row] = link;
     }
 }
 
@@ -158,7 +215,7 @@ fn kind_of(link: Link) -> Option<Kind>
 {
     match link {
         Link::Fixed(kind) => Some(kind),
-        Link::To(_) | Link::Nowhere => None,
+        Link::To(_) | Link::Within(_) | Link::Nowhere => None,
     }
 }
 
@@ -179,12 +236,12 @@ fn link_of(binder: Option<usize>, node: Node) -> Link
         Node::Binding { value, .. } => Link::To(value as u32),
         Node::Next { outer, .. } => Link::To(outer),
         Node::Loop { last, .. } => Link::To(last),
-        Node::Array { .. } => Link::Fixed(Kind::Array),
-        Node::Fetch { .. } => Link::Fixed(Kind::Int),
+        Node::Array { nested, .. } => Link::Fixed(Kind::of_array(nested)),
+        Node::Fetch { target, .. } | Node::Address { target, .. } => Link::Within(target as u32),
         Node::Def { result, .. } => Link::Fixed(result),
         Node::Head | Node::Split { .. } | Node::Program => Link::Nowhere,
         Node::Enter { .. } | Node::Arg { .. } => Link::Nowhere,
-        Node::Address { .. } | Node::Store { .. } => Link::Nowhere,
+        Node::Store { .. } => Link::Nowhere,
         Node::Carried { kind } => Link::Fixed(kind),
         Node::Within { .. } => Link::Fixed(Kind::Bool),
         Node::Index { .. } => Link::Fixed(Kind::Int),

@@ -2,9 +2,6 @@
 use Rattle.std.proofs.Common.{◌≡◌, ℕ, ◌<◌}
 use Rattle.std.proofs.Common.{sym, ap, subst, ◌∙◌}
 use Rattle.std.specs.Prelude.{◌^◌}
-use Rattle.id_ops.specs.declared.Fired.TheVariants as fired
-use Rattle.id_tag.specs.declared.Value.TheVariants as value
-use Rattle.id_line.specs.declared.line.Kind.TheVariants as kind
 use Rattle.id_shots.specs.declared.shooting.NamedTag.{NamedTag}
 use Rattle.id_shots.specs.Shootings.{IsHalved, tag_by}
 use Rattle.id_line.specs.Lines.{element_at, high_half}

@@ -1,8 +1,7 @@
 -- What the record keeps of a read or a write of a cell in small numbers.
-use Rattle.id_tag.specs.Plains.{message_of, tag_in}
+use Rattle.id_tag.specs.Plains.{message_of, tag_in, whole}
 use Rattle.id_tag.specs.declared.Cell.{Cell}
 use Rattle.id_tag.specs.declared.Tag.{Tag}
-use Rattle.id_tag.specs.declared.Value.TheVariants.{Int}
 use Rattle.id_tag.specs.declared.Payload.TheVariants.{Read, Write}
 use Rattle.id_ops.specs.declared.Fired.TheVariants as fired
 use Rattle.id_line.specs.declared.line.Handled.{Handled}
@@ -14,8 +13,8 @@ use Rattle.id_line.specs.Lines.{Told, no_replies, went}
 -- what its event says, with the cell and the tag that the message names
 abbrev pub fated : Fate → Cell → Tag → Told
 fated Deferred c t = record { payload = Read c t; fired = fired.Nothing; replies = no_replies }
-fated (Answered n) c t = record { payload = Read c t; fired = fired.Sent t (Int n); replies = no_replies }
-fated (Filled n r) c t = record { payload = Write c (Int n) t; fired = fired.Nothing; replies = r }
+fated (Answered v) c t = record { payload = Read c t; fired = fired.Sent t (whole v); replies = no_replies }
+fated (Filled v r) c t = record { payload = Write c (whole v) t; fired = fired.Nothing; replies = r }
 
 -- what the record keeps of it, where its event says this
 abbrev pub visited : Visiting → Told → Handled

@@ -18,7 +18,8 @@ use crate::passing::passed_line;
 use crate::shooting::token_line;
 use id_line::{
     Celled, Content, Effect, Kind, Line, Scene, Written, by_token, cell_in, first_cell, instr_at,
-    joined_index, joined_signed, of_number, of_result, place, scene_of_kind, tag_at,
+    joined_index, joined_signed, of_number, place, scene_of_filled, scene_of_kind, scene_of_stored,
+    tag_at,
 };
 use id_ops::{Deed, Fired};
 use id_tag::{Plain, PlainCell, PlainToken, Tag, Value};
@@ -137,7 +138,7 @@ fn near_for(deed: Deed, value: Plain) -> Option<Near>
     }
 }
 
-/// What a line keeps of the event of a token with this value, where a number is stored.
+/// What a line keeps of the event of a token with this value, where a value is stored.
 #[inline(always)]
 fn stored(deed: Deed, value: Plain) -> Option<Scene>
     ensures kind { IfSome result (λ s. IsCelled s.kind) }
@@ -145,12 +146,14 @@ fn stored(deed: Deed, value: Plain) -> Option<Scene>
         ≡ token_told t p (whole value) (fired_by_deed t deed)) }
 {
     match (deed, value) {
-        (Deed::Stored(cell, number), Plain::Address(name, place)) => {
-            stored_at(cell, number, PlainCell { name, place })
+        (Deed::Stored(cell, sent), Plain::Address(name, place)) => {
+            stored_at(cell, sent, PlainCell { name, place })
         }
-        (Deed::Stored(cell, number), Plain::Int(own)) if own == number => {
+        (Deed::Stored(cell, Plain::Int(number)), Plain::Int(own)) if own == number => {
             Some(of_number(Kind::IntStored, number, cell.cell()))
         }
+        (Deed::Stored(cell, Plain::Structure(name, low, high)), Plain::Structure(own, from, to))
+            if (own == name) & (from == low) & (to == high) => stored_in(cell, value),
         (Deed::Switched(side, sent), Plain::Bool(truth)) if side == (truth != 0) => {
             switched(side, sent)
         }
@@ -194,15 +197,28 @@ fn near_fetch(cell: PlainCell, instr: u32, asked: PlainCell) -> Option<Near>
     }
 }
 
-/// What a line keeps of an address that lets a number be stored in this cell, where that is its own.
+/// What a line keeps of a structure that is stored in this cell.
 #[inline(always)]
-fn stored_at(cell: PlainCell, number: i64, to: PlainCell) -> Option<Scene>
+fn stored_in(cell: PlainCell, structure: Plain) -> Option<Scene>
     ensures kind { IfSome result (λ s. IsCelled s.kind) }
     ensures told { IfSome result (λ s. (t : Tag) (p : Port) → told s.kind t p s.value s.result s.cell
-        ≡ token_told t p (value.Address (cell_of to)) (firings.Stored (cell_of cell) (value.Int number) t)) }
+        ≡ token_told t p (whole structure) (firings.Stored (cell_of cell) (whole structure) t)) }
+{
+    match structure.value() {
+        Value::Structure(structure) => scene_of_stored(structure, cell.cell()),
+        _ => None,
+    }
+}
+
+/// What a line keeps of an address that lets a value be stored in this cell, where that is its own.
+#[inline(always)]
+fn stored_at(cell: PlainCell, sent: Plain, to: PlainCell) -> Option<Scene>
+    ensures kind { IfSome result (λ s. IsCelled s.kind) }
+    ensures told { IfSome result (λ s. (t : Tag) (p : Port) → told s.kind t p s.value s.result s.cell
+        ≡ token_told t p (value.Address (cell_of to)) (firings.Stored (cell_of cell) (whole sent) t)) }
 {
     if is_same(to, cell) {
-        Some(of_result(Kind::AddressStored, number, to.cell()))
+        scene_of_filled(to.cell(), sent.value())
     } else {
         None
     }
@@ -235,7 +251,7 @@ fn written(near: Near) -> Written
         effect: near.effect,
         value: joined_signed(cell.low(), cell.high()),
         result: joined_index(cell.index(), cell.serial()),
-        to: place(u32::from(cell.element()), near.instr),
+        to: place(u32::from(cell.maker()), near.instr),
     }
 }
 

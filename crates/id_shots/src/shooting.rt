@@ -216,7 +216,7 @@ fn named_by(value: Plain) -> NamedTag
                 serial: cell.serial(),
                 iteration: cell.index().cast_unsigned(),
                 instr: 0,
-                element: cell.element(),
+                element: cell.maker(),
             })
         }
         _ => numbered_by(value),

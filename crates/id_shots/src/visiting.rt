@@ -10,10 +10,10 @@ ghost use Rattle.id_shots.specs.Visits.{fated, visiting};
 use crate::shooting::token_line;
 use id_line::{
     Celled, Content, Effect, Handled, Kind, NO_REPLIES, Replies, Scene, Written, of_number,
-    of_result, went, written,
+    scene_of_given, went, written,
 };
 use id_ops::Fired;
-use id_tag::{Cell, Message, Payload, PlainToken, Sender, Tag, Value};
+use id_tag::{Cell, Message, Payload, Plain, PlainToken, Sender, Tag};
 
 /// A read or a write of a cell that is being handled, the stamp of that event, and what became of it.
 #[derive(Clone, Copy)]
@@ -30,10 +30,10 @@ pub struct Visiting<'a> {
 pub enum Fate {
     /// The read waits for the cell's value.
     Deferred,
-    /// The read's reply gets this number.
-    Answered(i64),
-    /// The number was written, and these replies get it.
-    Filled(i64, Replies),
+    /// The read's reply gets this value.
+    Answered(Plain),
+    /// The value was written, and these replies get it.
+    Filled(Plain, Replies),
 }
 
 /// The event in a line with its cell beside it at this index, where it fits in one.
@@ -60,8 +60,8 @@ fn scene_of(fate: Fate, cell: Cell) -> Option<Scene>
 {
     match fate {
         Fate::Deferred => Some(of_number(Kind::ReadDeferred, 0, cell)),
-        Fate::Answered(number) => Some(of_result(Kind::ReadAnswered, number, cell)),
-        Fate::Filled(number, replies) => written(cell, number, &Fired::Nothing, replies),
+        Fate::Answered(value) => scene_of_given(cell, value.value()),
+        Fate::Filled(value, replies) => written(cell, value.value(), &Fired::Nothing, replies),
     }
 }
 
@@ -102,15 +102,15 @@ fn content(fate: Fate, cell: Cell, tag: Tag) -> Content
             fired: Fired::Nothing,
             replies: NO_REPLIES,
         },
-        Fate::Answered(number) => Content {
+        Fate::Answered(value) => Content {
             payload: Payload::Read { cell, reply: tag },
-            fired: Fired::Sent(tag, Value::Int(number)),
+            fired: Fired::Sent(tag, value.value()),
             replies: NO_REPLIES,
         },
-        Fate::Filled(number, replies) => Content {
+        Fate::Filled(value, replies) => Content {
             payload: Payload::Write {
                 cell,
-                value: Value::Int(number),
+                value: value.value(),
                 origin: tag,
             },
             fired: Fired::Nothing,

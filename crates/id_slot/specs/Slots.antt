@@ -10,13 +10,13 @@ use Rattle.std.proofs.Common.{Vec, Global}
 use Rattle.id_tag.specs.declared.Cell.{Cell}
 use Rattle.id_tag.specs.declared.Structure.{Structure}
 use Rattle.id_tag.specs.declared.Tag.{Tag}
-use Rattle.id_tag.specs.declared.Value.TheVariants.{Int}
+use Rattle.id_tag.specs.Plains.{whole}
 use Rattle.id_tag.specs.Tags.{same_structure}
 use Rattle.id_slot.specs.Cells.{CellState, Present, Deferred, count_readers}
-use Rattle.id_slot.specs.declared.Filled.{Filled}
+use Rattle.id_slot.specs.declared.Filled.{Filled as FilledCell}
 use Rattle.id_slot.specs.declared.slot.Numbers.{Numbers}
 use Rattle.id_slot.specs.declared.slot.Slot.{Slot}
-use Rattle.id_slot.specs.declared.slot.Slot.TheVariants.{Absent, Number, One, Two, Wide}
+use Rattle.id_slot.specs.declared.slot.Slot.TheVariants.{Absent, Filled, One, Two, Wide}
 use Rattle.id_slot.specs.declared.slot.Kept.{Kept}
 use Rattle.id_slot.specs.declared.slot.Kept.TheVariants as kept
 
@@ -32,7 +32,7 @@ kept_state (kept.Deferred ts) = Deferred ts
 -- what a cell holds, by its slot, if it was read or written
 abbrev pub state_of : Slot → Option CellState
 state_of Absent = None
-state_of (Number e n i) = Some (Present (Int i) (tag_of e n))
+state_of (Filled e n p) = Some (Present (whole p) (tag_of e n))
 state_of (One e n) = Some (Deferred (tag_of e n ∷ []))
 state_of (Two e f n m) = Some (Deferred (tag_of e n ∷ tag_of f m ∷ []))
 state_of (Wide b) = Some (kept_state (box_value b))
@@ -114,7 +114,7 @@ cells_left n [] = []
 cells_left n (e ∷ es) = cells_above n e.0 e.1.items ++ cells_in es
 
 -- a cell with its value, if it holds one
-abbrev pub filled_by : Cell → Option CellState → Option Filled
+abbrev pub filled_by : Cell → Option CellState → Option FilledCell
 filled_by c None = None
 filled_by c (Some (Present v w)) = Some (record { cell = c; value = v; origin = w })
 filled_by c (Some (Deferred ts)) = None

@@ -3,14 +3,13 @@
 ghost use Rattle.std.specs.Prelude.{◌≡◌, ◌++◌, ◌∷◌, ◌↔◌, [], IsTrue, IfOk, IfSome, OnOk, OnErr};
 ghost use Rattle.std.specs.Prelude.{map as map_list, None, Ok, Some};
 ghost use Rattle.std.specs.List.{flat_map};
-ghost use Rattle.id_tag.specs.declared.Value.TheVariants.{Int};
 ghost use Rattle.id_slot.specs.declared.ReadAnswer.TheVariants.{Deferred as PutOff};
 ghost use Rattle.id_slot.specs.Cells.{Present, Deferred, read_answer, state_read, write_answer, state_written};
 ghost use Rattle.id_slot.specs.Cells.{count_expected, count_readers, readers_at};
 ghost use Rattle.id_slot.specs.Slots.{tag_of, kept_state, state_of, origin_of, replies_of, held_in, filled_by};
 
 use crate::{Filled, ReadAnswer, Reader, Replies, WriteAnswer};
-use id_tag::{Cell, Context, Tag, Value, small, tiny};
+use id_tag::{Cell, Context, Plain, Tag, Value, plain_of, small, tiny};
 use std::alloc::{AllocError, Global};
 use std::mem;
 
@@ -52,13 +51,14 @@ fn tag_of(element: u8, numbers: Numbers) -> Tag
     }
 }
 
-/// What a cell holds: up to two replies, or a number, if the tags are of small numbers, take no memory of their own.
+/// What a cell holds: up to two replies, or a number or a structure in small numbers, if the tags are of small numbers,
+/// take no memory of their own.
 #[derive(Drop)]
 pub enum Slot {
     /// Nothing: the cell was neither read nor written.
     Absent,
-    /// A number, with the tag of its store.
-    Number(u8, Numbers, i64),
+    /// A plain value, with the tag of its store.
+    Filled(u8, Numbers, Plain),
     /// One reply that waits.
     One(u8, Numbers),
     /// Two replies that wait: their elements, and their other numbers.
@@ -80,12 +80,10 @@ impl Slot {
     fn present(alloc: Global, value: Value, origin: Tag) -> Result<Slot, AllocError>
         ensures { IfOk result (λ s. state_of s ≡ Some (Present value origin)) }
     {
-        if let Value::Int(number) = value {
-            if let Some((element, numbers)) = small_tag(&origin) {
-                return Ok(Slot::Number(element, numbers, number));
-            }
+        match (plain_of(&value), small_tag(&origin)) {
+            (Some(plain), Some((element, numbers))) => Ok(Slot::Filled(element, numbers, plain)),
+            _ => Slot::wide(alloc, Kept::Present { value, origin }),
         }
-        Slot::wide(alloc, Kept::Present { value, origin })
     }
 
     #[cold]
@@ -139,7 +137,7 @@ impl Slot {
     {
         match self {
             Slot::Absent => true,
-            Slot::Number(_, _, _) | Slot::One(_, _) | Slot::Two(_, _, _, _) | Slot::Wide(_) =>
+            Slot::Filled(_, _, _) | Slot::One(_, _) | Slot::Two(_, _, _, _) | Slot::Wide(_) =>
                 false,
         }
     }
@@ -153,7 +151,7 @@ impl Slot {
         ensures err { OnErr result (state_of self.new ≡ state_of self.old) }
     {
         match self {
-            Slot::Number(_, _, number) => Ok(ReadAnswer::Now(Value::Int(*number))),
+            Slot::Filled(_, _, plain) => Ok(ReadAnswer::Now(plain.value())),
             Slot::Wide(kept) => kept.read(reply),
             Slot::Absent => self.defer(Slot::one(alloc, reply)),
             Slot::One(element, first) => {
@@ -209,7 +207,7 @@ impl Slot {
         ensures { result ≡ origin_of (state_of self.now) }
     {
         match self {
-            Slot::Number(element, numbers, _) => Some(tag_of(*element, *numbers)),
+            Slot::Filled(element, numbers, _) => Some(tag_of(*element, *numbers)),
             Slot::Wide(kept) => kept.origin(),
             Slot::Absent | Slot::One(_, _) | Slot::Two(_, _, _, _) => None,
         }
@@ -221,7 +219,7 @@ impl Slot {
         ensures { result ≡ replies_of (state_of self) }
     {
         match self {
-            Slot::Absent | Slot::Number(_, _, _) => Replies::none(alloc),
+            Slot::Absent | Slot::Filled(_, _, _) => Replies::none(alloc),
             Slot::One(element, numbers) => Replies::one(alloc, tag_of(element, numbers)),
             Slot::Two(element, other, first, second) => {
                 Replies::two(alloc, tag_of(element, first), tag_of(other, second))
@@ -236,7 +234,7 @@ impl Slot {
         ensures { result ≡ count_readers (state_of self.now) }
     {
         match self {
-            Slot::Absent | Slot::Number(_, _, _) => 0,
+            Slot::Absent | Slot::Filled(_, _, _) => 0,
             Slot::One(_, _) => 1,
             Slot::Two(_, _, _, _) => 2,
             Slot::Wide(kept) => kept.readers(),
@@ -249,7 +247,7 @@ impl Slot {
         ensures { result ≡ count_expected (state_of self.now) }
     {
         match self {
-            Slot::Number(_, _, _) => None,
+            Slot::Filled(_, _, _) => None,
             Slot::Absent => Some(0),
             Slot::One(_, _) => Some(1),
             Slot::Two(_, _, _, _) => Some(2),
@@ -317,9 +315,9 @@ pub fn filled_by(cell: Cell, slot: &Slot) -> Option<Filled>
     ensures { result ≡ filled_by cell (state_of slot.now) }
 {
     match slot {
-        Slot::Number(element, numbers, number) => Some(Filled {
+        Slot::Filled(element, numbers, plain) => Some(Filled {
             cell,
-            value: Value::Int(*number),
+            value: plain.value(),
             origin: tag_of(*element, *numbers),
         }),
         Slot::Wide(kept) => filled_kept(cell, kept),
@@ -355,7 +353,7 @@ fn add_waiting(readers: &mut Vec<Reader>, cell: Cell, slot: &Slot) -> Result<(),
     ensures { OnOk result (readers.new.items ≡ readers.old.items ++ readers_at (cell, held_in slot.now)) }
 {
     match slot {
-        Slot::Absent | Slot::Number(_, _, _) => Ok(()),
+        Slot::Absent | Slot::Filled(_, _, _) => Ok(()),
         Slot::One(element, numbers) => add_readers(readers, cell, &[tag_of(*element, *numbers)]),
         Slot::Two(element, other, first, second) => add_readers(
             readers,

@@ -28,7 +28,7 @@ thing-expression (If s x y) h = refl
 thing-expression (Call e c) h = refl
 thing-expression (Loop h w l) k = refl
 thing-expression (Block b) h = refl
-thing-expression (Array a b) h = refl
+thing-expression (Array nested a b) h = refl
 thing-expression (Fetch t i) h = refl
 thing-expression _ h = absurd (false≢true h)
 

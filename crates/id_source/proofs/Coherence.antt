@@ -25,7 +25,7 @@ use Rattle.id_source.specs.declared.SourceValue.TheVariants as value
 use Rattle.id_source.specs.declared.Site.{Site}
 use Rattle.id_source.specs.declared.SourceFault.TheVariants.{SecondStore}
 use Rattle.id_source.specs.declared.Fact.{Fact}
-use Rattle.id_source.specs.declared.Fact.TheVariants.{On, Has}
+use Rattle.id_source.specs.declared.Fact.TheVariants.{Has}
 use Rattle.id_source.specs.Sources.{Source, IsInput, value_of}
 use Rattle.id_source.specs.Facts.{ForStands, GoesOn, by_predicate, by_bounds, by_index, index_begins, index_counts}
 use Rattle.id_source.specs.Facts.{LoopStands, NextStands, first_has, next_has, loop_has, outermost, below, without, between, Chooses, then_arm, else_arm, Rule}
@@ -125,16 +125,17 @@ put_by F (puts {m = m} {t = t} {i = i} {x = x} st e) h =
 -- an `array` stands at the place of the site, and gives its structure the bounds that its parts Have
 pub record IsMade (S : Source) (F : Fact → Type 0) (s : Site) (lo hi : ℤ) : Type 0 where
   pub row : ℕ
+  pub nested : Truth
   pub low : ℕ
   pub high : ℕ
-  pub stands : Stands S.checked row (Array low high)
+  pub stands : Stands S.checked row (Array nested low high)
   pub here : place S.checked row ≡ s.place
   pub lowest : F (Has s.path (place S.checked low) (value.Int lo))
   pub highest : F (Has s.path (place S.checked high) (value.Int hi))
 
 pub made_by : {S : Source} (F : Fact → Type 0) {s : Site} {lo hi : ℤ} {fs : List Fact} → Rule S fs (shape s lo hi) → Every F fs → IsMade S F s lo hi
-made_by F (shape_made {n = n} {a = a} {b = b} st e) h =
-    record { row = n; low = a; high = b; stands = st; here = refl; lowest = h.1.0; highest = h.1.1.0 }
+made_by F (shape_made {n = n} {a = a} {b = b} {nested = nested} st e) h =
+    record { row = n; nested = nested; low = a; high = b; stands = st; here = refl; lowest = h.1.0; highest = h.1.1.0 }
 
 -- the call at the row n is of the procedure that is defined at a row
 pub record IsCall (S : Source) (n : ℕ) : Type 0 where
@@ -282,7 +283,7 @@ Follows S F n (Loop h w l) p v = IsLeft S F n l p v
 Follows S F n (Next y i o a) p v = IsFirst S F n o a p v ⊎ IsLater S F n o a p v
 Follows S F n (Index y) p v = IsBegun S F n p v ⊎ IsCounted S F n p v
 Follows S F n (Binding y a) p v = F (Has p (place S.checked a) v)
-Follows S F n (Array a b) p v = v ≡ value.Name (site p (place S.checked n))
+Follows S F n (Array nested a b) p v = v ≡ value.Name (site p (place S.checked n))
 Follows S F n (Fetch t i) p v = IsFetched S F n p v
 Follows S F n (Param y k) p v = FollowsParam S F n p v
 Follows S F n _ p v = ⊥
@@ -751,7 +752,7 @@ one_at_node S free m early n (Loop g x l) p v w h k = one_left S m early n l p v
 one_at_node S free m early n (Next y i o a) p v w h k = one_variable S m early n o a p v w h k
 one_at_node S free m early n (Index y) p v w h k = one_index S m early n p v w h k
 one_at_node S free m early n (Binding y a) p v w h k = early p _ v w h k
-one_at_node S free m early n (Array a b) p v w h k = h ∙ sym k
+one_at_node S free m early n (Array nested a b) p v w h k = h ∙ sym k
 one_at_node S free m early n (Fetch t i) p v w h k = one_fetched S free m early n p v w h k
 one_at_node S free m early n (Param y k) p v w h l = one_param S m early n p v w h l
 one_at_node S free m early n _ p v w h k = absurd h
@@ -777,7 +778,7 @@ one-shape S free s lo hi low high h k =
     let y = made-held S s low high k in
     let q : x.row ≡ y.row =
     (apart_of S.checked).apart x.row y.row x.stands.within y.stands.within (ap is_thing x.stands.node) (ap is_thing y.stands.node) (x.here ∙ sym y.here) in
-    let e : Array x.low x.high ≡ Array y.low y.high = sym x.stands.node ∙ ap (λ i. (at R i).node) q ∙ y.stands.node in
+    let e : Array x.nested x.low x.high ≡ Array y.nested y.low y.high = sym x.stands.node ∙ ap (λ i. (at R i).node) q ∙ y.stands.node in
     let l : x.low ≡ y.low = cc in
     let m : x.high ≡ y.high = cc in
     let A : ℕ → Type 0 = λ i. Holds S (Has s.path (place S.checked i) (value.Int low)) in

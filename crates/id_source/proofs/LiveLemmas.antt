@@ -540,10 +540,10 @@ module _ (S : Source) where
     follows (loop_store_on {n = m} {h = g} {w = w} {l = l} {m = c} p k s o b) h =
         let r : region S.checked c ≡ region S.checked b.body = ((table_of S.checked).statement_stands b.body c b.ends.within b.statement).1 in
         on-side m g w l k c true p s o h (itself c (Store b.address b.value) b.store refl) (r ∙ b.side)
-    follows (bounds_low_on {n = m} {a = a} {b = b} {p = p} st) h = on-part m a p (Array a b) st refl (inl refl) (inl refl) h.0
-    follows (bounds_high_on {n = m} {a = a} {b = b} {p = p} st) h = on-part m b p (Array a b) st refl (inr refl) (inr refl) h.0
+    follows (bounds_low_on {n = m} {a = a} {b = b} {nested = nested} {p = p} st) h = on-part m a p (Array nested a b) st refl (inl refl) (inl refl) h.0
+    follows (bounds_high_on {n = m} {a = a} {b = b} {nested = nested} {p = p} st) h = on-part m b p (Array nested a b) st refl (inr refl) (inr refl) h.0
     follows (shape_made st e) h = tt
-    follows (array_has {n = m} {a = a} {b = b} {p = p} st e) h = has-fine p m (Array a b) st refl refl h.0
+    follows (array_has {n = m} {a = a} {b = b} {nested = nested} {p = p} st e) h = has-fine p m (Array nested a b) st refl refl h.0
     follows (fetch_target_on {n = m} {t = t} {i = i} {p = p} st) h = on-part m t p (Fetch t i) st refl (inl refl) (inl refl) h.0
     follows (fetch_index_on {n = m} {t = t} {i = i} {p = p} st) h = on-part m i p (Fetch t i) st refl (inr refl) (inr refl) h.0
     follows (asks {n = m} {t = t} {i = i} st e) h = (inl h.0, record { row = m; target = t; index = i; stands = st; here = refl })

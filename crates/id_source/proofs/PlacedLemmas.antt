@@ -187,10 +187,10 @@ rule_placed {S} (binding_has {n = n} {x = x} {a = a} s) h =
     let p = h.0.0 in (record { path = p.path; place = thing-place S n (node-thing S n (Binding x a) s refl) }, h.0.1)
 rule_placed {S} (store_on {m = m} {a = a} {x = x} st i t) h =
     let p = h.0 in record { path = p.path; place = thing-place S m (node-thing S m (Store a x) t refl) }
-rule_placed {S} (bounds_low_on {n = n} {a = a} {b = b} s) h =
-    let p = h.0 in record { path = p.path; place = thing-place S a (part-thing S n a (Array a b) s (inl refl)) }
-rule_placed {S} (bounds_high_on {n = n} {a = a} {b = b} s) h =
-    let p = h.0 in record { path = p.path; place = thing-place S b (part-thing S n b (Array a b) s (inr refl)) }
+rule_placed {S} (bounds_low_on {n = n} {a = a} {b = b} {nested = nested} s) h =
+    let p = h.0 in record { path = p.path; place = thing-place S a (part-thing S n a (Array nested a b) s (inl refl)) }
+rule_placed {S} (bounds_high_on {n = n} {a = a} {b = b} {nested = nested} s) h =
+    let p = h.0 in record { path = p.path; place = thing-place S b (part-thing S n b (Array nested a b) s (inr refl)) }
 rule_placed (shape_made s e) h = h.0
 rule_placed (array_has s e) h = (h.0, h.0)
 rule_placed {S} (fetch_target_on {n = n} {t = t} {i = i} s) h =

@@ -211,8 +211,9 @@ pub data Rule (S : Source) : List Fact → Fact → Type 0 where
       → Rule S (Has (below p (place S.checked n) k) (place S.checked x) (value.Int i)
       ∷ Has p (place S.checked b) (value.Int hi) ∷ [])
       (Has (below p (place S.checked n) (suc k)) (place S.checked x) (value.Int (i +ℤ pos 1)))
-  -- a predicate that Has true in an iteration turns itself On in the next one; a loop that goes on in an iteration turns
-  -- the expressions and stores of the body On in it; in the next one a variable Has what its `next` expression Has in it
+  -- a predicate that Has true in an iteration turns itself On in the next one; a loop that goes on in an iteration
+  -- turns the expressions and stores of the body On in it; in the next one a variable Has what its `next` expression
+  -- Has in it
   turn_on : {n h w t l : ℕ} (p : Path) (k : ℕ) → LoopStands S.checked n h w t l
       → Rule S (Has (below p (place S.checked n) k) (place S.checked t) (value_of (constant.Bool true)) ∷ [])
       (On (below p (place S.checked n) (suc k)) (place S.checked t))
@@ -250,14 +251,16 @@ pub data Rule (S : Source) : List Fact → Fact → Type 0 where
   binding_has : {n x a : ℕ} {p : Path} {v : SourceValue} → Stands S.checked n (Binding x a)
       → Rule S (Has p (place S.checked a) v ∷ []) (Has p (place S.checked n) v)
   -- an On `array` turns its bounds On; bounds that are good give its structure their Shape, and it Has its name
-  bounds_low_on : {n a b : ℕ} {p : Path} → Stands S.checked n (Array a b)
+  bounds_low_on : {n a b : ℕ} {nested : Truth} {p : Path} → Stands S.checked n (Array nested a b)
       → Rule S (On p (place S.checked n) ∷ []) (On p (place S.checked a))
-  bounds_high_on : {n a b : ℕ} {p : Path} → Stands S.checked n (Array a b)
+  bounds_high_on : {n a b : ℕ} {nested : Truth} {p : Path} → Stands S.checked n (Array nested a b)
       → Rule S (On p (place S.checked n) ∷ []) (On p (place S.checked b))
-  shape_made : {n a b : ℕ} {p : Path} {lo hi : ℤ} → Stands S.checked n (Array a b) → are_good lo hi ≡ true
+  shape_made : {n a b : ℕ} {nested : Truth} {p : Path} {lo hi : ℤ}
+      → Stands S.checked n (Array nested a b) → are_good lo hi ≡ true
       → Rule S (On p (place S.checked n) ∷ Has p (place S.checked a) (value.Int lo)
       ∷ Has p (place S.checked b) (value.Int hi) ∷ []) (shape (site p (place S.checked n)) lo hi)
-  array_has : {n a b : ℕ} {p : Path} {lo hi : ℤ} → Stands S.checked n (Array a b) → are_good lo hi ≡ true
+  array_has : {n a b : ℕ} {nested : Truth} {p : Path} {lo hi : ℤ}
+      → Stands S.checked n (Array nested a b) → are_good lo hi ≡ true
       → Rule S (On p (place S.checked n) ∷ Has p (place S.checked a) (value.Int lo)
       ∷ Has p (place S.checked b) (value.Int hi) ∷ [])
       (Has p (place S.checked n) (value.Name (site p (place S.checked n))))
@@ -299,7 +302,8 @@ pub data FaultRule (S : Source) : List Fact → SourceFault → Type 0 where
       → FaultRule S (On p (place S.checked n) ∷ Has p (place S.checked a) (value_of c)
       ∷ Has p (place S.checked b) (value_of d) ∷ []) (Operator k (site p (place S.checked n)))
   -- an On `array` fails where its bounds are not good
-  bad_bounds : {n a b : ℕ} {p : Path} {lo hi : ℤ} → Stands S.checked n (Array a b) → are_good lo hi ≡ false
+  bad_bounds : {n a b : ℕ} {nested : Truth} {p : Path} {lo hi : ℤ}
+      → Stands S.checked n (Array nested a b) → are_good lo hi ≡ false
       → FaultRule S (On p (place S.checked n) ∷ Has p (place S.checked a) (value.Int lo)
       ∷ Has p (place S.checked b) (value.Int hi) ∷ []) (Operator BadBounds (site p (place S.checked n)))
   -- an On fetch or store fails where its index is outside the Shape of the structure that its target Has; what is to be

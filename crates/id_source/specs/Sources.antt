@@ -1,16 +1,18 @@
 -- Sources: checked programs with their inputs (docs/MEANING.md, "Sources").
-use Rattle.std.specs.Prelude.{◌≡◌, ℕ, true, List, [], ◌∷◌, Some, slice_get}
+use Rattle.std.specs.Prelude.{◌≡◌, ℕ, Bool as Truth, true, List, [], ◌∷◌, Option, Some, slice_get}
 use Rattle.id_value.specs.declared.Kind.{Kind}
 use Rattle.id_value.specs.declared.Kind.TheVariants as kind
+use Rattle.id_value.specs.Kinds.{array_kind}
 use Rattle.id_value.specs.declared.Constant.{Constant}
 use Rattle.id_value.specs.declared.Constant.TheVariants as constant
 use Rattle.id_value.specs.Results.{is_whole}
 use Rattle.id_table.specs.declared.row.Node.{Node}
-use Rattle.id_table.specs.declared.row.Node.TheVariants.{Param, Def}
+use Rattle.id_table.specs.declared.row.Node.TheVariants.{Param, Def, Array}
 use Rattle.id_table.specs.Rows.{at}
 use Rattle.id_table.specs.Turns.{params_at}
 use Rattle.id_check.specs.declared.checked.Checked.{Checked}
-use Rattle.id_check.specs.Programs.{rows}
+use Rattle.id_check.specs.Programs.{Stands, place, rows}
+pub use Rattle.id_scope.specs.Kinds.{constant_kind}
 use Rattle.id_source.specs.declared.SourceValue.{SourceValue}
 use Rattle.id_source.specs.declared.SourceValue.TheVariants.{Int, Bool, Name}
 
@@ -23,16 +25,21 @@ pub record Source : Type 0 where
 abbrev pub source : Checked → List Constant → Source
 source P vs = record { checked = P; inputs = vs }
 
--- the kind of a constant
-abbrev pub constant_kind : Constant → Kind
-constant_kind (constant.Int n) = kind.Int
-constant_kind (constant.Bool b) = kind.Bool
+-- this is the place of an array expression, and its kind
+pub record IsArrayAt (P : Checked) (e : ℕ) (k : Option Kind) : Type 0 where
+  pub row : ℕ
+  pub nested : Truth
+  pub low : ℕ
+  pub high : ℕ
+  pub stands : Stands P row (Array nested low high)
+  pub place : e ≡ place P row
+  pub kind : k ≡ Some (array_kind nested)
 
--- the kind of a value
-abbrev pub value_kind : SourceValue → Kind
-value_kind (Int n) = kind.Int
-value_kind (Bool b) = kind.Bool
-value_kind (Name s) = kind.Array
+-- this is the kind of the value in a run of the program: a name has that of the array expression at its place
+abbrev pub IsOfKind : Checked → SourceValue → Option Kind → Type 0
+IsOfKind P (Int n) k = k ≡ Some kind.Int
+IsOfKind P (Bool b) k = k ≡ Some kind.Bool
+IsOfKind P (Name s) k = IsArrayAt P s.place k
 
 -- the value that a constant is
 abbrev pub value_of : Constant → SourceValue

@@ -1,5 +1,5 @@
 -- What is true of the rows of an expression, of statements, and of parameters.
-use Rattle.std.proofs.Common.{◌≡◌, ◌⊎◌, inl, inr, ◌<◌, ◌≤◌, ℕ, suc, true, false, List, length, refl, sym, ap, ◌∙◌, subst, arith}
+use Rattle.std.proofs.Common.{◌≡◌, ◌⊎◌, inl, inr, ◌<◌, ◌≤◌, ℕ, suc, Bool, true, false, List, length, refl, sym, ap, ◌∙◌, subst, arith}
 use Rattle.std.proofs.lemmas.Bool.{cases_lt, false≢true}
 use Rattle.id_value.specs.declared.Kind.{Kind}
 use Rattle.id_value.specs.declared.UnaryOp.{UnaryOp}
@@ -207,11 +207,11 @@ module _ (F : List Row) (s : Stand) where
       are-two p lo mid a b i (Binary o a b) e within q w refl refl (λ c k. k) (Turns.left node) (Turns.right node) h g
 
   -- an array behind its bounds
-  pub are-array : (p lo mid a b i : ℕ) → at F i ≡ row_in s p lo i (Array a b) → i < length F → suc a ≡ mid → suc b ≡ i
+  pub are-array : (nested : Bool) (p lo mid a b i : ℕ) → at F i ≡ row_in s p lo i (Array nested a b) → i < length F → suc a ≡ mid → suc b ≡ i
       → AreExpression F s lo mid → AreExpression F s mid i → AreExpression F s lo (suc i)
-  are-array p lo mid a b i e within q w h g =
-      let node : (at F i).node ≡ Array a b = ap (λ (r : Row). r.node) e in
-      are-two p lo mid a b i (Array a b) e within q w refl refl (λ c k. k) (Turns.low node) (Turns.high node) h g
+  are-array nested p lo mid a b i e within q w h g =
+      let node : (at F i).node ≡ Array nested a b = ap (λ (r : Row). r.node) e in
+      are-two p lo mid a b i (Array nested a b) e within q w refl refl (λ c k. k) (Turns.low node) (Turns.high node) h g
 
   -- a fetch behind its target and its index
   pub are-fetch : (p lo mid a b i : ℕ) → at F i ≡ row_in s p lo i (Fetch a b) → i < length F → suc a ≡ mid → suc b ≡ i

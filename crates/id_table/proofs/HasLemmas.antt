@@ -218,7 +218,7 @@ module _ (F : List Row) where
         let k = Has-nexts ss (for_side s A ss q p true) 3 I (Has-push N.rows _ n) in
         let w = Has-for s A ss q p (Has-counting (for_side s A ss q p true) W x q p k) in
         Has-add a s T (Has-add b s (add s T a) (Has-push (add s (add s T a) b).rows _ w))
-    Has-add (array a b p) s T h = Has-add a s T (Has-add b s (add s T a) (Has-push (add s (add s T a) b).rows _ h))
+    Has-add (array nested a b p) s T h = Has-add a s T (Has-add b s (add s T a) (Has-push (add s (add s T a) b).rows _ h))
     Has-add (fetch a b p) s T h = Has-add a s T (Has-add b s (add s T a) (Has-push (add s (add s T a) b).rows _ h))
     Has-add (store t i e p) s T h =
         let U = add s T t in

@@ -83,7 +83,7 @@ mutual
       let w = AllDiffer-with_name (begin_for s A ss q p).names x v in
       let k = AllDiffer-nexts ss (for_side s A ss q p true) 3 (indexed s A x q ss p) w in
       AllDiffer-add l (for_side s A ss q p false) (for_closed s A x q ss p) k
-  AllDiffer-add (array a b p) s T d = AllDiffer-add b s (add s T a) (AllDiffer-add a s T d)
+  AllDiffer-add (array nested a b p) s T d = AllDiffer-add b s (add s T a) (AllDiffer-add a s T d)
   AllDiffer-add (fetch a b p) s T d = AllDiffer-add b s (add s T a) (AllDiffer-add a s T d)
   AllDiffer-add (store t i a p) s T d = AllDiffer-add a s (addressed s T t i p) (AllDiffer-add i s (add s T t) (AllDiffer-add t s T d))
   AllDiffer-add (next x a p) s T d = AllDiffer-with_name (add s T a).names x (AllDiffer-add a s T d)
@@ -175,7 +175,7 @@ mutual
       let n = nexts-longer ss (for_side s A ss q p true) 3 (indexed s A x q ss p) in
       let o = names-longer l (for_side s A ss q p false) (for_closed s A x q ss p) in
       omega arith
-  names-longer (array a b p) s T = let l = names-longer a s T in let m = names-longer b s (add s T a) in omega arith
+  names-longer (array nested a b p) s T = let l = names-longer a s T in let m = names-longer b s (add s T a) in omega arith
   names-longer (fetch a b p) s T = let l = names-longer a s T in let m = names-longer b s (add s T a) in omega arith
   names-longer (store t i a p) s T =
       let l = names-longer t s T in
@@ -348,7 +348,7 @@ module _ (F : List Row) (n : ℕ) where
         let m = names-longer b s U in
         below-push F n (size T) V.rows _ h (below-both F n (size T) (size U) (size V) (named a s T (Has-add F b s U g) (omega arith)) (named b s U g l))
         (no_name n)
-    named (array a b p) s T h l =
+    named (array nested a b p) s T h l =
         let U = add s T a in
         let V = add s U b in
         let g = Has-push F V.rows _ h in

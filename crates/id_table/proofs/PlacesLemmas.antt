@@ -223,7 +223,7 @@ module _ (F : List Row) where
         let g = Has-push F V.rows _ h in
         placed-push (size T) (λ q. HasPlace a q ⊎ HasPlace b q) V.rows _ h
         (placed-both (size T) (size U) (size V) (HasPlace a) (HasPlace b) (placed a s T (Has-add F b s U g)) (placed b s U g))
-    placed (array a b p) s T h =
+    placed (array nested a b p) s T h =
         let U = add s T a in
         let V = add s U b in
         let g = Has-push F V.rows _ h in
@@ -480,7 +480,7 @@ module _ (F : List Row) where
         let V = add s U b in
         let k = Has-push F V.rows _ h in
         differ-two a b s T _ h d.0 d.1 d.2 (differ a s T (Has-add F b s U k) d.3) (differ b s U k d.4)
-    differ (array a b p) s T h d =
+    differ (array nested a b p) s T h d =
         let U = add s T a in
         let V = add s U b in
         let k = Has-push F V.rows _ h in

@@ -199,14 +199,14 @@ module _ (F : List Row) where
         grown s (size T) V.rows _
         (are-binary F s p (size T) (size U) (last U) (last V) (size V) o (at-push F V.rows _ h) (push-within F V.rows _ h) (last_of s (size T) (size U) e)
         (last_of s (size U) (size V) f) e f)
-    Are-add s T (by_array {a} {b} {p} t u) h =
+    Are-add s T (by_array {nested} {a} {b} {p} t u) h =
         let U = add s T a in
         let V = add s U b in
         let after = Has-push F V.rows _ h in
         let e = Are-add s T t (Has-add F b s U after) in
         let f = Are-add s U u after in
         grown s (size T) V.rows _
-        (are-array F s p (size T) (size U) (last U) (last V) (size V) (at-push F V.rows _ h) (push-within F V.rows _ h) (last_of s (size T) (size U) e)
+        (are-array F s nested p (size T) (size U) (last U) (last V) (size V) (at-push F V.rows _ h) (push-within F V.rows _ h) (last_of s (size T) (size U) e)
         (last_of s (size U) (size V) f) e f)
     Are-add s T (by_fetch {t = a} {i = b} {p} t u) h =
         let U = add s T a in

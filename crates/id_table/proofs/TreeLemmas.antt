@@ -24,7 +24,7 @@ mutual
   IsTree-tree_of (Loop' place p test n statements last) = by_loop (IsTree-tree_of test) (IsTree-row_tree statements) (IsTree-tree_of last)
   IsTree-tree_of (For' place p x q low high n statements last) =
       by_for (IsTree-tree_of low) (IsTree-tree_of high) (IsTree-row_tree statements) (IsTree-tree_of last)
-  IsTree-tree_of (Array' place p a b) = by_array (IsTree-tree_of a) (IsTree-tree_of b)
+  IsTree-tree_of (Array' place nested p a b) = by_array (IsTree-tree_of a) (IsTree-tree_of b)
   IsTree-tree_of (Fetch' place p a b) = by_fetch (IsTree-tree_of a) (IsTree-tree_of b)
 
   IsTree-args_tree : {n : _} (es : Row_of-Expr n) → IsTree Arguments (args_tree es)

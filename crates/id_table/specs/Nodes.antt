@@ -14,5 +14,5 @@ other_side s = record { block = s.block; region = arm_at s.region.head false }
 -- the node of this form with these parts
 abbrev pub pair_node : Pairing → ℕ → ℕ → Node
 pair_node (Binary o) a b = node.Binary o a b
-pair_node Array a b = node.Array a b
+pair_node (Array nested) a b = node.Array nested a b
 pair_node Fetch a b = node.Fetch a b

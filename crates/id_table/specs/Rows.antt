@@ -168,10 +168,10 @@ abbrev mutual
       let D = with_row (add_nexts y 3 I ss) y p (last I) Body in
       let L = add o D l in
       end_loop s o p (size T) (size A) (size D) (last L) L
-  add s T (array a b p) =
+  add s T (array nested a b p) =
       let U = add s T a in
       let V = add s U b in
-      with_row V s p (size T) (Array (last U) (last V))
+      with_row V s p (size T) (Array nested (last U) (last V))
   add s T (fetch t i p) =
       let U = add s T t in
       let V = add s U i in

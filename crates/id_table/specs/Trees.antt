@@ -1,5 +1,5 @@
 -- Which trees are those of programs (docs/LANGUAGE.md, "Grammar").
-use Rattle.std.specs.Prelude.{ℕ, List}
+use Rattle.std.specs.Prelude.{ℕ, Bool, List}
 use Rattle.id_value.specs.declared.Kind.{Kind}
 use Rattle.id_value.specs.declared.Constant.{Constant}
 use Rattle.id_value.specs.declared.UnaryOp.{UnaryOp}
@@ -30,7 +30,8 @@ pub data IsTree : Sort → Tree → Type 0 where
   by_for : {x : List ℕ} {a b ss l : Tree} {q p : ℕ} → IsTree Expression a → IsTree Expression b → IsTree Statements ss
       → IsTree Expression l
       → IsTree Expression (for_loop x q a b ss l p)
-  by_array : {a b : Tree} {p : ℕ} → IsTree Expression a → IsTree Expression b → IsTree Expression (array a b p)
+  by_array : {nested : Bool} {a b : Tree} {p : ℕ} → IsTree Expression a → IsTree Expression b
+      → IsTree Expression (array nested a b p)
   by_fetch : {t i : Tree} {p : ℕ} → IsTree Expression t → IsTree Expression i → IsTree Expression (fetch t i p)
   by_block : {ss b : Tree} {p : ℕ} → IsTree Statements ss → IsTree Expression b → IsTree Expression (block ss b p)
   no_arguments : IsTree Arguments none

@@ -41,8 +41,8 @@ pub data Turns (R : List Row) (n : ℕ) : ℕ → Type 0 where
   argument : {e c m k v : ℕ} → (at R n).node ≡ Call e c → m < length R → (at R m).node ≡ Arg e k v → Turns R n v
   index_low : {h w l a b : ℕ} → (at R n).node ≡ Loop h w l → (at R (bounds_row h)).node ≡ Bounds a b → Turns R n a
   index_high : {h w l a b : ℕ} → (at R n).node ≡ Loop h w l → (at R (bounds_row h)).node ≡ Bounds a b → Turns R n b
-  low : {a b : ℕ} → (at R n).node ≡ Array a b → Turns R n a
-  high : {a b : ℕ} → (at R n).node ≡ Array a b → Turns R n b
+  low : {nested : Bool} {a b : ℕ} → (at R n).node ≡ Array nested a b → Turns R n a
+  high : {nested : Bool} {a b : ℕ} → (at R n).node ≡ Array nested a b → Turns R n b
   fetched : {t i : ℕ} → (at R n).node ≡ Fetch t i → Turns R n t
   fetch_index : {t i : ℕ} → (at R n).node ≡ Fetch t i → Turns R n i
   address_target : {a v t i : ℕ} → (at R n).node ≡ Store a v → (at R a).node ≡ Address t i → Turns R n t

@@ -51,7 +51,7 @@ pub fn if_node(split: u32, then: usize, otherwise: usize) -> Result<Node, AllocE
 #[derive(Clone, Copy)]
 pub enum Pairing {
     Binary { op: BinaryOp },
-    Array,
+    Array { nested: bool },
     Fetch,
 }
 
@@ -65,7 +65,8 @@ pub fn pair_node(form: Pairing, first: usize, second: usize) -> Node
             left: first,
             right: second,
         },
-        Pairing::Array => Node::Array {
+        Pairing::Array { nested } => Node::Array {
+            nested,
             low: first,
             high: second,
         },

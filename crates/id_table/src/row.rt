@@ -157,8 +157,9 @@ pub enum Node {
         switches: u32,
         last: u32,
     },
-    /// What makes a structure: the rows of its bounds.
+    /// What makes a structure, which is nested or not: the rows of its bounds.
     Array {
+        nested: bool,
         low: usize,
         high: usize,
     },

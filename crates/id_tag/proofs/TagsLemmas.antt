@@ -1,10 +1,12 @@
 -- Lemmas on specs/Tags.antt.
-use Rattle.std.proofs.Common.{◌≡◌, ℕ, ℤ, true, ◌&&◌, nat_eq, refl, sym, ◌∙◌, ap, arith}
-use Rattle.std.specs.Ordering.{nat_cmp, int_cmp, int_eq, ordering_then, eq_by_cmp, is_eq}
+use Rattle.std.proofs.Common.{◌≡◌, ℕ, ℤ, Bool, true, false, ◌&&◌, nat_eq, refl, sym, ◌∙◌, ap, arith}
+use Rattle.std.specs.Bool.{beq}
+use Rattle.std.specs.Ordering.{nat_cmp, int_cmp, int_eq, bool_cmp, ordering_then, eq_by_cmp, is_eq}
 use Rattle.std.specs.declared.cmp.Ordering.{Ordering}
 use Rattle.std.specs.declared.cmp.Ordering.TheVariants.{Less, Equal, Greater}
 use Rattle.std.proofs.lemmas.Bool.Decides.{nat_tests}
-use Rattle.std.specs.Cmp.{IsTotalOrder, IsEquivalence, nat_cmp_total, int_cmp_total, eq_by_cmp_equiv}
+use Rattle.std.specs.Cmp.{IsTotalOrder, IsEquivalence, nat_cmp_total, int_cmp_total, bool_cmp_total}
+use Rattle.std.specs.Cmp.{eq_by_cmp_equiv}
 use Rattle.std.proofs.lemmas.Cmp.{then_total, on_total}
 use Rattle.std.proofs.lemmas.Map.Lookups.{CmpEqualImpliesEq, exact_pairs, exact_unsigned, exact_signed}
 use Rattle.id_tag.specs.declared.Context.{Context}
@@ -72,19 +74,35 @@ one_from_same_tag t u h = exact_tags t u (ties_from_same_tag t u h)
 
 -- ---- cells
 
-abbrev bounds_cmp : ℤ × ℤ → ℤ × ℤ → Ordering
-bounds_cmp a b = ordering_then (int_cmp a.0 b.0) (int_cmp a.1 b.1)
+exact_truths : CmpEqualImpliesEq bool_cmp
+exact_truths false false e = refl
+exact_truths false true e = cc
+exact_truths true false e = cc
+exact_truths true true e = refl
 
-abbrev serial_cmp : ℕ × (ℤ × ℤ) → ℕ × (ℤ × ℤ) → Ordering
+abbrev high_cmp : ℤ × Bool → ℤ × Bool → Ordering
+high_cmp a b = ordering_then (int_cmp a.0 b.0) (bool_cmp a.1 b.1)
+
+abbrev bounds_cmp : ℤ × (ℤ × Bool) → ℤ × (ℤ × Bool) → Ordering
+bounds_cmp a b = ordering_then (int_cmp a.0 b.0) (high_cmp a.1 b.1)
+
+abbrev serial_cmp : ℕ × (ℤ × (ℤ × Bool)) → ℕ × (ℤ × (ℤ × Bool)) → Ordering
 serial_cmp a b = ordering_then (nat_cmp a.0 b.0) (bounds_cmp a.1 b.1)
 
 -- structures that compare alike are one
 exact_structures : CmpEqualImpliesEq structure_cmp
 exact_structures a b h =
-    ap (λ (p : ℕ × (ℕ × (ℤ × ℤ))). record { element = p.0; serial = p.1.0; low = p.1.1.0; high = p.1.1.1 })
+    ap (λ (p : ℕ × (ℕ × (ℤ × (ℤ × Bool)))). record {
+      element = p.0;
+      serial = p.1.0;
+      low = p.1.1.0;
+      high = p.1.1.1.0;
+      nested = p.1.1.1.1;
+    })
     (exact_pairs nat_cmp serial_cmp exact_unsigned
-    (exact_pairs nat_cmp bounds_cmp exact_unsigned (exact_pairs int_cmp int_cmp exact_signed exact_signed))
-    (a.element, (a.serial, (a.low, a.high))) (b.element, (b.serial, (b.low, b.high))) h)
+    (exact_pairs nat_cmp bounds_cmp exact_unsigned
+    (exact_pairs int_cmp high_cmp exact_signed (exact_pairs int_cmp bool_cmp exact_signed exact_truths)))
+    (a.element, (a.serial, (a.low, (a.high, a.nested)))) (b.element, (b.serial, (b.low, (b.high, b.nested)))) h)
 
 -- cells that compare alike are one
 pub exact_cells : CmpEqualImpliesEq cell_cmp
@@ -96,7 +114,8 @@ structures_total : IsTotalOrder structure_cmp
 structures_total =
     then_total (on_total (λ s. s.element) nat_cmp_total)
     (then_total (on_total (λ s. s.serial) nat_cmp_total)
-    (then_total (on_total (λ s. s.low) int_cmp_total) (on_total (λ s. s.high) int_cmp_total)))
+    (then_total (on_total (λ s. s.low) int_cmp_total)
+    (then_total (on_total (λ s. s.high) int_cmp_total) (on_total (λ s. s.nested) bool_cmp_total))))
 
 -- cells are in one order
 pub cells_total : IsTotalOrder cell_cmp
@@ -105,9 +124,15 @@ cells_total = then_total (on_total (λ c. c.structure) structures_total) (on_tot
 integers_tie : (m n : ℤ) → is_eq (int_cmp m n) ≡ int_eq m n
 integers_tie m n = grind (arith, nat_tests)
 
+truths_tie : (a b : Bool) → is_eq (bool_cmp a b) ≡ beq a b
+truths_tie false false = refl
+truths_tie false true = refl
+truths_tie true false = refl
+truths_tie true true = refl
+
 -- the test of cells by their numbers is that by their order
 pub ties-same_cell : (c d : Cell) → eq_by_cmp cell_cmp c d ≡ same_cell c d
-ties-same_cell c d = simp (then_ties, numbers_tie, integers_tie)
+ties-same_cell c d = simp (then_ties, numbers_tie, integers_tie, truths_tie)
 
 -- cells that pass the test are one
 pub one_from_same_cell : (c d : Cell) → same_cell c d ≡ true → c ≡ d

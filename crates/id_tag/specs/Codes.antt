@@ -25,12 +25,13 @@ coded_tag =
     (λ p. record { context = p.0; iteration = p.1.0; instr = p.1.1 })
     (λ _. refl)
 
--- a structure as its two numbers with its bounds
+-- a structure as its two numbers with its bounds, and whether it is nested
 abbrev pub coded_structure : Coded Structure
 coded_structure =
-    code_by ((ℕ × ℕ) × (ℤ × ℤ)) (coded× (coded× coded_ℕ coded_ℕ) (coded× coded_ℤ coded_ℤ))
-    (λ a. ((a.element, a.serial), (a.low, a.high)))
-    (λ p. record { element = p.0.0; serial = p.0.1; low = p.1.0; high = p.1.1 })
+    code_by (((ℕ × ℕ) × (ℤ × ℤ)) × Bool)
+    (coded× (coded× (coded× coded_ℕ coded_ℕ) (coded× coded_ℤ coded_ℤ)) coded_bool)
+    (λ a. (((a.element, a.serial), (a.low, a.high)), a.nested))
+    (λ p. record { element = p.0.0.0; serial = p.0.0.1; low = p.0.1.0; high = p.0.1.1; nested = p.1 })
     (λ _. refl)
 
 -- a cell as its structure with its index

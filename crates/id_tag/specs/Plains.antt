@@ -16,7 +16,7 @@ use Rattle.id_tag.specs.declared.Message.{Message}
 use Rattle.id_tag.specs.declared.Payload.TheVariants.{Token}
 use Rattle.id_tag.specs.declared.Sender.TheVariants.{Element}
 
--- the element and the serial number in the name of a context or a structure
+-- the element and the serial number in the name of a context, and a structure's maker and serial number in its name
 abbrev pub element_of : ℕ → ℕ
 element_of n = n % 256
 
@@ -27,9 +27,14 @@ serial_of n = n / 256
 abbrev pub context_of : ℕ → Activation
 context_of n = record { element = element_of n; serial = serial_of n }
 
+-- the structure with this serial number and these bounds, whose element has the lower 7 bits of the maker's number: the
+-- eighth tells whether it is nested
+abbrev pub made_by : ℕ → ℕ → ℤ → ℤ → Array
+made_by m n l h = record { element = m % 128; serial = n; low = l; high = h; nested = not (m / 128 == 0) }
+
 -- the structure of a name, with these bounds
 abbrev pub structure_of : ℕ → ℤ → ℤ → Array
-structure_of n l h = record { element = element_of n; serial = serial_of n; low = l; high = h }
+structure_of n l h = made_by (element_of n) (serial_of n) l h
 
 -- the bounds and the index in the place of a cell, each above its least
 abbrev pub low_of : ℕ → ℤ

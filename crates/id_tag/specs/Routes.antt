@@ -19,7 +19,8 @@ offset_of c = c.index -ℤ c.structure.low
 -- the element that handles a cell, of so many: the sum of its structure's two numbers and its offset, modulo their
 -- count
 abbrev pub cell_route : Cell → ℕ → ℕ
-cell_route c count = unsigned_abs (int_rem_euclid (pos (c.structure.element + c.structure.serial) +ℤ offset_of c) (pos count))
+cell_route c count =
+    unsigned_abs (int_rem_euclid (pos (c.structure.element + c.structure.serial) +ℤ offset_of c) (pos count))
 
 -- the element that handles what a message says: a token goes where its tag goes, a read or a write where its cell goes
 abbrev pub route_of : Payload → ℕ → ℕ

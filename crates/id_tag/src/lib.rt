@@ -18,8 +18,8 @@ mod plain;
 use id_instr::{Port, PortKind};
 pub use near::{NearHasher, mix};
 pub use plain::{
-    Plain, PlainCell, PlainToken, element_of, name_of, plain_cell, plain_cell_in, plain_of,
-    plain_truth, serial_of, small, tiny,
+    Plain, PlainCell, PlainToken, element_of, made_by, maker_of, name_of, plain_cell,
+    plain_cell_in, plain_of, plain_truth, serial_of, small, tiny,
 };
 
 /// The context of an activation: the element that made it, and the number that it gave it.
@@ -38,14 +38,15 @@ pub struct Tag {
     pub instr: u32,
 }
 
-/// A structure: the element that made it, the number that it gave it, and its bounds. Each element numbers
-/// those that it makes from 1.
+/// A structure: the element that made it, the number that it gave it, its bounds, and whether its cells hold structures
+/// in place of numbers. Each element numbers those that it makes from 1.
 #[derive(Clone, Copy, Debug, PartialEq, Eq, PartialOrd, Ord, Hash)]
 pub struct Structure {
     pub element: u32,
     pub serial: u64,
     pub low: i64,
     pub high: i64,
+    pub nested: bool,
 }
 
 /// A cell of a structure. Where a message names it, `index` is inside the structure's bounds.
@@ -118,8 +119,8 @@ impl Value {
             Value::Signal => PortKind::Signal,
             Value::Int(_) => PortKind::Int,
             Value::Bool(_) => PortKind::Bool,
-            Value::Structure(_) => PortKind::Structure,
-            Value::Address(_) => PortKind::Address,
+            Value::Structure(structure) => PortKind::of_structure(structure.nested),
+            Value::Address(cell) => PortKind::of_address(cell.structure.nested),
             Value::Context(_) => PortKind::Context,
             Value::Continuation(_) => PortKind::Continuation,
         }

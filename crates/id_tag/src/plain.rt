@@ -1,11 +1,11 @@
 //! Plain values: those of small numbers, which most tokens carry.
 
-ghost use Rattle.std.specs.Prelude.{◌≡◌, ◌≢◌, ◌≤◌, ◌<◌, ◌+◌, ◌^◌, ◌/◌, ◌%◌};
+ghost use Rattle.std.specs.Prelude.{◌≡◌, ◌≢◌, ◌≤◌, ◌<◌, ◌+◌, ◌^◌, ◌/◌, ◌%◌, ℤ};
 ghost use Rattle.std.specs.Prelude.{◌-ℤ◌, ◌≤ℤ◌, ◌<ℤ◌, neg_ℤ, pos, None, IfSome, IsSome, true};
 ghost use Rattle.id_tag.specs.Kinds.{kind_of};
 ghost use Rattle.id_tag.specs.Plains.{HasPlace, cell_of, context_of, element_of};
 ghost use Rattle.id_tag.specs.Plains.{high_of, index_of, is_carried, is_word};
-ghost use Rattle.id_tag.specs.Plains.{low_of, serial_of, structure_of, truth_of, whole, word_of};
+ghost use Rattle.id_tag.specs.Plains.{low_of, made_by, serial_of, structure_of, truth_of, whole, word_of};
 ghost use Rattle.id_tag.specs.declared.Cell.{Cell};
 ghost use Rattle.id_tag.specs.declared.Value.TheVariants as value;
 
@@ -31,8 +31,8 @@ pub enum Plain {
     Address(u32, u64),
 }
 
-/// The name of a context or a structure in one number, where its element has 8 bits and its serial number 24: 256 times
-/// the serial number, and the element. Takes no memory.
+/// The name of a context in one number, where its element has 8 bits and its serial number 24: 256 times the serial
+/// number, and the element. That of a structure has its maker in place of the element. Takes no memory.
 #[inline(always)]
 pub fn name_of(element: u32, serial: u64) -> Option<u32>
     ensures element { IfSome result (λ n. element_of n ≡ element) }
@@ -46,7 +46,39 @@ pub fn name_of(element: u32, serial: u64) -> Option<u32>
     }
 }
 
-/// The element of a name. Takes no memory.
+/// The maker of a structure: its element, which has 7 bits, and 128 more where the structure is nested. Takes no
+/// memory.
+#[inline(always)]
+pub fn maker_of(structure: Structure) -> Option<u8>
+    ensures made { IfSome result (λ m. made_by m structure.serial structure.low structure.high ≡ structure) }
+    ensures fits { structure.element < 2 ^ 7 → IsSome result }
+{
+    if structure.element > 0x7f {
+        return None;
+    }
+    let element = structure.element as u8;
+    if structure.nested {
+        Some(element + 0x80)
+    } else {
+        Some(element)
+    }
+}
+
+/// The structure of this maker with this serial number and these bounds. Takes no memory.
+#[inline(always)]
+pub fn made_by(maker: u32, serial: u64, low: i64, high: i64) -> Structure
+    ensures { result ≡ made_by maker serial low high }
+{
+    Structure {
+        element: maker % 0x80,
+        serial,
+        low,
+        high,
+        nested: maker / 0x80 != 0,
+    }
+}
+
+/// The element of a name, or the maker of a structure's. Takes no memory.
 #[inline(always)]
 pub fn element_of(name: u32) -> u8
     ensures { result ≡ element_of name }
@@ -126,8 +158,8 @@ impl Plain {
             Plain::Bool(_) => PortKind::Bool,
             Plain::Context(_) => PortKind::Context,
             Plain::Continuation(_, _, _) => PortKind::Continuation,
-            Plain::Structure(_, _, _) => PortKind::Structure,
-            Plain::Address(_, _) => PortKind::Address,
+            Plain::Structure(name, _, _) => PortKind::of_structure(is_nested(name)),
+            Plain::Address(name, _) => PortKind::of_address(is_nested(name)),
         }
     }
 
@@ -165,12 +197,20 @@ pub struct PlainCell {
 }
 
 impl PlainCell {
-    /// The element of its structure. Takes no memory.
+    /// The maker of its structure. Takes no memory.
     #[inline(always)]
-    pub fn element(self) -> u8
+    pub fn maker(self) -> u8
         ensures { result ≡ element_of self.name }
     {
         element_of(self.name)
+    }
+
+    /// Whether its structure is nested. Takes no memory.
+    #[inline(always)]
+    pub fn is_nested(self) -> bool
+        ensures { result ≡ (cell_of self).structure.nested }
+    {
+        is_nested(self.name)
     }
 
     /// The serial number of its structure. Takes no memory.
@@ -229,12 +269,12 @@ impl PlainCell {
 #[inline(always)]
 pub fn plain_cell(cell: Cell) -> Option<PlainCell>
     ensures same { IfSome result (λ c. cell_of c ≡ cell) }
-    ensures fits { cell.structure.element < 2 ^ 8 → cell.structure.serial < 2 ^ 24
+    ensures fits { cell.structure.element < 2 ^ 7 → cell.structure.serial < 2 ^ 24
         → HasPlace cell.structure.low cell.structure.high cell.index → IsSome result }
 {
     let structure = cell.structure;
     Some(PlainCell {
-        name: name_of(structure.element, structure.serial)?,
+        name: name_of(u32::from(maker_of(structure)?), structure.serial)?,
         place: place_of(structure.low, structure.high, cell.index)?,
     })
 }
@@ -312,12 +352,20 @@ fn context(name: u32) -> Context
 fn structure(name: u32, low: i32, high: i32) -> Structure
     ensures { result ≡ structure_of name low high }
 {
-    Structure {
-        element: u32::from(element_of(name)),
-        serial: u64::from(serial_of(name)),
-        low: i64::from(low),
-        high: i64::from(high),
-    }
+    made_by(
+        u32::from(element_of(name)),
+        u64::from(serial_of(name)),
+        i64::from(low),
+        i64::from(high),
+    )
+}
+
+/// Whether the structure of a name is nested.
+#[inline(always)]
+fn is_nested(name: u32) -> bool
+    ensures { (low : ℤ) (high : ℤ) → result ≡ (structure_of name low high).nested }
+{
+    element_of(name) / 0x80 != 0
 }
 
 /// The value as a plain one, where it is a word, or a context, a continuation, a structure or an address in small
@@ -332,7 +380,7 @@ pub fn plain_of(value: &Value) -> Option<Plain>
         Value::Int(number) => Some(Plain::Int(number)),
         Value::Bool(truth) => Some(plain_truth(truth)),
         Value::Structure(structure) => Some(Plain::Structure(
-            name_of(structure.element, structure.serial)?,
+            name_of(u32::from(maker_of(structure)?), structure.serial)?,
             near(structure.low)?,
             near(structure.high)?,
         )),

@@ -12,6 +12,7 @@ use Rattle.id_grammar.specs.declared.tokens.Word.{Word}
 use Rattle.id_grammar.specs.declared.tokens.Word.TheVariants as the
 use Rattle.id_value.specs.declared.BinaryOp.{BinaryOp}
 use Rattle.id_grammar.specs.Tree.{Tree, none, more}
+use Rattle.id_grammar.specs.Grammar.{measured, lifted, unlifted}
 use Rattle.id_grammar.specs.Grammar.{Phrase, Definition, Parameters, MoreParameters, Expression, Grouped, Negation}
 use Rattle.id_grammar.specs.Grammar.{Unary, Postfix, Atom, Arguments, MoreArguments, Tail, arguments_of, Rest, part}
 use Rattle.id_grammar.specs.Grammar.{Opens, by_conditional, denied, negated, number, by_true, by_false, parens, by_name}
@@ -20,8 +21,9 @@ use Rattle.id_grammar.specs.Grammar.{operator_of, own_height, Derives, opened, u
 use Rattle.id_grammar.specs.Grammar.{bare, atomic, fetched, some_arguments, Follows, ended, taken, chosen, left_out}
 use Rattle.id_grammar.specs.Grammar.{named, kinded, given, Program, empty, defined}
 use Rattle.id_grammar.specs.Machine.{opening, is_word, room, Move, pick, ahead, ends, wants, Frame, Left, Right, Target}
-use Rattle.id_grammar.specs.Machine.{Inside, Outer, again, State, Begin, Want, Have, Next, Accepted, Refused, run}
+use Rattle.id_grammar.specs.Machine.{Inside, Sizing, Outer, again, State, Begin, Want, Have, Next, Accepted, Refused, run}
 use Rattle.id_grammar.proofs.RowLemmas.{Quiet, Ends, Bars, Parts, valid, not_fetch, Quiet-atom, Quiet-fetch, Quiet-operator, Follows-height, arguments_parts}
+use Rattle.id_grammar.proofs.RunLemmas.{run-sized, run-sizing, run-lifted, run-unlifted}
 use Rattle.id_grammar.proofs.RunLemmas.{First, Unopened, run-done, run-part, run-inside, run-outer, run-right, run-level}
 use Rattle.id_grammar.proofs.RunLemmas.{run-left, run-unconditional, run-plain, run-bare, run-postfix, run-target}
 use Rattle.id_grammar.proofs.RunLemmas.{run-fetch, run-word, run-chosen, run-left_out, run-arguments, run-name, run-kind}
@@ -160,6 +162,9 @@ Follows-stops (named q f) s0 s us b p = absurd b
 Follows-stops (kinded q f) s0 s us b p = absurd b
 Follows-stops (chosen q f) s0 s us b p = absurd b
 Follows-stops (left_out f) s0 s us b p = absurd b
+Follows-stops (measured x f) s0 s us b p = absurd b
+Follows-stops (lifted q f) s0 s us b p = absurd b
+Follows-stops (unlifted f) s0 s us b p = absurd b
 Follows-stops (given {s = i} {f = g} {us = xs} {ts = ts} x f) s0 s us b p = rw (append_assoc xs ts us) (Part-stops i g x s0 s (ts ++ us) b)
 
 -- a tail begins with the first token of one of its productions
@@ -170,6 +175,7 @@ Derives-tail (opened {t = t} {r = r} o f) P g us = g t.kind t.start r o
 Part-bars : (i : Phrase) (f : Tree → Rest) {ts : List Token} {e : Tree} {h : ℕ} → Derives i ts e h → (s0 : Phrase) (w : Word) (us : List Token) →
     Bars s0 w (part i f) → First (λ k. is_word w k ≡ false) (ts ++ us)
 Part-bars (Tail o) f x s0 w us b = Derives-tail x (λ k. is_word w k ≡ false) b us
+Part-bars MoreParameters f (opened {t = t} {r = r} o g) s0 w us b = b t.kind t.start r o
 Part-bars _ f x s0 w us b = absurd b
 
 -- where a word is barred, it is not there
@@ -182,6 +188,9 @@ Follows-bars (named i f) s0 w us b q = absurd b
 Follows-bars (kinded i f) s0 w us b q = absurd b
 Follows-bars (chosen i f) s0 w us b q = rw i b.0
 Follows-bars (left_out f) s0 w us b q = Follows-bars f s0 w us b.1 q
+Follows-bars (measured x f) s0 w us b q = absurd b
+Follows-bars (lifted i f) s0 w us b q = absurd b
+Follows-bars (unlifted f) s0 w us b q = absurd b
 
 -- what a production begins has no level
 Stops-opens : (s : Phrase) {k : TokenKind} {p : ℕ} {r : Rest} → Opens s k p r → (us : List Token) → StopsInside s us → Stops s us
@@ -447,6 +456,21 @@ mutual
       ∙ run-inside n (ts ++ us) a i g m d c K
       ∙ run-follows f n (max m i) d c K us s0 (omega arith) (p a).1 q
       ∙ ap (λ x. run n us (Have e x K)) (max-assoc m i j c))
+  run-follows (measured {s = s} {f = g} {us = xs} {ts = ts} {a = a} {e = e} {m = i} {n = j} x f) n m d c K us s0 w p q =
+      let stops = Follows-stops f s0 s us (p a i).0 q in
+      rw (append_assoc xs ts us)
+      (run-sized n (xs ++ (ts ++ us)) s g m d c K
+      ∙ run-derives x n d (Sizing g m d c ∷ K) (ts ++ us) (omega arith) (Stops-inside s (ts ++ us) stops)
+      ∙ run-after n (ts ++ us) s a i d (Sizing g m d c ∷ K) stops
+      ∙ run-sizing n (ts ++ us) a i g m d c K
+      ∙ run-follows f n (max m i) d c K us s0 (omega arith) (p a i).1 q
+      ∙ ap (λ x. run n us (Have e x K)) (max-assoc m i j c))
+  run-follows (lifted {m = j} {w = v} {t = t} {r = r} {q = o} {ts = ts} {e = e} {h = h} i f) n m d c K us s0 w p q =
+      run-lifted n t (ts ++ us) j v r o m d c K i (omega arith)
+      ∙ run-follows f n (max m (j + 1)) d c K us s0 (omega arith) (p.1 t.start) q
+      ∙ ap (λ x. run n us (Have e x K)) (max-assoc m (j + 1) h c)
+  run-follows (unlifted {m = j} {w = v} {r = r} {q = o} {ts = ts} f) n m d c K us s0 w p q =
+      run-unlifted n (ts ++ us) j v r o m d c K (Follows-bars f s0 v us p.0 q) ∙ run-follows f n m d c K us s0 w p.2 q
 
 -- where a definition can come, it is wanted at once
 run-begin : (n : ℕ) (t : Token) (ts : List Token) (ds : List Tree) (e : Tree) → run n (t ∷ ts) (Want Definition 0 (Outer ds ∷ [])) ≡ Accepted e →

@@ -1,10 +1,13 @@
 -- What rises gives things different places.
-use Rattle.std.proofs.Common.{ℕ, ◌+◌, ◌≤◌, ◌<◌, List, [], ◌∷◌, ◌++◌, inl, inr, arith}
+use Rattle.std.proofs.Common.{Bool, true, false, ℕ, ◌+◌, ◌≤◌, ◌<◌, List, [], ◌∷◌, ◌++◌, inl, inr, arith}
 use Rattle.id_text.specs.declared.token.Token.{Token}
 use Rattle.id_text.specs.declared.token.TokenKind.{TokenKind}
 use Rattle.id_value.specs.declared.Kind.{Kind}
+use Rattle.id_value.specs.declared.Kind.TheVariants as kind
 use Rattle.id_grammar.specs.Tree as tree
 use Rattle.id_grammar.specs.Tree.{Tree, literal, unary, binary, conditional, call, block, loop, for_loop, array, fetch, binding, store, param, define, none, more}
+use Rattle.id_text.specs.declared.token.Symbol.TheVariants.{Becomes}
+use Rattle.id_grammar.specs.Grammar.{MoreParameters, body_of, sign, bounds_of, deepened, sized, raised, measured, lifted, unlifted}
 use Rattle.id_grammar.specs.Grammar.{Phrase, Rest, done, word, either, name, of_kind, part, with_statement, with_tail}
 use Rattle.id_grammar.specs.Grammar.{loop_with_tail, for_with_tail, Opens, definition, no_parameters, first_parameter, last_parameter}
 use Rattle.id_grammar.specs.Grammar.{next_parameter, by_conditional, denied, negated, number, by_true, by_false, parens}
@@ -27,7 +30,7 @@ Spans low (block a b p) high = (low ≤ p) × ((mid : ℕ) × Spans (p + 1) a mi
 Spans low (loop t x y p) high = (low ≤ p) × ((mid : ℕ) × (next : ℕ) × Spans (p + 1) t mid × Spans mid x next × Spans next y high)
 Spans low (for_loop x i a b c d p) high =
     (low ≤ p) × (p + 1 ≤ i) × ((m : ℕ) × (n : ℕ) × (o : ℕ) × Spans (i + 1) a m × Spans m b n × Spans n c o × Spans o d high)
-Spans low (array a b p) high = (low ≤ p) × ((mid : ℕ) × Spans (p + 1) a mid × Spans mid b high)
+Spans low (array nested a b p) high = (low ≤ p) × ((mid : ℕ) × Spans (p + 1) a mid × Spans mid b high)
 Spans low (fetch t i p) high = Spans low t p × Spans (p + 1) i high
 Spans low (binding x a p) high = (low ≤ p) × Spans (p + 1) a high
 Spans low (tree.next x a p) high = (low ≤ p) × Spans (p + 1) a high
@@ -51,7 +54,7 @@ Spans-order (loop t x y p) low high (u, (mid, next, v, w, z)) =
     omega (arith, u, Spans-order t (p + 1) mid v, Spans-order x mid next w, Spans-order y next high z)
 Spans-order (for_loop x i a b c d p) low high (u, v, (m, n, o, w, y, z, t)) =
     omega (arith, u, v, Spans-order a (i + 1) m w, Spans-order b m n y, Spans-order c n o z, Spans-order d o high t)
-Spans-order (array a b p) low high (u, (mid, v, w)) = omega (arith, u, Spans-order a (p + 1) mid v, Spans-order b mid high w)
+Spans-order (array nested a b p) low high (u, (mid, v, w)) = omega (arith, u, Spans-order a (p + 1) mid v, Spans-order b mid high w)
 Spans-order (fetch t i p) low high q = omega (arith, Spans-order t low p q.0, Spans-order i (p + 1) high q.1)
 Spans-order (binding x a p) low high q = omega (arith, q.0, Spans-order a (p + 1) high q.1)
 Spans-order (tree.next x a p) low high q = omega (arith, q.0, Spans-order a (p + 1) high q.1)
@@ -76,7 +79,7 @@ Spans-wider (loop t x y p) low high below above u v (o, (mid, next, w, s, z)) =
     (omega (arith, o), (mid, next, w, s, Spans-wider y next high next above (omega arith) v z))
 Spans-wider (for_loop x i a b c d p) low high below above u v (k, l, (m, n, o, w, y, z, t)) =
     (omega (arith, k), l, (m, n, o, w, y, z, Spans-wider d o high o above (omega arith) v t))
-Spans-wider (array a b p) low high below above u v (o, (mid, s, t)) = (omega (arith, o), (mid, s, Spans-wider b mid high mid above (omega arith) v t))
+Spans-wider (array nested a b p) low high below above u v (o, (mid, s, t)) = (omega (arith, o), (mid, s, Spans-wider b mid high mid above (omega arith) v t))
 Spans-wider (fetch t i p) low high below above u v q =
     (Spans-wider t low p below p u (omega arith) q.0, Spans-wider i (p + 1) high (p + 1) above (omega arith) v q.1)
 Spans-wider (binding x a p) low high below above u v q = (omega (arith, q.0), Spans-wider a (p + 1) high (p + 1) above (omega arith) v q.1)
@@ -140,10 +143,10 @@ Spans-place (for_loop x i a b c d p) low high q (u, v, (m, n, o, w, y, z, t)) (i
 Spans-place (for_loop x i a b c d p) low high q (u, v, (m, n, o, w, y, z, t)) (inr (inr (inr (inr (inr h))))) =
     let r = Spans-place d o high q t h in
     (omega (arith, u, v, r.0, Spans-order a (i + 1) m w, Spans-order b m n y, Spans-order c n o z), r.1)
-Spans-place (array a b p) low high q (o, (mid, s, t)) (inl h) = (omega (arith, o, h), omega (arith, Spans-order a (p + 1) mid s, Spans-order b mid high t, h))
-Spans-place (array a b p) low high q (o, (mid, s, t)) (inr (inl h)) =
+Spans-place (array nested a b p) low high q (o, (mid, s, t)) (inl h) = (omega (arith, o, h), omega (arith, Spans-order a (p + 1) mid s, Spans-order b mid high t, h))
+Spans-place (array nested a b p) low high q (o, (mid, s, t)) (inr (inl h)) =
     let r = Spans-place a (p + 1) mid q s h in (omega (arith, o, r.0), omega (arith, r.1, Spans-order b mid high t))
-Spans-place (array a b p) low high q (o, (mid, s, t)) (inr (inr h)) =
+Spans-place (array nested a b p) low high q (o, (mid, s, t)) (inr (inr h)) =
     let r = Spans-place b mid high q t h in (omega (arith, o, r.0, Spans-order a (p + 1) mid s), r.1)
 Spans-place (fetch t i p) low high q s (inl h) = (omega (arith, Spans-order t low p s.0, h), omega (arith, Spans-order i (p + 1) high s.1, h))
 Spans-place (fetch t i p) low high q s (inr (inl h)) = let r = Spans-place t low p q s.0 h in (r.0, omega (arith, r.1, Spans-order i (p + 1) high s.1))
@@ -241,7 +244,7 @@ Distinct-spans (for_loop x i a b c d p) low high (u, v, (m, n, o, w, y, z, t)) =
       Distinct-spans c n o z,
       Distinct-spans d o high t,
     )
-Distinct-spans (array a b p) low high (o, (mid, s, t)) = (
+Distinct-spans (array nested a b p) low high (o, (mid, s, t)) = (
   λ h. omega (arith, (Spans-place a (p + 1) mid p s h).0),
   λ h. omega (arith, (Spans-place b mid high p t h).0, Spans-order a (p + 1) mid s),
   Spans-apart a b (p + 1) mid mid high (omega arith) s t,
@@ -287,6 +290,8 @@ Keeps from low (either w r q) = Keeps from low q × ((p : ℕ) → low ≤ p →
 Keeps from low (name f) = (x : List ℕ) (p : ℕ) → low ≤ p → Keeps from (p + 1) (f x p)
 Keeps from low (of_kind f) = (k : Kind) (mid : ℕ) → low ≤ mid → Keeps from mid (f k)
 Keeps from low (part s f) = (a : Tree) (mid : ℕ) → Spans low a mid → Keeps from mid (f a)
+Keeps from low (sized s f) = (a : Tree) (m mid : ℕ) → Spans low a mid → Keeps from mid (f a m)
+Keeps from low (raised m w r q) = Keeps from low q × ((p : ℕ) → low ≤ p → Keeps from (p + 1) (r p))
 
 -- a block spans what its brace and its tail do
 Spans-with_tail : (a : Tree) (p mid high : ℕ) → mid ≤ high → Spans (p + 1) a mid → Spans p (with_tail a p) high
@@ -314,14 +319,27 @@ Spans-param : (x : List ℕ) (k : Kind) (p : ℕ) (a : Tree) (from low mid high 
     Spans from (more (param x k p) a) high
 Spans-param x k p a from low mid high u v w s = (p + 1, (u, omega arith), Spans-wider a low mid (p + 1) high (omega arith) w s)
 
+-- what is kept behind each kind is kept behind its first word
+deepened_keeps : (from low : ℕ) (f : Kind → Rest) → ((k : Kind) (mid : ℕ) → low ≤ mid → Keeps from mid (f k)) →
+    (k : Kind) (mid : ℕ) → low ≤ mid → Keeps from mid (deepened f k)
+deepened_keeps from low f h kind.Int mid w = h kind.Int mid w
+deepened_keeps from low f h kind.Bool mid w = h kind.Bool mid w
+deepened_keeps from low f h kind.Array mid w = (h kind.Array mid w, λ p u. h kind.Nested (p + 1) (omega (arith, w, u)))
+deepened_keeps from low f h kind.Nested mid w = h kind.Nested mid w
+
+-- an array spans what its word and its bounds do
+bounds_keep : (nested : Bool) (p low : ℕ) → p < low → Keeps p low (bounds_of nested p)
+bounds_keep nested p low v = λ q1 u1 a m1 s q2 u2 b m2 t q3 u3 high w.
+    (omega arith, (q2, Spans-wider a q1 m1 (p + 1) q2 (omega (arith, v, u1)) u2 s, Spans-wider b q2 m2 q2 high (omega arith) (omega arith) t))
+
 -- each production keeps this
 Opens-keeps : {s : Phrase} {k : TokenKind} {p : ℕ} {r : Rest} → Opens s k p r → Keeps p (p + 1) r
-Opens-keeps (definition {p = p}) = λ x q u a1 u1 a next t a2 u2 k a3 u3 a4 u4 e mid s z v high w.
+Opens-keeps (definition {p = p}) = λ x q u a1 u1 a next t a2 u2. deepened_keeps p a2 (λ k. sign Becomes (body_of x a k q)) λ k a3 u3 a4 u4 e mid s z v high w.
     (omega arith, (next, Spans-wider a a1 next (q + 1) next (omega arith) (omega arith) t, Spans-wider e a4 mid next high (omega arith) (omega arith) s))
 Opens-keeps (no_parameters {p = p}) = λ high w. omega arith
-Opens-keeps (first_parameter {x = x} {p = p}) = λ a1 u1 k a2 u2 a mid s high w. Spans-param x k p a p a2 mid high (omega arith) (omega arith) w s
+Opens-keeps (first_parameter {x = x} {p = p}) = λ a1 u1. deepened_keeps p a1 (λ k. part MoreParameters (λ a. done (more (param x k p) a))) λ k a2 u2 a mid s high w. Spans-param x k p a p a2 mid high (omega arith) (omega arith) w s
 Opens-keeps (last_parameter {p = p}) = λ high w. omega arith
-Opens-keeps (next_parameter {p = p}) = λ x q u a1 u1 k a2 u2 a mid s high w. Spans-param x k q a p a2 mid high (omega arith) (omega arith) w s
+Opens-keeps (next_parameter {p = p}) = λ x q u a1 u1. deepened_keeps p a1 (λ k. part MoreParameters (λ a. done (more (param x k q) a))) λ k a2 u2 a mid s high w. Spans-param x k q a p a2 mid high (omega arith) (omega arith) w s
 Opens-keeps (by_conditional {p = p}) = λ t a r b u x c s d v y mid z high w. (
   omega arith,
   (
@@ -342,8 +360,7 @@ Opens-keeps (by_name {p = p}) = (
   λ high w. (omega arith, omega arith),
   λ q u a next s high w. (omega arith, Spans-wider a (q + 1) next (p + 1) high (omega arith) w s),
 )
-Opens-keeps (by_array {p = p}) = λ q1 u1 a m1 s q2 u2 b m2 t q3 u3 high w.
-    (omega arith, (q2, Spans-wider a q1 m1 (p + 1) q2 u1 u2 s, Spans-wider b q2 m2 q2 high (omega arith) (omega arith) t))
+Opens-keeps (by_array {p = p}) = (bounds_keep false p (p + 1) (omega arith), λ o v. bounds_keep true p (o + 1) (omega (arith, v)))
 Opens-keeps (no_arguments {p = p}) = λ high w. omega arith
 Opens-keeps (last_argument {p = p}) = λ high w. omega arith
 Opens-keeps (next_argument {p = p}) = λ e mid s a next t high w.
@@ -358,15 +375,26 @@ Opens-keeps (by_braces {p = p}) = (
 )
 Opens-keeps (by_statement {x = x} {p = p}) = (
   λ q1 u1 e mid s q2 u2 a next t high w. Spans-with_statement (binding x e p) a p q2 next high w (omega arith, Spans-wider e q1 mid (p + 1) q2 u1 u2 s) t,
-  λ q u i m1 s1 q1 u1 q2 u2 e m2 s2 q3 u3 a next t high w.
-      Spans-with_statement (store (tree.name x p) i e q) a p q3 next high w (
-        (omega arith, omega (arith, u)),
-        (
-          q2,
-          Spans-wider i (q + 1) m1 (q + 1) q2 (omega arith) (omega (arith, u1, u2)) s1,
-          Spans-wider e q2 m2 q2 q3 (omega arith) u3 s2,
-        ),
-      ) t,
+  λ q u i m m1 s1 q1 u1. (
+    λ q2 u2 e m2 s2 q3 u3 a next t high w.
+        Spans-with_statement (store (tree.name x p) i e q) a p q3 next high w (
+          (omega arith, omega (arith, u)),
+          (
+            q2,
+            Spans-wider i (q + 1) m1 (q + 1) q2 (omega arith) (omega (arith, u1, u2)) s1,
+            Spans-wider e q2 m2 q2 q3 (omega arith) u3 s2,
+          ),
+        ) t,
+    λ o v j m3 s3 q4 u4 q2 u2 e m2 s2 q3 u3 a next t high w.
+        Spans-with_statement (store (fetch (tree.name x p) i q) j e o) a p q3 next high w (
+          ((omega arith, omega (arith, u)), Spans-wider i (q + 1) m1 (q + 1) o (omega arith) (omega (arith, u1, v)) s1),
+          (
+            q2,
+            Spans-wider j (o + 1) m3 (o + 1) q2 (omega arith) (omega (arith, u4, u2)) s3,
+            Spans-wider e q2 m2 q2 q3 (omega arith) u3 s2,
+          ),
+        ) t,
+  ),
 )
 Opens-keeps (by_next {p = p}) = λ x q u q1 u1 e mid s q2 u2 a after t high w.
     Spans-with_statement (tree.next x e p) a p q2 after high w (omega arith, Spans-wider e q1 mid (p + 1) q2 (omega arith) u2 s) t
@@ -409,6 +437,11 @@ mutual
   Follows-spans (given {us = us} {ts = ts} {a = a} d f) from low high k p =
       let l = Laid-split us ts low high p in
       Follows-spans f from l.0 high (k a l.0 (Derives-spans d low l.0 l.1)) l.2
+  Follows-spans (measured {us = us} {ts = ts} {a = a} {m = m} d f) from low high k p =
+      let l = Laid-split us ts low high p in
+      Follows-spans f from l.0 high (k a m l.0 (Derives-spans d low l.0 l.1)) l.2
+  Follows-spans (lifted {t = t} q f) from low high k p = Follows-spans f from (t.start + 1) high (k.1 t.start p.0) p.1
+  Follows-spans (unlifted f) from low high k p = Follows-spans f from low high k.0 p
 
 -- a program spans what its tokens do
 Program-spans : {ts : List Token} {e : Tree} {h : ℕ} → Program ts e h → (low high : ℕ) → Laid low ts high → Spans low e high

@@ -12,6 +12,7 @@ use Rattle.id_grammar.specs.declared.phrase.Scope.{Scope}
 use Rattle.id_grammar.specs.declared.phrase.Scope.TheVariants as scope
 use Rattle.id_value.specs.declared.Kind.TheVariants as kind
 use Rattle.id_grammar.specs.Tree.{Tree, none, more}
+use Rattle.id_grammar.specs.Grammar.{sized, raised, measured, unlifted}
 use Rattle.id_grammar.specs.Grammar.{Phrase, Definition, Parameters, MoreParameters, Expression, Grouped, Negation}
 use Rattle.id_grammar.specs.Grammar.{Unary, Postfix, Atom, Arguments, MoreArguments, Tail, kind_of, Rest, done, word}
 use Rattle.id_grammar.specs.Grammar.{either, name, of_kind, part, last_of, Opens, definition, no_parameters}
@@ -19,7 +20,7 @@ use Rattle.id_grammar.specs.Grammar.{last_parameter, number, no_arguments, last_
 use Rattle.id_grammar.specs.Grammar.{Derives, opened, unconditional, single, grouped, plain, bare, atomic, Follows}
 use Rattle.id_grammar.specs.Grammar.{ended, taken, left_out, named, kinded, given, Program, empty, defined}
 use Rattle.id_grammar.specs.Machine.{least_height, Frame, State}
-use Rattle.id_grammar.specs.Standing.{Roomy, Around, outermost, unconditionally, left, right, plainly, barely, target}
+use Rattle.id_grammar.specs.Standing.{sizing, Roomy, Around, outermost, unconditionally, left, right, plainly, barely, target}
 use Rattle.id_grammar.specs.Standing.{atomically, inside, Stands, begun, wanting, having, within, finished}
 
 -- the starts rise from the first number on and stay below the second
@@ -242,6 +243,21 @@ finish (part s g) n d from w roomy =
       follows = given l.derives f.follows;
       fits = omega (arith, f.fits, roomy.0);
     }
+finish (sized s g) n d from w roomy =
+    let l = least s from in
+    let f = finish (g l.tree (least_height s)) n d l.to w (roomy.1 l.tree (least_height s)) in
+    record {
+      tokens = l.tokens ++ f.tokens;
+      tree = f.tree;
+      height = max (least_height s) f.height;
+      to = f.to;
+      laid = Laid-append l.tokens f.tokens from l.to f.to l.laid f.laid;
+      follows = measured l.derives f.follows;
+      fits = omega (arith, f.fits, roomy.0);
+    }
+finish (raised j v r o) n d from w roomy =
+    let f = finish o n d from w roomy.1 in
+    record { tokens = f.tokens; tree = f.tree; height = f.height; to = f.to; laid = f.laid; follows = unlifted f.follows; fits = f.fits }
 
 -- the tokens go on to a program of at most this height
 pub record Completed (n from : ℕ) (us : List Token) : Type 0 where
@@ -299,6 +315,13 @@ Around-completed {n = n} (inside {s = s} {f = f} {d = d} {h = h} {us = us} {vs =
     ap (λ xs. xs ++ g.tokens) (sym (append_assoc us vs ws)))
     (Around-completed a (vs ++ (ws ++ g.tokens)) g.tree (max h (max k g.height) + own_height s) g.to
     (b.completes (ws ++ g.tokens) g.tree (max k g.height) (given x g.follows)) (omega (arith, g.fits))))
+Around-completed {n = n} (sizing {s = s} {f = f} {d = d} {h = h} {us = us} {vs = vs} a b fit roomy) ws e k from x w =
+    let g = finish (f e k) n (d + own_height s) from (omega arith) (roomy e k) in
+    Completed-more n from g.to ((us ++ vs) ++ ws) g.tokens g.laid
+    (Completed-at (sym (append_assoc us (vs ++ ws) g.tokens ∙ ap (λ xs. us ++ xs) (append_assoc vs ws g.tokens)) ∙
+    ap (λ xs. xs ++ g.tokens) (sym (append_assoc us vs ws)))
+    (Around-completed a (vs ++ (ws ++ g.tokens)) g.tree (max h (max k g.height) + own_height s) g.to
+    (b.completes (ws ++ g.tokens) g.tree (max k g.height) (measured x g.follows)) (omega (arith, g.fits))))
 
 -- what stands is gone on to a program
 pub Stands-completed : {n : ℕ} {S : State} {us : List Token} → Stands n S us → (from : ℕ) → Completed n from us

@@ -8,11 +8,12 @@ use Rattle.id_grammar.specs.Tree.{Tree}
 use Rattle.id_grammar.specs.declared.tree.TreeError.{TreeError}
 use Rattle.id_grammar.specs.declared.tree.TreeError.TheVariants.{Unexpected, TooDeep, Memory}
 use Rattle.id_grammar.specs.Readers.{EndsBy}
+use Rattle.id_grammar.specs.Grammar.{sized, raised}
 use Rattle.id_grammar.specs.Grammar.{Phrase, Rest, done, word, either, name, of_kind, part, own_height, Program}
 use Rattle.id_tree.specs.Accepted.{Accepts, GoesOn, GoesOnDeeper, StopsAt, RefusedBy, IsMemory}
 use Rattle.id_grammar.specs.Machine.{Move, pick, takes, Frame, State, Begin, Want, Have, Next, Finished, Accepted, Refused, run}
 use Rattle.id_grammar.specs.Standing.{Around, outermost, unconditionally, left, right, plainly, barely, target}
-use Rattle.id_grammar.specs.Standing.{atomically, inside, Stands, begun, wanting, having, within, finished, Roomy}
+use Rattle.id_grammar.specs.Standing.{atomically, inside, sizing, Stands, begun, wanting, having, within, finished, Roomy}
 use Rattle.id_grammar.proofs.RunLemmas.{run-step, run-none, run-deep}
 use Rattle.id_tree.proofs.CompleteLemmas.{run-program}
 use Rattle.id_tree.proofs.SoundLemmas.{Moves, Moves-takes, Defined-none}
@@ -104,6 +105,8 @@ Roomy-wider n m d (either v r o) w q = (λ p. Roomy-wider n m d (r p) w (q.0 p),
 Roomy-wider n m d (name f) w q = λ x p. Roomy-wider n m d (f x p) w (q x p)
 Roomy-wider n m d (of_kind f) w q = λ k. Roomy-wider n m d (f k) w (q k)
 Roomy-wider n m d (part s f) w q = (omega (arith, q.0), λ a. Roomy-wider n m d (f a) w (q.1 a))
+Roomy-wider n m d (sized s f) w q = (omega (arith, q.0), λ a h. Roomy-wider n m d (f a h) w (q.1 a h))
+Roomy-wider n m d (raised j v r o) w q = (λ p. Roomy-wider n m d (r p) w (q.0 p), Roomy-wider n m d o w q.1)
 
 Around-wider : {n : ℕ} {s : Phrase} {d : ℕ} {K : List Frame} {us : List Token} → Around n s d K us → (m : ℕ) → n ≤ m → Around m s d K us
 Around-wider (outermost p v) m w = outermost p (omega arith)
@@ -116,6 +119,8 @@ Around-wider (target a) m w = target (Around-wider a m w)
 Around-wider (atomically a) m w = atomically (Around-wider a m w)
 Around-wider {n = n} (inside {s = s} {f = f} {d = d} a b fit roomy) m w = inside (Around-wider a m w) b (omega arith)
     (λ e. Roomy-wider n m (d + own_height s) (f e) w (roomy e))
+Around-wider {n = n} (sizing {s = s} {f = f} {d = d} a b fit roomy) m w = sizing (Around-wider a m w) b (omega arith)
+    (λ e k. Roomy-wider n m (d + own_height s) (f e k) w (roomy e k))
 
 -- what stands within n stands within more
 Stands-wider : {n : ℕ} {S : State} {us : List Token} → Stands n S us → (m : ℕ) → n ≤ m → Stands m S us

@@ -9,6 +9,7 @@ use Rattle.id_grammar.specs.declared.tokens.Word.TheVariants as the
 use Rattle.id_grammar.specs.declared.phrase.Level.{Level}
 use Rattle.id_grammar.specs.declared.phrase.Level.TheVariants as level
 use Rattle.id_grammar.specs.Tree.{Tree, binary, none, more}
+use Rattle.id_grammar.specs.Grammar.{sized, raised, measured, lifted, unlifted}
 use Rattle.id_grammar.specs.Grammar.{Phrase, Definition, Parameters, MoreParameters, Expression, Grouped, Negation}
 use Rattle.id_grammar.specs.Grammar.{Unary, Postfix, Atom, Arguments, MoreArguments, Tail, argument_of, Rest, done, word}
 use Rattle.id_grammar.specs.Grammar.{either, name, of_kind, part, kind_named, operand, left_operand, operator_of}
@@ -18,7 +19,7 @@ use Rattle.id_grammar.specs.Grammar.{Program, empty, defined}
 use Rattle.id_grammar.specs.Machine.{opening, Move, pick, is_word, name_in, ahead, ends, defines, enters, points}
 use Rattle.id_grammar.specs.Machine.{multiplies, sums, negates, expresses, wants, operates, repeats, indexes, nexts}
 use Rattle.id_grammar.specs.Machine.{closes, takes, Frame, Left, Inside, Outer, State}
-use Rattle.id_grammar.specs.Standing.{Begins, Defined, Roomy, Around, outermost, unconditionally, left, right, plainly}
+use Rattle.id_grammar.specs.Standing.{sizing, Begins, Defined, Roomy, Around, outermost, unconditionally, left, right, plainly}
 use Rattle.id_grammar.specs.Standing.{barely, target, atomically, inside, Stands, begun, wanting, having, within}
 use Rattle.id_grammar.specs.Standing.{finished}
 use Rattle.id_grammar.proofs.RowLemmas.{valid, least-most, left_operand-least, Derives-height}
@@ -82,6 +83,7 @@ Around-fits (barely a) = Around-fits a
 Around-fits (target a) = Around-fits a
 Around-fits (atomically a) = Around-fits a
 Around-fits (inside a b fit roomy) = omega arith
+Around-fits (sizing a b fit roomy) = omega arith
 
 Around-at : {n : ℕ} {s : Phrase} {d : ℕ} {K : List Frame} {us vs : List Token} → us ≡ vs → Around n s d K us → Around n s d K vs
 Around-at {n = n} {s = s} {d = d} {K = K} q a = subst (λ xs. Around n s d K xs) q a
@@ -203,6 +205,16 @@ module _ (n : ℕ) (t : Token) where
       (roomy.0 t.start)))
       (Moves-nexts o h close a (record { completes = λ ts f m g. b.completes ts f m (left_out g) }) w roomy.1 closing)
   Moves-nexts (part i g) h close a b w roomy closing = Moves-wants (inside a b w roomy.1)
+  Moves-nexts (sized i g) h close a b w roomy closing = Moves-wants (sizing a b w roomy.1)
+  Moves-nexts {s = s} {d = d} {K = K} {us = us} {vs = vs} (raised j v r o) h close a b w roomy closing =
+      Moves-if n _ (is_word v t.kind) _ (nexts t o h (d + own_height s) (own_height s) K close)
+      (λ q fits.
+      Stands-at (sym (append_assoc us vs (t ∷ [])))
+      (within a (record {
+        completes = λ ts f m g. Derives-at (sym (snoc-at vs ts t))
+            (Derives-of (omega arith) (b.completes (t ∷ ts) f (max (j + 1) m) (lifted (same-is_word v t.kind q) g)));
+      }) (omega (arith, fits)) (roomy.0 t.start)))
+      (Moves-nexts o h close a (record { completes = λ ts f m g. b.completes ts f m (unlifted g) }) w roomy.1 closing)
 
   -- a token behind definitions
   Moves-defines : {ds : List Tree} {us : List Token} {h : ℕ} → Defined ds us h → h ≤ n → Moves n (us ++ t ∷ []) (defines t ds)
@@ -232,6 +244,12 @@ module _ (n : ℕ) (t : Token) where
       (Moves-nexts (f e) (max h k) (λ u j. closes t u j K) a
       (record { completes = λ ts u m g. Derives-at (sym (append_assoc vs ws ts)) (Derives-of (omega arith) (b.completes (ws ++ ts) u (max k m) (given x g))) })
       (omega arith) (roomy e) (λ zs u j y v. Moves-closes a zs u j y v))
+  Moves-closes (sizing {s = s} {i = i} {f = f} {d = d} {h = h} {K = K} {us = us} {vs = vs} a b fit roomy) ws e k x w =
+      Moves-at n (nexts t (f e k) (max h k) (d + own_height s) (own_height s) K (λ u j. closes t u j K))
+      (ap (λ xs. xs ++ t ∷ []) (sym (append_assoc us vs ws)))
+      (Moves-nexts (f e k) (max h k) (λ u j. closes t u j K) a
+      (record { completes = λ ts u m g. Derives-at (sym (append_assoc vs ws ts)) (Derives-of (omega arith) (b.completes (ws ++ ts) u (max k m) (measured x g))) })
+      (omega arith) (roomy e k) (λ zs u j y v. Moves-closes a zs u j y v))
 
   -- what a token leads to stands behind the token
   pub Moves-takes : {S : State} {us : List Token} → Stands n S us → Moves n (us ++ t ∷ []) (takes t S)

@@ -5,8 +5,11 @@ use Rattle.id_text.specs.Tokens.{IsWithin}
 use Rattle.id_text.specs.declared.token.Token.{Token}
 use Rattle.id_text.specs.declared.token.TokenKind.{TokenKind}
 use Rattle.id_value.specs.declared.Kind.{Kind}
+use Rattle.id_value.specs.declared.Kind.TheVariants as kind
 use Rattle.id_grammar.specs.Tree as tree
-use Rattle.id_grammar.specs.Tree.{Tree, binding, next, store, param, none, more}
+use Rattle.id_grammar.specs.Tree.{Tree, binding, fetch, next, store, param, none, more}
+use Rattle.id_text.specs.declared.token.Symbol.TheVariants.{Becomes}
+use Rattle.id_grammar.specs.Grammar.{MoreParameters, body_of, sign, sized, raised, measured, lifted, unlifted, deepened}
 use Rattle.id_grammar.specs.Grammar.{Phrase, Rest, done, word, either, name, of_kind, part, with_statement, with_tail}
 use Rattle.id_grammar.specs.Grammar.{loop_with_tail, for_with_tail, Opens, definition, no_parameters, first_parameter, last_parameter}
 use Rattle.id_grammar.specs.Grammar.{next_parameter, by_conditional, denied, negated, number, by_true, by_false, parens}
@@ -34,6 +37,8 @@ Fills P (either w r q) = Fills P q × ((p : ℕ) → P p → Fills P (r p))
 Fills P (name f) = (x : List ℕ) (p : ℕ) → P p → Fills P (f x p)
 Fills P (of_kind f) = (k : Kind) → Fills P (f k)
 Fills P (part s f) = (a : Tree) → AllPlaced P a → Fills P (f a)
+Fills P (sized s f) = (a : Tree) (m : ℕ) → AllPlaced P a → Fills P (f a m)
+Fills P (raised m w r q) = Fills P q × ((p : ℕ) → P p → Fills P (r p))
 
 module _ (P : ℕ → Type 0) where
   at_own : {p q : ℕ} → p ≡ q → P p → P q
@@ -85,12 +90,18 @@ module _ (P : ℕ → Type 0) where
   of_statement s (more a e) g h q (inr i) = h q (inr i)
   of_statement s a g h q i = absurd i
 
+  deepened_fills : (f : Kind → Rest) → ((k : Kind) → Fills P (f k)) → (k : Kind) → Fills P (deepened f k)
+  deepened_fills f h kind.Int = h kind.Int
+  deepened_fills f h kind.Bool = h kind.Bool
+  deepened_fills f h kind.Array = (h kind.Array, λ p i. h kind.Nested)
+  deepened_fills f h kind.Nested = h kind.Nested
+
   Opens-fills : {s : Phrase} {k : TokenKind} {p : ℕ} {r : Rest} → Opens s k p r → P p → Fills P r
-  Opens-fills definition g = λ x q i a h k e j. of_parts a e i h j
+  Opens-fills definition g = λ x q i a h. deepened_fills (λ k. sign Becomes (body_of x a k q)) (λ k e j. of_parts a e i h j)
   Opens-fills no_parameters g = λ q h. absurd h
-  Opens-fills (first_parameter {x = x} {p = p}) g = λ k a h. of_both (param x k p) a (λ q i. at_own i g) h
+  Opens-fills (first_parameter {x = x} {p = p}) g = deepened_fills (λ k. part MoreParameters (λ a. done (more (param x k p) a))) (λ k a h. of_both (param x k p) a (λ q i. at_own i g) h)
   Opens-fills last_parameter g = λ q h. absurd h
-  Opens-fills next_parameter g = λ x p i k a h. of_both (param x k p) a (λ q j. at_own j i) h
+  Opens-fills next_parameter g = λ x p i. deepened_fills (λ k. part MoreParameters (λ a. done (more (param x k p) a))) (λ k a h. of_both (param x k p) a (λ q j. at_own j i) h)
   Opens-fills by_conditional g = λ t h x i y j. of_three t x y g h i j
   Opens-fills denied g = λ e h. of_part e g h
   Opens-fills negated g = λ e h. of_part e g h
@@ -99,7 +110,7 @@ module _ (P : ℕ → Type 0) where
   Opens-fills by_false g = λ q i. at_own i g
   Opens-fills parens g = λ e h. h
   Opens-fills by_name g = (λ q i. at_own i g, λ p i a h. of_part a g h)
-  Opens-fills by_array g = λ a h b i. of_parts a b g h i
+  Opens-fills by_array g = (λ a h b i. of_parts a b g h i, λ p j a h b i. of_parts a b g h i)
   Opens-fills no_arguments g = λ q h. absurd h
   Opens-fills last_argument g = λ q h. absurd h
   Opens-fills next_argument g = λ e h a i. of_both e a h i
@@ -109,7 +120,11 @@ module _ (P : ℕ → Type 0) where
   )
   Opens-fills (by_statement {x = x} {p = p}) g = (
     λ e i a h. of_statement (binding x e p) a (of_part e g i) h,
-    λ q j i h e k a l. of_statement (store (tree.name x p) i e q) a (of_three (tree.name x p) i e j (λ r n. at_own n g) h k) l,
+    λ q j i m h. (
+      λ e k a l. of_statement (store (tree.name x p) i e q) a (of_three (tree.name x p) i e j (λ r n. at_own n g) h k) l,
+      λ o n b f e k a l. of_statement (store (fetch (tree.name x p) i q) b e o) a
+          (of_three (fetch (tree.name x p) i q) b e n (λ r z. of_parts (tree.name x p) i j (λ v y. at_own y g) h r z) f k) l,
+    ),
   )
   Opens-fills (by_next {p = p}) g = λ x q i e h a j. of_statement (next x e p) a (of_part e g h) j
   Opens-fills by_body g = λ e h. of_both none e (λ q i. absurd i) h
@@ -146,6 +161,10 @@ module _ (P : ℕ → Type 0) where
     Follows-placed (named {t = t} {x = x} i f) k g = Follows-placed f (k x t.start g.0) g.1
     Follows-placed (kinded {k = j} i f) k g = Follows-placed f (k j) g.1
     Follows-placed (given {us = us} {ts = ts} {a = a} d f) k g = Follows-placed f (k a (Derives-placed d (AllStart-front us ts g))) (AllStart-back us ts g)
+    Follows-placed (measured {us = us} {ts = ts} {a = a} {m = m} d f) k g =
+        Follows-placed f (k a m (Derives-placed d (AllStart-front us ts g))) (AllStart-back us ts g)
+    Follows-placed (lifted {t = t} i f) k g = Follows-placed f (k.1 t.start g.0) g.1
+    Follows-placed (unlifted f) k g = Follows-placed f k.0 g
 
   Program-placed : {ts : List Token} {e : Tree} {h : ℕ} → Program ts e h → AllStart P ts → AllPlaced P e
   Program-placed (empty i) g = λ q h. absurd h

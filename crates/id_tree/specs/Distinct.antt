@@ -15,7 +15,7 @@ HasPlace (block a b p) q = (p ≡ q) ⊎ (HasPlace a q ⊎ HasPlace b q)
 HasPlace (loop t a b p) q = (p ≡ q) ⊎ (HasPlace t q ⊎ (HasPlace a q ⊎ HasPlace b q))
 HasPlace (for_loop x i a b c d p) q =
     (p ≡ q) ⊎ ((i ≡ q) ⊎ (HasPlace a q ⊎ (HasPlace b q ⊎ (HasPlace c q ⊎ HasPlace d q))))
-HasPlace (array a b p) q = (p ≡ q) ⊎ (HasPlace a q ⊎ HasPlace b q)
+HasPlace (array nested a b p) q = (p ≡ q) ⊎ (HasPlace a q ⊎ HasPlace b q)
 HasPlace (fetch t i p) q = (p ≡ q) ⊎ (HasPlace t q ⊎ HasPlace i q)
 HasPlace (binding x a p) q = (p ≡ q) ⊎ HasPlace a q
 HasPlace (next x a p) q = (p ≡ q) ⊎ HasPlace a q
@@ -51,7 +51,7 @@ Distinct (for_loop x i a b c d p) =
     (¬ (p ≡ i)) × Spares p i a × Spares p i b × Spares p i c × Spares p i d
     × Apart a b × Apart a c × Apart a d × Apart b c × Apart b d × Apart c d
     × Distinct a × Distinct b × Distinct c × Distinct d
-Distinct (array a b p) = (¬ HasPlace a p) × (¬ HasPlace b p) × Apart a b × Distinct a × Distinct b
+Distinct (array nested a b p) = (¬ HasPlace a p) × (¬ HasPlace b p) × Apart a b × Distinct a × Distinct b
 Distinct (fetch t i p) = (¬ HasPlace t p) × (¬ HasPlace i p) × Apart t i × Distinct t × Distinct i
 Distinct (binding x a p) = (¬ HasPlace a p) × Distinct a
 Distinct (next x a p) = (¬ HasPlace a p) × Distinct a

@@ -1,15 +1,15 @@
 //! What stands in headings alone, and at the end of a text: kinds, and the last token.
 
-ghost use Rattle.std.specs.Prelude.{◌≡◌, ◌≢◌, IfOk, IfErr};
+ghost use Rattle.std.specs.Prelude.{◌≡◌, ◌≢◌, ◌↔◌, IsTrue, IfOk, IfErr};
 ghost use Rattle.id_text.specs.Tokens.{EndsOnce};
 ghost use Rattle.id_grammar.specs.Grammar.{kind_named};
 ghost use Rattle.id_grammar.specs.Readers.{first_kind, first_start, IsBehind, Types, Untypes};
 
-use id_grammar::{TreeError, Word, expect_word, split, unexpected};
+use id_grammar::{TreeError, Word, begins_with, expect_word, split, unexpected};
 use id_text::{Keyword, Symbol, Token, TokenKind};
 use id_value::Kind;
 
-/// The kind that the tokens begin with.
+/// The kind that the first token names.
 fn kind_at(tokens: &[Token]) -> Option<Kind>
     requires { EndsOnce tokens.now }
     ensures { result ≡ kind_named (first_kind tokens.now) }
@@ -32,8 +32,26 @@ pub fn expect_kind(tokens: &[Token]) -> Result<(Kind, &[Token]), TreeError>
     let named = expect_word(tokens, Word::Sign(Symbol::Colon))?;
     let (_, rest) = split(named);
     match kind_at(named) {
-        Some(kind) => Ok((kind, rest)),
+        Some(kind) => {
+            if is_deeper(kind, rest) {
+                let (_, behind) = split(rest);
+                Ok((Kind::Nested, behind))
+            } else {
+                Ok((kind, rest))
+            }
+        }
         None => Err(unexpected(named)),
+    }
+}
+
+/// Whether a second word `array` comes behind this kind.
+fn is_deeper(kind: Kind, rest: &[Token]) -> bool
+    requires { EndsOnce rest.now }
+    ensures { IsTrue result ↔ ((kind ≡ Kind.Array) × (first_kind rest.now ≡ TokenKind.Key Keyword.Array)) }
+{
+    match kind {
+        Kind::Array => begins_with(rest, Keyword::Array),
+        Kind::Int | Kind::Bool | Kind::Nested => false,
     }
 }
 

@@ -6,9 +6,9 @@ use Rattle.std.proofs.lemmas.Bool.{cases_lt}
 use Rattle.std.proofs.lemmas.Bool.Decides.{nat_tests}
 use Rattle.id_instr.specs.declared.instr.Block.{Block}
 use Rattle.id_instr.specs.declared.instr.PortKind.{PortKind}
-use Rattle.id_instr.specs.declared.instr.PortKind.TheVariants.{Int}
 use Rattle.id_instr.specs.declared.instr.Op.{Op}
 use Rattle.id_instr.specs.declared.instr.Op.TheVariants.{Const, Unary, Binary, Merge, Switch, Back, Enter, Send, Next, Reset, Alloc, Address, Fetch, Store}
+use Rattle.id_instr.specs.Held.{held_kind}
 use Rattle.id_instr.specs.Graph.{Parts}
 use Rattle.id_valid.specs.Roles.{op_at, back_kind, IsMain}
 use Rattle.id_valid.specs.Validator.{IsAnswer, IsEntered, IsSentTo, IsSound, IsValid, FirstFaulty, IsMainBlock}
@@ -27,10 +27,10 @@ back_kind-some (Some (Enter b r)) k e = cc
 back_kind-some (Some (Send j t)) k e = cc
 back_kind-some (Some (Next j)) k e = cc
 back_kind-some (Some (Reset j)) k e = cc
-back_kind-some (Some Alloc) k e = cc
-back_kind-some (Some Address) k e = cc
-back_kind-some (Some (Fetch r)) k e = cc
-back_kind-some (Some Store) k e = cc
+back_kind-some (Some (Alloc nested)) k e = cc
+back_kind-some (Some (Address nested)) k e = cc
+back_kind-some (Some (Fetch nested r)) k e = cc
+back_kind-some (Some (Store nested)) k e = cc
 
 -- a number equals itself
 same_number : (n : ℕ) → (n == n) ≡ true
@@ -75,9 +75,10 @@ IsEntered-valid g n b r valid here = (valid.sound n).named (Enter b r) here
 pub IsSentTo-valid : (g : Parts) (n : ℕ) (k : PortKind) (t : ℕ) → IsValid g → op_at g n ≡ Some (Send k t) → IsSentTo g k t
 IsSentTo-valid g n k t valid here = (valid.sound n).named (Send k t) here
 
--- a `fetch` of a valid graph names a merge for numbers
-pub IsReply-valid : (g : Parts) (n r : ℕ) → IsValid g → op_at g n ≡ Some (Fetch r) → op_at g r ≡ Some (Merge Int)
-IsReply-valid g n r valid here = (valid.sound n).named (Fetch r) here
+-- a `fetch` of a valid graph names a merge for what the cells hold
+pub IsReply-valid : (g : Parts) (n : ℕ) (nested : Bool) (r : ℕ) → IsValid g → op_at g n ≡ Some (Fetch nested r)
+    → op_at g r ≡ Some (Merge (held_kind nested))
+IsReply-valid g n nested r valid here = (valid.sound n).named (Fetch nested r) here
 
 -- where all instructions up to the end are sound, the first faulty one is the first past the end
 pub FirstFaulty-past : (g : Parts) (i : ℕ) (o : Option ℕ) → length g.instrs ≤ i → ((n : ℕ) → n < i → IsSound g n) → FirstPast g o → FirstFaulty g o

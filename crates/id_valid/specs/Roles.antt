@@ -29,10 +29,10 @@ merge_kind (Enter b r) = None
 merge_kind (Send k t) = None
 merge_kind (Next k) = None
 merge_kind (Reset k) = None
-merge_kind Alloc = None
-merge_kind Address = None
-merge_kind (Fetch r) = None
-merge_kind Store = None
+merge_kind (Alloc nested) = None
+merge_kind (Address nested) = None
+merge_kind (Fetch nested r) = None
+merge_kind (Store nested) = None
 
 -- the kind of a `back`
 abbrev pub back_kind : Op → Option PortKind
@@ -46,10 +46,10 @@ back_kind (Enter b r) = None
 back_kind (Send k t) = None
 back_kind (Next k) = None
 back_kind (Reset k) = None
-back_kind Alloc = None
-back_kind Address = None
-back_kind (Fetch r) = None
-back_kind Store = None
+back_kind (Alloc nested) = None
+back_kind (Address nested) = None
+back_kind (Fetch nested r) = None
+back_kind (Store nested) = None
 
 -- the kind of a block's result: that of the `back` at its `first + 1`, if it is one
 abbrev pub result_kind : Parts → Block → Option PortKind
@@ -80,10 +80,10 @@ replies_to (Back k) n = false
 replies_to (Send k t) n = false
 replies_to (Next k) n = false
 replies_to (Reset k) n = false
-replies_to Alloc n = false
-replies_to Address n = false
-replies_to (Fetch r) n = r == n
-replies_to Store n = false
+replies_to (Alloc nested) n = false
+replies_to (Address nested) n = false
+replies_to (Fetch nested r) n = r == n
+replies_to (Store nested) n = false
 
 -- whether replies come to the instruction
 abbrev pub is_reply : Parts → ℕ → Bool

@@ -9,12 +9,13 @@ use Rattle.id_instr.specs.declared.instr.Op.{Op}
 use Rattle.id_instr.specs.declared.instr.Op.TheVariants.{Const, Unary, Binary, Merge, Switch, Back, Enter, Send, Next}
 use Rattle.id_instr.specs.declared.instr.Op.TheVariants.{Reset, Alloc, Address as AddressOp, Fetch, Store}
 use Rattle.id_instr.specs.declared.instr.PortKind.{PortKind}
-use Rattle.id_instr.specs.declared.instr.PortKind.TheVariants.{Signal, Int, Bool as BoolKind, Structure, Address}
-use Rattle.id_instr.specs.declared.instr.PortKind.TheVariants.{Context, Continuation}
+use Rattle.id_instr.specs.declared.instr.PortKind.TheVariants.{Signal, Int, Bool as BoolKind, Structure}
+use Rattle.id_instr.specs.declared.instr.PortKind.TheVariants.{Structures, Address, Addresses, Context, Continuation}
 use Rattle.id_instr.specs.declared.dests.Dest.{Dest}
 use Rattle.id_instr.specs.declared.dests.Port.{Port}
 use Rattle.id_valid.specs.declared.valid.InvalidCause.{InvalidCause}
 use Rattle.id_valid.specs.declared.valid.InvalidCause.TheVariants.{Faulty, Memory}
+use Rattle.id_instr.specs.Held.{held_kind}
 use Rattle.id_instr.specs.Ports.{port_kind, sends}
 use Rattle.id_instr.specs.Graph.{Parts, arcs, kind_at}
 use Rattle.id_valid.specs.Roles.{op_at, merge_kind, back_kind, result_kind, is_first, is_second, is_entry, IsMain}
@@ -26,7 +27,9 @@ is_value Signal = false
 is_value Int = true
 is_value BoolKind = true
 is_value Structure = true
+is_value Structures = true
 is_value Address = false
+is_value Addresses = false
 is_value Context = false
 is_value Continuation = false
 
@@ -69,10 +72,10 @@ AreNamed g (Switch k) = Unit {0}
 AreNamed g (Back k) = Unit {0}
 AreNamed g (Next k) = Unit {0}
 AreNamed g (Reset k) = Unit {0}
-AreNamed g Alloc = Unit {0}
-AreNamed g AddressOp = Unit {0}
-AreNamed g (Fetch r) = op_at g r ≡ Some (Merge Int)
-AreNamed g Store = Unit {0}
+AreNamed g (Alloc nested) = Unit {0}
+AreNamed g (AddressOp nested) = Unit {0}
+AreNamed g (Fetch nested r) = op_at g r ≡ Some (Merge (held_kind nested))
+AreNamed g (Store nested) = Unit {0}
 
 -- the port at the destination takes the kind that the operator sends
 abbrev pub IsTaken : List Instr → Op → Dest → Type 0

@@ -45,8 +45,9 @@ fn is_value(kind: PortKind) -> bool
     ensures { result ≡ is_value kind }
 {
     match kind {
-        PortKind::Int | PortKind::Bool | PortKind::Structure => true,
-        PortKind::Signal | PortKind::Address | PortKind::Context | PortKind::Continuation => false,
+        PortKind::Int | PortKind::Bool | PortKind::Structure | PortKind::Structures => true,
+        PortKind::Signal | PortKind::Address | PortKind::Addresses => false,
+        PortKind::Context | PortKind::Continuation => false,
     }
 }
 
@@ -93,12 +94,12 @@ fn are_named(survey: &Survey<'_>, op: Op) -> bool
     match op {
         Op::Enter { block, reply } => is_entered(survey, block, reply),
         Op::Send { kind, target } => is_sent_to(survey, kind, target),
-        Op::Fetch { reply } => {
-            op_at(survey.graph(), reply as usize) == Some(Op::Merge(PortKind::Int))
+        Op::Fetch { nested, reply } => {
+            op_at(survey.graph(), reply as usize) == Some(Op::Merge(PortKind::of_held(nested)))
         }
         Op::Const(_) | Op::Unary(_) | Op::Binary(_) | Op::Merge(_) | Op::Switch(_) => true,
         Op::Back(_) | Op::Next(_) | Op::Reset(_) => true,
-        Op::Alloc | Op::Address | Op::Store => true,
+        Op::Alloc { .. } | Op::Address { .. } | Op::Store { .. } => true,
     }
 }
 

@@ -144,7 +144,7 @@ fn replies(alloc: Global, graph: &Graph) -> Result<Vec<bool>, AllocError>
 fn mark_reply(marks: &mut [bool], op: Op)
     ensures { Marks marks.old marks.new (replies_to op) }
 {
-    if let Op::Enter { reply, .. } | Op::Fetch { reply } = op {
+    if let Op::Enter { reply, .. } | Op::Fetch { reply, .. } = op {
         mark(marks, reply);
     }
 }

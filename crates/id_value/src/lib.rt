@@ -18,7 +18,51 @@ pub const MAX_ELEMENTS: i64 = 1_000_000;
 pub enum Kind {
     Int,
     Bool,
+    /// An array of numbers.
     Array,
+    /// An array of such arrays.
+    Nested,
+}
+
+impl Kind {
+    ghost use Rattle.id_value.specs.Kinds.{array_kind, element_kind, is_array, is_nested};
+
+    /// The kind of an array, by whether it is nested.
+    pub fn of_array(nested: bool) -> Kind
+        ensures { result ≡ array_kind nested }
+    {
+        if nested { Kind::Nested } else { Kind::Array }
+    }
+
+    /// Whether the kind is one of arrays.
+    pub fn is_array(self) -> bool
+        ensures { result ≡ is_array self }
+    {
+        match self {
+            Kind::Int | Kind::Bool => false,
+            Kind::Array | Kind::Nested => true,
+        }
+    }
+
+    /// Whether the kind is that of arrays of arrays.
+    pub fn is_nested(self) -> bool
+        ensures { result ≡ is_nested self }
+    {
+        match self {
+            Kind::Int | Kind::Bool | Kind::Array => false,
+            Kind::Nested => true,
+        }
+    }
+
+    /// The kind of what an element holds: of a nested array it is an array, of any other a number.
+    pub fn element(self) -> Kind
+        ensures { result ≡ element_kind self }
+    {
+        match self {
+            Kind::Int | Kind::Bool | Kind::Array => Kind::Int,
+            Kind::Nested => Kind::Array,
+        }
+    }
 }
 
 /// What a literal stands for.

@@ -11,8 +11,7 @@ ghost use Rattle.id_line.specs.Lines.{AreThere};
 ghost use Rattle.id_record.specs.Records.{event_of_handled};
 ghost use Rattle.id_shots.specs.Shootings.{HasLine};
 ghost use Rattle.id_shots.specs.Visits.{fated};
-ghost use Rattle.id_tag.specs.declared.Value.TheVariants as value;
-ghost use Rattle.id_tag.specs.Plains.{tag_in};
+ghost use Rattle.id_tag.specs.Plains.{tag_in, whole};
 ghost use Rattle.id_ops.specs.declared.Fired.TheVariants.{Nothing};
 ghost use Rattle.id_line.specs.declared.step.Step.TheVariants.{Went};
 ghost use Rattle.id_line.specs.declared.step.Verdict.TheVariants as verdict;
@@ -33,7 +32,7 @@ use id_record::{
     Envelope, Fate, Handling, NO_REPLIES, Reaction, Replies, Verdict, Visiting, message, tag_of,
     token_at, value_of,
 };
-use id_tag::{Cell, Message, Payload, Plain, PlainToken, Tag, Value};
+use id_tag::{Cell, Message, Payload, Plain, PlainToken, Tag, Value, plain_of};
 
 /// Handles a read: the element step where a stamp is left, which is this one.
 #[inline(never)]
@@ -171,12 +170,12 @@ fn ask_or_put<G: Gate>(
     ensures err { OnErr result (state_of desk.new ≡ state_of desk.old) }
     ensures err_outputs { OnErr result (outputs.new.messages ≡ outputs.old.messages) }
 {
-    match demand.number {
+    match demand.stored {
         None => {
             ask(desk, demand, stamp, outputs, gate)?;
             Ok(true)
         }
-        Some(number) => put(desk, demand, number, stamp, outputs, gate),
+        Some(value) => put(desk, demand, value, stamp, outputs, gate),
     }
 }
 
@@ -189,7 +188,7 @@ fn ask<G: Gate>(
     outputs: &mut Queue,
     gate: &G,
 ) -> Result<(), TakeError>
-    requires is { read.now.number ≡ None }
+    requires is { read.now.stored ≡ None }
     requires stamp { stamp ≡ next_stamp (state_of desk.old) (demanded read.now) }
     requires short { IsShort desk.old 1 read.now.like stamp }
 
@@ -222,7 +221,7 @@ fn answer_demand(
     answer: ReadAnswer,
     outputs: &mut Queue,
 )
-    requires is { read.now.number ≡ None }
+    requires is { read.now.stored ≡ None }
     requires short { IsShort desk.old 1 read.now.like stamp }
     requires room { 0 < desk.old.log.room }
     requires room_aside { 0 < desk.old.log.room_aside }
@@ -248,9 +247,12 @@ fn answer_demand(
 {
     match answer {
         ReadAnswer::Deferred => visit(desk, read, stamp, Fate::Deferred),
-        ReadAnswer::Now(Value::Int(number)) => {
+        ReadAnswer::Now(value) => {
+            let Some(value) = plain_of(&value) else {
+                return answer_full(desk, read, stamp, answer, outputs);
+            };
             let reply = PlainToken {
-                value: Plain::Int(number),
+                value,
                 position: desk.log.len() as u32,
                 stamp,
                 sender: desk.log.element() as u8,
@@ -259,9 +261,8 @@ fn answer_demand(
                 ..read.like
             };
             outputs.push_plain_reserved(&reply);
-            visit(desk, read, stamp, Fate::Answered(number));
+            visit(desk, read, stamp, Fate::Answered(value));
         }
-        ReadAnswer::Now(_) => answer_full(desk, read, stamp, answer, outputs),
     }
 }
 
@@ -274,7 +275,7 @@ fn answer_full(
     answer: ReadAnswer,
     outputs: &mut Queue,
 )
-    requires is { read.now.number ≡ None }
+    requires is { read.now.stored ≡ None }
     requires room { 0 < desk.old.log.room }
     requires room_aside { 0 < desk.old.log.room_aside }
     requires room_in_outputs { 1 ≤ outputs.old.room }
@@ -301,18 +302,18 @@ fn answer_full(
     answer_read(desk, &message, u64::from(stamp), answer, outputs);
 }
 
-/// Handles a write of this number in small numbers, where it is the first: the element step at this stamp, which is the
+/// Handles a write of this value in small numbers, where it is the first: the element step at this stamp, which is the
 /// next. It answers whether it did.
 #[inline(always)]
 fn put<G: Gate>(
     desk: &mut Desk<'_>,
     write: &Demand,
-    number: i64,
+    value: Plain,
     stamp: u32,
     outputs: &mut Queue,
     gate: &G,
 ) -> Result<bool, TakeError>
-    requires is { write.now.number ≡ Some number }
+    requires is { write.now.stored ≡ Some value }
     requires stamp { stamp ≡ next_stamp (state_of desk.old) (demanded write.now) }
     requires short { IsShort desk.old 1 write.now.like stamp }
 
@@ -333,26 +334,26 @@ fn put<G: Gate>(
 {
     match desk.cells.expected(write.cell) {
         Some(readers) => {
-            put_first(desk, write, number, readers, stamp, outputs, gate)?;
+            put_first(desk, write, value, readers, stamp, outputs, gate)?;
             Ok(true)
         }
         None => Ok(false),
     }
 }
 
-/// Handles a write of this number in small numbers, the first to its cell, for whose value so many replies wait: the
+/// Handles a write of this value in small numbers, the first to its cell, for whose value so many replies wait: the
 /// element step at this stamp, which is the next.
 #[inline(always)]
 fn put_first<G: Gate>(
     desk: &mut Desk<'_>,
     write: &Demand,
-    number: i64,
+    value: Plain,
     readers: usize,
     stamp: u32,
     outputs: &mut Queue,
     gate: &G,
 ) -> Result<(), TakeError>
-    requires is { write.now.number ≡ Some number }
+    requires is { write.now.stored ≡ Some value }
     requires first { count_expected (map.get desk.old.cells write.now.cell) ≡ Some readers }
     requires stamp { stamp ≡ next_stamp (state_of desk.old) (demanded write.now) }
     requires short { IsShort desk.old 1 write.now.like stamp }
@@ -370,9 +371,9 @@ fn put_first<G: Gate>(
     ensures err_outputs { OnErr result (outputs.new.messages ≡ outputs.old.messages) }
 {
     let tag = write.like.tag();
-    let answer = write_cell(desk, write.cell, Value::Int(number), tag, readers, outputs)?;
+    let answer = write_cell(desk, write.cell, value.value(), tag, readers, outputs)?;
     desk.hold(gate);
-    fill_demand(desk, write, number, stamp, &answer, outputs);
+    fill_demand(desk, write, value, stamp, &answer, outputs);
     Ok(())
 }
 
@@ -410,18 +411,18 @@ fn write_cell(
     Ok(answer)
 }
 
-/// Sends the number of a write in small numbers to the replies that waited for it, and records the event. There is room
+/// Sends the value of a write in small numbers to the replies that waited for it, and records the event. There is room
 /// for it. Takes no memory.
 #[inline(always)]
 fn fill_demand(
     desk: &mut Desk<'_>,
     write: &Demand,
-    number: i64,
+    value: Plain,
     stamp: u32,
     answer: &WriteAnswer,
     outputs: &mut Queue,
 )
-    requires is { write.now.number ≡ Some number }
+    requires is { write.now.stored ≡ Some value }
     requires short { IsShort desk.old 1 write.now.like stamp }
     requires room { 0 < desk.old.log.room }
     requires room_aside { 0 < desk.old.log.room_aside }
@@ -436,7 +437,7 @@ fn fill_demand(
         message = demanded write.now;
         fired = Nothing;
         outputs = numbered desk.old.log.element (length desk.old.log.events) stamp 0
-            (fill_sends (value.Int number) answer.now);
+            (fill_sends (whole value) answer.now);
         step = Went;
       } ∷ [];
     } }
@@ -444,7 +445,7 @@ fn fill_demand(
     ensures graph { desk.new.log.graph ≡ desk.old.log.graph }
     ensures outputs { outputs.new.messages ≡ outputs.old.messages
         ++ numbered desk.old.log.element (length desk.old.log.events) stamp 0
-        (fill_sends (value.Int number) answer.now) }
+        (fill_sends (whole value) answer.now) }
 {
     let envelope = Envelope {
         number: desk.log.element(),
@@ -453,18 +454,12 @@ fn fill_demand(
     };
     let from = desk.log.count_replies();
     let readers = readers_of(answer);
-    send_replies(
-        readers,
-        Value::Int(number),
-        envelope,
-        &mut desk.log,
-        outputs,
-    );
+    send_replies(readers, value.value(), envelope, &mut desk.log, outputs);
     let replies = Replies {
         from,
         count: readers.len(),
     };
-    visit(desk, write, stamp, Fate::Filled(number, replies));
+    visit(desk, write, stamp, Fate::Filled(value, replies));
 }
 
 /// Records the event of a read or a write in small numbers that came to this. There is room for it. Takes no memory.

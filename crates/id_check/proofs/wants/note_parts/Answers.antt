@@ -1,4 +1,4 @@
-use Rattle.std.proofs.Common.{◌≡◌, ◌<◌, List, [], ℕ, Option, get_or, length, refl, sym, inl, inr, subst}
+use Rattle.std.proofs.Common.{◌≡◌, ◌<◌, List, [], ℕ, Bool as Truth, Option, get_or, length, refl, sym, inl, inr, subst}
 use Rattle.std.specs.Prelude.{None}
 use Rattle.id_value.specs.declared.BinaryOp.{BinaryOp}
 use Rattle.id_value.specs.declared.Kind.{Kind}
@@ -46,13 +46,13 @@ note_next-requires-clause-value c = in_part c.args.node _ c.in-Next.value (lengt
 
 pub note_both-requires-clause-left : goal.note_both-requires-clause-left
 note_both-requires-clause-left c = elim c.in-Array.is [
-  | inl e ↦ in_part c.args.node _ c.in-Array.low (length c.args.rows.now) c.requires.parts e (inl refl)
+  | inl e ↦ in_part c.args.node _ c.in-Array.low (length c.args.rows.now) c.requires.parts e.1 (inl refl)
   | inr e ↦ in_part c.args.node _ c.in-Array.low (length c.args.rows.now) c.requires.parts e (inl refl)
 ]
 
 pub note_both-requires-clause-right : goal.note_both-requires-clause-right
 note_both-requires-clause-right c = elim c.in-Array.is [
-  | inl e ↦ in_part c.args.node _ c.in-Array.high (length c.args.rows.now) c.requires.parts e (inr refl)
+  | inl e ↦ in_part c.args.node _ c.in-Array.high (length c.args.rows.now) c.requires.parts e.1 (inr refl)
   | inr e ↦ in_part c.args.node _ c.in-Array.high (length c.args.rows.now) c.requires.parts e (inr refl)
 ]
 
@@ -68,8 +68,14 @@ note_cell-requires-in-Address-clause-target c = in_part c.args.node _ c.in-Addre
 pub note_cell-requires-in-Address-clause-index : goal.note_cell-requires-in-Address-clause-index
 note_cell-requires-in-Address-clause-index c = in_part c.args.node _ c.in-Address.index (length c.args.rows.now) c.requires.parts c.in-Address.is (inr refl)
 
-pub note_wrong-requires-in-Store-clause-row : goal.note_wrong-requires-in-Store-clause-row
-note_wrong-requires-in-Store-clause-row c = in_part c.args.node _ c.in-Store.value (length c.args.rows.now) c.requires.parts c.in-Store.is (inr refl)
+pub note_store-requires-clause-kinds : goal.note_store-requires-clause-kinds
+note_store-requires-clause-kinds c = c.requires.kinds
+
+pub note_store-requires-clause-address : goal.note_store-requires-clause-address
+note_store-requires-clause-address c = in_part c.args.node _ c.in-Store.address (length c.args.rows.now) c.requires.parts c.in-Store.is (inl refl)
+
+pub note_store-requires-clause-value : goal.note_store-requires-clause-value
+note_store-requires-clause-value c = in_part c.args.node _ c.in-Store.value (length c.args.rows.now) c.requires.parts c.in-Store.is (inr refl)
 
 pub note_arm-requires-clause-then : goal.note_arm-requires-clause-then
 note_arm-requires-clause-then c = in_part c.args.node _ c.in-If.then (length c.args.rows.now) c.requires.parts c.in-If.is (inr (inl refl))
@@ -105,7 +111,7 @@ returns-in-Switches c =
 
 pub returns-in-Array : goal.returns-in-Array
 returns-in-Array c = elim c.in-Array.is [
-  | inl e ↦ subst (Noted c.args.rows.now c.args.kinds.now c.args.first.now c.note_both.new.first) (sym e) c.note_both.ensures
+  | inl e ↦ subst (Noted c.args.rows.now c.args.kinds.now c.args.first.now c.note_both.new.first) (sym e.1) c.note_both.ensures
   | inr e ↦ subst (Noted c.args.rows.now c.args.kinds.now c.args.first.now c.note_both.new.first) (sym e) c.note_both.ensures
 ]
 
@@ -121,8 +127,8 @@ returns-in-Address c =
 
 pub returns-in-Store : goal.returns-in-Store
 returns-in-Store c =
-    subst (Noted c.args.rows.now c.args.kinds.now c.args.first.now c.note_wrong-in-Store.new.first) (sym c.in-Store.is)
-    c.note_wrong-in-Store.ensures
+    subst (Noted c.args.rows.now c.args.kinds.now c.args.first.now c.note_store.new.first) (sym c.in-Store.is)
+    c.note_store.ensures
 
 pub returns-in-Next : goal.returns-in-Next
 returns-in-Next c =
@@ -153,9 +159,6 @@ note_cell-requires-clause-kinds c = c.requires.kinds
 pub note_cell-requires-in-Address-clause-kinds : goal.note_cell-requires-in-Address-clause-kinds
 note_cell-requires-in-Address-clause-kinds c = c.requires.kinds
 
-pub note_wrong-requires-in-Store-clause-kinds : goal.note_wrong-requires-in-Store-clause-kinds
-note_wrong-requires-in-Store-clause-kinds c = c.requires.kinds
-
 pub note_arm-requires-clause-kinds : goal.note_arm-requires-clause-kinds
 note_arm-requires-clause-kinds c = c.requires.kinds
 
@@ -163,7 +166,7 @@ note_arm-requires-clause-kinds c = c.requires.kinds
 none_in : (R : List Row) (κ : ℕ → Option Kind) (n : Node)
     → ((p : UnaryOp) (a : ℕ) → n ≡ Unary p a → ⊥) → ((p : BinaryOp) (a b : ℕ) → n ≡ Binary p a b → ⊥) → ((t : ℕ) → n ≡ Split t → ⊥)
     → ((s x y : ℕ) → n ≡ If s x y → ⊥) → ((t : ℕ) → n ≡ Switches t → ⊥) → ((x k u v : ℕ) → n ≡ Next x k u v → ⊥)
-    → ((a b : ℕ) → n ≡ node.Array a b → ⊥) → ((t i : ℕ) → n ≡ Fetch t i → ⊥) → ((t i : ℕ) → n ≡ Address t i → ⊥) → ((a v : ℕ) → n ≡ Store a v → ⊥)
+    → ((nested : Truth) (a b : ℕ) → n ≡ node.Array nested a b → ⊥) → ((t i : ℕ) → n ≡ Fetch t i → ⊥) → ((t i : ℕ) → n ≡ Address t i → ⊥) → ((a v : ℕ) → n ≡ Store a v → ⊥)
     → ((a b : ℕ) → n ≡ Bounds a b → ⊥)
     → wrong_parts R κ n ≡ []
 none_in R κ (Unary p a) h1 h2 h3 h4 h5 h6 h7 h8 h9 h10 h11 = absurd (h1 p a refl)
@@ -172,7 +175,7 @@ none_in R κ (Split t) h1 h2 h3 h4 h5 h6 h7 h8 h9 h10 h11 = absurd (h3 t refl)
 none_in R κ (If s x y) h1 h2 h3 h4 h5 h6 h7 h8 h9 h10 h11 = absurd (h4 s x y refl)
 none_in R κ (Switches t) h1 h2 h3 h4 h5 h6 h7 h8 h9 h10 h11 = absurd (h5 t refl)
 none_in R κ (Next x k u v) h1 h2 h3 h4 h5 h6 h7 h8 h9 h10 h11 = absurd (h6 x k u v refl)
-none_in R κ (node.Array a b) h1 h2 h3 h4 h5 h6 h7 h8 h9 h10 h11 = absurd (h7 a b refl)
+none_in R κ (node.Array nested a b) h1 h2 h3 h4 h5 h6 h7 h8 h9 h10 h11 = absurd (h7 nested a b refl)
 none_in R κ (Fetch t i) h1 h2 h3 h4 h5 h6 h7 h8 h9 h10 h11 = absurd (h8 t i refl)
 none_in R κ (Address t i) h1 h2 h3 h4 h5 h6 h7 h8 h9 h10 h11 = absurd (h9 t i refl)
 none_in R κ (Store a v) h1 h2 h3 h4 h5 h6 h7 h8 h9 h10 h11 = absurd (h10 a v refl)

@@ -1,7 +1,5 @@
-use Rattle.std.proofs.Common.{◌≤◌, ◌++◌, All, arith, false, length, refl, subst, sym}
+use Rattle.std.proofs.Common.{◌++◌, arith, false, refl}
 use Rattle.std.proofs.lemmas.Grind.{common_steps}
-use Rattle.std.proofs.lemmas.List.Elements.{All-get_or}
-use Rattle.id_instr.specs.declared.instr.Instr.{Instr}
 use Rattle.id_graph.specs.Dot.{is_begun, node_text, nodes_text, start_text}
 use Rattle.id_graph.proofs.PieceLemmas.{two_by_one, walk_done, walk_on}
 use Rattle.id_graph.proofs.dot.write_nodes.Goals as goal

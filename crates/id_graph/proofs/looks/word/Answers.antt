@@ -1,4 +1,4 @@
-use Rattle.std.proofs.Common.{List, ℕ, IsUtf8, subst, sym, take}
+use Rattle.std.proofs.Common.{ℕ, IsUtf8, subst, sym, take}
 use Rattle.id_graph.proofs.LooksLemmas.{word_utf8}
 use Rattle.id_graph.proofs.looks.word.Goals as goal
 

@@ -10,13 +10,13 @@ each : (o : Option Line) (P Q : Line → Type 0) → ((l : Line) → P l → Q l
 each None P Q more has = tt
 each (Some l) P Q more has = more l has
 
-pub returns-in-Some-Some : goal.returns-in-Some-Some
-returns-in-Some-Some c =
+pub returns-in-Some-Some-Some : goal.returns-in-Some-Some-Some
+returns-in-Some-Some-Some c =
     let h = c.args.event.now in
-    let x = c.in-Some-Some.carried in
-    let y = c.in-Some-Some.effect in
-    let t = c.target.result in
+    let x = c.in-Some-Some-Some.carried in
+    let y = c.in-Some-Some-Some.effect in
+    let t = c.in-Some-Some-Some.to in
     each c.narrowed.result (IsNarrowed h x y t) (IsPacked (handled h))
-    (λ l is. packed-narrowed (handled h) c.value_of-value.result x.kind x.value y t l c.value_of-value.ensures c.target.ensures c.in-Some-Some.ensures.value
-    c.in-Some-Some.ensures' is.kind is.value is.effect is.number is.named is.message is.stamp is.replies)
+    (λ l is. packed-narrowed (handled h) c.value_of-value.result x.kind x.value y t l c.value_of-value.ensures c.in-Some-Some-Some.ensures''
+    c.in-Some-Some-Some.ensures.value c.in-Some-Some-Some.ensures' is.kind is.value is.effect is.number is.named is.message is.stamp is.replies)
     c.narrowed.ensures

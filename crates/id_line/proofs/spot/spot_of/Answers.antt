@@ -15,8 +15,8 @@ returns-in_err-narrow-2 c = grind (arith, common_steps)
 pub returns-in_err-narrow-3 : goal.returns-in_err-narrow-3
 returns-in_err-narrow-3 c = grind (arith, common_steps)
 
-pub returns-in_err-tiny : goal.returns-in_err-tiny
-returns-in_err-tiny c = grind (arith, common_steps)
+pub returns-in_err-maker_of : goal.returns-in_err-maker_of
+returns-in_err-maker_of c = grind (arith, common_steps)
 
 pub returns : goal.returns
 returns c = grind (arith, common_steps)

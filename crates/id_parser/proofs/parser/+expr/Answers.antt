@@ -8,7 +8,7 @@ use Rattle.id_text.specs.declared.token.Keyword.TheVariants.{If, While, For, Nex
 use Rattle.id_grammar.specs.declared.phrase.Scope.TheVariants as scope
 use Rattle.id_grammar.specs.Readers.{first_kind, second_kind, truth_in}
 use Rattle.id_grammar.specs.Readers.{may_deny, IsBracket}
-use Rattle.id_grammar.specs.Tree.{tree_of, store}
+use Rattle.id_grammar.specs.Tree.{tree_of, fetch}
 use Rattle.id_grammar.proofs.ReaderLemmas.{IsRead-then, Rises-grows, Rises-stunts, Rises-ends, Rises-operand}
 use Rattle.id_grammar.proofs.ReaderLemmas.{Operand-fails, Rises-denied, Denied-fails, operator-at, Right-deep}
 use Rattle.id_grammar.proofs.ReaderLemmas.{Right-fails, Right-grows, At-conditional, At-parens, At-part}
@@ -18,10 +18,10 @@ use Rattle.id_grammar.proofs.ReaderLemmas.{Prefix-fails, Prefix-leads, Encloses-
 use Rattle.id_grammar.proofs.ReaderLemmas.{opens_negated, opens_denied, opens_conditional, opens_parens}
 use Rattle.id_grammar.proofs.ReaderLemmas.{Expression-leads, Expression-fails, Negation-leads, Negation-fails, At-opens}
 use Rattle.id_grammar.proofs.ReaderLemmas.{opens_number, opens_truth, Atom-fails, IsRead-behind, unopened, untrue}
-use Rattle.id_parser.proofs.ArrayLemmas.{opens_array, At-array, Unary-number, Unary-name, Unary-leads, Unary-fails}
+use Rattle.id_parser.proofs.ArrayLemmas.{opens_array, At-bounds, Unary-number, Unary-name, Unary-leads, Unary-fails}
 use Rattle.id_parser.proofs.ArrayLemmas.{Pointed-atom, Pointed-fetch, Pointed-fails, Pointed-ends, Postfix-fails}
 use Rattle.id_parser.proofs.ArrayLemmas.{Fetch-deep, Fetch-fails, Fetch-indexes, Behind-bracket}
-use Rattle.id_parser.proofs.ArrayLemmas.{Behind-enclosed, Misassigns-enclosed, Assigns-done}
+use Rattle.id_parser.proofs.ArrayLemmas.{Behind-enclosed, Misassigns-enclosed}
 use Rattle.id_parser.proofs.ArrayLemmas.{Adds-assigned, Fails-assigned}
 use Rattle.id_parser.proofs.CallLemmas.{IsRead-named, Leads-named, Fails-named, Applies-name, Applies-call}
 use Rattle.id_parser.proofs.CallLemmas.{Misapplies-call, Leads-unpassed, Hands-first, Fails-argument, Hands-add}
@@ -32,11 +32,12 @@ use Rattle.id_parser.proofs.BlockLemmas.{Fails-gathered, Leads-gathered, Leads-l
 use Rattle.id_parser.proofs.ForLemmas.{Misranges-name, Misranges-arrow, Misranges-low, Misranges-high}
 use Rattle.id_parser.proofs.ForLemmas.{Ranges-done, At-ranged, Fails-ranged}
 use Rattle.id_parser.proofs.WholeLemmas.{MatchResult-whole}
-use Rattle.id_parser.proofs.ReadLemmas.{EndsOnce-behind, IsRead-token, IsRead-next, IsRead-both, IsRead-inside, IsRead-beside, IsRead-closed}
+use Rattle.id_parser.proofs.ReadLemmas.{EndsOnce-behind, IsRead-token, IsRead-next, IsRead-both, IsRead-inside, IsRead-beside, IsRead-closed, IsRead-later, IsRead-higher}
 use Rattle.id_parser.proofs.ReadLemmas.{IsGathered-then, IsRead-gathered, IsGathered-call}
 use Rattle.id_grammar.proofs.ReaderLemmas.{At-surrounded, Fails-surrounded, Surrounds-done, Bares-word, Bares-part}
 use Rattle.id_parser.proofs.BlockLemmas.{Surrounds-tail, Bares-tail}
-use Rattle.id_parser.proofs.ArrayLemmas.{Behind-surrounded, Misassigns-surrounded}
+use Rattle.id_parser.proofs.ArrayLemmas.{Behind-word, Misassigns-word, Behind-sized, Misassigns-sized, Behind-lifted, Misassigns-deep}
+use Rattle.id_parser.proofs.ArrayLemmas.{Behind-unlifted, Assigns-stored, Misassigns-stored, Stores-done, Misstores-value}
 use Rattle.id_parser.proofs.CallLemmas.{IsGathered-passed, IsGathered-unpassed}
 use Rattle.id_parser.proofs.parser.+expr.Goals as goal
 
@@ -302,7 +303,7 @@ parse_fetch-returns t c =
 
 pub parse_array-parse_between-requires : goal.parse_array-parse_between-requires
 parse_array-parse_between-requires t c =
-    (grind (arith, common_steps), (EndsOnce-behind c.in-Ok.ensures.whole c.requires.begins (λ q. cc) c.in-Ok.ensures.ends, omega (arith, c.in-Ok.ensures.fits)))
+    (grind (arith, common_steps), (c.behind_array.ensures.ends, omega (arith, c.in-Ok.ensures.fits)))
 
 pub parse_array-parse_enclosed-requires : goal.parse_array-parse_enclosed-requires
 parse_array-parse_enclosed-requires t c =
@@ -322,19 +323,22 @@ parse_array-returns-in-Err t c =
 
 pub parse_array-returns-in-Err-parse_between : goal.parse_array-returns-in-Err-parse_between
 parse_array-returns-in-Err-parse_between t c =
-    Fails-surrounded (At-array c.in-Ok.ensures.whole c.requires.begins c.in-Ok.ensures.fits) c.in-Err-parse_between.ensures
+    Fails-surrounded (At-bounds c.begins_with-nested.result c.in-Ok.ensures.whole c.requires.begins c.in-Ok.ensures.fits
+    c.begins_with-nested.ensures c.behind_array.ensures.word c.behind_array.ensures.none) c.in-Err-parse_between.ensures
 
 pub parse_array-returns-in-Err-parse_enclosed : goal.parse_array-returns-in-Err-parse_enclosed
 parse_array-returns-in-Err-parse_enclosed t c =
-    Fails-enclosed (At-surrounded (At-array c.in-Ok.ensures.whole c.requires.begins c.in-Ok.ensures.fits)
+    Fails-enclosed (At-surrounded (At-bounds c.begins_with-nested.result c.in-Ok.ensures.whole c.requires.begins c.in-Ok.ensures.fits
+    c.begins_with-nested.ensures c.behind_array.ensures.word c.behind_array.ensures.none)
     c.in-Ok-parse_between.ensures.1) c.in-Err-parse_enclosed.ensures
 
 pub parse_array-returns : goal.parse_array-returns
 parse_array-returns t c =
     MatchResult-whole c.array.result c.with_rest.result _ _ _ _ c.with_rest.ensures c.array.ensures (λ x p s. rw s (
-      IsRead-inside c.in-Ok.ensures.whole (IsRead-both c.in-Ok-parse_between.ensures.0 c.in-Ok-parse_enclosed.ensures.0) p.0,
+      IsRead-inside c.in-Ok.ensures.whole (IsRead-later c.behind_array.ensures.shorter (IsRead-both c.in-Ok-parse_between.ensures.0 c.in-Ok-parse_enclosed.ensures.0)) p.0,
       Leads-at p.1 (omega (arith, p.0))
-          (Leads-done (At-enclosed (At-surrounded (At-array c.in-Ok.ensures.whole c.requires.begins c.in-Ok.ensures.fits)
+          (Leads-done (At-enclosed (At-surrounded (At-bounds c.begins_with-nested.result c.in-Ok.ensures.whole c.requires.begins c.in-Ok.ensures.fits
+          c.begins_with-nested.ensures c.behind_array.ensures.word c.behind_array.ensures.none)
           c.in-Ok-parse_between.ensures.1) c.in-Ok-parse_enclosed.ensures.1)),
     ))
     (record { fails = λ K. tt })
@@ -706,33 +710,67 @@ parse_statement-returns t c =
 
 pub parse_store-parse_enclosed-requires : goal.parse_store-parse_enclosed-requires
 parse_store-parse_enclosed-requires t c =
-    (grind (arith, common_steps), (EndsOnce-behind c.split.ensures.whole c.requires.begins (λ q. cc) c.split.ensures.ends, c.requires.room))
-
-pub parse_store-parse_between-requires : goal.parse_store-parse_between-requires
-parse_store-parse_between-requires t c =
-    (grind (arith, common_steps), (c.in-Ok.ensures.0.behind.ends, c.requires.room))
+    let is : first_kind c.in-Ok-expect_word.found.now ≡ Sign LeftBracket = search rules in
+    (grind (arith, common_steps), (EndsOnce-behind c.in-Ok-enter.ensures.whole is (λ q. cc) c.in-Ok-enter.ensures.ends, c.requires.room))
 
 pub parse_store-returns-in-Err : goal.parse_store-returns-in-Err
 parse_store-returns-in-Err t c =
-    Misassigns-enclosed (Behind-bracket c.args.scope c.args.depth c.args.x c.args.place c.split.ensures.whole c.requires.begins)
-    (Exposes-tail c.in-Err.ensures)
+    Misassigns-sized (Behind-bracket c.args.scope c.args.depth c.args.x c.args.place c.split.ensures.whole c.requires.begins) c.in-Err.ensures
 
-pub parse_store-returns-in-Err-parse_between : goal.parse_store-returns-in-Err-parse_between
-parse_store-returns-in-Err-parse_between t c =
-    Misassigns-surrounded (Behind-enclosed (Behind-bracket c.args.scope c.args.depth c.args.x c.args.place c.split.ensures.whole c.requires.begins)
-    (Encloses-tail c.in-Ok.ensures.1)) (Bares-tail c.in-Err-parse_between.ensures)
+pub parse_store-returns-in-Err-expect_word : goal.parse_store-returns-in-Err-expect_word
+parse_store-returns-in-Err-expect_word t c =
+    Misassigns-word (Behind-sized (Behind-bracket c.args.scope c.args.depth c.args.x c.args.place c.split.ensures.whole c.requires.begins) c.in-Ok.ensures.1) c.in-Err-expect_word.ensures.err
 
-pub parse_store-returns : goal.parse_store-returns
-parse_store-returns t c =
-    let tree =
-    c.in-Ok-store.ensures.1
-    ∙ ap (λ a. store a (tree_of c.in-Ok.found.0.expr) (tree_of c.in-Ok-parse_between.found.0.expr) c.split.result.0.now.start)
-    c.name-target.ensures.tree in (
-      rw c.in-Ok-store.ensures.0 (IsRead-next c.split.ensures.whole (IsRead-both c.in-Ok.ensures.0 c.in-Ok-parse_between.ensures.0)),
-      Assigns-done tree (omega (arith, c.in-Ok-store.ensures.0))
-          (Behind-surrounded (Behind-enclosed (Behind-bracket c.args.scope c.args.depth c.args.x c.args.place c.split.ensures.whole c.requires.begins)
-          (Encloses-tail c.in-Ok.ensures.1)) (Surrounds-tail c.in-Ok-parse_between.ensures.1)),
-    )
+pub parse_store-returns-in-Err-enter : goal.parse_store-returns-in-Err-enter
+parse_store-returns-in-Err-enter t c =
+    let is : first_kind c.in-Ok-expect_word.found.now ≡ Sign LeftBracket = search rules in
+    Misassigns-deep (Behind-word (Behind-sized (Behind-bracket c.args.scope c.args.depth c.args.x c.args.place c.split.ensures.whole c.requires.begins) c.in-Ok.ensures.1)
+    c.in-Ok-expect_word.ensures.ok) c.in-Ok-expect_word.ensures.behind.ends is c.in-Err-enter.ensures.err c.in-Err-enter.ensures.deep
+
+pub parse_store-returns-in-Err-parse_enclosed : goal.parse_store-returns-in-Err-parse_enclosed
+parse_store-returns-in-Err-parse_enclosed t c =
+    let is : first_kind c.in-Ok-expect_word.found.now ≡ Sign LeftBracket = search rules in
+    Misassigns-enclosed (Behind-lifted (Behind-word (Behind-sized (Behind-bracket c.args.scope c.args.depth c.args.x c.args.place c.split.ensures.whole c.requires.begins) c.in-Ok.ensures.1)
+    c.in-Ok-expect_word.ensures.ok) c.in-Ok-enter.ensures.whole is c.in-Ok-enter.ensures.fits)
+    (Exposes-tail c.in-Err-parse_enclosed.ensures)
+
+pub parse_store-returns-in-Ok-parse_enclosed : goal.parse_store-returns-in-Ok-parse_enclosed
+parse_store-returns-in-Ok-parse_enclosed t c =
+    let is : first_kind c.in-Ok-expect_word.found.now ≡ Sign LeftBracket = search rules in
+    let target = c.in-Ok-fetch.ensures.1
+    ∙ ap (λ a. fetch a (tree_of c.in-Ok.found.0.expr) c.split.result.0.now.start) c.name-target.ensures.tree in
+    let behind = Behind-enclosed (Behind-lifted (Behind-word (Behind-sized (Behind-bracket c.args.scope c.args.depth c.args.x c.args.place c.split.ensures.whole c.requires.begins) c.in-Ok.ensures.1)
+    c.in-Ok-expect_word.ensures.ok) c.in-Ok-enter.ensures.whole is c.in-Ok-enter.ensures.fits)
+    (Encloses-tail c.in-Ok-parse_enclosed.ensures.1) in
+    MatchResult-weaker c.parse_stored.result c.parse_stored.ensures
+    (λ y q. (
+      IsRead-next c.split.ensures.whole (IsRead-then (IsRead-closed c.in-Ok.ensures.0 c.in-Ok-expect_word.ensures.behind)
+          (IsRead-then (IsRead-next c.in-Ok-enter.ensures.whole c.in-Ok-parse_enclosed.ensures.0) q.0)),
+      Assigns-stored target (omega (arith, c.in-Ok-fetch.ensures.0, c.name-target.ensures.height, c.in-Ok.ensures.0.some)) behind (q.1 c.args.scope),
+    ))
+    (λ y q. Misassigns-stored target (omega (arith, c.in-Ok-fetch.ensures.0, c.name-target.ensures.height, c.in-Ok.ensures.0.some)) behind (q c.args.scope))
+
+pub parse_store-returns-else-begins_with_sign : goal.parse_store-returns-else-begins_with_sign
+parse_store-returns-else-begins_with_sign t c =
+    let is_not : first_kind c.in-Ok-expect_word.found.now ≡ Sign LeftBracket → ⊥ = search rules in
+    let behind = Behind-unlifted (Behind-word (Behind-sized (Behind-bracket c.args.scope c.args.depth c.args.x c.args.place c.split.ensures.whole c.requires.begins) c.in-Ok.ensures.1)
+    c.in-Ok-expect_word.ensures.ok) is_not in
+    MatchResult-weaker c.parse_stored-else-begins_with_sign.result c.parse_stored-else-begins_with_sign.ensures
+    (λ y q. (
+      IsRead-next c.split.ensures.whole (IsRead-then (IsRead-closed c.in-Ok.ensures.0 c.in-Ok-expect_word.ensures.behind) q.0),
+      Assigns-stored c.name-target.ensures.tree (omega (arith, c.name-target.ensures.height, c.in-Ok.ensures.0.some)) behind (q.1 c.args.scope),
+    ))
+    (λ y q. Misassigns-stored c.name-target.ensures.tree (omega (arith, c.name-target.ensures.height, c.in-Ok.ensures.0.some)) behind (q c.args.scope))
+
+pub parse_stored-returns-in-Err : goal.parse_stored-returns-in-Err
+parse_stored-returns-in-Err t c =
+    Misstores-value _ _ _ _ (Bares-tail c.in-Err.ensures)
+
+pub parse_stored-returns : goal.parse_stored-returns
+parse_stored-returns t c = (
+  IsRead-higher _ c.in-Ok.ensures.0 (omega (arith, c.requires.target, c.requires.index)) c.in-Ok-store.ensures.0,
+  Stores-done _ _ _ _ (Surrounds-tail c.in-Ok.ensures.1) c.in-Ok-store.ensures.1 c.in-Ok-store.ensures.0,
+)
 
 pub parse_next-expect_name-requires : goal.parse_next-expect_name-requires
 parse_next-expect_name-requires t c =

@@ -71,14 +71,17 @@ decreases-parse_enclosed l = (200 - l.depth) * 32 + 18
 abbrev pub decreases-parse_next : goal.decreases-parse_next
 decreases-parse_next l = (200 - l.depth) * 32 + 20
 
+abbrev pub decreases-parse_stored : goal.decreases-parse_stored
+decreases-parse_stored l = (200 - l.depth) * 32 + 20
+
 abbrev pub decreases-parse_store : goal.decreases-parse_store
-decreases-parse_store l = (200 - l.depth) * 32 + 20
+decreases-parse_store l = (200 - l.depth) * 32 + 21
 
 abbrev pub decreases-parse_statement : goal.decreases-parse_statement
-decreases-parse_statement l = (200 - l.depth) * 32 + 21
+decreases-parse_statement l = (200 - l.depth) * 32 + 22
 
 abbrev pub decreases-parse_statements : goal.decreases-parse_statements
-decreases-parse_statements l = (200 - l.depth) * 32 + 22
+decreases-parse_statements l = (200 - l.depth) * 32 + 23
 
 abbrev pub decreases-parse_leaf : goal.decreases-parse_leaf
 decreases-parse_leaf l = (200 - l.depth) * 32 + 1

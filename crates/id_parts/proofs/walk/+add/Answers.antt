@@ -74,7 +74,7 @@ add_expr-returns-in-Array t c =
     let a = c.in-Array in
     let d = c.deref-in-Array in
     added_as c.add_pair-in-Array.result (parts c.add_pair-in-Array.new.maker) _ _
-    (ap (add c.args.stand (parts c.args.maker.now)) (array_tree c.args.expr.now a.place a.inside d.result.now d.ensures a.is))
+    (ap (add c.args.stand (parts c.args.maker.now)) (array_tree a.nested c.args.expr.now a.place a.inside d.result.now d.ensures a.is))
     c.add_pair-in-Array.ensures
 
 pub add_expr-returns-in-Fetch : goal.add_expr-returns-in-Fetch

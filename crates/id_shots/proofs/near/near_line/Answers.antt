@@ -2,7 +2,7 @@
 use Rattle.std.proofs.Common.{◌≡◌, refl, ap, ◌∙◌}
 use Rattle.std.specs.Int.{cast_signed, w32}
 use Rattle.id_tag.specs.declared.Payload.TheVariants.{Token}
-use Rattle.id_tag.specs.Plains.{cell_of, tag_in, whole}
+use Rattle.id_tag.specs.Plains.{cell_of, made_by, tag_in, whole}
 use Rattle.id_ops.specs.Deeds.{fired_by_deed}
 use Rattle.id_line.specs.Lines.{cell_at, element_at, high_half, instr_at, low_half, target_in}
 use Rattle.id_shots.specs.Shootings.{doing}
@@ -20,12 +20,9 @@ returns-in-Some c =
     let is = c.token_line.ensures in
     let has = c.written.ensures in
     let cell : cell_at (target_in l) l.value ≡ cell_of n.cell = λ i. record {
-      structure = record {
-        element = (ap element_at is.to ∙ has.element) i;
-        serial = (ap low_half is.number ∙ has.serial) i;
-        low = (ap (λ m. cast_signed w32 (high_half m)) is.value ∙ has.low) i;
-        high = (ap (λ m. cast_signed w32 (low_half m)) is.value ∙ has.high) i;
-      };
+      structure = made_by ((ap element_at is.to ∙ has.element) i) ((ap low_half is.number ∙ has.serial) i)
+          ((ap (λ m. cast_signed w32 (high_half m)) is.value ∙ has.low) i)
+          ((ap (λ m. cast_signed w32 (low_half m)) is.value ∙ has.high) i);
       index = (ap (λ m. cast_signed w32 (high_half m)) is.number ∙ has.index) i;
     } in
     packed-near (doing e) l n.effect n.instr (cell_of n.cell) t u.port (whole u.value) f

@@ -9,11 +9,11 @@ returns-in-Stored-Address-clause-kind c = grind (arith, common_steps)
 pub returns-in-Stored-Address-clause-told : goal.returns-in-Stored-Address-clause-told
 returns-in-Stored-Address-clause-told c = grind (arith, common_steps)
 
-pub returns-in-Stored-Int-clause-kind : goal.returns-in-Stored-Int-clause-kind
-returns-in-Stored-Int-clause-kind c = grind (arith, common_steps)
+pub returns-in-Stored-default-Int-Int-clause-kind : goal.returns-in-Stored-default-Int-Int-clause-kind
+returns-in-Stored-default-Int-Int-clause-kind c = grind (arith, common_steps)
 
-pub returns-in-Stored-Int-clause-told : goal.returns-in-Stored-Int-clause-told
-returns-in-Stored-Int-clause-told c = grind (arith, common_steps)
+pub returns-in-Stored-default-Int-Int-clause-told : goal.returns-in-Stored-default-Int-Int-clause-told
+returns-in-Stored-default-Int-Int-clause-told c = grind (arith, common_steps)
 
 pub returns-in-Switched-Bool-clause-kind : goal.returns-in-Switched-Bool-clause-kind
 returns-in-Switched-Bool-clause-kind c = grind (arith, common_steps)
@@ -32,3 +32,7 @@ returns-in_default-3-clause-kind c = grind (arith, common_steps)
 
 pub returns-in_default-3-clause-told : goal.returns-in_default-3-clause-told
 returns-in_default-3-clause-told c = grind (arith, common_steps)
+
+pub returns-in-Stored-default-Structure-Structure-clause-told :
+    goal.returns-in-Stored-default-Structure-Structure-clause-told
+returns-in-Stored-default-Structure-Structure-clause-told c = grind (arith, common_steps)

@@ -1,7 +1,11 @@
 -- The machine takes a colon and a kind, and no other tokens.
-use Rattle.std.proofs.Common.{◌∙◌, sym}
+use Rattle.std.proofs.Common.{rules, ◌≡◌, ◌∙◌, Some, ap, sym}
 use Rattle.std.proofs.lemmas.Result.{err_from_is_err_and}
-use Rattle.id_grammar.proofs.ParamLemmas.{Types-done, Untypes-kind, Untypes-colon}
+use Rattle.id_grammar.proofs.ParamLemmas.{Types-done, Types-deeper, Untypes-kind, Untypes-colon}
+use Rattle.id_text.specs.declared.token.Keyword.TheVariants.{Array}
+use Rattle.id_text.specs.declared.token.TokenKind.TheVariants.{Key}
+use Rattle.id_value.specs.declared.Kind.TheVariants as kind
+use Rattle.id_grammar.specs.Readers.{first_kind}
 use Rattle.id_tree.proofs.heads.expect_kind.Goals as goal
 
 pub returns-in_err-named-clause-err : goal.returns-in_err-named-clause-err
@@ -9,8 +13,16 @@ returns-in_err-named-clause-err c =
     let p = err_from_is_err_and c.from_residual.result c.from_residual.ensures.1 in
     rw (p.1, p.2) (Untypes-colon c.in_err-named.ensures.err)
 
-pub returns-in-Some-clause-ok : goal.returns-in-Some-clause-ok
-returns-in-Some-clause-ok c = Types-done c.in_ok-named.ensures.ok c.in-Some.kind c.split.ensures.whole (sym c.kind_at.ensures ∙ c.in-Some.is)
+pub returns-then-is_deeper-clause-ok : goal.returns-then-is_deeper-clause-ok
+returns-then-is_deeper-clause-ok c =
+    let is : (c.in-Some.kind ≡ kind.Array) × (first_kind c.split.result.1.now ≡ Key Array) = search rules in
+    Types-deeper c.in_ok-named.ensures.ok c.split.ensures.whole (sym c.kind_at.ensures ∙ c.in-Some.is ∙ ap (λ k. Some k) is.0) c.split-then-is_deeper.ensures.whole
+    is.1
+
+pub returns-else-is_deeper-clause-ok : goal.returns-else-is_deeper-clause-ok
+returns-else-is_deeper-clause-ok c =
+    let not : c.in-Some.kind ≡ kind.Array → first_kind c.split.result.1.now ≡ Key Array → ⊥ = λ e f. search rules in
+    Types-done c.in_ok-named.ensures.ok c.in-Some.kind c.split.ensures.whole (sym c.kind_at.ensures ∙ c.in-Some.is) not
 
 pub returns-in-None-clause-err : goal.returns-in-None-clause-err
 returns-in-None-clause-err c = Untypes-kind c.in_ok-named.ensures.ok c.unexpected.result c.split.ensures.whole c.unexpected.ensures

@@ -1,6 +1,6 @@
 -- What is recorded is the element step on a first write, and after an error all is as it was.
-use Rattle.std.proofs.Common.{◌≡◌, ◌++◌, length, ap, ◌∙◌, arith, of_z, to_z, to_z-of_z, w64}
-use Rattle.id_tag.specs.declared.Value.TheVariants.{Int}
+use Rattle.std.proofs.Common.{◌++◌, length, ap, ◌∙◌}
+use Rattle.id_tag.specs.Plains.{whole}
 use Rattle.id_flight.specs.Demands.{demanded}
 use Rattle.id_record.specs.Sends.{numbered}
 use Rattle.id_firing.specs.Steps.{State, fill_sends}
@@ -13,9 +13,9 @@ use Rattle.id_visit.proofs.cells.put_first.Goals.{Joined-answer}
 
 -- the step, by the outcome of a first write
 stepped : (g : _) (c : Joined-answer g) → IsStepBy c.args.desk.now.log.graph c.args.desk.now.log.element (state_of c.args.desk.now) (demanded c.args.write.now)
-    (first_outcome (state_of c.args.desk.now) c.args.write.now c.args.number)
+    (first_outcome (state_of c.args.desk.now) c.args.write.now c.args.value)
 stepped g c =
-    first_write c.args.desk.now.log.graph c.args.desk.now.log.element (state_of c.args.desk.now) c.args.write.now c.args.number c.args.readers
+    first_write c.args.desk.now.log.graph c.args.desk.now.log.element (state_of c.args.desk.now) c.args.write.now c.args.value c.args.readers
     c.requires.is c.requires.first
 
 pub returns-clause-step : goal.returns-clause-step
@@ -24,10 +24,9 @@ returns-clause-step g c = (stepped g c).step
 pub returns-clause-state : goal.returns-clause-state
 returns-clause-state g c =
     let there = c.in_ok-answer.ensures in
-    let same : to_z w64 (of_z w64 c.args.number) ≡ c.args.number = grind (arith, to_z-of_z) in
     first_state c.args.desk.now.log.graph c.args.desk.now.log.element c.write_cell.new.desk.log.element (state_of c.args.desk.now)
-    (state_of c.write_cell.new.desk) (state_of c.fill_demand.new.desk) c.args.write.now c.args.number (to_z w64 (of_z w64 c.args.number)) c.args.readers
-    c.args.stamp c.in_ok-answer.answer c.tag-tag.result c.requires.is c.requires.first c.requires.stamp c.tag-tag.ensures same there.state there.answer
+    (state_of c.write_cell.new.desk) (state_of c.fill_demand.new.desk) c.args.write.now c.args.value c.value.result c.args.readers
+    c.args.stamp c.in_ok-answer.answer c.tag-tag.result c.requires.is c.requires.first c.requires.stamp c.tag-tag.ensures c.value.ensures there.state there.answer
     there.number c.fill_demand.ensures.state
 
 pub returns-clause-outputs : goal.returns-clause-outputs
@@ -38,15 +37,13 @@ returns-clause-outputs g c =
     let e = c.args.desk.now.log.element in
     let a = c.write_cell.new.desk in
     let answer = c.in_ok-answer.answer in
-    let m = to_z w64 (of_z w64 c.args.number) in
-    let same : to_z w64 (of_z w64 c.args.number) ≡ c.args.number = grind (arith, to_z-of_z) in
+    let m = whole c.args.value in
     outputs_by before _ c.args.desk.now.log.graph e s (demanded c.args.write.now) _ c.args.stamp (stepped g c) c.requires.stamp
     (c.fill_demand.ensures.outputs
-    ∙ ap (λ xs. xs ++ numbered a.log.element (length a.log.events) c.args.stamp 0 (fill_sends (Int m) answer)) there.messages
-    ∙ ap (λ n. before ++ numbered n (length a.log.events) c.args.stamp 0 (fill_sends (Int m) answer)) there.number
-    ∙ ap (λ (x : State). before ++ numbered e (length x.events) c.args.stamp 0 (fill_sends (Int m) answer)) there.state
-    ∙ ap (λ j. before ++ numbered e (length s.events) c.args.stamp 0 (fill_sends (Int j) answer)) same
-    ∙ ap (λ w. before ++ numbered e (length s.events) c.args.stamp 0 (fill_sends (Int c.args.number) w)) there.answer)
+    ∙ ap (λ xs. xs ++ numbered a.log.element (length a.log.events) c.args.stamp 0 (fill_sends m answer)) there.messages
+    ∙ ap (λ n. before ++ numbered n (length a.log.events) c.args.stamp 0 (fill_sends m answer)) there.number
+    ∙ ap (λ (x : State). before ++ numbered e (length x.events) c.args.stamp 0 (fill_sends m answer)) there.state
+    ∙ ap (λ w. before ++ numbered e (length s.events) c.args.stamp 0 (fill_sends m w)) there.answer)
 
 pub returns-clause-number : goal.returns-clause-number
 returns-clause-number g c = c.fill_demand.ensures.number ∙ c.in_ok-answer.ensures.number
@@ -66,7 +63,7 @@ returns-clause-err_outputs g c = tt
 -- after an error all is as it was
 pub returns-in_err-answer-clause-step : goal.returns-in_err-answer-clause-step
 returns-in_err-answer-clause-step g c =
-    (first_write c.args.desk.now.log.graph c.args.desk.now.log.element (state_of c.args.desk.now) c.args.write.now c.args.number c.args.readers
+    (first_write c.args.desk.now.log.graph c.args.desk.now.log.element (state_of c.args.desk.now) c.args.write.now c.args.value c.args.readers
     c.requires.is c.requires.first).step
 
 pub returns-in_err-answer-clause-state : goal.returns-in_err-answer-clause-state

@@ -4,12 +4,9 @@ use Rattle.std.specs.Prelude.{All}
 use Rattle.std.proofs.lemmas.List.Elements.{All-push}
 use Rattle.id_tag.specs.declared.Message.{Message}
 use Rattle.id_tag.specs.declared.Payload.TheVariants.{Write}
-use Rattle.id_tag.specs.declared.Value.TheVariants as value
-use Rattle.id_tag.specs.Plains.{cell_of, message_of, tag_in}
-use Rattle.std.specs.Int.{w64}
-use Rattle.std.proofs.lemmas.Int.{to_z-of_z}
+use Rattle.id_tag.specs.Plains.{cell_of, message_of, tag_in, whole}
 use Rattle.std.proofs.lemmas.Grind.{common_steps}
-use Rattle.id_flight.specs.Parcels.{IsPacked, IsWithin}
+use Rattle.id_flight.specs.Parcels.{IsWithin}
 use Rattle.id_flight.proofs.ParcelsLemmas.{messages-more}
 use Rattle.id_flight.proofs.queue.Queue.push_write_reserved.Goals as goal
 
@@ -28,10 +25,7 @@ returns-clause-messages c =
     let asides = c.self.inside.asides.items in
     let p = c.packed_write.result in
     let t = c.args.like.now in
-    let m : Message = record (message_of t) { payload = Write (cell_of c.args.cell) (value.Int c.args.number) (tag_in t) } in
-    let packed : IsPacked m p =
-    subst (λ n. IsPacked (record (message_of t) { payload = Write (cell_of c.args.cell) (value.Int n) (tag_in t) }) p)
-    (to_z-of_z w64 c.args.number c.ranges.number) c.packed_write.ensures in
-    messages-more asides asides c.self.inside.parcels.items c.push_back_reserved.new.self.items p m (λ q w. (w, refl)) c.self.invariant.0 (packed.is asides)
-    c.push_back_reserved.ensures.items
+    let m : Message = record (message_of t) { payload = Write (cell_of c.args.cell) (whole c.args.value) (tag_in t) } in
+    messages-more asides asides c.self.inside.parcels.items c.push_back_reserved.new.self.items p m (λ q w. (w, refl)) c.self.invariant.0
+    (c.packed_write.ensures.is asides) c.push_back_reserved.ensures.items
     ∙ ap (λ v. v.messages ++ m ∷ []) c.self.view_is
