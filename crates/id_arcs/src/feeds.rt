@@ -1,6 +1,7 @@
 //! The arcs to the instructions of a row (docs/GRAPH.md, "Schemas").
 
-ghost use Rattle.std.specs.Prelude.{◌≡◌, ◌++◌, ◌<◌, ◌+◌, ◌-◌, ◌^◌, ◌∷◌, [], length, map, true, false, IfErr, OnOk};
+ghost use Rattle.std.specs.Prelude.{◌≡◌, ◌++◌, ◌<◌, ◌+◌, ◌-◌, ◌^◌, ◌∷◌, [], length};
+ghost use Rattle.std.specs.Prelude.{map, true, false, IfErr, OnOk};
 ghost use Rattle.id_check.specs.Programs as programs;
 ghost use Rattle.id_desugar.specs.Regions as regions;
 ghost use Rattle.id_pieces.specs.Rows.{body_of, entry_feeds, feeds, feeds_of, first_binder, import_feeds};
@@ -228,7 +229,8 @@ fn push_arms(
 ) -> Result<(), BuildError>
     requires slots { AreSlots checked.now slots.now }
     ensures list { OnOk result (arcs.new.list.items ≡ arcs.old.list.items ++ map (arc_of arcs.old.firsts.items n)
-        (rows.feed (rows.origin checked.now then) 0 Zero ∷ rows.feed (rows.origin checked.now otherwise) 0 Zero ∷ [])) }
+        (rows.feed (rows.origin checked.now then) 0 Zero ∷ rows.feed (rows.origin checked.now otherwise) 0 Zero
+        ∷ [])) }
     ensures firsts { arcs.new.firsts.items ≡ arcs.old.firsts.items }
     ensures memory { IfErr result (λ e. e ≡ BuildError.Memory) }
 {

@@ -1,5 +1,6 @@
 -- What matches and errors of `clap` come to, step by step.
-use Rattle.std.specs.Prelude.{◌≡◌, ◌≢◌, ◌⊎◌, ℕ, ⊤, List, Option, Result, Ok, Err, MatchOption, IsSomeAnd}
+use Rattle.std.specs.Prelude.{◌≡◌, ◌≢◌, ◌⊎◌, ℕ, ⊤, List, Option, Result, Ok, Err, MatchOption}
+use Rattle.std.specs.Prelude.{IsSomeAnd}
 use Rattle.clap.specs.Walk.{Row, Text}
 use Rattle.clap.specs.declared.error.kind.ErrorKind.{ErrorKind}
 use Rattle.clap.specs.declared.error.kind.ErrorKind.TheVariants.{DisplayHelp, DisplayVersion, OutOfMemory}
@@ -30,7 +31,8 @@ IsOrderOf rows r = MatchOption r ((order : Option ℕ) → HasOrder rows order �
 
 -- the request of a command with these matches, if there is one
 abbrev pub IsAsked : Text → List Row → Option Request → Type 0
-IsAsked name rows r = MatchOption r ((request : Request) → IsRequestOf name rows request → ⊥) (IsRequestOf name rows)
+IsAsked name rows r =
+    MatchOption r ((request : Request) → IsRequestOf name rows request → ⊥) (IsRequestOf name rows)
 
 -- the request of a named command, if there is one
 abbrev pub Asks : Option (Text × List Row) → Request → Type 0

@@ -1,5 +1,6 @@
 -- What words ask for (docs/LANGUAGE.md, "Output").
-use Rattle.std.specs.Prelude.{◌≡◌, ◌≢◌, ◌⊎◌, ◌<◌, ◌^◌, ◌-◌, ◌&&◌, ◌||◌, ℕ, Bool, true, false, ⊤}
+use Rattle.std.specs.Prelude.{◌≡◌, ◌≢◌, ◌⊎◌, ◌<◌, ◌^◌, ◌-◌, ◌&&◌, ◌||◌, ℕ, Bool}
+use Rattle.std.specs.Prelude.{true, false, ⊤}
 use Rattle.std.specs.Prelude.{List, [], map, length, codes, ◌∷◌, ◌++◌, string_bytes}
 use Rattle.std.specs.Prelude.{Option, Some, None, Result, Ok, Err, unwrap_or, slice_get, if◌then◌else◌, IsSomeAnd}
 use Rattle.std.specs.Option.{option_map_or}

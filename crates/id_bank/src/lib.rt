@@ -291,7 +291,8 @@ fn shown(
 // How many cells of pages hold a value. More than a machine word counts, which no memory has, would be told as want of
 // memory.
 fn count_filled(pages: &[((i64, Structure), &Vec<Slot>)]) -> Result<usize, AllocError>
-    ensures { IfOk result (λ n. n ≡ length (flat_map filled_at (flat_map (λ e. page_cells (e.0, e.1.now)) pages.now))) }
+    ensures { IfOk result
+        (λ n. n ≡ length (flat_map filled_at (flat_map (λ e. page_cells (e.0, e.1.now)) pages.now))) }
 {
     let mut count = 0usize;
     for entry in pages {

@@ -1,6 +1,7 @@
 //! Pages, of eight neighbouring cells each, and where they are found.
 
-ghost use Rattle.std.specs.Prelude.{◌≡◌, ℕ, ℤ, ◌+◌, ◌<◌, ◌&&◌, ◌≢◌, ◌↔◌, IsTrue, nat_eq, false, length};
+ghost use Rattle.std.specs.Prelude.{◌≡◌, ℕ, ℤ, ◌+◌, ◌<◌, ◌&&◌, ◌≢◌, ◌↔◌, IsTrue};
+ghost use Rattle.std.specs.Prelude.{nat_eq, false, length};
 ghost use Rattle.std.specs.Prelude.{IfOk, IfSome, IfNone, OnOk, OnErr};
 ghost use Rattle.std.specs.Prelude.{All, None, Some, slice_get};
 ghost use Rattle.std.specs.List.{flat_map};
@@ -170,7 +171,8 @@ fn reach_page(
 ) -> Result<usize, AllocError>
     requires { IsPage page }
     ensures found { IfOk result (λ i. slice_get (keys pages.new) i ≡ Some page) }
-    ensures same { (p : ℤ × Structure) (k : ℕ) → state_at pages.new.entries p k ≡ state_at pages.old.entries p k }
+    ensures same { (p : ℤ × Structure) (k : ℕ)
+        → state_at pages.new.entries p k ≡ state_at pages.old.entries p k }
     ensures absent { OnErr result ((k : ℕ) → state_at pages.old.entries page k ≡ None) }
     ensures unique { IsUnique same_page pages.new }
     ensures was_unique { IsUnique same_page pages.old }
@@ -195,7 +197,8 @@ fn add_page(
     requires page { IsPage page }
     requires new { get same_page pages.old page ≡ None }
     ensures found { IfOk result (λ i. slice_get (keys pages.new) i ≡ Some page) }
-    ensures same { (p : ℤ × Structure) (k : ℕ) → state_at pages.new.entries p k ≡ state_at pages.old.entries p k }
+    ensures same { (p : ℤ × Structure) (k : ℕ)
+        → state_at pages.new.entries p k ≡ state_at pages.old.entries p k }
     ensures unique { IsUnique same_page pages.new }
     ensures fits { All IsPage (keys pages.old) → All IsPage (keys pages.new) }
 {

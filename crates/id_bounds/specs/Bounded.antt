@@ -24,7 +24,8 @@ use Rattle.id_laws.specs.Laws.{events, messages}
 -- first iteration of an On `for`, whose bounds may have no values yet
 pub data IsActiveBy (P : Checked) (F : Fact → Type 0) (p : Path) : Type 0 where
   something_on : (e : ℕ) → F (On p e) → IsActiveBy P F p
-  index_has : {x name : ℕ} {v : SourceValue} → Stands P x (Index name) → F (Has p (place P x) v) → IsActiveBy P F p
+  index_has : {x name : ℕ} {v : SourceValue} → Stands P x (Index name) → F (Has p (place P x) v)
+      → IsActiveBy P F p
   loop_begins : {n w x a b l : ℕ} {q : Path} → ForStands P n w x a b l → F (On q (place P n))
       → p ≡ below q (place P n) 0 → IsActiveBy P F p
 

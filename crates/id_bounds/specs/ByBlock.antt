@@ -46,8 +46,8 @@ pub record Turn : Type 0 where
 pub data IsTurn (S : Source) (t : Turn) : Type 0 where
   something_on : {i : ℕ} → i < length (rows S.checked) → is_thing (node S.checked i) ≡ true
       → in_block S.checked t.head i ≡ true → Holds S (On t.path (place S.checked i)) → IsTurn S t
-  index_has : {x name : ℕ} {v : SourceValue} → Stands S.checked x (Index name) → in_block S.checked t.head x ≡ true
-      → Holds S (Has t.path (place S.checked x) v) → IsTurn S t
+  index_has : {x name : ℕ} {v : SourceValue} → Stands S.checked x (Index name)
+      → in_block S.checked t.head x ≡ true → Holds S (Has t.path (place S.checked x) v) → IsTurn S t
   loop_begins : {n w x a b l : ℕ} {q : Path} → (f : ForStands S.checked n w x a b l) → t.head ≡ f.head
       → Holds S (On q (place S.checked n)) → t.path ≡ below q (place S.checked n) 0 → IsTurn S t
 

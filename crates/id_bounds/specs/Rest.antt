@@ -1,5 +1,6 @@
 -- When a run comes to rest (docs/MEANING.md, "Laws").
-use Rattle.std.specs.Prelude.{◌≡◌, ◌≢◌, ◌≤◌, ◌<◌, ◌+◌, ◌-◌, ◌*◌, ◌^◌, ◌++◌, ℕ, List, [], ◌∷◌, length}
+use Rattle.std.specs.Prelude.{◌≡◌, ◌≢◌, ◌≤◌, ◌<◌, ◌+◌, ◌-◌, ◌*◌, ◌^◌, ◌++◌}
+use Rattle.std.specs.Prelude.{ℕ, List, [], ◌∷◌, length}
 use Rattle.id_instr.specs.Graph.{Parts}
 use Rattle.id_core.specs.Machines.{World, IsQuiet, delivered}
 use Rattle.id_core.specs.Observed.{faults}
@@ -25,8 +26,8 @@ pub record ComesToRest (S : Source) (r : RunOf S) (most : ℕ) : Type 0 where
   -- it has handled no more
   pub few : length (events (end_of S r)) ≤ most
   -- with deliveries up to that number, each of some message as long as there is one, it comes to its end
-  pub ends : (ks : List ℕ) → TakeOn r.graph r.count (end_of S r) ks → most ≤ length (events (end_of S r)) + length ks
-      → (end_of S (continued S r ks)).flight ≡ []
+  pub ends : (ks : List ℕ) → TakeOn r.graph r.count (end_of S r) ks
+      → most ≤ length (events (end_of S r)) + length ks → (end_of S (continued S r ks)).flight ≡ []
   -- at its end it is quiet where its source has no fault, and has shown a fault where it has one
   pub quiet : (end_of S r).flight ≡ [] → FaultFree S → IsQuiet (end_of S r)
   pub faulty : (end_of S r).flight ≡ [] → (f : SourceFault) → Faulty S f → faults r.graph (end_of S r) ≢ []
@@ -34,5 +35,6 @@ pub record ComesToRest (S : Source) (r : RunOf S) (most : ℕ) : Type 0 where
 -- *Comes to rest*: where these paths alone are active, each run of the source on one element or more does so, after as
 -- many messages as its graph may have at once for each of the paths
 abbrev pub Rest : Type 0
-Rest = (S : Source) (ps : List Path) → AreInputs S.checked S.inputs → AreActive S ps → (r : RunOf S) → 0 < r.count
+Rest = (S : Source) (ps : List Path) → AreInputs S.checked S.inputs → AreActive S ps → (r : RunOf S)
+    → 0 < r.count
     → messages_at_once r.graph * length ps < 2 ^ 64 - 1 → ComesToRest S r (messages_at_once r.graph * length ps)

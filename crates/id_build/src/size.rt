@@ -1,6 +1,7 @@
 //! How many instructions the schemas give a program, found without making them (docs/GRAPH.md, "Schemas").
 
-ghost use Rattle.std.specs.Prelude.{ℕ, ◌≡◌, ◌+◌, ◌-◌, ◌<◌, ◌≤◌, ◌^◌, ◌↔◌, true, IsTrue, IsSome, IfOk, IfSome, length};
+ghost use Rattle.std.specs.Prelude.{ℕ, ◌≡◌, ◌+◌, ◌-◌, ◌<◌, ◌≤◌, ◌^◌, ◌↔◌, true};
+ghost use Rattle.std.specs.Prelude.{IsTrue, IsSome, IfOk, IfSome, length};
 ghost use Rattle.id_check.specs.declared.checked.Checked.{Checked};
 ghost use Rattle.id_check.specs.Programs as programs;
 ghost use Rattle.id_desugar.specs.Ends.{AreEnds, end_of};

@@ -44,7 +44,8 @@ pub record AreWaits (P : Checked) (l : Links) (fs : List RowFact) (W : Queues) :
   pub all : (f : RowFact) (p : Trail) (n u : ℕ) → Among f fs → Rests P l f p n u → WaitsIn P fs W p n u
 
 -- the queues are the old ones, with these rows, which wait where the row n is On at the path
-pub record WaitsFor (P : Checked) (fs : List RowFact) (V W : Queues) (p : Trail) (n : ℕ) (us : List ℕ) : Type 0 where
+pub record WaitsFor (P : Checked) (fs : List RowFact) (V W : Queues) (p : Trail) (n : ℕ) (us : List ℕ)
+    : Type 0 where
   pub wide : width W ≡ width V
   pub kept : (a : ℕ) (x : Wait) → IsIn V a x → IsIn W a x
   pub added : (u : ℕ) → width V ≡ 65536 → Among u us → WaitsIn P fs W p n u

@@ -37,7 +37,8 @@ pub fn note_rows(
     requires table { IsTable rows.now }
     requires formed { IsFormed rows.now }
     requires binders { length binders.now ≡ length rows.now }
-    requires within { (i b : ℕ) → i < length rows.now → get_or binders.now i None ≡ Some b → b < length rows.now }
+    requires within { (i b : ℕ) → i < length rows.now → get_or binders.now i None ≡ Some b
+        → b < length rows.now }
     requires kinds { length kinds.now ≡ length rows.now }
     requires counts { AreCounts rows.now (length rows.now) counts.now }
     ensures { Notes first.old
@@ -61,7 +62,8 @@ fn note_row(
     requires table { IsTable rows.now }
     requires formed { IsFormed rows.now }
     requires binders { length binders.now ≡ length rows.now }
-    requires within { (i b : ℕ) → i < length rows.now → get_or binders.now i None ≡ Some b → b < length rows.now }
+    requires within { (i b : ℕ) → i < length rows.now → get_or binders.now i None ≡ Some b
+        → b < length rows.now }
     requires kinds { length kinds.now ≡ length rows.now }
     requires counts { AreCounts rows.now (length rows.now) counts.now }
     requires row { i < length rows.now }

@@ -1,5 +1,6 @@
 -- How refusals are printed, and why a command refuses (docs/PROMISES.md, "Refusals").
-use Rattle.std.specs.Prelude.{◌≡◌, ◌<◌, ◌≤◌, ℕ, List, [], ◌++◌, codes, decimal, length, slice_get, Option, None, Some}
+use Rattle.std.specs.Prelude.{◌≡◌, ◌<◌, ◌≤◌, ℕ, List, [], ◌++◌, codes, decimal, length, slice_get}
+use Rattle.std.specs.Prelude.{Option, None, Some}
 use Rattle.std.specs.Prelude.{Result}
 use Rattle.id_text.specs.declared.token.TextError.{TextError}
 use Rattle.id_text.specs.declared.token.TextError.TheVariants as lexer
@@ -244,7 +245,8 @@ pub record AreTakenFacts (text : List ℕ) (words : List (List ℕ)) (round : �
 pub data AreRefusedFacts (text : List ℕ) (words : List (List ℕ)) (round : ℕ) : EngineError → Type 0 where
   by_source : {e : EngineError} → IsRefusedSource text words e → AreRefusedFacts text words round e
   bad_rounds : HasInputs text words → 10000 < round → AreRefusedFacts text words round engine.BadRounds
-  too_many_facts : (h : HasInputs text words) → round ≤ 10000 → HasMoreFacts (source h.program h.inputs) round 1000000 →
+  too_many_facts : (h : HasInputs text words) → round ≤ 10000 →
+      HasMoreFacts (source h.program h.inputs) round 1000000 →
       AreRefusedFacts text words round engine.TooManyFacts
   by_write : AreRefusedFacts text words round engine.Write
 
@@ -260,8 +262,8 @@ pub record IsPrintedLine (text : List ℕ) (r : Refusal) (old new : Option Told)
   pub printed : Prints old new (refusal_text text r) written
 
 -- the line of a refusal for the error is printed, and this is the status after it
-pub record IsToldRefusal (text : List ℕ) (words : List (List ℕ)) (e : EngineError) (old new : Option Told) (status : ℕ)
-    : Type 0 where
+pub record IsToldRefusal (text : List ℕ) (words : List (List ℕ)) (e : EngineError) (old new : Option Told)
+    (status : ℕ) : Type 0 where
   pub refusal : Refusal
   pub tells : Tells words e refusal
   pub printed : IsPrintedLine text refusal old new

@@ -1,5 +1,6 @@
 -- The machine: its elements and the messages in flight (docs/MACHINE.md, "Runs").
-use Rattle.std.specs.Prelude.{◌≡◌, ℕ, suc, ◌+◌, ◌<◌, ◌≤◌, Option, None, Some, List, [], ◌∷◌, ◌++◌, All, filter, map}
+use Rattle.std.specs.Prelude.{◌≡◌, ℕ, suc, ◌+◌, ◌<◌, ◌≤◌, Option, None, Some, List, [], ◌∷◌}
+use Rattle.std.specs.Prelude.{◌++◌, All, filter, map}
 use Rattle.std.specs.Prelude.{length, slice_index_or, slice_get, slice_set, replicate, if◌then◌else◌}
 use Rattle.std.specs.List.{remove}
 use Rattle.id_instr.specs.declared.instr.Block.{Block}

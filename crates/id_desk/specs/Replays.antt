@@ -1,5 +1,6 @@
 -- The record of an element leads to its state (docs/MACHINE.md, "The record").
-use Rattle.std.specs.Prelude.{◌≡◌, ◌↔◌, Bool, IsTrue, ◌<◌, ◌≤◌, ◌-◌, ◌^◌, ℕ, Some, List, [], ◌∷◌, map, All}
+use Rattle.std.specs.Prelude.{◌≡◌, ◌↔◌, Bool, IsTrue, ◌<◌, ◌≤◌, ◌-◌, ◌^◌, ℕ, Some, List}
+use Rattle.std.specs.Prelude.{[], ◌∷◌, map, All}
 use Rattle.id_instr.specs.declared.dests.Port.{Port}
 use Rattle.std.specs.FinMap.{get}
 use Rattle.id_tag.specs.declared.Tag.{Tag}

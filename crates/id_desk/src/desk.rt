@@ -35,7 +35,8 @@ pub struct Desk<'a> {
 }
 
 impl<'a> Desk<'a> {
-    ghost use Rattle.std.specs.Prelude.{◌≡◌, ◌+◌, ◌-◌, ◌^◌, ◌<◌, ◌≤◌, ◌++◌, ◌∷◌, [], ◌↔◌, Some, slice_get, length};
+    ghost use Rattle.std.specs.Prelude.{◌≡◌, ◌+◌, ◌-◌, ◌^◌, ◌<◌, ◌≤◌, ◌++◌, ◌∷◌};
+    ghost use Rattle.std.specs.Prelude.{[], ◌↔◌, Some, slice_get, length};
     ghost use Rattle.std.specs.Prelude.{IfErr, IfOk, IfSome, OnOk, OnErr, IsTrue};
     ghost use Rattle.id_firing.specs.declared.step.TakeError.TheVariants.{StampEnd};
     ghost use Rattle.id_line.specs.Events.{full_step, tag_of};
@@ -285,7 +286,8 @@ impl<'a> Desk<'a> {
         requires counted { self.old.contexts + 1 < 2 ^ 64 }
         requires numbered { self.old.structures + 1 < 2 ^ 64 }
 
-        ensures handled { (w : Store) → IsReaction instr.now.op w self.old.waiting token.now reacted → IsHandled result
+        ensures handled { (w : Store) → IsReaction instr.now.op w self.old.waiting token.now reacted
+            → IsHandled result
             → IsConcluded self.old self.new outputs.old.messages outputs.new.messages w token.now result }
         ensures apart { result ≡ Short.Apart
             → (reacted ≡ Reacted.Apart) × IsUnchanged self.old self.new outputs.old.messages outputs.new.messages }
@@ -419,7 +421,8 @@ impl<'a> Desk<'a> {
         ensures cells { self.new.cells ≡ self.old.cells }
         ensures stamp { self.new.stamp ≡ stamp }
         ensures contexts { self.new.contexts ≡ self.old.contexts + made_by reaction.now.fired }
-        ensures structures { self.new.structures ≡ self.old.structures + allocated_by instr.now.op reaction.now.fired }
+        ensures structures { self.new.structures
+            ≡ self.old.structures + allocated_by instr.now.op reaction.now.fired }
         ensures number { self.new.log.element ≡ self.old.log.element }
         ensures graph { self.new.log.graph ≡ self.old.log.graph }
         ensures events { self.new.log.events ≡ self.old.log.events ++ record {
@@ -458,7 +461,8 @@ impl<'a> Desk<'a> {
         ensures cells { self.new.cells ≡ self.old.cells }
         ensures stamp { self.new.stamp ≡ stamp }
         ensures contexts { self.new.contexts ≡ self.old.contexts + made_by reaction.now.fired }
-        ensures structures { self.new.structures ≡ self.old.structures + allocated_by instr.now.op reaction.now.fired }
+        ensures structures { self.new.structures
+            ≡ self.old.structures + allocated_by instr.now.op reaction.now.fired }
         ensures number { self.new.log.element ≡ self.old.log.element }
         ensures graph { self.new.log.graph ≡ self.old.log.graph }
         ensures events { self.new.log.events ≡ self.old.log.events ++ record {

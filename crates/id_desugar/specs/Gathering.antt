@@ -1,5 +1,6 @@
 -- How the order is made and the imports are gathered, from the innermost construct outwards.
-use Rattle.std.specs.Prelude.{◌≡◌, ◌≤◌, ◌<◌, ◌+◌, ◌==◌, ℕ, Bool, true, false, if◌then◌else◌, ◌||◌, nat_lt}
+use Rattle.std.specs.Prelude.{◌≡◌, ◌≤◌, ◌<◌, ◌+◌, ◌==◌, ℕ, Bool, true, false}
+use Rattle.std.specs.Prelude.{if◌then◌else◌, ◌||◌, nat_lt}
 use Rattle.std.specs.Prelude.{List, [], ◌∷◌, length, get_or, Option, None, Some}
 use Rattle.id_table.specs.declared.row.Node.{Node}
 use Rattle.id_table.specs.Rows.{at}
@@ -22,7 +23,8 @@ pub record AreChains (P : Checked) (lo n : ℕ) (firsts nexts : List (Option ℕ
   pub many_firsts : length firsts ≡ length (rows P)
   pub many_nexts : length nexts ≡ length (rows P)
   pub first : (h : ℕ) → h < length (rows P) → IsFirstFrom (in_block P h) lo n (get_or firsts h None)
-  pub next : (i : ℕ) → lo ≤ i → i < n → IsFirstFrom (in_block P (at (rows P) i).block) (i + 1) n (get_or nexts i None)
+  pub next : (i : ℕ) → lo ≤ i → i < n
+      → IsFirstFrom (in_block P (at (rows P) i).block) (i + 1) n (get_or nexts i None)
 
 -- ---- uses
 
@@ -57,7 +59,8 @@ is_before n (Some e) = nat_lt e n
 -- else nothing
 pub record AreFilled (P : Checked) (n : ℕ) (L : List (List ℕ)) : Type 0 where
   pub many : length L ≡ length (rows P)
-  pub each : (h : ℕ) → h < length (rows P) → get_or L h [] ≡ (if is_before n (end_row P h) then uses_of P h else [])
+  pub each : (h : ℕ) → h < length (rows P)
+      → get_or L h [] ≡ (if is_before n (end_row P h) then uses_of P h else [])
 
 -- the lists are those of uses from the row n on, and those of imports before it
 pub record AreTurned (P : Checked) (n : ℕ) (L : List (List ℕ)) : Type 0 where

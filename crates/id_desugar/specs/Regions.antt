@@ -1,5 +1,6 @@
 -- The order in which rows are made into instructions, and the names that regions import (docs/GRAPH.md, "Imports").
-use Rattle.std.specs.Prelude.{ℕ, zero, suc, ◌+◌, ◌-◌, ◌==◌, Bool, true, false, if◌then◌else◌, ◌||◌, ◌&&◌, not, nat_eq}
+use Rattle.std.specs.Prelude.{ℕ, zero, suc, ◌+◌, ◌-◌, ◌==◌, Bool, true, false, if◌then◌else◌}
+use Rattle.std.specs.Prelude.{◌||◌, ◌&&◌, not, nat_eq}
 use Rattle.std.specs.Prelude.{nat_lt, nat_le, max, List, [], ◌∷◌, ◌++◌, length, Option, None, Some}
 use Rattle.id_table.specs.declared.row.Node.{Node}
 use Rattle.id_table.specs.declared.row.Node.TheVariants.{Name, Split, LoopHead, Switches, NextUse}

@@ -2,7 +2,8 @@
 //! inner one is found before that of the one round it, which takes it over. A loop's own first values are among it,
 //! since what is round the loop uses them; they are no imports of the loop, which are gathered after that.
 
-ghost use Rattle.std.specs.Prelude.{◌≡◌, ◌↔◌, IsTrue, ◌≤◌, ◌<◌, ◌+◌, ◌-◌, ◌⊎◌, true, [], length, get_or};
+ghost use Rattle.std.specs.Prelude.{◌≡◌, ◌↔◌, IsTrue, ◌≤◌, ◌<◌, ◌+◌, ◌-◌, ◌⊎◌};
+ghost use Rattle.std.specs.Prelude.{true, [], length, get_or};
 ghost use Rattle.std.specs.Prelude.{◌++◌, replicate, IfOk, IfSome, OnOk, Some, None};
 ghost use Rattle.id_check.specs.Programs as programs;
 ghost use Rattle.id_desugar.specs.Ends.{AreEnds, AreNexts, end_row};
@@ -163,7 +164,8 @@ fn opening_ended(checked: &Checked, ends: &Column, end: usize) -> Option<usize>
 /// Whether a construct begins at a row and ends at the row `end`. Takes no memory.
 fn is_ended(checked: &Checked, ends: &Column, opening: usize, end: usize) -> bool
     requires ends { AreEnds checked.now ends.now }
-    ensures { IsTrue result ↔ (opening < length (programs.rows checked.now)) × (end_row checked.now opening ≡ Some end)
+    ensures { IsTrue result
+        ↔ (opening < length (programs.rows checked.now)) × (end_row checked.now opening ≡ Some end)
         × is_opening (at (programs.rows checked.now) opening).node ≡ true }
 {
     opening < ends.len()

@@ -1,6 +1,7 @@
 //! The order in which rows are made into instructions (docs/GRAPH.md, "Schemas").
 
-ghost use Rattle.std.specs.Prelude.{◌≡◌, ◌<◌, ◌≤◌, ◌+◌, ◌++◌, ℕ, None, get_or, length, IfOk, OnOk};
+ghost use Rattle.std.specs.Prelude.{◌≡◌, ◌<◌, ◌≤◌, ◌+◌, ◌++◌, ℕ, None, get_or, length, IfOk};
+ghost use Rattle.std.specs.Prelude.{OnOk};
 ghost use Rattle.id_check.specs.Programs.{rows};
 ghost use Rattle.id_desugar.specs.Gathering.{AreChains};
 ghost use Rattle.id_desugar.specs.Regions.{head_at, in_block, in_procedure, loop_heads, loops_by, order_of, reach};

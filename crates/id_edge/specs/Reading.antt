@@ -1,5 +1,6 @@
 -- What a source tells of a read, and what is read of bytes (docs/PROMISES.md, "The edge").
-use Rattle.std.specs.Prelude.{◌≡◌, ◌<◌, ◌≤◌, ◌⊎◌, ℕ, List, length, take, Option, None, Some, Result, Ok, Err, String}
+use Rattle.std.specs.Prelude.{◌≡◌, ◌<◌, ◌≤◌, ◌⊎◌, ℕ, List, length, take, Option, None, Some}
+use Rattle.std.specs.Prelude.{Result, Ok, Err, String}
 use Rattle.std.specs.Prelude.{Vec, string_bytes, if◌then◌else◌, nat_le}
 use Rattle.std.specs.Str.{IsUtf8, is_utf8}
 use Rattle.id_edge.specs.declared.source.ReadFault.{ReadFault}
@@ -55,7 +56,8 @@ told_text (Some (Err fault)) = Some (Err (fault_for fault))
 
 -- a folder that told bytes gives at most so many of them from the front, and one that told a fault gives that fault;
 -- want of memory can stand in the place of both
-abbrev pub IsFrontOf : {A : Type 0} → Option (Result (List ℕ) ReadFault) → ℕ → Result (Vec ℕ A) ReadFault → Type 0
+abbrev pub IsFrontOf : {A : Type 0} → Option (Result (List ℕ) ReadFault) → ℕ → Result (Vec ℕ A) ReadFault
+    → Type 0
 IsFrontOf None most r = Unit {0}
 IsFrontOf (Some (Ok bytes)) most (Ok v) = v.items ≡ take most bytes
 IsFrontOf (Some (Ok bytes)) most (Err fault) = fault ≡ unread.Memory

@@ -27,13 +27,15 @@ Tells None told = ⊥
 Tells (Some o) told = o.told ≡ told
 
 -- a write to a device with this outlook is answered so, and told so
-pub record IsAnswered (o : Outlook) (new : Option Outlook) (bytes : List ℕ) (answer : Result ℕ SinkFault) : Type 0 where
+pub record IsAnswered (o : Outlook) (new : Option Outlook) (bytes : List ℕ) (answer : Result ℕ SinkFault)
+    : Type 0 where
   pub answer_is : answer ≡ within o.write bytes
   pub tells : Tells new (after_write o.told bytes answer)
 
 -- one write, before which so many are to be cut short: it is cut short, or it is answered
 abbrev pub IsAttemptOf : ℕ → Outlook → Option Outlook → List ℕ → Option (Result ℕ SinkFault) → Type 0
-IsAttemptOf (suc n) o new bytes None = new ≡ Some (record { told = o.told; cuts = n; write = o.write; sends = o.sends })
+IsAttemptOf (suc n) o new bytes None =
+    new ≡ Some (record { told = o.told; cuts = n; write = o.write; sends = o.sends })
 IsAttemptOf (suc n) o new bytes (Some answer) = ⊥
 IsAttemptOf zero o new bytes None = ⊥
 IsAttemptOf zero o new bytes (Some answer) = IsAnswered o new bytes answer

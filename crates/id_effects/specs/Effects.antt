@@ -112,7 +112,8 @@ pass_of P l c p m v _ = []
 -- ---- loops
 
 -- the facts that the variable at the row m of this node Has its first values, of the loop at the row n with the head h
-abbrev pub first_of : Checked → Cells → RowFact → Trail → ℕ → Trail → ℕ → ℕ → Node → List RowFact
+abbrev pub first_of : Checked → Cells → RowFact → Trail → ℕ → Trail → ℕ → ℕ → Node
+    → List RowFact
 first_of P c g p n q h m (node.Next x k o v) =
     if nat_eq (at (rows P) m).block h
     then haves q m (seen c g (out_of (items c) (far_from P n (binder P o)) p) (binder P o)) else []

@@ -53,7 +53,8 @@ impl<'a> Model for Element<'a> {
 }
 
 impl<'a> Element<'a> {
-    ghost use Rattle.std.specs.Prelude.{◌≡◌, ◌<◌, ◌≤◌, ◌-◌, ◌^◌, ◌==◌, ◌||◌, ◌++◌, ◌↔◌, All, IfOk, OnOk, OnErr, IsTrue};
+    ghost use Rattle.std.specs.Prelude.{◌≡◌, ◌<◌, ◌≤◌, ◌-◌, ◌^◌, ◌==◌, ◌||◌, ◌++◌};
+    ghost use Rattle.std.specs.Prelude.{◌↔◌, All, IfOk, OnOk, OnErr, IsTrue};
     ghost use Rattle.std.specs.Prelude.{true, false};
     ghost use Rattle.std.specs.FinMap.{empty};
     ghost use Rattle.id_firing.specs.declared.step.TakeError.TheVariants.{StampEnd};
@@ -90,7 +91,8 @@ impl<'a> Element<'a> {
     pub fn take(&mut self, message: &Message, outputs: &mut Queue) -> Result<Step, TakeError>
         requires { IsFor self.old.graph self.old.count self.old.number message.now }
 
-        ensures step { IfOk result (λ step. step ≡ step_of self.old.graph self.old.number self.old.state message.now) }
+        ensures step { IfOk result
+            (λ step. step ≡ step_of self.old.graph self.old.number self.old.state message.now) }
         ensures state { OnOk result (self.new
             ≡ record self.old { state = state_after self.old.graph self.old.number self.old.state message.now }) }
         ensures outputs { OnOk result
@@ -119,7 +121,8 @@ impl<'a> Element<'a> {
     ) -> Result<Step, TakeError>
         requires { IsFor self.old.graph self.old.count self.old.number message.now }
 
-        ensures step { IfOk result (λ step. step ≡ step_of self.old.graph self.old.number self.old.state message.now) }
+        ensures step { IfOk result
+            (λ step. step ≡ step_of self.old.graph self.old.number self.old.state message.now) }
         ensures state { OnOk result (self.new
             ≡ record self.old { state = state_after self.old.graph self.old.number self.old.state message.now }) }
         ensures outputs { OnOk result
@@ -157,7 +160,8 @@ impl<'a> Element<'a> {
           state = state_after self.old.graph self.old.number self.old.state (message_of token.now);
         }) }
         ensures outputs { IfOk result (λ short. IsHandled short → outputs.new.messages
-            ≡ outputs.old.messages ++ outputs_of self.old.graph self.old.number self.old.state (message_of token.now)) }
+            ≡ outputs.old.messages
+            ++ outputs_of self.old.graph self.old.number self.old.state (message_of token.now)) }
         ensures fits { OnOk result (All (Fits self.old.graph)
             (outputs_of self.old.graph self.old.number self.old.state (message_of token.now))) }
         ensures apart { result ≡ Ok Short.Apart → self.new ≡ self.old }

@@ -45,5 +45,6 @@ pub record IsDrained (old : DoorView) (before : List Message) (new : DoorView) (
   pub queue : new.queue ≡ old.queue
   pub parts : new.hand.parts ≡ old.hand.parts
   pub sent : new.hand.sent ≡ old.hand.sent
-  pub moved : (f : Message → ℕ) → sum_by f new.hand.taken + sum_by f before ≡ sum_by f old.hand.taken + sum_by f after
+  pub moved : (f : Message → ℕ)
+      → sum_by f new.hand.taken + sum_by f before ≡ sum_by f old.hand.taken + sum_by f after
   pub empty : (f : Message → ℕ) → sum_by f new.hand.sent ≡ sum_by f new.hand.taken

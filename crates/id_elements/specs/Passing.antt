@@ -1,5 +1,6 @@
 -- How an element is given a message of its own, and how messages move between its lists (docs/THREADS.md, "A worker").
-use Rattle.std.specs.Prelude.{◌≡◌, ℕ, List, [], All, Bool, OnErr, OnOk, Result, slice_get, ◌++◌, ◌∷◌, drop, Some}
+use Rattle.std.specs.Prelude.{◌≡◌, ℕ, List, [], All, Bool, OnErr, OnOk, Result, slice_get, ◌++◌, ◌∷◌}
+use Rattle.std.specs.Prelude.{drop, Some}
 use Rattle.std.specs.List.{remove}
 use Rattle.id_tag.specs.declared.Message.{Message}
 use Rattle.id_tag.specs.Routes.{route_of}

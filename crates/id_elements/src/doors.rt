@@ -1,6 +1,7 @@
 //! The doors to all inboxes.
 
-ghost use Rattle.std.specs.Prelude.{◌≡◌, ◌<◌, ◌≤◌, ◌+◌, [], All, IfOk, List, OnErr, OnOk, length, vec_len};
+ghost use Rattle.std.specs.Prelude.{◌≡◌, ◌<◌, ◌≤◌, ◌+◌, [], All, IfOk, List, OnErr, OnOk, length};
+ghost use Rattle.std.specs.Prelude.{vec_len};
 ghost use Rattle.id_tag.specs.declared.Message.{Message};
 ghost use Rattle.id_firing.specs.Steps.{State};
 ghost use Rattle.id_inbox.specs.Hands.{sending};

@@ -1,6 +1,7 @@
 //! A run whose order a seed gives: the calling thread delivers messages that a generator draws.
 
-ghost use Rattle.std.specs.Prelude.{◌≡◌, ◌<◌, ◌≤◌, ◌⊎◌, ◌↔◌, All, length, Err, IfErr, IfOk, IfSome, IsFalse, OnOk};
+ghost use Rattle.std.specs.Prelude.{◌≡◌, ◌<◌, ◌≤◌, ◌⊎◌, ◌↔◌, All, length, Err, IfErr, IfOk};
+ghost use Rattle.std.specs.Prelude.{IfSome, IsFalse, OnOk};
 ghost use Rattle.id_core.specs.Machines.{TakesInputs, delivered, start};
 ghost use Rattle.id_elements.specs.Runs.{AreBadSteps, HasCount, HasWent, IsFinished, IsFree};
 ghost use Rattle.id_elements.specs.Runs.{IsRefusedRun, IsRun, MovesOn};

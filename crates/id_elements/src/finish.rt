@@ -1,6 +1,7 @@
 //! What is left after the joins: the calling thread goes on with it.
 
-ghost use Rattle.std.specs.Prelude.{◌≡◌, ◌≢◌, ◌<◌, ◌≤◌, ◌⊎◌, ◌↔◌, All, length, slice_get, IfOk, IsFalse, IsTrue, OnOk};
+ghost use Rattle.std.specs.Prelude.{◌≡◌, ◌≢◌, ◌<◌, ◌≤◌, ◌⊎◌, ◌↔◌, All, length};
+ghost use Rattle.std.specs.Prelude.{slice_get, IfOk, IsFalse, IsTrue, OnOk};
 ghost use Rattle.std.specs.Prelude.{Some};
 ghost use Rattle.id_core.specs.Steps.{is_ended};
 ghost use Rattle.id_line.specs.Events.{AllWent};

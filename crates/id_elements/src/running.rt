@@ -1,6 +1,7 @@
 //! A run on worker threads.
 
-ghost use Rattle.std.specs.Prelude.{◌≡◌, ◌<◌, ◌≤◌, ◌+◌, ◌-◌, ◌++◌, ◌∷◌, ◌⊎◌, ◌↔◌, [], ℕ, All, IfOk, IfErr, List, OnOk};
+ghost use Rattle.std.specs.Prelude.{◌≡◌, ◌<◌, ◌≤◌, ◌+◌, ◌-◌, ◌++◌, ◌∷◌, ◌⊎◌};
+ghost use Rattle.std.specs.Prelude.{◌↔◌, [], ℕ, All, IfOk, IfErr, List, OnOk};
 ghost use Rattle.std.specs.Prelude.{length, slice_index_or, vec_len, Err, IsTrue};
 ghost use Rattle.std.specs.List.{sum_by};
 ghost use Rattle.id_tag.specs.declared.Message.{Message};
@@ -197,7 +198,8 @@ fn run_workers<'a, R: Threads + Wait + Sync, G: Gate + Sync>(
     requires few { settings.elements ≤ 64 }
     ensures elements { IfOk result (λ r. AreGathered graph.now settings.elements settings.steps 0 r.elements.items) }
     ensures len { IfOk result (λ r. length r.elements.items ≡ settings.elements) }
-    ensures accounted { IfOk result (λ r. IsAccounted start.now.messages (states_of r.elements.items) r.left.messages) }
+    ensures accounted { IfOk result
+        (λ r. IsAccounted start.now.messages (states_of r.elements.items) r.left.messages) }
 {
     let count = settings.elements;
     let mut doors = open_all(alloc, count)?;

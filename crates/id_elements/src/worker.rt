@@ -76,7 +76,8 @@ enum Turn {
 }
 
 impl<'a> Worker<'a> {
-    ghost use Rattle.std.specs.Prelude.{◌≡◌, ◌<◌, ◌≤◌, ◌+◌, ◌↔◌, length, vec_len, IfSome, IsTrue};
+    ghost use Rattle.std.specs.Prelude.{◌≡◌, ◌<◌, ◌≤◌, ◌+◌, ◌↔◌, length, vec_len, IfSome};
+    ghost use Rattle.std.specs.Prelude.{IsTrue};
     ghost use Rattle.id_elements.specs.Doors.{AreUnused, HaveParts};
     ghost use Rattle.id_elements.specs.Workers.{IsFirstOwn, IsKept, IsSame, IsSameWithin, fresh_worker};
 

@@ -1,5 +1,6 @@
 -- What the program does with a request (docs/PROMISES.md, "The program").
-use Rattle.std.specs.Prelude.{◌≡◌, ◌≢◌, ℕ, List, [], map, Option, Result, Ok, Err, IfOk, IfErr, string_bytes}
+use Rattle.std.specs.Prelude.{◌≡◌, ◌≢◌, ℕ, List, [], map, Option, Result, Ok, Err, IfOk, IfErr}
+use Rattle.std.specs.Prelude.{string_bytes}
 use Rattle.id_sink.specs.declared.sink.PrintError.{PrintError}
 use Rattle.id_sink.specs.Told.{Told, Prints}
 use Rattle.id_request.specs.declared.Request.{Request}
@@ -81,8 +82,8 @@ IsRefusedRequest text (asks.Facts file rounds inputs) e = AreRefusedFacts text (
 
 -- the request is served: what it asks for is printed whole, or one line says why not
 pub data Serves (text : List ℕ) (r : Request) (out out' err err' : Option Told) : ℕ → Type 0 where
-  done : {status : ℕ} → ShowsAll (command_of r) text out out' status → IsTaken text r → IsRun text r out out' status
-      → err' ≡ err →
+  done : {status : ℕ} → ShowsAll (command_of r) text out out' status → IsTaken text r
+      → IsRun text r out out' status → err' ≡ err →
       Serves text r out out' err err' status
   -- nothing is printed but the line of the refusal
   refused : {status : ℕ} (e : EngineError) → e ≢ Write → IsRefusedRequest text r e → out' ≡ out
@@ -116,8 +117,10 @@ pub record IsSaid (text : List ℕ) (err err' : Option Told) : Type 0 where
 -- words that ask for nothing are answered: by help, by the text that says why not, or by want of memory
 abbrev pub Answers : Option Told → Option Told → Option Told → Option Told → Unasked → ℕ → Type 0
 Answers out out' err err' (Help text) status = HasHelped (string_bytes text) out out' err err' status
-Answers out out' err err' (Refused text) status = (out' ≡ out) × IsSaid (string_bytes text) err err' × (status ≡ 4)
-Answers out out' err err' Memory status = (out' ≡ out) × IsPrintedLine [] (plain cause.Memory) err err' × (status ≡ 5)
+Answers out out' err err' (Refused text) status = (out' ≡ out) × IsSaid (string_bytes text) err err'
+    × (status ≡ 4)
+Answers out out' err err' Memory status = (out' ≡ out) × IsPrintedLine [] (plain cause.Memory) err err'
+    × (status ≡ 5)
 
 -- the words are served, with what the source tells of each name: what they ask for is done, or it is answered why they
 -- ask for nothing

@@ -51,7 +51,8 @@ fn accept_text(alloc: Global, text: &str) -> Result<(), EngineError>
 /// Writes the listing of the text's graph, and answers the status, 0.
 pub fn graph_text<W: Sink>(alloc: Global, text: &str, out: &mut W) -> Result<u8, EngineError>
     ensures shown { IfOk result (ShowsAll List_graph text.now (W.told out.old) (W.told out.new)) }
-    ensures cut { result ≡ Err EngineError.Write → ShowsFront List_graph text.now (W.told out.old) (W.told out.new) }
+    ensures cut { result ≡ Err EngineError.Write
+        → ShowsFront List_graph text.now (W.told out.old) (W.told out.new) }
     ensures silent { IfErr result (λ e. e ≢ EngineError.Write → W.told out.new ≡ W.told out.old) }
     ensures taken { OnOk result (HasProgram text.now) }
     ensures refused { IfErr result (IsRefusedText text.now) }
@@ -96,7 +97,8 @@ fn list_compiled(alloc: Global, compiled: Compiled, text: &str) -> Result<String
 /// Writes the picture of the text's graph, and answers the status, 0.
 pub fn draw_text<W: Sink>(alloc: Global, text: &str, out: &mut W) -> Result<u8, EngineError>
     ensures shown { IfOk result (ShowsAll Draw_graph text.now (W.told out.old) (W.told out.new)) }
-    ensures cut { result ≡ Err EngineError.Write → ShowsFront Draw_graph text.now (W.told out.old) (W.told out.new) }
+    ensures cut { result ≡ Err EngineError.Write
+        → ShowsFront Draw_graph text.now (W.told out.old) (W.told out.new) }
     ensures silent { IfErr result (λ e. e ≢ EngineError.Write → W.told out.new ≡ W.told out.old) }
     ensures taken { OnOk result (HasProgram text.now) }
     ensures refused { IfErr result (IsRefusedText text.now) }

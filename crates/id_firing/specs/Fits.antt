@@ -27,8 +27,8 @@ pub record TakesReturn (g : Parts) (n r : ℕ) (k : PortKind) : Type 0 where
 -- a continuation comes to port 0 of a block's `back`, names a merge of that block's result kind, and has no iteration
 -- above the stamp
 abbrev pub ContinuationFits : Parts → ℕ → Tag → Port → Value → Type 0
-ContinuationFits g stamp t p (value.Continuation u) = (p ≡ Zero) × ((k : PortKind) × TakesReturn g t.instr u.instr k)
-    × (u.iteration ≤ stamp)
+ContinuationFits g stamp t p (value.Continuation u) = (p ≡ Zero)
+    × ((k : PortKind) × TakesReturn g t.instr u.instr k) × (u.iteration ≤ stamp)
 ContinuationFits g stamp t p value.Signal = Unit {0}
 ContinuationFits g stamp t p (value.Structure s) = Unit {0}
 ContinuationFits g stamp t p (value.Address c) = Unit {0}

@@ -1,5 +1,6 @@
 -- The element step (docs/MACHINE.md, "Element step"), what is sent aside (`id_record/specs/Sends.antt`).
-use Rattle.std.specs.Prelude.{ℕ, ◌+◌, ◌-◌, ◌^◌, Bool, Option, None, Some, List, [], ◌∷◌, ◌++◌, length, max, slice_get}
+use Rattle.std.specs.Prelude.{ℕ, ◌+◌, ◌-◌, ◌^◌, Bool, Option, None, Some, List, [], ◌∷◌, ◌++◌}
+use Rattle.std.specs.Prelude.{length, max, slice_get}
 use Rattle.std.specs.Prelude.{◌==◌, ◌||◌, if◌then◌else◌}
 use Rattle.std.specs.FinMap.{empty, get}
 use Rattle.id_instr.specs.declared.dests.Port.{Port}

@@ -279,7 +279,8 @@ fn carried_structure(structure: Structure) -> Option<(Plain, What)>
 /// The same of the address of a cell.
 #[inline(always)]
 fn carried_cell(cell: Cell) -> Option<(Plain, What)>
-    ensures { IfSome result (λ w. (t : Tag) (q : Port) → said t q w.0 w.1 ≡ Some (Token t q (value.Address cell))) }
+    ensures { IfSome result
+        (λ w. (t : Tag) (q : Port) → said t q w.0 w.1 ≡ Some (Token t q (value.Address cell))) }
 {
     let (element, serial) = short_structure(cell.structure)?;
     let Structure { low, high, .. } = cell.structure;
@@ -368,7 +369,8 @@ fn short_origin(message: &Message) -> Option<(u8, u8, u32, u32)>
 /// The element and the serial number of a tag's context, and its iteration, where they are short.
 #[inline(always)]
 fn short_tag(tag: Tag) -> Option<(u8, u32, u32)>
-    ensures { IfSome result (λ s. (s.0 ≡ tag.context.element) × (s.1 ≡ tag.context.serial) × (s.2 ≡ tag.iteration)) }
+    ensures { IfSome result
+        (λ s. (s.0 ≡ tag.context.element) × (s.1 ≡ tag.context.serial) × (s.2 ≡ tag.iteration)) }
 {
     Some((
         tiny(tag.context.element)?,

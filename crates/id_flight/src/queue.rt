@@ -45,7 +45,8 @@ impl Model for Queue {
 }
 
 impl Queue {
-    ghost use Rattle.std.specs.Prelude.{◌≡◌, ◌<◌, ◌≤◌, ◌+◌, ◌^◌, ◌==◌, ◌++◌, ◌∷◌, ◌↔◌, [], drop};
+    ghost use Rattle.std.specs.Prelude.{◌≡◌, ◌<◌, ◌≤◌, ◌+◌, ◌^◌, ◌==◌, ◌++◌, ◌∷◌};
+    ghost use Rattle.std.specs.Prelude.{◌↔◌, [], drop};
     ghost use Rattle.std.specs.Prelude.{length, slice_get, Some};
     ghost use Rattle.id_flight.specs.Queues.{context_at};
     ghost use Rattle.std.specs.Prelude.{option_to_list, IfOk, IfSome, IsSome, IsTrue, OnErr, OnOk};

@@ -2,7 +2,8 @@
 //! of them as of the others. So each parcel is moved once for each that has left, on an average, where the list is made
 //! shorter.
 
-ghost use Rattle.std.specs.Prelude.{◌≡◌, ◌≤◌, ◌<◌, ◌+◌, ◌-◌, ◌^◌, [], drop, length, vec_capacity, IfOk};
+ghost use Rattle.std.specs.Prelude.{◌≡◌, ◌≤◌, ◌<◌, ◌+◌, ◌-◌, ◌^◌, [], drop, length};
+ghost use Rattle.std.specs.Prelude.{vec_capacity, IfOk};
 
 use crate::parcel::Parcel;
 use std::alloc::{AllocError, Global};
@@ -36,7 +37,8 @@ impl Model for Row {
 }
 
 impl Row {
-    ghost use Rattle.std.specs.Prelude.{◌≡◌, ◌<◌, ◌≤◌, ◌+◌, ◌^◌, ◌++◌, ◌∷◌, ◌==◌, ◌↔◌, [], drop, length, slice_get};
+    ghost use Rattle.std.specs.Prelude.{◌≡◌, ◌<◌, ◌≤◌, ◌+◌, ◌^◌, ◌++◌, ◌∷◌, ◌==◌};
+    ghost use Rattle.std.specs.Prelude.{◌↔◌, [], drop, length, slice_get};
     ghost use Rattle.std.specs.Prelude.{option_copied, option_to_list, IsTrue, IsSome, OnErr, OnOk, Some};
 
     /// The empty row. Takes no memory.

@@ -1,6 +1,8 @@
 -- The front of the store: pairs of slots that hold what waits under tags with small numbers.
-use Rattle.std.specs.Prelude.{◌≡◌, ◌≢◌, ℕ, ◌+◌, ◌-◌, ◌*◌, ◌/◌, ◌%◌, ◌^◌, ◌<◌, if◌then◌else◌, false}
-use Rattle.std.specs.Prelude.{Option, Some, None, IsSome, List, [], ◌∷◌, ◌++◌, length, bit_and, slice_index_or, true}
+use Rattle.std.specs.Prelude.{◌≡◌, ◌≢◌, ℕ, ◌+◌, ◌-◌, ◌*◌, ◌/◌, ◌%◌, ◌^◌, ◌<◌}
+use Rattle.std.specs.Prelude.{if◌then◌else◌, false}
+use Rattle.std.specs.Prelude.{Option, Some, None, IsSome, List, [], ◌∷◌, ◌++◌, length, bit_and}
+use Rattle.std.specs.Prelude.{slice_index_or, true}
 use Rattle.std.specs.Option.{option_map, option_or}
 use Rattle.std.specs.List.{filter_map, flat_map}
 use Rattle.std.specs.Map.{lookup}
@@ -113,7 +115,8 @@ mark_at front t = (slice_index_or front (place t (length front)) empty_pair).fir
 -- what each pair tells is so: nothing stands behind it, or no two of the halves do, or any number
 pub record IsMarked (front : List Pair) (halves : List (Tag × Half)) : Type 0 where
   pub nothing : (t : Tag) → 0 < length front → mark_at front t ≡ Nothing → lookup (same_tag t) halves ≡ None
-  pub one : (t u : Tag) → 0 < length front → mark_at front t ≡ One → place u (length front) ≡ place t (length front)
+  pub one : (t u : Tag) → 0 < length front → mark_at front t ≡ One
+      → place u (length front) ≡ place t (length front)
       → IsSome (lookup (same_tag t) halves) → IsSome (lookup (same_tag u) halves) → same_tag t u ≡ true
 
 -- two fronts tell the same of what stands behind

@@ -3,8 +3,10 @@
 //! A tag's value stands in one of two slots alone, the pair at the place that the tag's numbers tell, so a look-up
 //! looks at one pair. A pair also tells whether anything stands behind it, in the rear under tags with its place.
 
-ghost use Rattle.std.specs.Prelude.{◌≡◌, ◌≢◌, ◌<◌, ◌↔◌, ◌≤◌, ◌*◌, IsTrue, false, Some, None, IfSome, is_some};
-ghost use Rattle.std.specs.Prelude.{IsSome, IfOk, OnOk, List, [], ◌∷◌, ◌++◌, length, replicate, map as map_list};
+ghost use Rattle.std.specs.Prelude.{◌≡◌, ◌≢◌, ◌<◌, ◌↔◌, ◌≤◌, ◌*◌, IsTrue, false, Some};
+ghost use Rattle.std.specs.Prelude.{None, IfSome, is_some};
+ghost use Rattle.std.specs.Prelude.{IsSome, IfOk, OnOk, List, [], ◌∷◌, ◌++◌, length, replicate};
+ghost use Rattle.std.specs.Prelude.{map as map_list};
 ghost use Rattle.std.specs.Prelude.{slice_index_or};
 ghost use Rattle.std.specs.List.{filter_map};
 ghost use Rattle.std.specs.Option.{option_map, option_or};
@@ -315,7 +317,8 @@ impl Pair {
 
 /// The slot for a value that waits, if it fits.
 pub fn slot_for(tag: Tag, port: Port, value: Value) -> Option<Slot>
-    ensures { IfSome result (λ s. (slot_tag s ≡ tag) × (slot_half s ≡ Some (record { port = port; value = value }))) }
+    ensures { IfSome result
+        (λ s. (slot_tag s ≡ tag) × (slot_half s ≡ Some (record { port = port; value = value }))) }
 {
     Some(Slot {
         value: plain_of(&value)?,

@@ -32,7 +32,8 @@ impl Model for InFlight {
 }
 
 impl InFlight {
-    ghost use Rattle.std.specs.Prelude.{◌≡◌, ◌<◌, ◌≤◌, ◌+◌, ◌++◌, ◌∷◌, [], ◌==◌, ◌↔◌, All, length, slice_get};
+    ghost use Rattle.std.specs.Prelude.{◌≡◌, ◌<◌, ◌≤◌, ◌+◌, ◌++◌, ◌∷◌, [], ◌==◌};
+    ghost use Rattle.std.specs.Prelude.{◌↔◌, All, length, slice_get};
     ghost use Rattle.std.specs.Prelude.{Some, IfOk, IfSome, OnOk, OnErr, IsSome, option_to_list};
     ghost use Rattle.std.specs.Prelude.{IsTrue, MatchOption};
     ghost use Rattle.std.specs.List.{remove};

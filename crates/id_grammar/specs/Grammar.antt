@@ -1,5 +1,6 @@
 -- Which tokens make which tree (docs/LANGUAGE.md, "Grammar").
-use Rattle.std.specs.Prelude.{◌≡◌, ◌+◌, ℕ, ℤ, Bool as Truth, true, false, Option, Some, None, List, [], ◌∷◌, ◌++◌, max}
+use Rattle.std.specs.Prelude.{◌≡◌, ◌+◌, ℕ, ℤ, Bool as Truth, true, false, Option, Some, None, List, []}
+use Rattle.std.specs.Prelude.{◌∷◌, ◌++◌, max}
 use Rattle.id_text.specs.declared.token.Token.{Token}
 use Rattle.id_text.specs.declared.token.TokenKind.{TokenKind}
 use Rattle.id_text.specs.declared.token.TokenKind.TheVariants.{Name, Number, Key, Sign, End}
@@ -289,16 +290,21 @@ mutual
   pub data Derives : Phrase → List Token → Tree → ℕ → Type 0 where
     opened : {s : Phrase} {t : Token} {r : Rest} {ts : List Token} {e : Tree} {h : ℕ} →
         Opens s t.kind t.start r → Follows r ts e h → Derives s (t ∷ ts) e (h + own_height s)
-    unconditional : {ts : List Token} {e : Tree} {h : ℕ} → Derives (Grouped level.Or) ts e h → Derives Expression ts e h
-    single : {l : Level} {ts : List Token} {e : Tree} {h : ℕ} → Derives (operand l) ts e h → Derives (Grouped l) ts e h
+    unconditional : {ts : List Token} {e : Tree} {h : ℕ} → Derives (Grouped level.Or) ts e h
+        → Derives Expression ts e h
+    single : {l : Level} {ts : List Token} {e : Tree} {h : ℕ} → Derives (operand l) ts e h
+        → Derives (Grouped l) ts e h
     grouped : {l : Level} {us vs : List Token} {o : BinaryOp} {a b : Tree} {m n : ℕ} →
-        Derives (left_operand l) us a m → (t : Token) → operator_of l t.kind ≡ Some o → Derives (operand l) vs b n →
+        Derives (left_operand l) us a m → (t : Token) → operator_of l t.kind ≡ Some o →
+        Derives (operand l) vs b n →
         Derives (Grouped l) (us ++ t ∷ vs) (binary o a b t.start) (max m n + 1)
-    plain : {ts : List Token} {e : Tree} {h : ℕ} → Derives (Grouped level.Comparison) ts e h → Derives Negation ts e h
+    plain : {ts : List Token} {e : Tree} {h : ℕ} → Derives (Grouped level.Comparison) ts e h
+        → Derives Negation ts e h
     bare : {ts : List Token} {e : Tree} {h : ℕ} → Derives Postfix ts e h → Derives Unary ts e h
     atomic : {ts : List Token} {e : Tree} {h : ℕ} → Derives Atom ts e h → Derives Postfix ts e h
     fetched : {us vs : List Token} {a e : Tree} {m n : ℕ} →
-        Derives Postfix us a m → (t : Token) → t.kind ≡ Sign LeftBracket → Follows (fetch_of a t.start) vs e n →
+        Derives Postfix us a m → (t : Token) → t.kind ≡ Sign LeftBracket →
+        Follows (fetch_of a t.start) vs e n →
         Derives Postfix (us ++ t ∷ vs) e (max m n + 1)
     some_arguments : {ts : List Token} {e : Tree} {h : ℕ} → Follows arguments_of ts e h → Derives Arguments ts e h
 

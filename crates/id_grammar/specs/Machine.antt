@@ -1,5 +1,6 @@
 -- A machine that takes one token at a time, for the proof of `parse` alone: no public clause cites it.
-use Rattle.std.specs.Prelude.{◌+◌, ℕ, Bool, true, false, cond, nat_le, Option, Some, None, List, [], ◌∷◌, ◌++◌, max}
+use Rattle.std.specs.Prelude.{◌+◌, ℕ, Bool, true, false, cond, nat_le, Option, Some, None, List, [], ◌∷◌}
+use Rattle.std.specs.Prelude.{◌++◌, max}
 use denote.Enum.Bare.{sameb}
 use Rattle.id_text.specs.declared.token.Token.{Token}
 use Rattle.id_text.specs.declared.token.TokenKind.{TokenKind}
@@ -211,7 +212,8 @@ indexes t e h d K other =
     (Some (record { need = d + h + 1; next = Next (fetch_of e t.start) h (d + 1) 1 (Target d ∷ K) })) other
 
 -- a token in a production, whose end closes
-abbrev pub nexts : Token → Rest → ℕ → ℕ → ℕ → List Frame → (Tree → ℕ → Option Move) → Option Move
+abbrev pub nexts : Token → Rest → ℕ → ℕ → ℕ → List Frame → (Tree → ℕ → Option Move)
+    → Option Move
 nexts t (done e) h d c K close = close e (h + c)
 nexts t (word w r) h d c K close = cond (is_word w t.kind) (free (Next r h d c K)) None
 nexts t (either w r q) h d c K close =

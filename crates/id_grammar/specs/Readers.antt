@@ -1,5 +1,6 @@
 -- What the readers of `parse` give back, by the machine: for the proof of `parse` alone.
-use Rattle.std.specs.Prelude.{◌≡◌, ◌+◌, ◌<◌, ◌≤◌, ◌⊎◌, ℕ, Bool, true, false, cond, nat_le, Option, Some, None}
+use Rattle.std.specs.Prelude.{◌≡◌, ◌+◌, ◌<◌, ◌≤◌, ◌⊎◌, ℕ, Bool, true, false, cond, nat_le}
+use Rattle.std.specs.Prelude.{Option, Some, None}
 use Rattle.std.specs.Prelude.{List, [], ◌∷◌, length, max}
 use Rattle.id_text.specs.Tokens.{EndsOnce}
 use Rattle.id_text.specs.declared.token.Token.{Token}
@@ -152,7 +153,8 @@ abbrev pub operator_within : Level → Level → TokenKind → Option (Level × 
 operator_within inner outer k = kept_within inner outer (operator_in k)
 
 -- from where a level is wanted the run comes to where an operand is there, and the levels from an inner one on are open
-pub record Rises (ts : List Token) (l : Level) (d : ℕ) (o : Level) (us : List Token) (e : Tree) (h : ℕ) : Type 0 where
+pub record Rises (ts : List Token) (l : Level) (d : ℕ) (o : Level) (us : List Token) (e : Tree) (h : ℕ)
+    : Type 0 where
   pub comes : (K : List Frame) → run 200 ts (Want (Grouped l) d K) ≡ run 200 us (Have e h (ladder o l d K))
 
 -- the run takes an operator and its right operand into the left one
@@ -165,7 +167,8 @@ pub record Stunts (ts : List Token) (l : Level) (d : ℕ) (a : Tree) (m : ℕ) (
   pub fails : (K : List Frame) → EndsBy (run 200 ts (Have a m (Left l d ∷ K))) x
 
 -- the run takes a `[`, an index and a `]` behind what is there, and the fetch is there
-pub record Indexes (ts : List Token) (d : ℕ) (a : Tree) (m : ℕ) (us : List Token) (e : Tree) (h : ℕ) : Type 0 where
+pub record Indexes (ts : List Token) (d : ℕ) (a : Tree) (m : ℕ) (us : List Token) (e : Tree) (h : ℕ)
+    : Type 0 where
   pub comes : (K : List Frame) → run 200 ts (Have a m (Target d ∷ K)) ≡ run 200 us (Have e h (Target d ∷ K))
 
 -- the run ends so in a fetch of what is there
@@ -174,7 +177,8 @@ pub record Misindexes (ts : List Token) (d : ℕ) (a : Tree) (m : ℕ) (x : Tree
 
 -- the run takes the words of a production
 pub record Takes (f : Rest → Rest) (ts us : List Token) : Type 0 where
-  pub comes : (r : Rest) (h d c : ℕ) (K : List Frame) → run 200 ts (Next (f r) h d c K) ≡ run 200 us (Next r h d c K)
+  pub comes : (r : Rest) (h d c : ℕ) (K : List Frame)
+      → run 200 ts (Next (f r) h d c K) ≡ run 200 us (Next r h d c K)
 
 -- the run ends so at the words of a production
 pub record Misses (f : Rest → Rest) (ts : List Token) (x : TreeError) : Type 0 where
@@ -287,11 +291,12 @@ last_word scope.Loop = Finally
 -- the run takes a statement of a tail
 pub record Adds (ts : List Token) (o : Scope) (d : ℕ) (us : List Token) (s : Tree) (h : ℕ) : Type 0 where
   pub comes : (K : List Frame) →
-      run 200 ts (Want (Tail o) d K) ≡ run 200 us (Want (Tail o) d (Inside (λ a. done (with_statement s a)) h d 0 ∷ K))
+      run 200 ts (Want (Tail o) d K)
+      ≡ run 200 us (Want (Tail o) d (Inside (λ a. done (with_statement s a)) h d 0 ∷ K))
 
 -- from behind the name with which a statement begins the run takes the statement
-pub record Assigns (ts : List Token) (o : Scope) (d : ℕ) (x : List ℕ) (p : ℕ) (us : List Token) (s : Tree) (h : ℕ)
-    : Type 0 where
+pub record Assigns (ts : List Token) (o : Scope) (d : ℕ) (x : List ℕ) (p : ℕ) (us : List Token) (s : Tree)
+    (h : ℕ) : Type 0 where
   pub comes : (K : List Frame) →
       run 200 ts (Next (assigned_of o x p) 0 (d + 0) 0 K)
       ≡ run 200 us (Want (Tail o) d (Inside (λ a. done (with_statement s a)) h d 0 ∷ K))
@@ -302,8 +307,8 @@ pub record Misassigns (ts : List Token) (o : Scope) (d : ℕ) (x : List ℕ) (p 
 
 -- from behind the `]` of a store's index, where its target and that index stand, of this height, the run takes the rest
 -- of the statement
-pub record Stores (ts : List Token) (o : Scope) (d : ℕ) (a i : Tree) (p m : ℕ) (us : List Token) (s : Tree) (h : ℕ)
-    : Type 0 where
+pub record Stores (ts : List Token) (o : Scope) (d : ℕ) (a i : Tree) (p m : ℕ) (us : List Token) (s : Tree)
+    (h : ℕ) : Type 0 where
   pub comes : (K : List Frame) →
       run 200 ts (Next (statement_of o (λ e. store a i e p)) m (d + 0) 0 K)
       ≡ run 200 us (Want (Tail o) d (Inside (λ a. done (with_statement s a)) h d 0 ∷ K))
@@ -364,7 +369,8 @@ no_room_at true at = TooDeep at
 no_room_at false at = Unexpected at
 
 -- from behind a name the run comes to where the name, or the call, is there
-pub record Applies (ts : List Token) (d : ℕ) (x : List ℕ) (p : ℕ) (us : List Token) (e : Tree) (h : ℕ) : Type 0 where
+pub record Applies (ts : List Token) (d : ℕ) (x : List ℕ) (p : ℕ) (us : List Token) (e : Tree) (h : ℕ)
+    : Type 0 where
   pub comes : (K : List Frame) → run 200 ts (Next (named_of x p) 0 (d + 1) 1 K) ≡ run 200 us (Have e h K)
 
 -- from behind a name the run ends so
@@ -377,7 +383,8 @@ passed [] a = a
 passed (e ∷ es) a = more (tree_of e) (passed es a)
 
 -- the run takes arguments, and puts them before those that come behind
-pub record Passes (ts : List Token) (d : ℕ) (us : List Token) (es : List Expr) (h : ℕ) (K : List Frame) : Type 0 where
+pub record Passes (ts : List Token) (d : ℕ) (us : List Token) (es : List Expr) (h : ℕ) (K : List Frame)
+    : Type 0 where
   pub stack : List Frame
   pub comes : run 200 ts (Want Arguments d K) ≡ run 200 us (Want MoreArguments d stack)
   pub folds : (vs : List Token) (a : Tree) (m : ℕ) →

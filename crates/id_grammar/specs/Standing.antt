@@ -22,7 +22,8 @@ pub record Begins (s : Phrase) (vs : List Token) (r : Rest) (h : ℕ) : Type 0 w
 
 -- the tokens are definitions, with these trees and this greatest height
 pub record Defined (ds : List Tree) (us : List Token) (h : ℕ) : Type 0 where
-  pub completes : (ts : List Token) (e : Tree) (m : ℕ) → Program ts e m → Program (us ++ ts) (ahead ds e) (max h m)
+  pub completes : (ts : List Token) (e : Tree) (m : ℕ) → Program ts e m
+      → Program (us ++ ts) (ahead ds e) (max h m)
 
 -- there is room for each part within n, where the parts stand in d expressions
 abbrev pub Roomy : ℕ → ℕ → Rest → Type 0
@@ -44,12 +45,14 @@ pub data Around (n : ℕ) : Phrase → ℕ → List Frame → List Token → Typ
   left : {l : Level} {d : ℕ} {K : List Frame} {us : List Token} →
       Around n (Grouped l) d K us → Around n (operand l) d (Left l d ∷ K) us
   right : {l : Level} {d m : ℕ} {K : List Frame} {us vs : List Token} {o : BinaryOp} {a : Tree} →
-      Around n (Grouped l) d K us → Derives (left_operand l) vs a m → (t : Token) → operator_of l t.kind ≡ Some o →
+      Around n (Grouped l) d K us → Derives (left_operand l) vs a m → (t : Token) →
+      operator_of l t.kind ≡ Some o →
       d + m + 1 ≤ n → Around n (operand l) (d + 1) (Right l o a m t.start d ∷ K) (us ++ (vs ++ t ∷ []))
   plainly : {d : ℕ} {K : List Frame} {us : List Token} →
       Around n Negation d K us → Around n (Grouped level.Comparison) d K us
   barely : {d : ℕ} {K : List Frame} {us : List Token} → Around n Unary d K us → Around n Postfix d K us
-  target : {d : ℕ} {K : List Frame} {us : List Token} → Around n Postfix d K us → Around n Postfix d (Target d ∷ K) us
+  target : {d : ℕ} {K : List Frame} {us : List Token} → Around n Postfix d K us
+      → Around n Postfix d (Target d ∷ K) us
   atomically : {d : ℕ} {K : List Frame} {us : List Token} → Around n Postfix d K us → Around n Atom d K us
   inside : {s i : Phrase} {f : Tree → Rest} {d h : ℕ} {K : List Frame} {us vs : List Token} →
       Around n s d K us → Begins s vs (part i f) h → d + own_height s + h ≤ n →

@@ -479,7 +479,8 @@ pub fn whole_loop(
     requires high { last.height < 2 ^ 63 }
     ensures { MatchResult result
         (λ p. (p.height ≡ max (max test.height statements.height) last.height + 1)
-        × (tree_of p.expr ≡ tree.loop (tree_of test.expr) (onto statements.list.items none) (tree_of last.expr) place))
+        × (tree_of p.expr
+        ≡ tree.loop (tree_of test.expr) (onto statements.list.items none) (tree_of last.expr) place))
         (λ e. e ≡ Memory) }
 {
     let height = test.height.max(statements.height).max(last.height) + 1;

@@ -1,6 +1,7 @@
 //! The picture of a graph, in the language of Graphviz (docs/GRAPH.md, "Picture").
 
-ghost use Rattle.std.specs.Prelude.{[], ◌≡◌, ◌<◌, ◌≤◌, ◌++◌, ◌==◌, All, length, IfOk, OnOk, codes, string_bytes};
+ghost use Rattle.std.specs.Prelude.{[], ◌≡◌, ◌<◌, ◌≤◌, ◌++◌, ◌==◌, All, length, IfOk, OnOk};
+ghost use Rattle.std.specs.Prelude.{codes, string_bytes};
 ghost use Rattle.std.specs.Fmt.{decimal};
 ghost use Rattle.std.specs.List.{flat_map};
 ghost use Rattle.id_instr.specs.declared.dests.Port.TheVariants.{Zero};

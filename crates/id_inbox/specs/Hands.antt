@@ -41,11 +41,13 @@ taking v m = hand v.parts v.sent (v.taken ++ m ∷ [])
 -- however messages are weighed, what all doors have sent weighs as much as what they have taken and the queue holds
 abbrev pub IsEven : List Message → List Hand → Type 0
 IsEven items views =
-    (f : Message → ℕ) → sum_by (λ v. sum_by f v.sent) views ≡ sum_by (λ v. sum_by f v.taken) views + sum_by f items
+    (f : Message → ℕ)
+    → sum_by (λ v. sum_by f v.sent) views ≡ sum_by (λ v. sum_by f v.taken) views + sum_by f items
 
 -- a door with no part has sent and taken nothing
 abbrev pub IdleIsEmpty : List Hand → Type 0
-IdleIsEmpty views = (port : ℕ) (v : Hand) → get_elem? views port ≡ some v → v.parts ≡ 0 → (v.sent ≡ []) × (v.taken ≡ [])
+IdleIsEmpty views = (port : ℕ) (v : Hand) → get_elem? views port ≡ some v → v.parts ≡ 0
+    → (v.sent ≡ []) × (v.taken ≡ [])
 
 -- the rule: all parts together are 1024, no message is lost or doubled, and a door with no part has done nothing
 abbrev pub IsBalanced : List Message → List Hand → Type 0

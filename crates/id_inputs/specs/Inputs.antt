@@ -1,5 +1,6 @@
 -- Which inputs words give, and which words are refused (docs/LANGUAGE.md, "Inputs").
-use Rattle.std.specs.Prelude.{◌≡◌, ◌<◌, ℕ, suc, ◌&&◌, ◌||◌, ◌==◌, ℤ, pos, neg_ℤ, Bool as Truth, true, false}
+use Rattle.std.specs.Prelude.{◌≡◌, ◌<◌, ℕ, suc, ◌&&◌, ◌||◌, ◌==◌, ℤ, pos, neg_ℤ}
+use Rattle.std.specs.Prelude.{Bool as Truth, true, false}
 use Rattle.std.specs.Prelude.{List, [], ◌∷◌, ◌++◌, length, map, get_or, slice_get, codes}
 use Rattle.std.specs.Prelude.{Option, None, Some, IsSome, option_map, option_and_then, if◌then◌else◌}
 use Rattle.std.specs.Option.{option_or}

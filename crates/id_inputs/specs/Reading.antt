@@ -32,7 +32,8 @@ values_so vs (Some x) = slice_set vs x.0 x.1
 
 -- the cause is that the value of this number is the first to lack, or want of memory
 abbrev pub IsFirstLack : List (Option Constant) → InputError → Type 0
-IsFirstLack vs (MissingInput n) = (slice_get vs n ≡ Some None) × ((m : ℕ) → m < n → IsSome (slice_index_or vs m None))
+IsFirstLack vs (MissingInput n) = (slice_get vs n ≡ Some None)
+    × ((m : ℕ) → m < n → IsSome (slice_index_or vs m None))
 IsFirstLack vs (UnknownInput j) = ⊥
 IsFirstLack vs (RepeatedInput j) = ⊥
 IsFirstLack vs (BadInput j) = ⊥

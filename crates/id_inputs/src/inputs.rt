@@ -1,6 +1,7 @@
 //! The inputs of `main`, read from words (docs/LANGUAGE.md, "Inputs").
 
-ghost use Rattle.std.specs.Prelude.{◌≡◌, ℕ, get_or, ◌<◌, ◌-◌, ◌^◌, [], min, map, pos, neg_ℤ, length, slice_get};
+ghost use Rattle.std.specs.Prelude.{◌≡◌, ℕ, get_or, ◌<◌, ◌-◌, ◌^◌, [], min, map, pos, neg_ℤ};
+ghost use Rattle.std.specs.Prelude.{length, slice_get};
 ghost use Rattle.std.specs.Prelude.{None, Some, IfOk, IfErr, IfSome, OnOk};
 ghost use Rattle.std.specs.Prelude.{option_map, option_and_then};
 ghost use Rattle.std.specs.List.{AllPass};
@@ -91,7 +92,8 @@ fn all_wanted(alloc: Global, checked: &Checked) -> Result<Vec<Wanted>, AllocErro
 
 /// The names and kinds of the parameters at these rows.
 fn wanted_all(alloc: Global, checked: &Checked, params: &[usize]) -> Result<Vec<Wanted>, AllocError>
-    ensures { IfOk result (λ v. v.items ≡ map (λ b. wanted_of checked.now (at (rows checked.now) b).node) params.now) }
+    ensures { IfOk result
+        (λ v. v.items ≡ map (λ b. wanted_of checked.now (at (rows checked.now) b).node) params.now) }
 {
     let mut wanted = Vec::new(alloc);
     for row in params {

@@ -1,5 +1,6 @@
 -- Graphs (docs/GRAPH.md, "Operators").
-use Rattle.std.specs.Prelude.{take, ℕ, ◌<◌, ◌^◌, Bool, true, false, if◌then◌else◌, Option, List, [], ◌++◌, length}
+use Rattle.std.specs.Prelude.{take, ℕ, ◌<◌, ◌^◌, Bool, true, false, if◌then◌else◌, Option, List, []}
+use Rattle.std.specs.Prelude.{◌++◌, length}
 use Rattle.std.specs.Prelude.{IsSome, IsSomeAnd, All, slice_get, option_and_then}
 use Rattle.id_instr.specs.declared.instr.Block.{Block}
 use Rattle.id_instr.specs.declared.instr.Instr.{Instr}

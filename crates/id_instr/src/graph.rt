@@ -1,6 +1,7 @@
 //! The graph, whose destinations are ports that exist (docs/GRAPH.md, "Operators").
 
-ghost use Rattle.std.specs.Prelude.{◌≡◌, ◌<◌, ◌^◌, ◌↔◌, length, vec_len, IfOk, IfErr, IsOk, IsTrue, All};
+ghost use Rattle.std.specs.Prelude.{◌≡◌, ◌<◌, ◌^◌, ◌↔◌, length, vec_len, IfOk, IfErr, IsOk, IsTrue};
+ghost use Rattle.std.specs.Prelude.{All};
 ghost use Rattle.std.specs.Prelude.{MatchOption};
 ghost use Rattle.id_instr.specs.Graph.{parts, kind_at, ArcsExist, IsFirstBad, IsGraph, IsPort, PortsExist, TellsBadArc};
 

@@ -115,7 +115,8 @@ module _ (S : Source) (number : ℕ → ℕ → ℕ) (run : List Event) where
   -- the switches at the row n are to go to this side under the activation: their predicate has spoken so, or, where
   -- the loop has an index, it was found so, whether the flag has come already or not
   pub data Chosen (a : Activation) (n : ℕ) : Bool → Type 0 where
-    has_said : {e : ℕ} {b : Bool} → Tests S.checked n e → Speaks a (origin S.checked e) (value.Bool b) → Chosen a n b
+    has_said : {e : ℕ} {b : Bool} → Tests S.checked n e → Speaks a (origin S.checked e) (value.Bool b)
+        → Chosen a n b
     has_counted : {e : ℕ} → node S.checked n ≡ Switches e → has_index S.checked (block S.checked n) ≡ true
         → Decided (block S.checked n) (value.Bool true) a → Chosen a n true
 

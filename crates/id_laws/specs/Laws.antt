@@ -1,5 +1,6 @@
 -- The laws that join what a program means to what its graph does (docs/MEANING.md, "Laws").
-use Rattle.std.specs.Prelude.{◌≡◌, ◌≢◌, ◌≤◌, ◌<◌, ◌++◌, ◌&&◌, ℕ, ℤ, Bool, true, false, Option, Some, None, List}
+use Rattle.std.specs.Prelude.{◌≡◌, ◌≢◌, ◌≤◌, ◌<◌, ◌++◌, ◌&&◌, ℕ, ℤ, Bool, true, false}
+use Rattle.std.specs.Prelude.{Option, Some, None, List}
 use Rattle.std.specs.Prelude.{length, map, count_by}
 use Rattle.id_check.specs.declared.checked.Checked.{Checked}
 use Rattle.id_instr.specs.declared.dests.Port.{Port}
@@ -148,8 +149,8 @@ Soundness = (S : Source) (g : Parts) (count : ℕ) (ks : List ℕ) → AreInputs
 
 -- *Never stuck*: of each such graph, every list of deliveries leaves no element stuck, and no two contexts one path
 abbrev pub NeverStuck : Type 0
-NeverStuck = (S : Source) (g : Parts) (count : ℕ) (ks : List ℕ) → AreInputs S.checked S.inputs → Schemas S.checked g
-    → IsNeverStuck g (run g count ks (start g S.inputs count))
+NeverStuck = (S : Source) (g : Parts) (count : ℕ) (ks : List ℕ) → AreInputs S.checked S.inputs
+    → Schemas S.checked g → IsNeverStuck g (run g count ks (start g S.inputs count))
 
 -- *Quiet is complete*: of each such graph, a list of deliveries after which the machine is quiet has shown everything
 abbrev pub QuietIsComplete : Type 0
@@ -183,7 +184,8 @@ pub record AreLabels (P : Checked) (g : Parts) (number : ℕ → ℕ → ℕ) : 
   pub places : (b : ℕ) → IsBinder P b → shown.place_of g (number (label P b) 0) ≡ place P b
   -- there is no other label, and no two binders have one
   pub only : (n : ℕ) → shown.is_label g n ≡ true → (b : ℕ) × IsBinder P b × (number (label P b) 0 ≡ n)
-  pub apart : (b c : ℕ) → IsBinder P b → IsBinder P c → number (label P b) 0 ≡ number (label P c) 0 → b ≡ c
+  pub apart : (b c : ℕ) → IsBinder P b → IsBinder P c → number (label P b) 0 ≡ number (label P c) 0
+      → b ≡ c
 
 -- *Labels*: the labels of each such graph are those of the program's binders, one each
 abbrev pub Labels : Type 0

@@ -1,6 +1,7 @@
 -- What each instruction speaks of and what each port wants, and when a value tells it under an activation
 -- (docs/MEANING.md, "Laws").
-use Rattle.std.specs.Prelude.{◌≡◌, ◌<◌, ◌+◌, ◌-◌, ℕ, zero, suc, ℤ, pos, Bool as Truth, true, false}
+use Rattle.std.specs.Prelude.{◌≡◌, ◌<◌, ◌+◌, ◌-◌, ℕ, zero, suc, ℤ, pos, Bool as Truth, true}
+use Rattle.std.specs.Prelude.{false}
 use Rattle.std.specs.Prelude.{List, get_or, length}
 use Rattle.std.specs.Prelude.{if◌then◌else◌, unwrap_or, int_le, int_lt, ◌+ℤ◌}
 use Rattle.id_value.specs.Results.{is_whole}
@@ -278,7 +279,8 @@ pub data Addresses (P : Checked) (n t i : ℕ) : Type 0 where
   of_store : node P n ≡ Address t i → Addresses P n t i
 
 -- the name of the structure: the `array` that has made it stands there, and the source has its bounds
-pub record Named (S : Source) (number : ℕ → ℕ → ℕ) (run : List Event) (s : Structure) (x : Site) : Type 0 where
+pub record Named (S : Source) (number : ℕ → ℕ → ℕ) (run : List Event) (s : Structure) (x : Site)
+    : Type 0 where
   pub activation : Activation
   pub row : ℕ
   pub low : ℕ
@@ -292,7 +294,8 @@ pub record Named (S : Source) (number : ℕ → ℕ → ℕ) (run : List Event) 
   pub holds : Holds S (shape x s.low s.high)
 
 -- the value of a token stands for the value of the source
-pub data StandsFor (S : Source) (number : ℕ → ℕ → ℕ) (run : List Event) : Value → SourceValue → Type 0 where
+pub data StandsFor (S : Source) (number : ℕ → ℕ → ℕ) (run : List Event) : Value → SourceValue
+    → Type 0 where
   number_stands : (n : ℤ) → StandsFor S number run (value.Int n) (source.Int n)
   truth_stands : (b : Truth) → StandsFor S number run (value.Bool b) (source.Bool b)
   name_stands : (s : Structure) (x : Site) → Named S number run s x

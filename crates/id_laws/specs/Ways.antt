@@ -44,17 +44,18 @@ pub data Way (S : Source) (number : ℕ → ℕ → ℕ) (run : List Event) (e :
       → fired_event x ≡ e → Way S number run e (at_iteration c 0) n part Zero v
   -- the signal of an `Enter` or `Start`, and its way back
   by_enter : (a : Activation) (i h q : ℕ) (c : Context) → i < length (rows S.checked) → Begins S.checked i h q
-      → (x : Opens S number run a i c) → fired_event x ≡ e → Way S number run e (at_iteration c 0) h 0 Zero Signal
-  by_continuation : (a : Activation) (i h q : ℕ) (c : Context) → i < length (rows S.checked) → Begins S.checked i h q
       → (x : Opens S number run a i c) → fired_event x ≡ e
+      → Way S number run e (at_iteration c 0) h 0 Zero Signal
+  by_continuation : (a : Activation) (i h q : ℕ) (c : Context) → i < length (rows S.checked)
+      → Begins S.checked i h q → (x : Opens S number run a i c) → fired_event x ≡ e
       → Way S number run e (at_iteration c 0) h 1 Zero (Continuation (tag_in a (number q 0)))
   -- what a block gives
   by_back : (c : Context) (h : ℕ) (a : Activation) (n : ℕ) (v : Value) → ReturnsTo S number run c h a n
       → (x : FiresAs run (tag_in (at_iteration c 0) (number h 1)) (Sent (tag_in a (number n 0)) v))
       → fired_event x ≡ e → Way S number run e a n 0 Zero v
   -- the reply to a fetch, from a read that found the value or the write that filled the cell
-  by_reply : (a : Activation) (n t i : ℕ) (v : Value) → n < length (rows S.checked) → node S.checked n ≡ Fetch t i
-      → Replies run (tag_in a (number n 2)) v e → Way S number run e a n 2 Zero v
+  by_reply : (a : Activation) (n t i : ℕ) (v : Value) → n < length (rows S.checked)
+      → node S.checked n ≡ Fetch t i → Replies run (tag_in a (number n 2)) v e → Way S number run e a n 2 Zero v
 
 -- at the start the value is there for the port of the part of the row, under main's activation: a signal, the way back
 -- and the inputs

@@ -1,5 +1,6 @@
 -- How a record keeps its lines: without their stamps where its element is alone.
-use Rattle.std.specs.Prelude.{◌≡◌, ℕ, ◌+◌, ◌%◌, ◌^◌, Bool, true, false, List, [], ◌∷◌, Some, length, min, slice_get}
+use Rattle.std.specs.Prelude.{◌≡◌, ℕ, ◌+◌, ◌%◌, ◌^◌, Bool, true, false, List, [], ◌∷◌, Some}
+use Rattle.std.specs.Prelude.{length, min, slice_get}
 use Rattle.id_line.specs.declared.line.Line.{Line}
 use Rattle.id_ledger.specs.declared.ledger.Bare.{Bare}
 use Rattle.id_ledger.specs.declared.ledger.Stamps.{Stamps}

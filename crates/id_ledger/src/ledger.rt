@@ -1,7 +1,8 @@
 //! The lines of a record in order: of an element that is alone without their stamps, which follow there from where
 //! events stand.
 
-ghost use Rattle.std.specs.Prelude.{◌≡◌, ◌<◌, ◌%◌, ◌^◌, ◌++◌, ◌∷◌, [], ◌↔◌, vec_capacity, vec_len, IsFalse, IsTrue};
+ghost use Rattle.std.specs.Prelude.{◌≡◌, ◌<◌, ◌%◌, ◌^◌, ◌++◌, ◌∷◌, [], ◌↔◌};
+ghost use Rattle.std.specs.Prelude.{vec_capacity, vec_len, IsFalse, IsTrue};
 ghost use Rattle.id_ledger.specs.Ledgers.{Follows, bare_of, sent_at, stamp_at, stamps_at, stamps_of, with_stamps};
 
 use id_line::{Effect, Kind, Line, line_aside};
@@ -202,7 +203,8 @@ fn add_stamps(
 ) -> bool
     requires sent_from { sent_from < 2 ^ 31 }
     requires room { IsFalse alone → vec_len stamps.old < vec_capacity stamps.old }
-    ensures goes { IsTrue alone → IsTrue result ↔ (own.stamp ≡ stamp_at position) × (own.sent ≡ sent_at sent_from) }
+    ensures goes { IsTrue alone
+        → IsTrue result ↔ (own.stamp ≡ stamp_at position) × (own.sent ≡ sent_at sent_from) }
     ensures same { IsTrue alone → stamps.new ≡ stamps.old }
     ensures always { IsFalse alone → IsTrue result }
     ensures added { IsFalse alone → stamps.new.items ≡ stamps.old.items ++ own ∷ [] }

@@ -1,7 +1,8 @@
 //! What stands beside the lines of a record: whole events, the cells that lines name, and the positions of the events
 //! that tell.
 
-ghost use Rattle.std.specs.Prelude.{◌≡◌, ◌<◌, ◌≤◌, ◌+◌, ◌++◌, ◌∷◌, [], length, vec_len, vec_capacity, IsFalse, IsTrue};
+ghost use Rattle.std.specs.Prelude.{◌≡◌, ◌<◌, ◌≤◌, ◌+◌, ◌++◌, ◌∷◌, [], length, vec_len};
+ghost use Rattle.std.specs.Prelude.{vec_capacity, IsFalse, IsTrue};
 ghost use Rattle.std.specs.Prelude.{◌==◌, IfSome, None, OnOk};
 ghost use Rattle.id_ops.specs.Shots.{IsBrief, IsOwn};
 ghost use Rattle.id_line.specs.Lines.{IsPacked, beside};
@@ -239,7 +240,8 @@ pub fn add_shot(lines: &mut Ledger, margin: &mut Margin, event: &Shooting<'_>) -
     ensures line { IfSome result (λ l. lines.new.items ≡ lines.old.items ++ l ∷ []) }
     ensures beside { margin.new.beside ≡ margin.old.beside }
     ensures telling { IfSome result (λ _.
-        margin.new.telling ≡ margin.old.telling ++ told_at (event.now.token.now.instr == 0) (length lines.old.items)) }
+        margin.new.telling
+        ≡ margin.old.telling ++ told_at (event.now.token.now.instr == 0) (length lines.old.items)) }
     ensures left { result ≡ None → lines.new ≡ lines.old }
     ensures left_beside { result ≡ None → margin.new ≡ margin.old }
 {

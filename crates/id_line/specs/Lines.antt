@@ -1,5 +1,6 @@
 -- How the record keeps an event in a line.
-use Rattle.std.specs.Prelude.{◌≡◌, ◌==◌, if◌then◌else◌, ℕ, zero, suc, ◌<◌, ◌≤◌, ◌+◌, ◌*◌, ◌/◌, ◌%◌, ◌^◌, ℤ, pos}
+use Rattle.std.specs.Prelude.{◌≡◌, ◌==◌, if◌then◌else◌, ℕ, zero, suc, ◌<◌, ◌≤◌, ◌+◌}
+use Rattle.std.specs.Prelude.{◌*◌, ◌/◌, ◌%◌, ◌^◌, ℤ, pos}
 use Rattle.std.specs.Prelude.{true, false}
 use Rattle.std.specs.Prelude.{List, Option, None, Some, length, slice_index_or}
 use Rattle.std.specs.Int.{cast_signed, cast_unsigned, w32, w64}

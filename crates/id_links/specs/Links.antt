@@ -1,5 +1,6 @@
 -- Which rows' facts lead to facts of which rows.
-use Rattle.std.specs.Prelude.{◌≡◌, ◌⊎◌, ◌<◌, ◌≤◌, ℕ, zero, suc, List, [], ◌∷◌, ◌++◌, length, slice_get}
+use Rattle.std.specs.Prelude.{◌≡◌, ◌⊎◌, ◌<◌, ◌≤◌, ℕ, zero, suc, List, [], ◌∷◌, ◌++◌}
+use Rattle.std.specs.Prelude.{length, slice_get}
 use Rattle.std.specs.Prelude.{Bool as Truth, true, false, ◌-◌, ◌&&◌, Option, None, Some, if◌then◌else◌}
 use Rattle.std.proofs.Common.{Vec, Global}
 use Rattle.id_list.specs.List.{Among}
@@ -250,7 +251,8 @@ AreArgs P E = AreArgsTo P (length (rows P)) E
 -- the row of each statement comes before that of the next
 abbrev pub StatementsRise : List Statement → Type 0
 StatementsRise ss =
-    (i j : ℕ) (s t : Statement) → slice_get ss i ≡ Some s → slice_get ss j ≡ Some t → i < j → s.row < t.row
+    (i j : ℕ) (s t : Statement) → slice_get ss i ≡ Some s → slice_get ss j ≡ Some t → i < j
+    → s.row < t.row
 
 -- these are the bindings and stores among the first i rows that stand in no block, or body of a loop, before row i
 pub record AreOpen (R : List Row) (i : ℕ) (ss : List Statement) : Type 0 where
@@ -283,7 +285,8 @@ pub record TakesAll (E F : Edges) (ss ts : List Statement) (first : ℕ) (o : Op
 
 -- what becomes of the edges and the statements that wait, at the row n of this node, which may stand in the body behind
 -- switches
-abbrev pub Statements_at : Edges → Edges → List Statement → List Statement → ℕ → ℕ → Option ℕ → Node → Type 0
+abbrev pub Statements_at : Edges → Edges → List Statement → List Statement → ℕ → ℕ → Option ℕ → Node
+    → Type 0
 Statements_at E F ss ts n first o (Block b) = TakesAll E F ss ts first (Some n)
 Statements_at E F ss ts n first o Body = TakesAll E F ss ts first o
 Statements_at E F ss ts n first o (Binding x a) = (F ≡ E) × (ts ≡ ss ++ record { row = n; value = a } ∷ [])

@@ -1,5 +1,6 @@
 -- The rear of the store: what waits behind its front, in frames.
-use Rattle.std.specs.Prelude.{◌≡◌, ℕ, Bool, ◌==◌, ◌&&◌, if◌then◌else◌, nat_eq, Option, Some, None, List, [], map, true}
+use Rattle.std.specs.Prelude.{◌≡◌, ℕ, Bool, ◌==◌, ◌&&◌, if◌then◌else◌, nat_eq, Option, Some, None}
+use Rattle.std.specs.Prelude.{List, [], map, true}
 use Rattle.std.specs.Prelude.{Result, Ok, Err, false, ◌≢◌, ◌∷◌, IfSome, IsTrue, is_some}
 use Rattle.std.specs.declared.alloc.AllocError.{AllocError}
 use Rattle.std.specs.List.{flat_map, IsDistinct}
@@ -61,8 +62,8 @@ rear_entries keys frames = flat_map (λ e. frame_entries e.0 (halves_in (get fra
 pub record IsFramed (keys : List (Name × ℕ)) (frames : Slab Frame) : Type 0 where
   pub unique : IsDistinct same_name (keys_of keys)
   pub held : (n : Name) (key : ℕ) → lookup (same_name n) keys ≡ Some key → ContainsKey frames key
-  pub apart : (m n : Name) (key : ℕ) → lookup (same_name m) keys ≡ Some key → lookup (same_name n) keys ≡ Some key
-      → same_name m n ≡ true
+  pub apart : (m n : Name) (key : ℕ) → lookup (same_name m) keys ≡ Some key
+      → lookup (same_name n) keys ≡ Some key → same_name m n ≡ true
   pub single : (key : ℕ) → IsDistinct nat_eq (keys_of (halves_in (get frames key)))
 
 -- o is at the instruction i in the frame q, and what p has is at each other

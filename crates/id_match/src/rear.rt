@@ -5,9 +5,11 @@
 //! value finds its frame, and in it its partner, by one look-up in the table, and where its frame is made or given back
 //! by two.
 
-ghost use Rattle.std.specs.Prelude.{◌≡◌, ◌≢◌, ◌+◌, ◌<◌, ◌↔◌, ◌≤◌, ◌^◌, ◌++◌, true, false, None, Some, IsTrue};
+ghost use Rattle.std.specs.Prelude.{◌≡◌, ◌≢◌, ◌+◌, ◌<◌, ◌↔◌, ◌≤◌, ◌^◌, ◌++◌};
+ghost use Rattle.std.specs.Prelude.{true, false, None, Some, IsTrue};
 ghost use Rattle.std.specs.Prelude.{IsPermutation, IsSortedByKey, IfOk, IfSome, OnOk, OnErr, is_some, length, nat_eq};
-ghost use Rattle.std.specs.Prelude.{Bool, IsSome, [], ◌∷◌, ℕ, slice_index_or, map as map_list, ◌*◌, ◌-◌};
+ghost use Rattle.std.specs.Prelude.{Bool, IsSome, [], ◌∷◌, ℕ, slice_index_or, map as map_list, ◌*◌};
+ghost use Rattle.std.specs.Prelude.{◌-◌};
 ghost use Rattle.std.specs.FinMap as map;
 ghost use Rattle.std.specs.Map.{lookup};
 ghost use Rattle.id_tag.specs.Tags.{same_tag, tag_cmp};
@@ -120,7 +122,8 @@ impl Frame {
         ensures none { result ≡ None → lookup (nat_eq instr) self.now.halves.items ≡ None }
         ensures has { is_some result ≡ is_some (lookup (nat_eq instr) self.now.halves.items) }
         ensures within { IfSome result (λ i. i < length self.now.halves.items) }
-        ensures found { IfSome result (λ i. (d : ℕ × Half) → ((slice_index_or self.now.halves.items i d).0 ≡ instr)
+        ensures found { IfSome result
+            (λ i. (d : ℕ × Half) → ((slice_index_or self.now.halves.items i d).0 ≡ instr)
             × (lookup (nat_eq instr) self.now.halves.items ≡ Some (slice_index_or self.now.halves.items i d).1)) }
     {
         for i in 0..self.halves.len() {

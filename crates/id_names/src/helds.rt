@@ -1,6 +1,7 @@
 //! The lines of a report about structures and their cells, which are kept as two lists in order.
 
-ghost use Rattle.std.specs.Prelude.{◌≡◌, ◌↔◌, ◌<◌, ◌+◌, ◌++◌, All, IfOk, IsTrue, IsPermutation, drop, length, map};
+ghost use Rattle.std.specs.Prelude.{◌≡◌, ◌↔◌, ◌<◌, ◌+◌, ◌++◌, All, IfOk, IsTrue, IsPermutation};
+ghost use Rattle.std.specs.Prelude.{drop, length, map};
 ghost use Rattle.id_source.specs.Orders.{Rises};
 ghost use Rattle.id_names.specs.declared.helds.Held.TheVariants as held;
 ghost use Rattle.id_names.specs.Helds.{AreCellsUp, AreShapesUp, is_cell_first, joined};

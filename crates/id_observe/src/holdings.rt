@@ -1,6 +1,7 @@
 //! What a run shows of its answer and of structures, for who asks for nothing else (docs/MACHINE.md, "Observed").
 
-ghost use Rattle.std.specs.Prelude.{◌≡◌, ◌++◌, ◌↔◌, [], map, option_and_then, slice_get, IfOk, OnOk, IsTrue};
+ghost use Rattle.std.specs.Prelude.{◌≡◌, ◌++◌, ◌↔◌, [], map, option_and_then, slice_get, IfOk, OnOk};
+ghost use Rattle.std.specs.Prelude.{IsTrue};
 ghost use Rattle.std.specs.List.{cons_option, filter_map, flat_map};
 ghost use Rattle.id_slot.specs.Cells.{cells_of, deferred_of};
 ghost use Rattle.id_observed.specs.Observed.{HaveNoCells, MakesNone, IsNamed, answer_in, ask_of, cell_value_of};
@@ -44,7 +45,8 @@ pub fn observe_holdings(
     elements: &[Element<'_>],
 ) -> Result<Holdings, AllocError>
     ensures answer { IfOk result (λ o. o.answer ≡ answer_in graph.now (map (λ e. e.state) elements.now)) }
-    ensures structures { IfOk result (λ o. o.structures ≡ structures_in graph.now (map (λ e. e.state) elements.now)) }
+    ensures structures { IfOk result
+        (λ o. o.structures ≡ structures_in graph.now (map (λ e. e.state) elements.now)) }
     ensures cells { IfOk result (λ o. o.cells ≡ cell_values_in graph.now (map (λ e. e.state) elements.now)) }
     ensures waiting { IfOk result (λ o. o.waiting ≡ waiting_in graph.now (map (λ e. e.state) elements.now)) }
 {
@@ -57,7 +59,8 @@ pub fn observe_holdings(
 /// The same where there may be structures or cells.
 fn held(alloc: Global, graph: &Valid, elements: &[Element<'_>]) -> Result<Holdings, AllocError>
     ensures answer { IfOk result (λ o. o.answer ≡ answer_in graph.now (map (λ e. e.state) elements.now)) }
-    ensures structures { IfOk result (λ o. o.structures ≡ structures_in graph.now (map (λ e. e.state) elements.now)) }
+    ensures structures { IfOk result
+        (λ o. o.structures ≡ structures_in graph.now (map (λ e. e.state) elements.now)) }
     ensures cells { IfOk result (λ o. o.cells ≡ cell_values_in graph.now (map (λ e. e.state) elements.now)) }
     ensures waiting { IfOk result (λ o. o.waiting ≡ waiting_in graph.now (map (λ e. e.state) elements.now)) }
 {

@@ -54,7 +54,8 @@ pub fn observe_records(
 ) -> Result<Observed, AllocError>
     ensures answer { IfOk result (λ o. o.answer ≡ answer_in graph.now (map (λ e. e.state) elements.now)) }
     ensures names { IfOk result (λ o. o.names ≡ names_in graph.now (map (λ e. e.state) elements.now)) }
-    ensures structures { IfOk result (λ o. o.structures ≡ structures_in graph.now (map (λ e. e.state) elements.now)) }
+    ensures structures { IfOk result
+        (λ o. o.structures ≡ structures_in graph.now (map (λ e. e.state) elements.now)) }
     ensures cells { IfOk result (λ o. o.cells ≡ cells_in graph.now (map (λ e. e.state) elements.now)) }
     ensures asks { IfOk result (λ o. o.asks ≡ asks_in graph.now (map (λ e. e.state) elements.now)) }
     ensures waiting { IfOk result (λ o. o.waiting ≡ waiting_in graph.now (map (λ e. e.state) elements.now)) }

@@ -1,7 +1,8 @@
 //! What binders have, structures and their cells, and fetches that wait, as records and cells show them
 //! (docs/MACHINE.md, "Observed").
 
-ghost use Rattle.std.specs.Prelude.{◌≡◌, ◌==◌, ◌&&◌, ◌<◌, ◌+◌, ◌-◌, ◌^◌, ◌++◌, [], ℕ, false, count_by, map};
+ghost use Rattle.std.specs.Prelude.{◌≡◌, ◌==◌, ◌&&◌, ◌<◌, ◌+◌, ◌-◌, ◌^◌, ◌++◌, []};
+ghost use Rattle.std.specs.Prelude.{ℕ, false, count_by, map};
 ghost use Rattle.std.specs.Prelude.{nat_eq, slice_get, unwrap_or};
 ghost use Rattle.std.specs.Prelude.{IfOk, OnOk, None, Some, if◌then◌else◌};
 ghost use Rattle.std.specs.HashMap.{get};

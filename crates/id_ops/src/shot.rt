@@ -1,6 +1,7 @@
 //! What an instruction does with plain operands where it sends a word or a structure on, as most do, in small numbers.
 
-ghost use Rattle.std.specs.Prelude.{◌≡◌, ◌≢◌, ◌<◌, ◌-◌, ◌^◌, ℕ, Bool, true, false, None, IfSome};
+ghost use Rattle.std.specs.Prelude.{◌≡◌, ◌≢◌, ◌<◌, ◌-◌, ◌^◌, ℕ, Bool, true, false, None};
+ghost use Rattle.std.specs.Prelude.{IfSome};
 ghost use Rattle.std.specs.Option.{is_some};
 ghost use Rattle.id_instr.specs.declared.instr.Op.TheVariants.{Alloc, Next};
 ghost use Rattle.id_instr.specs.declared.instr.PortKind.{PortKind};

@@ -130,7 +130,8 @@ fn add_value_at(
     values: &mut Vec<Value>,
 ) -> Result<(), AllocError>
     requires position { position < length events.now }
-    requires number { option_map (λ e. (tag_of e.message.payload).instr) (slice_get events.now position) ≡ Some number }
+    requires number { option_map (λ e. (tag_of e.message.payload).instr) (slice_get events.now position)
+        ≡ Some number }
     ensures { OnOk result
         ((e : EventView)
         → slice_get events.now position ≡ Some e

@@ -1,5 +1,6 @@
 -- The graph that the builder makes of a program.
-use Rattle.std.specs.Prelude.{◌≡◌, ℕ, zero, suc, ◌+◌, ◌^◌, ◌<◌, ◌≤◌, ◌==◌, Bool, true, false, if◌then◌else◌, ◌&&◌}
+use Rattle.std.specs.Prelude.{◌≡◌, ℕ, zero, suc, ◌+◌, ◌^◌, ◌<◌, ◌≤◌, ◌==◌, Bool, true}
+use Rattle.std.specs.Prelude.{false, if◌then◌else◌, ◌&&◌}
 use Rattle.std.specs.Prelude.{List, [], ◌∷◌, ◌++◌, map, length, slice_get, unwrap_or}
 use Rattle.std.specs.Bool.{beq}
 use Rattle.id_table.specs.declared.row.Node.{Node}

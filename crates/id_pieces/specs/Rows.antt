@@ -1,5 +1,6 @@
 -- What each row makes: its instructions, and what feeds them, by cases on the row (docs/GRAPH.md, "Schemas").
-use Rattle.std.specs.Prelude.{◌≡◌, ◌<◌, ℕ, zero, suc, ◌+◌, ◌-◌, ◌==◌, Bool as Truth, true, false, if◌then◌else◌, ◌&&◌}
+use Rattle.std.specs.Prelude.{◌≡◌, ◌<◌, ℕ, zero, suc, ◌+◌, ◌-◌, ◌==◌, Bool as Truth, true}
+use Rattle.std.specs.Prelude.{false, if◌then◌else◌, ◌&&◌}
 use Rattle.std.specs.Prelude.{pos}
 use Rattle.std.specs.Prelude.{List, [], ◌∷◌, ◌++◌, length, map, Option, None, Some, unwrap_or}
 use Rattle.std.specs.Bool.{beq}

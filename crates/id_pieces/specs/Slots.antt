@@ -1,5 +1,6 @@
 -- The columns that the builder reads, and where each import stands among those of its head, as it notes that.
-use Rattle.std.specs.Prelude.{◌≡◌, ℕ, suc, ◌<◌, ◌^◌, ◌==◌, ◌&&◌, Bool, if◌then◌else◌, List, [], ◌∷◌, length, nat_lt}
+use Rattle.std.specs.Prelude.{◌≡◌, ℕ, suc, ◌<◌, ◌^◌, ◌==◌, ◌&&◌, Bool, if◌then◌else◌}
+use Rattle.std.specs.Prelude.{List, [], ◌∷◌, length, nat_lt}
 use Rattle.std.specs.Prelude.{Option, None, Some, IsSome, unwrap_or}
 use Rattle.std.specs.HashMap.{get}
 use Rattle.id_check.specs.declared.checked.Checked.{Checked}

@@ -1,6 +1,7 @@
 //! The instructions of a row (docs/GRAPH.md, "Schemas").
 
-ghost use Rattle.std.specs.Prelude.{[], ◌∷◌, ◌≡◌, ◌++◌, ◌<◌, ◌^◌, pos, length, map, false, true, IfErr, OnOk};
+ghost use Rattle.std.specs.Prelude.{[], ◌∷◌, ◌≡◌, ◌++◌, ◌<◌, ◌^◌, pos, length, map, false};
+ghost use Rattle.std.specs.Prelude.{true, IfErr, OnOk};
 ghost use Rattle.id_check.specs.Programs as programs;
 ghost use Rattle.id_table.specs.Tables.{is_thing};
 ghost use Rattle.id_table.specs.declared.row.Node.TheVariants.{Start};
@@ -386,7 +387,8 @@ fn push_enter(
     place: usize,
     pieces: &mut Vec<Piece>,
 ) -> Result<(), BuildError>
-    ensures pieces { OnOk result (pieces.new.items ≡ pieces.old.items ++ rows.piece (EnterAt head reply) place ∷ []) }
+    ensures pieces { OnOk result
+        (pieces.new.items ≡ pieces.old.items ++ rows.piece (EnterAt head reply) place ∷ []) }
     ensures memory { IfErr result (λ e. e ≡ BuildError.Memory) }
 {
     push_form(pieces, Form::EnterAt { head, call: reply }, place)

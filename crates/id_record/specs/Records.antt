@@ -1,5 +1,6 @@
 -- The events of a record, as its lines keep them (docs/MACHINE.md, "The record").
-use Rattle.std.specs.Prelude.{ℕ, ◌+◌, ◌<◌, Bool, List, [], ◌∷◌, ◌++◌, ◌≡◌, All, drop, length, slice_get, take}
+use Rattle.std.specs.Prelude.{ℕ, ◌+◌, ◌<◌, Bool, List, [], ◌∷◌, ◌++◌, ◌≡◌, All, drop, length}
+use Rattle.std.specs.Prelude.{slice_get, take}
 use Rattle.std.specs.Option.{option_map_or}
 use Rattle.id_instr.specs.declared.dests.Dest.{Dest}
 use Rattle.id_instr.specs.Graph.{Parts, arcs_on}

@@ -33,7 +33,8 @@ moved_to t i = record { context = t.context; iteration = i; instr = t.instr }
 -- reply to port 0 of the second
 abbrev pub started : Option Op → Tag → Context → List Payload
 started (Some (Enter b r)) t c =
-    Token (tag_within c b) Zero value.Signal ∷ Token (tag_within c (b + 1)) Zero (value.Continuation (beside t r)) ∷ []
+    Token (tag_within c b) Zero value.Signal ∷ Token (tag_within c (b + 1)) Zero (value.Continuation (beside t r))
+    ∷ []
 started _ t c = []
 
 -- how many messages that is

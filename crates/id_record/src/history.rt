@@ -81,7 +81,8 @@ impl<'a> Model for Events<'a> {
 }
 
 impl<'a> Record<'a> {
-    ghost use Rattle.std.specs.Prelude.{◌≡◌, ◌<◌, ◌≤◌, ◌+◌, ◌++◌, ◌∷◌, [], length, option_map, slice_get, Some, OnOk};
+    ghost use Rattle.std.specs.Prelude.{◌≡◌, ◌<◌, ◌≤◌, ◌+◌, ◌++◌, ◌∷◌, [], length};
+    ghost use Rattle.std.specs.Prelude.{option_map, slice_get, Some, OnOk};
     ghost use Rattle.id_line.specs.Events.{AreUnmarked, IsMarkedAt, tag_of, value_of};
     ghost use Rattle.std.specs.Prelude.{IsFalse, IsTrue};
     ghost use Rattle.id_line.specs.declared.line.Handled.{Handled};

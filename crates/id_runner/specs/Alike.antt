@@ -11,11 +11,12 @@ IsPrinted S r steps text b status bytes = Ends r.graph r.count steps (end_of S r
 
 -- all runs of the source that fall quiet are printed in the same bytes, and where one falls quiet, none ends at a fault
 pub record ArePrintedAlike (S : Source) (text : List ℕ) (b : Bool) : Type 0 where
-  pub same : (r q : RunOf S) (m n : ℕ) (xs ys : List ℕ) → IsPrinted S r m text b 0 xs → IsPrinted S q n text b 0 ys
-      → xs ≡ ys
+  pub same : (r q : RunOf S) (m n : ℕ) (xs ys : List ℕ) → IsPrinted S r m text b 0 xs
+      → IsPrinted S q n text b 0 ys → xs ≡ ys
   pub no_fault : (r q : RunOf S) (m n : ℕ) (xs ys : List ℕ) → IsPrinted S r m text b 0 xs
       → IsPrinted S q n text b 1 ys → ⊥
 
 -- *Printed alike*: so it is with each source, whatever the graphs' numberings, the numbers of elements and the orders
 abbrev pub PrintedAlike : Type 0
-PrintedAlike = (S : Source) → AreInputs S.checked S.inputs → (text : List ℕ) (b : Bool) → ArePrintedAlike S text b
+PrintedAlike = (S : Source) → AreInputs S.checked S.inputs → (text : List ℕ) (b : Bool)
+    → ArePrintedAlike S text b

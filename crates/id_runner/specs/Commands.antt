@@ -1,5 +1,6 @@
 -- What a command prints of a program (docs/PROMISES.md, "The engine").
-use Rattle.std.specs.Prelude.{◌≡◌, ℕ, Bool, true, false, IsTrue, List, ◌++◌, codes, Option, Result, Ok, Err, IfSome}
+use Rattle.std.specs.Prelude.{◌≡◌, ℕ, Bool, true, false, IsTrue, List, ◌++◌, codes, Option, Result, Ok, Err}
+use Rattle.std.specs.Prelude.{IfSome}
 use Rattle.id_check.specs.declared.checked.Checked.{Checked}
 use Rattle.id_value.specs.declared.Constant.{Constant}
 use Rattle.id_source.specs.declared.Ask.{Ask}
@@ -69,7 +70,8 @@ pub data Shows (P : Checked) (text : List ℕ) : Command → ℕ → List ℕ �
       Shows P text (Run b false ws) 3 (stopped_text text v (asked b ns) hs)
   -- where a trace is asked for, all events of a run of a graph that the schemas give come before that, by stamp, and at
   -- one stamp by element: so they are a legal list of events from the start
-  traced : {b : Bool} {ws : List (List ℕ)} {vs : List Constant} {g : Parts} {status : ℕ} {output : List ℕ} (count : ℕ)
+  traced : {b : Bool} {ws : List (List ℕ)} {vs : List Constant} {g : Parts} {status : ℕ} {output : List ℕ}
+      (count : ℕ)
       (w : World) (es : List EventView) → AreInputsOf P ws vs → Schemas P g → AreMergedOf w.elements es
       → IsLegalOrder g vs count es w → Shows P text (Run b false ws) status output →
       Shows P text (Run b true ws) status (trace_text es ++ output)

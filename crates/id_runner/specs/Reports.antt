@@ -65,7 +65,8 @@ pub record IsTrueOf (S : Source) (b : Bool) (r : Report) : Type 0 where
 
 -- the report, with names where they are asked for, is that of a run on so many elements, each of which has handled at
 -- most so many messages, that has come to this machine, and in which no event was `Stuck`
-pub record IsReportOfRun (g : Parts) (vs : List Constant) (count steps : ℕ) (m : MachineView) (b : Bool) (r : Report) :
+pub record IsReportOfRun (g : Parts) (vs : List Constant) (count steps : ℕ) (m : MachineView) (b : Bool)
+    (r : Report) :
     Type 0 where
   pub run : IsRun g vs count steps m
   pub moves : MovesOn m.world
@@ -79,8 +80,8 @@ pub record HasPrinted (text : List ℕ) (t b : Bool) (w : World) (r : Report) (o
   pub printed : Prints old new (trace_text events ++ report_text text b r) result
 
 -- they are printed whole, and this is the status; or a write failed; or memory was refused before the first byte
-pub data PrintsRun (text : List ℕ) (t b : Bool) (w : World) (r : Report) (old new : Option Told) : Result ℕ EngineError
-    → Type 0 where
+pub data PrintsRun (text : List ℕ) (t b : Bool) (w : World) (r : Report)
+    (old new : Option Told) : Result ℕ EngineError → Type 0 where
   whole : HasPrinted text t b w r old new (Ok tt) → PrintsRun text t b w r old new (Ok (status_of r.ending))
   cut : (e : PrintError) → HasPrinted text t b w r old new (Err e) → PrintsRun text t b w r old new (Err Write)
   unprinted : new ≡ old → PrintsRun text t b w r old new (Err Memory)

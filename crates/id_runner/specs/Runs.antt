@@ -1,5 +1,6 @@
 -- Runs of the engine: how they end, and what is printed of them (docs/PROMISES.md, "The run").
-use Rattle.std.specs.Prelude.{◌≡◌, ◌≢◌, ℕ, Bool, IsTrue, IsFalse, List, [], ◌++◌, All, Option, Result, Ok, Err}
+use Rattle.std.specs.Prelude.{◌≡◌, ◌≢◌, ℕ, Bool, IsTrue, IsFalse, List, [], ◌++◌, All, Option, Result}
+use Rattle.std.specs.Prelude.{Ok, Err}
 use Rattle.id_check.specs.declared.checked.Checked.{Checked}
 use Rattle.id_instr.specs.Graph.{Parts}
 use Rattle.id_value.specs.declared.Constant.{Constant}
@@ -34,7 +35,8 @@ pub record IsTraceOf (t : Bool) (w : World) (es : List EventView) : Type 0 where
   pub unasked : IsFalse t → es ≡ []
 
 -- how a run ends that has come to this state, and what is printed of it, its names where they are asked for
-pub data Ends (g : Parts) (count steps : ℕ) (w : World) (text : List ℕ) (b : Bool) : ℕ → List ℕ → Type 0 where
+pub data Ends (g : Parts) (count steps : ℕ) (w : World) (text : List ℕ) (b : Bool) : ℕ → List ℕ
+    → Type 0 where
   -- with status 0 the machine is quiet
   quiet : (ns : List NameValue) (hs : List Held) (waits : List Ask) → IsQuiet w
       → (IsTrue b → IsSortedOf ns (names g w)) → IsOrderOf HeldBefore hs (held_of g count w)
@@ -70,7 +72,8 @@ pub record HasRun (text : List ℕ) (words : List (List ℕ)) (count : ℕ) (t :
   pub printed : Prints old new (trace_text events ++ output) result
 
 -- all of it is printed
-abbrev pub Ran : List ℕ → List (List ℕ) → ℕ → Bool → ℕ → Bool → Option Told → Option Told → ℕ → Type 0
+abbrev pub Ran : List ℕ → List (List ℕ) → ℕ → Bool → ℕ → Bool → Option Told → Option Told → ℕ
+    → Type 0
 Ran text words count t steps b old new status = HasRun text words count t steps b old new status (Ok tt)
 
 -- a front of it is printed, and then a write failed

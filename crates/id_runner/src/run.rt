@@ -300,8 +300,8 @@ pub fn engine<R: Threads + Wait + Sync, G: Gate + Sync, W: Sink>(
         → ShowsFront (command.Run names trace (map (λ w. w.now) inputs.now)) text.now (W.told out.old)
         (W.told out.new) }
     ensures front { result ≡ Err EngineError.Write
-        → RanFront text.now (map (λ w. w.now) inputs.now) settings.elements trace settings.steps names (W.told out.old)
-        (W.told out.new) }
+        → RanFront text.now (map (λ w. w.now) inputs.now) settings.elements trace settings.steps names
+        (W.told out.old) (W.told out.new) }
     ensures silent { IfErr result (λ e. e ≢ EngineError.Write → W.told out.new ≡ W.told out.old) }
 
     // A refusal comes for its cause alone, at a place of the text.

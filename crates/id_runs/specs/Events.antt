@@ -127,4 +127,5 @@ fired_event {t = t} {f = f} x = Took x.element t x.port x.value (Fires x.operand
 
 -- two firings under one tag are one event
 abbrev pub FiresOnce : List Event → Type 0
-FiresOnce run = (t : Tag) (f f' : Fired) (x : FiresAs run t f) (y : FiresAs run t f') → fired_event x ≡ fired_event y
+FiresOnce run = (t : Tag) (f f' : Fired) (x : FiresAs run t f) (y : FiresAs run t f')
+    → fired_event x ≡ fired_event y

@@ -34,17 +34,18 @@ pub record Exclusive (g : Parts) (vs : List Constant) (count : ℕ) : Type 0 whe
   -- a token for an operator of one port is for its port 0
   pub first_port : (s : World) (run : List Event) → Reach g vs count s run → FiresOnce run
       → (t : Tag) (p : Port) (v : Value) (i : Instr)
-      → Moving s run (Token t p v) → slice_get g.instrs t.instr ≡ Some i → two_ports i.op ≡ false → p ≡ Zero
+      → Moving s run (Token t p v) → slice_get g.instrs t.instr ≡ Some i → two_ports i.op ≡ false
+      → p ≡ Zero
   -- an event sends at most one message for a key, and so does the start
-  pub sends_once : (s : World) (run : List Event) → Reach g vs count s run → Few run → FiresOnce run → (e : Event)
-      → Among e run → (k : Key)
+  pub sends_once : (s : World) (run : List Event) → Reach g vs count s run → Few run → FiresOnce run
+      → (e : Event) → Among e run → (k : Key)
       → count_for k (sends_of g e) ≤ 1
   pub starts_once : (k : Key) → count_for k (starting g vs) ≤ 1
   -- no event sends for a key of the start
-  pub not_at_start : (s : World) (run : List Event) → Reach g vs count s run → Few run → FiresOnce run → (e : Event)
-      → Among e run → (x y : Payload)
+  pub not_at_start : (s : World) (run : List Event) → Reach g vs count s run → Few run → FiresOnce run
+      → (e : Event) → Among e run → (x y : Payload)
       → Among x (sends_of g e) → Among y (starting g vs) → key_of x ≡ key_of y → ⊥
   -- two events that send for one key are one event
-  pub one_sender : (s : World) (run : List Event) → Reach g vs count s run → Few run → FiresOnce run → (e e' : Event)
-      → Among e run → Among e' run
+  pub one_sender : (s : World) (run : List Event) → Reach g vs count s run → Few run → FiresOnce run
+      → (e e' : Event) → Among e run → Among e' run
       → (x y : Payload) → Among x (sends_of g e) → Among y (sends_of g e') → key_of x ≡ key_of y → e ≡ e'

@@ -1,5 +1,6 @@
 -- Runs, with the events of all elements in the order in which they came, the newest first (docs/MACHINE.md, "Runs").
-use Rattle.std.specs.Prelude.{◌≡◌, ◌⊎◌, ℕ, if◌then◌else◌, Option, Some, None, List, [], ◌∷◌, map, slice_get}
+use Rattle.std.specs.Prelude.{◌≡◌, ◌⊎◌, ℕ, if◌then◌else◌, Option, Some, None, List, [], ◌∷◌}
+use Rattle.std.specs.Prelude.{map, slice_get}
 use Rattle.std.specs.FinMap.{get}
 use Rattle.id_instr.specs.declared.dests.Port.{Port}
 use Rattle.id_instr.specs.declared.instr.Instr.{Instr}

@@ -12,13 +12,14 @@ use Rattle.id_runs.specs.Runs.{Reach}
 
 -- two events that enter the same context are one event, and none enters main's context
 pub record ContextsApart (run : List Event) : Type 0 where
-  pub one : (e e' : Event) → Among e run → Among e' run → (c : Context) → Enters e c → Enters e' c → e ≡ e'
+  pub one : (e e' : Event) → Among e run → Among e' run → (c : Context) → Enters e c → Enters e' c
+      → e ≡ e'
   pub not_main : (e : Event) → Among e run → Enters e main_context → ⊥
 
 -- two events that make structures of one element with one number are one event
 abbrev pub StructuresApart : Parts → List Event → Type 0
-StructuresApart g run = (e e' : Event) → Among e run → Among e' run → (s s' : Structure) → Makes g e s → Makes g e' s'
-    → s.element ≡ s'.element → s.serial ≡ s'.serial → e ≡ e'
+StructuresApart g run = (e e' : Event) → Among e run → Among e' run → (s s' : Structure) → Makes g e s
+    → Makes g e' s' → s.element ≡ s'.element → s.serial ≡ s'.serial → e ≡ e'
 
 -- contexts and structures are apart
 pub record Numbered (g : Parts) (run : List Event) : Type 0 where

@@ -1,6 +1,8 @@
 -- Why a program is refused (docs/LANGUAGE.md, "Refusals").
-use Rattle.std.specs.Prelude.{◌≡◌, ◌⊎◌, ◌<◌, ◌≤◌, ◌+◌, ℕ, zero, suc, Bool as Truth, true, false}
-use Rattle.std.specs.Prelude.{List, [], ◌∷◌, ◌++◌, length, nat_eq, nat_lt, Option, None, Some, if◌then◌else◌}
+use Rattle.std.specs.Prelude.{◌≡◌, ◌⊎◌, ◌<◌, ◌≤◌, ◌+◌, ℕ, zero, suc, Bool as Truth, true}
+use Rattle.std.specs.Prelude.{false}
+use Rattle.std.specs.Prelude.{List, [], ◌∷◌, ◌++◌, length, nat_eq, nat_lt, Option, None, Some}
+use Rattle.std.specs.Prelude.{if◌then◌else◌}
 use Rattle.id_value.specs.declared.Kind.{Kind}
 use Rattle.id_value.specs.declared.Kind.TheVariants.{Int, Bool, Array, Nested}
 use Rattle.id_value.specs.Kinds.{is_array, same_kind}
@@ -123,7 +125,8 @@ is_count R h (Some c) = nat_eq c (length (params_at R h))
 
 -- the causes in the argument v of the index k in a call with so many arguments, of the procedure with this head: where
 -- their number is right, the kind of the parameter of the index is wanted, which stands right behind the head
-abbrev pub wrong_argument : List Row → (ℕ → Option Kind) → Option ℕ → Option ℕ → ℕ → ℕ → List CheckCause
+abbrev pub wrong_argument : List Row → (ℕ → Option Kind) → Option ℕ → Option ℕ → ℕ → ℕ
+    → List CheckCause
 wrong_argument R κ None c k v = []
 wrong_argument R κ (Some h) c k v = if is_count R h c then wrong_like R κ (κ (h + 1 + k)) v else []
 

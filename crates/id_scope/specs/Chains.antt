@@ -1,5 +1,6 @@
 -- How the kinds of rows are found, for use inside: each chain is followed as far as a row whose kind is known.
-use Rattle.std.specs.Prelude.{◌≡◌, ◌⊎◌, ◌<◌, ◌≤◌, ℕ, Bool, true, false, if◌then◌else◌, List, [], ◌∷◌, ◌++◌, map, length}
+use Rattle.std.specs.Prelude.{◌≡◌, ◌⊎◌, ◌<◌, ◌≤◌, ℕ, Bool, true, false, if◌then◌else◌}
+use Rattle.std.specs.Prelude.{List, [], ◌∷◌, ◌++◌, map, length}
 use Rattle.std.specs.Prelude.{get_or, Option, None, Some}
 use Rattle.id_value.specs.declared.Kind.{Kind}
 use Rattle.id_value.specs.declared.Kind.TheVariants.{Int}
@@ -80,7 +81,8 @@ pub record IsPassing (l : ℕ → Link) (n m : ℕ) (passed : List Pass) (q : �
   pub start : (m ≡ q) ⊎ Among m (rows_of passed)
 
 -- these rows are to have their links, which follow from this one of the row q behind them
-pub record IsFilling (l : ℕ → Link) (n m : ℕ) (passed : List Pass) (q : ℕ) (k : Link) (ks : List Link) : Type 0 where
+pub record IsFilling (l : ℕ → Link) (n m : ℕ) (passed : List Pass) (q : ℕ) (k : Link) (ks : List Link)
+    : Type 0 where
   pub long : length ks ≡ n
   pub states : (i : ℕ) → i < n → IsState l m i (get_or ks i Nowhere) ⊎ Among i (rows_of passed)
   pub trail : IsTrail l passed q

@@ -97,10 +97,12 @@ pub data EndsIn (l : ℕ → Link) : ℕ → Option Kind → Type 0 where
   in_kind : {i : ℕ} (k : Kind) → l i ≡ Fixed k → EndsIn l i (Some k)
   in_nothing : {i : ℕ} → l i ≡ Nowhere → EndsIn l i None
   further : {i : ℕ} {o : Option Kind} (j : ℕ) → l i ≡ To j → EndsIn l j o → EndsIn l i o
-  within : {i : ℕ} {o : Option Kind} (j : ℕ) → l i ≡ Within j → EndsIn l j o → EndsIn l i (Some (kind_within o))
+  within : {i : ℕ} {o : Option Kind} (j : ℕ) → l i ≡ Within j → EndsIn l j o
+      → EndsIn l i (Some (kind_within o))
 
 -- κ gives each row its kind, where β gives the names their binders: the one that its chain ends in, and `int` where
 -- the chain comes back to itself
 pub record AreKinds (R : List Row) (β : ℕ → Option ℕ) (κ : ℕ → Option Kind) : Type 0 where
   pub ends : (i : ℕ) (o : Option Kind) → i < length R → EndsIn (link_at R β) i o → κ i ≡ o
-  pub endless : (i : ℕ) → i < length R → ((o : Option Kind) → EndsIn (link_at R β) i o → ⊥) → κ i ≡ Some Int
+  pub endless : (i : ℕ) → i < length R → ((o : Option Kind) → EndsIn (link_at R β) i o → ⊥)
+      → κ i ≡ Some Int

@@ -1,6 +1,7 @@
 //! The kind of each row, found by its chain.
 
-ghost use Rattle.std.specs.Prelude.{◌≡◌, ◌<◌, ◌≤◌, ◌+◌, ◌^◌, ◌⊎◌, ℕ, [], not, get_or, length, IfOk};
+ghost use Rattle.std.specs.Prelude.{◌≡◌, ◌<◌, ◌≤◌, ◌+◌, ◌^◌, ◌⊎◌, ℕ, [], not, get_or};
+ghost use Rattle.std.specs.Prelude.{length, IfOk};
 ghost use Rattle.std.specs.Prelude.{IfSome, OnOk, Some, None};
 ghost use Rattle.id_list.specs.List.{Among};
 ghost use Rattle.id_table.specs.Tables.{HasPart, IsFormed};
@@ -43,7 +44,8 @@ pub fn find_kinds(
 ) -> Result<Vec<Option<Kind>>, AllocError>
     requires formed { IsFormed rows.now }
     requires binders { length binders.now ≡ length rows.now }
-    requires within { (i b : ℕ) → i < length rows.now → get_or binders.now i None ≡ Some b → b < length rows.now }
+    requires within { (i b : ℕ) → i < length rows.now → get_or binders.now i None ≡ Some b
+        → b < length rows.now }
     ensures long { IfOk result (λ v. length v.items ≡ length rows.now) }
     ensures kinds { IfOk result (λ v.
         AreKinds rows.now (λ i. get_or binders.now i None) (λ i. get_or v.items i None)) }
@@ -62,7 +64,8 @@ pub fn find_kinds(
 fn find_links(alloc: Global, rows: &[Row], binders: &[Option<u32>]) -> Result<Vec<Link>, AllocError>
     requires formed { IsFormed rows.now }
     requires binders { length binders.now ≡ length rows.now }
-    requires within { (i b : ℕ) → i < length rows.now → get_or binders.now i None ≡ Some b → b < length rows.now }
+    requires within { (i b : ℕ) → i < length rows.now → get_or binders.now i None ≡ Some b
+        → b < length rows.now }
     ensures { IfOk result (λ v.
         IsGoing (kinds.link_at rows.now (λ k. get_or binders.now k None)) (length rows.now) 0 v.items) }
 {
@@ -80,7 +83,8 @@ fn find_links(alloc: Global, rows: &[Row], binders: &[Option<u32>]) -> Result<Ve
 /// What the link comes to, if that is known from these rows, or the link itself. Takes no memory.
 fn follow(links: &[Link], link: Link) -> Link
     ensures { (l : ℕ → Link) (i : ℕ) → l i ≡ link
-        → ((j : ℕ) → j < length links.now → IsState l 0 j (get_or links.now j Nowhere)) → IsState l 0 i result }
+        → ((j : ℕ) → j < length links.now → IsState l 0 j (get_or links.now j Nowhere))
+        → IsState l 0 i result }
 {
     let Some(end) = known_at(links, link) else {
         return link;
@@ -145,7 +149,8 @@ fn link_at(rows: &[Row], binders: &[Option<u32>], i: usize) -> Link
     requires few { length rows.now ≤ MOST }
     requires formed { IsFormed rows.now }
     requires binders { length binders.now ≡ length rows.now }
-    requires within { (i b : ℕ) → i < length rows.now → get_or binders.now i None ≡ Some b → b < length rows.now }
+    requires within { (i b : ℕ) → i < length rows.now → get_or binders.now i None ≡ Some b
+        → b < length rows.now }
     requires row { i < length rows.now }
     ensures { result ≡ kinds.link_at rows.now (λ k. get_or binders.now k None) i }
 {

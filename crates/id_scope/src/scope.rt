@@ -3,7 +3,8 @@
 //! by one scope, and a use once; a loop's variable and the use of its first value are met by the loop's body and by the
 //! loop.
 
-ghost use Rattle.std.specs.Prelude.{◌≡◌, ◌<◌, ◌≤◌, ◌+◌, ◌^◌, ℕ, true, false, get_or, length, replicate, if◌then◌else◌};
+ghost use Rattle.std.specs.Prelude.{◌≡◌, ◌<◌, ◌≤◌, ◌+◌, ◌^◌, ℕ, true, false, get_or, length};
+ghost use Rattle.std.specs.Prelude.{replicate, if◌then◌else◌};
 ghost use Rattle.std.specs.Prelude.{IfOk, OnOk, None, Some, set};
 ghost use Rattle.std.specs.Option.{option_or};
 ghost use Rattle.id_table.specs.Rows.{at};
@@ -280,7 +281,8 @@ fn close_row(rows: &[Row], held: &mut Vec<bool>, s: usize, b: usize)
 
 /// Where the rows from this one on begin in the list, which is in order. Takes no memory.
 fn start_of(untaken: &[usize], first: usize) -> usize
-    requires order { (j k : ℕ) → j < k → k < length untaken.now → get_or untaken.now j 0 < get_or untaken.now k 0 }
+    requires order { (j k : ℕ) → j < k → k < length untaken.now
+        → get_or untaken.now j 0 < get_or untaken.now k 0 }
     ensures long { result ≤ length untaken.now }
     ensures before { (j : ℕ) → j < result → get_or untaken.now j 0 < first }
     ensures behind { (j : ℕ) → result ≤ j → j < length untaken.now → first ≤ get_or untaken.now j 0 }

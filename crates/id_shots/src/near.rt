@@ -183,7 +183,8 @@ fn switched(side: bool, sent: Plain) -> Option<Scene>
 #[inline(always)]
 fn near_fetch(cell: PlainCell, instr: u32, asked: PlainCell) -> Option<Near>
     ensures told { IfSome result (λ n. (t : Tag) (p : Port) → told_near n.effect t p n.instr (cell_of n.cell)
-        ≡ token_told t p (value.Address (cell_of asked)) (firings.Asked (cell_of cell) (record t { instr = instr }))) }
+        ≡ token_told t p (value.Address (cell_of asked))
+        (firings.Asked (cell_of cell) (record t { instr = instr }))) }
     ensures small { IfSome result (λ n. n.instr < 2 ^ 24) }
 {
     if instr <= 0xff_ffff && is_same(asked, cell) {

@@ -47,7 +47,8 @@ pub fn passed_line(event: &Doing<'_>) -> Option<Line>
 #[inline(always)]
 fn passed_for(deed: Deed, value: Plain) -> Option<Passed>
     ensures told { IfSome result (λ s. (t : Tag) (p : Port) →
-        told_passed s.effect t p (target_tag s.target) s.number ≡ token_told t p (whole value) (fired_by_deed t deed)) }
+        told_passed s.effect t p (target_tag s.target) s.number
+        ≡ token_told t p (whole value) (fired_by_deed t deed)) }
     ensures small { IfSome result (λ s. s.target.instr < 2 ^ 24) }
 {
     match (deed, value) {

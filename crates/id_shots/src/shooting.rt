@@ -87,7 +87,8 @@ pub fn shot(event: &Shooting<'_>) -> Handled
 /// The value as a line carries it.
 #[inline(always)]
 fn carried(value: Plain) -> Carried
-    ensures { (t : Tag) → NamedBy (whole value) t → carried_value t result.kind result.value ≡ Some (whole value) }
+    ensures { (t : Tag) → NamedBy (whole value) t
+        → carried_value t result.kind result.value ≡ Some (whole value) }
 {
     match value {
         Plain::Signal => of_kind(Kind::Signal),

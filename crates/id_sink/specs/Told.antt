@@ -1,5 +1,6 @@
 -- What a sink tells of its writes (docs/PROMISES.md, "Printing").
-use Rattle.std.specs.Prelude.{◌≡◌, ℕ, zero, suc, ◌+◌, List, [], ◌++◌, take, Option, None, Some, Result, Ok, Err, ◌∷◌}
+use Rattle.std.specs.Prelude.{◌≡◌, ℕ, zero, suc, ◌+◌, List, [], ◌++◌, take, Option, None, Some, Result}
+use Rattle.std.specs.Prelude.{Ok, Err, ◌∷◌}
 use Rattle.id_sink.specs.declared.sink.SinkFault.{SinkFault}
 use Rattle.id_sink.specs.declared.sink.PrintError.{PrintError}
 

@@ -1,5 +1,6 @@
 -- How the bank keeps a cell: in a slot of the page that has it and its neighbours.
-use Rattle.std.specs.Prelude.{◌≡◌, ◌<◌, ℕ, ℤ, pos, ◌+ℤ◌, ◌*ℤ◌, ◌-◌, Bool, ◌&&◌, Option, None, Some, option_and_then}
+use Rattle.std.specs.Prelude.{◌≡◌, ◌<◌, ℕ, ℤ, pos, ◌+ℤ◌, ◌*ℤ◌, ◌-◌, Bool, ◌&&◌}
+use Rattle.std.specs.Prelude.{Option, None, Some, option_and_then}
 use Rattle.std.specs.Prelude.{unwrap_or, zero, suc, List, [], ◌∷◌, ◌++◌, box_value, slice_index_or}
 use Rattle.std.specs.Int.{w64, int_div_euclid, int_rem_euclid}
 use Rattle.std.specs.Int.RustNames.{unsigned_abs, FitsSigned}

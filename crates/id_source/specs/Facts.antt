@@ -1,5 +1,6 @@
 -- The facts of a source, and the rules that give them (docs/MEANING.md, "Facts", "Rules").
-use Rattle.std.specs.Prelude.{◌≡◌, ℕ, ℤ, pos, suc, ◌-◌, ◌+ℤ◌, ◌++◌, int_le, int_lt, Bool as Truth, true, false}
+use Rattle.std.specs.Prelude.{◌≡◌, ℕ, ℤ, pos, suc, ◌-◌, ◌+ℤ◌, ◌++◌, int_le, int_lt}
+use Rattle.std.specs.Prelude.{Bool as Truth, true, false}
 use Rattle.std.specs.Prelude.{List, [], ◌∷◌, length, take}
 use Rattle.std.specs.Prelude.{Some, slice_get}
 use Rattle.id_value.specs.Bounds.{are_good, is_inside}
@@ -126,11 +127,13 @@ pub record StoreStands (P : Checked) (m t i x : ℕ) : Type 0 where
 -- one behind k its index was below the upper bound or not
 pub data GoesOn (S : Source) (n w : ℕ) (p : Path) : ℕ → Truth → List Fact → Type 0 where
   by_predicate : {h t l : ℕ} {b : Truth} (k : ℕ) → LoopStands S.checked n h w t l
-      → GoesOn S n w p k b (Has (below p (place S.checked n) k) (place S.checked t) (value_of (constant.Bool b)) ∷ [])
+      → GoesOn S n w p k b
+      (Has (below p (place S.checked n) k) (place S.checked t) (value_of (constant.Bool b)) ∷ [])
   by_bounds : {x a b l : ℕ} {lo hi : ℤ} {c : Truth} → ForStands S.checked n w x a b l → int_le lo hi ≡ c
       → GoesOn S n w p 0 c (On p (place S.checked n) ∷ Has p (place S.checked a) (value.Int lo)
       ∷ Has p (place S.checked b) (value.Int hi) ∷ [])
-  by_index : {x a b l : ℕ} {i hi : ℤ} {c : Truth} (k : ℕ) → ForStands S.checked n w x a b l → int_lt i hi ≡ c
+  by_index : {x a b l : ℕ} {i hi : ℤ} {c : Truth} (k : ℕ) → ForStands S.checked n w x a b l
+      → int_lt i hi ≡ c
       → GoesOn S n w p (suc k) c (Has (below p (place S.checked n) k) (place S.checked x) (value.Int i)
       ∷ Has p (place S.checked b) (value.Int hi) ∷ [])
 
@@ -160,7 +163,8 @@ pub data Rule (S : Source) : List Fact → Fact → Type 0 where
       → Rule S (On p (place S.checked n) ∷ Has p (place S.checked a) (value_of c)
       ∷ Has p (place S.checked b) (value_of d) ∷ []) (Has p (place S.checked n) (value_of x))
   -- an On name Has what its binder Has, where the path leaves out the loops between
-  name_has : {n x b : ℕ} {p : Path} {v : SourceValue} → Stands S.checked n (Name x) → binder S.checked n ≡ Some b
+  name_has : {n x b : ℕ} {p : Path} {v : SourceValue} → Stands S.checked n (Name x)
+      → binder S.checked n ≡ Some b
       → Rule S (On p (place S.checked n) ∷ Has (without (between S n b) p) (place S.checked b) v ∷ [])
       (Has p (place S.checked n) v)
   -- an On conditional turns its predicate On; a predicate that Has a value turns that arm On, whose value the
@@ -202,8 +206,8 @@ pub data Rule (S : Source) : List Fact → Fact → Type 0 where
       → Rule S (On p (place S.checked n) ∷ []) (On p (place S.checked a))
   upper_on : {n w x a b l : ℕ} {p : Path} → ForStands S.checked n w x a b l
       → Rule S (On p (place S.checked n) ∷ []) (On p (place S.checked b))
-  index_begins : {n w x a b l : ℕ} {p : Path} {lo hi : ℤ} → ForStands S.checked n w x a b l → int_le lo hi ≡ true
-      → Rule S (On p (place S.checked n) ∷ Has p (place S.checked a) (value.Int lo)
+  index_begins : {n w x a b l : ℕ} {p : Path} {lo hi : ℤ} → ForStands S.checked n w x a b l
+      → int_le lo hi ≡ true → Rule S (On p (place S.checked n) ∷ Has p (place S.checked a) (value.Int lo)
       ∷ Has p (place S.checked b) (value.Int hi) ∷ [])
       (Has (below p (place S.checked n) 0) (place S.checked x) (value.Int lo))
   index_counts : {n w x a b l : ℕ} {i hi : ℤ} (p : Path) (k : ℕ) → ForStands S.checked n w x a b l

@@ -1,5 +1,6 @@
 -- *Status told*: what the status of a run tells that has enough steps (docs/PROMISES.md, "The run").
-use Rattle.std.specs.Prelude.{◌≡◌, ◌⊎◌, ◌↔◌, ◌<◌, ◌≤◌, ◌-◌, ◌*◌, ◌^◌, ℕ, Bool, List, Option, Result, length}
+use Rattle.std.specs.Prelude.{◌≡◌, ◌⊎◌, ◌↔◌, ◌<◌, ◌≤◌, ◌-◌, ◌*◌, ◌^◌, ℕ, Bool}
+use Rattle.std.specs.Prelude.{List, Option, Result, length}
 use Rattle.id_instr.specs.Graph.{Parts}
 use Rattle.id_source.specs.declared.Path.{Path}
 use Rattle.id_source.specs.declared.SourceFault.{SourceFault}

@@ -21,9 +21,11 @@ pub record NeedsMore (S : Source) (g : Parts) (steps : ℕ) : Type 0 where
 -- *Stopped short*: a run that stops because no element may handle more messages shows that its source needs more
 pub record StoppedShort : Type 0 where
   -- each run of a source, by the positions of its deliveries
-  pub of_runs : (S : Source) → AreInputs S.checked S.inputs → (r : RunOf S) (steps : ℕ) (text : List ℕ) (b : Bool)
+  pub of_runs : (S : Source) → AreInputs S.checked S.inputs
+      → (r : RunOf S) (steps : ℕ) (text : List ℕ) (b : Bool)
       (bytes : List ℕ) → steps < 2 ^ 64 - 1 → IsPrinted S r steps text b 3 bytes → NeedsMore S r.graph steps
   -- and so each run of the program, whatever of it was printed
   pub of_program : (text : List ℕ) (words : List (List ℕ)) (count steps : ℕ) (t b : Bool) (old new : Option Told)
       (result : Result (Unit {0}) PrintError) → steps < 2 ^ 64 - 1
-      → (h : HasRun text words count t steps b old new 3 result) → NeedsMore (source h.program h.inputs) h.graph steps
+      → (h : HasRun text words count t steps b old new 3 result)
+      → NeedsMore (source h.program h.inputs) h.graph steps

@@ -1,5 +1,6 @@
 -- Which rows are those of a loop, and how many loops are round a row (docs/GRAPH.md, "Parts").
-use Rattle.std.specs.Prelude.{◌≡◌, ◌<◌, ◌≤◌, ◌+◌, ◌-◌, ℕ, suc, Bool, true, false, List, length}
+use Rattle.std.specs.Prelude.{◌≡◌, ◌<◌, ◌≤◌, ◌+◌, ◌-◌, ℕ, suc, Bool, true, false, List}
+use Rattle.std.specs.Prelude.{length}
 use Rattle.std.specs.Prelude.{Option, None, Some}
 use Rattle.id_table.specs.declared.row.Row.{Row}
 use Rattle.id_table.specs.declared.row.Node.{Node}
@@ -200,11 +201,13 @@ pub record IsLoop (R : List Row) (n h w l : ℕ) : Type 0 where
   pub body_is : IsBody R h w turn body carried
   pub last_is : AreLast R start h w body l n
   pub blocks : (i : ℕ) → h ≤ i → i + 1 < n → h ≤ (at R i).block
-  pub stands : (i : ℕ) → h ≤ i → i + 1 < n → (at R i).block ≡ h → StandsAt h entries w turn body n (at R i).node i
+  pub stands : (i : ℕ) → h ≤ i → i + 1 < n → (at R i).block ≡ h
+      → StandsAt h entries w turn body n (at R i).node i
   pub place : HavePlace R n h entries w turn body
   pub place_carried : HaveCarried R n h w carried
   pub alone : (j v m : ℕ) → h < j → j < n → (at R j).node ≡ Loop h v m → ⊥
-  pub once : (j m k x y : ℕ) → h < j → j < n → h < m → m < n → IsNextOf R j h k x → IsNextOf R m h k y → j ≡ m
+  pub once : (j m k x y : ℕ) → h < j → j < n → h < m → m < n → IsNextOf R j h k x → IsNextOf R m h k y
+      → j ≡ m
 
 -- the row i is one of the body on the true side of the switches w, which ends at the row b; on the false side one of
 -- those behind it and before the `Span` of the loop n

@@ -12,7 +12,8 @@ pub data Lies (R : List Row) (q : Region) : Region → Type 0 where
   here : Lies R q q
   in_arm : {s : ℕ} {b : Bool} → s < length R → is_split (at R s).node ≡ true → Lies R q (at R s).region
       → Lies R q (arm_at s b)
-  in_loop : {h s : ℕ} → h < length R → (at R h).node ≡ LoopHead s → Lies R q (at R s).region → Lies R q (top h)
+  in_loop : {h s : ℕ} → h < length R → (at R h).node ≡ LoopHead s → Lies R q (at R s).region
+      → Lies R q (top h)
   in_side : {w : ℕ} {b : Bool} → w < length R → is_switches (at R w).node ≡ true → Lies R q (at R w).region
       → Lies R q (arm_at w b)
 

@@ -1,5 +1,6 @@
 -- What is true of each table of parts (docs/GRAPH.md, "Parts").
-use Rattle.std.specs.Prelude.{◌≡◌, ◌⊎◌, ◌<◌, ◌≤◌, ℕ, ◌&&◌, Bool, true, false, List, length, nat_lt, nat_le}
+use Rattle.std.specs.Prelude.{◌≡◌, ◌⊎◌, ◌<◌, ◌≤◌, ℕ, ◌&&◌, Bool, true, false, List, length}
+use Rattle.std.specs.Prelude.{nat_lt, nat_le}
 use Rattle.std.specs.Prelude.{Option, None, Some}
 use Rattle.id_table.specs.declared.row.Row.{Row}
 use Rattle.id_table.specs.declared.row.Node.{Node}
@@ -90,8 +91,8 @@ is_thing _ = true
 
 -- no two things have one place
 pub record AreApart (R : List Row) : Type 0 where
-  pub apart : (i j : ℕ) → i < length R → j < length R → is_thing (at R i).node ≡ true → is_thing (at R j).node ≡ true
-      → (at R i).place ≡ (at R j).place → i ≡ j
+  pub apart : (i j : ℕ) → i < length R → j < length R → is_thing (at R i).node ≡ true
+      → is_thing (at R j).node ≡ true → (at R i).place ≡ (at R j).place → i ≡ j
 
 -- the number of the name that stands in a row of this node
 abbrev pub name_of : Node → Option ℕ

@@ -27,13 +27,14 @@ pub data IsTree : Sort → Tree → Type 0 where
   by_call : {x : List ℕ} {a : Tree} {p : ℕ} → IsTree Arguments a → IsTree Expression (call x a p)
   by_loop : {t ss l : Tree} {p : ℕ} → IsTree Expression t → IsTree Statements ss → IsTree Expression l
       → IsTree Expression (loop t ss l p)
-  by_for : {x : List ℕ} {a b ss l : Tree} {q p : ℕ} → IsTree Expression a → IsTree Expression b → IsTree Statements ss
-      → IsTree Expression l
+  by_for : {x : List ℕ} {a b ss l : Tree} {q p : ℕ} → IsTree Expression a → IsTree Expression b
+      → IsTree Statements ss → IsTree Expression l
       → IsTree Expression (for_loop x q a b ss l p)
   by_array : {nested : Bool} {a b : Tree} {p : ℕ} → IsTree Expression a → IsTree Expression b
       → IsTree Expression (array nested a b p)
   by_fetch : {t i : Tree} {p : ℕ} → IsTree Expression t → IsTree Expression i → IsTree Expression (fetch t i p)
-  by_block : {ss b : Tree} {p : ℕ} → IsTree Statements ss → IsTree Expression b → IsTree Expression (block ss b p)
+  by_block : {ss b : Tree} {p : ℕ} → IsTree Statements ss → IsTree Expression b
+      → IsTree Expression (block ss b p)
   no_arguments : IsTree Arguments none
   more_arguments : {a b : Tree} → IsTree Expression a → IsTree Arguments b → IsTree Arguments (more a b)
   no_statements : IsTree Statements none
@@ -45,7 +46,8 @@ pub data IsTree : Sort → Tree → Type 0 where
       → IsTree Statements ss
       → IsTree Statements (more (store t i e p) ss)
   no_params : IsTree Params none
-  more_params : {x : List ℕ} {k : Kind} {ps : Tree} {p : ℕ} → IsTree Params ps → IsTree Params (more (param x k p) ps)
+  more_params : {x : List ℕ} {k : Kind} {ps : Tree} {p : ℕ} → IsTree Params ps
+      → IsTree Params (more (param x k p) ps)
   no_defs : IsTree Defs none
   more_defs : {x : List ℕ} {k : Kind} {ps b ds : Tree} {p : ℕ} → IsTree Params ps → IsTree Expression b
       → IsTree Defs ds

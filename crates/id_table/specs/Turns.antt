@@ -1,5 +1,6 @@
 -- What turns what on, and what stands where, in the table of a program's tree (docs/GRAPH.md, "Parts").
-use Rattle.std.specs.Prelude.{◌≡◌, ◌⊎◌, ◌<◌, ◌≤◌, ◌+◌, ◌-◌, ℕ, zero, suc, Bool, true, false, ◌&&◌, ◌||◌, nat_eq}
+use Rattle.std.specs.Prelude.{◌≡◌, ◌⊎◌, ◌<◌, ◌≤◌, ◌+◌, ◌-◌, ℕ, zero, suc, Bool, true}
+use Rattle.std.specs.Prelude.{false, ◌&&◌, ◌||◌, nat_eq}
 use Rattle.std.specs.Prelude.{List, [], ◌∷◌, ◌++◌, length, if◌then◌else◌}
 use Rattle.id_list.specs.List.{Among}
 use Rattle.id_value.specs.declared.Kind.{Kind}
@@ -38,9 +39,12 @@ pub data Turns (R : List Row) (n : ℕ) : ℕ → Type 0 where
   left : {a b : ℕ} {o : _} → (at R n).node ≡ Binary o a b → Turns R n a
   right : {a b : ℕ} {o : _} → (at R n).node ≡ Binary o a b → Turns R n b
   test : {s x y t : ℕ} → (at R n).node ≡ If s x y → (at R s).node ≡ Split t → Turns R n t
-  argument : {e c m k v : ℕ} → (at R n).node ≡ Call e c → m < length R → (at R m).node ≡ Arg e k v → Turns R n v
-  index_low : {h w l a b : ℕ} → (at R n).node ≡ Loop h w l → (at R (bounds_row h)).node ≡ Bounds a b → Turns R n a
-  index_high : {h w l a b : ℕ} → (at R n).node ≡ Loop h w l → (at R (bounds_row h)).node ≡ Bounds a b → Turns R n b
+  argument : {e c m k v : ℕ} → (at R n).node ≡ Call e c → m < length R → (at R m).node ≡ Arg e k v
+      → Turns R n v
+  index_low : {h w l a b : ℕ} → (at R n).node ≡ Loop h w l → (at R (bounds_row h)).node ≡ Bounds a b
+      → Turns R n a
+  index_high : {h w l a b : ℕ} → (at R n).node ≡ Loop h w l → (at R (bounds_row h)).node ≡ Bounds a b
+      → Turns R n b
   low : {nested : Bool} {a b : ℕ} → (at R n).node ≡ Array nested a b → Turns R n a
   high : {nested : Bool} {a b : ℕ} → (at R n).node ≡ Array nested a b → Turns R n b
   fetched : {t i : ℕ} → (at R n).node ≡ Fetch t i → Turns R n t
@@ -49,8 +53,10 @@ pub data Turns (R : List Row) (n : ℕ) : ℕ → Type 0 where
   address_index : {a v t i : ℕ} → (at R n).node ≡ Store a v → (at R a).node ≡ Address t i → Turns R n i
   stored_value : {a v : ℕ} → (at R n).node ≡ Store a v → Turns R n v
   body : {b : ℕ} → (at R n).node ≡ Block b → Turns R n b
-  statement : {m b x a : ℕ} → (at R n).node ≡ Block b → IsStatement R n m → (at R m).node ≡ Binding x a → Turns R n a
-  stored : {m b a v : ℕ} → (at R n).node ≡ Block b → IsStatement R n m → (at R m).node ≡ Store a v → Turns R n m
+  statement : {m b x a : ℕ} → (at R n).node ≡ Block b → IsStatement R n m → (at R m).node ≡ Binding x a
+      → Turns R n a
+  stored : {m b a v : ℕ} → (at R n).node ≡ Block b → IsStatement R n m → (at R m).node ≡ Store a v
+      → Turns R n m
 
 -- the expression or store at the row is a root of the region: it is turned on with the region itself
 pub data Root (R : List Row) : Region → ℕ → Type 0 where
@@ -59,10 +65,10 @@ pub data Root (R : List Row) : Region → ℕ → Type 0 where
   of_otherwise : {n s x y : ℕ} → n < length R → (at R n).node ≡ If s x y → Root R (arm_at s false) y
   of_test : {w t : ℕ} → w < length R → (at R w).node ≡ Switches t → is_within (at R t).node ≡ false
       → Root R (at R w).region t
-  of_statement : {n m x a : ℕ} → n < length R → (at R n).node ≡ Body → IsStatement R n m → (at R m).node ≡ Binding x a
-      → Root R (at R n).region a
-  of_store : {n m a v : ℕ} → n < length R → (at R n).node ≡ Body → IsStatement R n m → (at R m).node ≡ Store a v
-      → Root R (at R n).region m
+  of_statement : {n m x a : ℕ} → n < length R → (at R n).node ≡ Body → IsStatement R n m
+      → (at R m).node ≡ Binding x a → Root R (at R n).region a
+  of_store : {n m a v : ℕ} → n < length R → (at R n).node ≡ Body → IsStatement R n m
+      → (at R m).node ≡ Store a v → Root R (at R n).region m
   of_next : {m x k o a : ℕ} → m < length R → (at R m).node ≡ Next x k o a → Root R (at R m).region a
   of_last : {n h w l : ℕ} → n < length R → (at R n).node ≡ Loop h w l → Root R (arm_at w false) l
 

@@ -14,8 +14,8 @@ use Rattle.id_tag.specs.declared.Value.TheVariants as value
 -- a context as a pair of numbers
 abbrev pub coded_context : Coded Context
 coded_context =
-    code_by (ℕ × ℕ) (coded× coded_ℕ coded_ℕ) (λ c. (c.element, c.serial)) (λ p. record { element = p.0; serial = p.1 })
-    (λ _. refl)
+    code_by (ℕ × ℕ) (coded× coded_ℕ coded_ℕ) (λ c. (c.element, c.serial))
+    (λ p. record { element = p.0; serial = p.1 }) (λ _. refl)
 
 -- a tag as its context with a pair of numbers
 abbrev pub coded_tag : Coded Tag

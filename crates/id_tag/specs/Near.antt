@@ -1,5 +1,6 @@
 -- What a hash of a tag or a cell computes: nothing that a store or a bank shows depends on it.
-use Rattle.std.specs.Prelude.{◌+◌, ◌*◌, ◌/◌, ◌%◌, ◌^◌, ◌-◌, ◌==◌, if◌then◌else◌, ℕ, List, fold, length}
+use Rattle.std.specs.Prelude.{◌+◌, ◌*◌, ◌/◌, ◌%◌, ◌^◌, ◌-◌, ◌==◌, if◌then◌else◌, ℕ}
+use Rattle.std.specs.Prelude.{List, fold, length}
 use Rattle.std.specs.Prelude.{slice_index, bit_and, bit_or, bit_xor}
 use Rattle.id_tag.specs.declared.near.NearHasher.{NearHasher}
 

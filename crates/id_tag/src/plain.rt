@@ -283,7 +283,8 @@ pub fn plain_cell(cell: Cell) -> Option<PlainCell>
 /// memory.
 #[inline(always)]
 pub fn plain_cell_in(name: u32, low: i32, high: i32, index: i64) -> Option<PlainCell>
-    ensures same { IfSome result (λ c. cell_of c ≡ record { structure = structure_of name low high; index = index }) }
+    ensures same { IfSome result
+        (λ c. cell_of c ≡ record { structure = structure_of name low high; index = index }) }
     ensures fits { HasPlace low high index → IsSome result }
 {
     Some(PlainCell {

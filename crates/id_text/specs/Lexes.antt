@@ -1,5 +1,6 @@
 -- How a text is cut into tokens (docs/LANGUAGE.md, "Tokens").
-use Rattle.std.specs.Prelude.{◌≡◌, ◌≢◌, ℕ, ◌+◌, ◌<◌, ◌≤◌, ◌^◌, Bool, List, [], ◌∷◌, ◌++◌, length, drop, take_while}
+use Rattle.std.specs.Prelude.{◌≡◌, ◌≢◌, ℕ, ◌+◌, ◌<◌, ◌≤◌, ◌^◌, Bool, List, []}
+use Rattle.std.specs.Prelude.{◌∷◌, ◌++◌, length, drop, take_while}
 use Rattle.std.specs.Prelude.{IsTrue, Option, Some, None, pos}
 use Rattle.std.specs.List.{prefix_len}
 use Rattle.std.specs.Char.{is_ascii_digit}
@@ -34,7 +35,8 @@ pub data Begins : List ℕ → Option TokenKind → ℕ → Type 0 where
   comment : {text : List ℕ} → Opens is_percent text → Begins text None (prefix_len is_comment_byte text)
   word : {text : List ℕ} (k : Keyword) → Opens is_letter text → take_while is_name_byte text ≡ word_of k →
       Begins text (Some (Key k)) (prefix_len is_name_byte text)
-  name : {text : List ℕ} → Opens is_letter text → ((k : Keyword) → take_while is_name_byte text ≢ word_of k) →
+  name : {text : List ℕ} → Opens is_letter text →
+      ((k : Keyword) → take_while is_name_byte text ≢ word_of k) →
       Begins text (Some (Name (take_while is_name_byte text))) (prefix_len is_name_byte text)
   number : {text : List ℕ} → Opens is_ascii_digit text → number_of (take_while is_ascii_digit text) < 2 ^ 63 →
       Begins text (Some (Number (pos (number_of (take_while is_ascii_digit text))))) (prefix_len is_ascii_digit text)
@@ -62,7 +64,8 @@ pub data Lexes : ℕ → List ℕ → List Token → Ending → Type 0 where
   end : {at : ℕ} → Lexes at [] (token_of End at at ∷ []) Whole
   gap : {at : ℕ} {text : List ℕ} {ts : List Token} {e : Ending} (n : ℕ) → Begins text None n →
       Lexes (at + n) (drop n text) ts e → Lexes at text ts e
-  token : {at : ℕ} {text : List ℕ} {ts : List Token} {e : Ending} (k : TokenKind) (n : ℕ) → Begins text (Some k) n →
+  token : {at : ℕ} {text : List ℕ} {ts : List Token} {e : Ending} (k : TokenKind) (n : ℕ) →
+      Begins text (Some k) n →
       Lexes (at + n) (drop n text) ts e → Lexes at text (token_of k at (at + n) ∷ ts) e
   too_large : {at : ℕ} {text : List ℕ} → BeginsLarge text → Lexes at text [] (Refused (NumberTooLarge at))
   bad_byte : {at : ℕ} {text : List ℕ} → BeginsNothing text → Lexes at text [] (Refused (BadByte at))

@@ -1,5 +1,6 @@
 -- The line and column of a place (docs/LANGUAGE.md, "Tokens").
-use Rattle.std.specs.Prelude.{ℕ, ◌+◌, Bool, ◌==◌, if◌then◌else◌, not, List, [], ◌∷◌, take, count_by}
+use Rattle.std.specs.Prelude.{ℕ, ◌+◌, Bool, ◌==◌, if◌then◌else◌, not, List, [], ◌∷◌, take}
+use Rattle.std.specs.Prelude.{count_by}
 use Rattle.std.specs.List.{suffix_len}
 
 -- the byte is LF, which ends a line

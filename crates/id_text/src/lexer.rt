@@ -1,6 +1,7 @@
 //! The tokens of a text, piece by piece.
 
-ghost use Rattle.std.specs.Prelude.{◌≡◌, ◌+◌, ◌<◌, ◌≤◌, ◌↔◌, ◌⊎◌, ℕ, List, length, drop, All, IfOk, IfErr, IsErrOf};
+ghost use Rattle.std.specs.Prelude.{◌≡◌, ◌+◌, ◌<◌, ◌≤◌, ◌↔◌, ◌⊎◌, ℕ, List, length};
+ghost use Rattle.std.specs.Prelude.{drop, All, IfOk, IfErr, IsErrOf};
 ghost use Rattle.std.specs.Prelude.{MatchResult, IsTrue, slice_index};
 ghost use Rattle.std.specs.Char.{is_ascii_digit};
 ghost use Rattle.id_text.specs.Bytes.{is_letter, is_other};
@@ -36,7 +37,8 @@ pub fn lex(alloc: Global, text: &str) -> Result<Vec<Token>, TextError>
 
     // However the text may be read, this is what came back, unless memory was refused.
     ensures only { (ts : List Token) (e : Ending) → length text.now ≤ MAX_BYTES → Lexes 0 text.now ts e →
-        MatchResult result (λ v. (v.items ≡ ts) × (e ≡ Whole)) (λ x. (x ≡ TextError.Memory) ⊎ (e ≡ Refused x)) }
+        MatchResult result (λ v. (v.items ≡ ts) × (e ≡ Whole))
+        (λ x. (x ≡ TextError.Memory) ⊎ (e ≡ Refused x)) }
 
     // What a parser and a printer rest on.
     ensures ends { IfOk result (λ v. EndsOnce v.items) }

@@ -1,6 +1,7 @@
 //! Names and reserved words.
 
-ghost use Rattle.std.specs.Prelude.{◌≡◌, ◌≢◌, ◌<◌, ◌≤◌, length, drop, take_while, MatchOption, IsTrue, slice_index};
+ghost use Rattle.std.specs.Prelude.{◌≡◌, ◌≢◌, ◌<◌, ◌≤◌, length, drop, take_while, MatchOption};
+ghost use Rattle.std.specs.Prelude.{IsTrue, slice_index};
 ghost use Rattle.id_text.specs.Bytes.{is_letter, is_name_byte, word_of};
 ghost use Rattle.id_text.specs.declared.token.Keyword.{Keyword};
 

@@ -1,5 +1,6 @@
 -- The least number past an end that has a role.
-use Rattle.std.specs.Prelude.{◌≡◌, ℕ, length, ◌<◌, ◌≤◌, ◌||◌, Bool, true, false, Option, MatchOption}
+use Rattle.std.specs.Prelude.{◌≡◌, ℕ, length, ◌<◌, ◌≤◌, ◌||◌, Bool, true, false, Option}
+use Rattle.std.specs.Prelude.{MatchOption}
 use Rattle.id_instr.specs.Graph.{Parts}
 use Rattle.id_valid.specs.Roles.{is_first, is_second, is_entry}
 use Rattle.id_valid.specs.Validator.{IsSound}

@@ -1,5 +1,6 @@
 -- What blocks make of the instructions of a graph (docs/GRAPH.md, "Validator").
-use Rattle.std.specs.Prelude.{◌≡◌, ℕ, ◌+◌, ◌==◌, ◌&&◌, ◌||◌, Bool, true, false, Option, Some, None, [], ◌∷◌, filter}
+use Rattle.std.specs.Prelude.{◌≡◌, ℕ, ◌+◌, ◌==◌, ◌&&◌, ◌||◌, Bool, true, false, Option, Some}
+use Rattle.std.specs.Prelude.{None, [], ◌∷◌, filter}
 use Rattle.std.specs.Prelude.{slice_get, option_map, option_and_then, sum_by, count_by}
 use Rattle.std.specs.List.{list_any}
 use Rattle.id_instr.specs.declared.instr.Block.{Block}

@@ -1,5 +1,6 @@
 -- What a pass over a graph notes of each instruction.
-use Rattle.std.specs.Prelude.{◌≡◌, ℕ, ◌+◌, ◌<◌, ◌||◌, Bool, List, length, min, slice_index, slice_index_or}
+use Rattle.std.specs.Prelude.{◌≡◌, ℕ, ◌+◌, ◌<◌, ◌||◌, Bool, List, length, min, slice_index}
+use Rattle.std.specs.Prelude.{slice_index_or}
 use Rattle.id_instr.specs.declared.dests.Port.TheVariants.{Zero, One}
 use Rattle.id_instr.specs.Graph.{Parts}
 use Rattle.id_valid.specs.Roles.{is_first, is_entry, is_reply, arcs_into}

@@ -1,5 +1,6 @@
 -- Which instructions are faulty, and which graphs are valid (docs/GRAPH.md, "Validator").
-use Rattle.std.specs.Prelude.{MatchOption, ◌+◌, ◌≡◌, ℕ, ◌<◌, Bool, true, false, IsTrue, Option, Some, List, IsSome}
+use Rattle.std.specs.Prelude.{MatchOption, ◌+◌, ◌≡◌, ℕ, ◌<◌, Bool, true, false, IsTrue, Option, Some}
+use Rattle.std.specs.Prelude.{List, IsSome}
 use Rattle.std.specs.Prelude.{IsSomeAnd, All, slice_get, option_and_then}
 use Rattle.std.specs.Bool.{IsFalse}
 use Rattle.std.specs.Option.{ForSome}

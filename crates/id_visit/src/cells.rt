@@ -1,6 +1,7 @@
 //! What an element does with reads and writes of its cells, in full and in short.
 
-ghost use Rattle.std.specs.Prelude.{◌≡◌, ◌-◌, ◌^◌, ◌<◌, ◌≤◌, ◌++◌, ◌∷◌, [], ◌↔◌, Some, length};
+ghost use Rattle.std.specs.Prelude.{◌≡◌, ◌-◌, ◌^◌, ◌<◌, ◌≤◌, ◌++◌, ◌∷◌, []};
+ghost use Rattle.std.specs.Prelude.{◌↔◌, Some, length};
 ghost use Rattle.std.specs.Prelude.{true, false, IfErr, IfOk, OnOk, OnErr, IsTrue};
 ghost use Rattle.id_firing.specs.declared.step.TakeError.TheVariants.{StampEnd};
 ghost use Rattle.std.specs.FinMap as map;

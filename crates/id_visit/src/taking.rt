@@ -1,6 +1,7 @@
 //! Which of the three a message is, and what it comes to.
 
-ghost use Rattle.std.specs.Prelude.{◌≡◌, ◌-◌, ◌^◌, ◌<◌, ◌≤◌, ◌++◌, ◌↔◌, IfOk, OnOk, OnErr, IsTrue};
+ghost use Rattle.std.specs.Prelude.{◌≡◌, ◌-◌, ◌^◌, ◌<◌, ◌≤◌, ◌++◌, ◌↔◌, IfOk, OnOk};
+ghost use Rattle.std.specs.Prelude.{OnErr, IsTrue};
 ghost use Rattle.id_firing.specs.declared.step.TakeError.TheVariants.{StampEnd};
 ghost use Rattle.id_line.specs.Events.{full_step};
 ghost use Rattle.id_firing.specs.Fits.{Fits};
