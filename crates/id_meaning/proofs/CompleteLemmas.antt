@@ -40,7 +40,7 @@ use Rattle.id_listing.specs.Listed.{AreFound, BeginsOn, IsArrayOn, IsOfThing, Is
 use Rattle.id_source.specs.Things.{IsThing}
 use Rattle.id_listing.specs.Listed.{steps_of, value_at}
 use Rattle.id_source.proofs.CheckedLemmas.{apart_of, binder_of, far-between, next-region, thing-binder, use_binder}
-use Rattle.id_source.proofs.Coherence.{choice}
+use Rattle.id_source.proofs.HasLemmas.{choice}
 use Rattle.id_facts.proofs.FactsLemmas.{Inside, fact-before, inside-more}
 use Rattle.id_listing.proofs.PathsLemmas.{all_steps, path-below, path-out, steps-suc}
 use Rattle.id_meaning.proofs.RulesLemmas.{AllAmong, RowGoesOn, RowRule, value-row}

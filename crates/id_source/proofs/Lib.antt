@@ -5,6 +5,7 @@ pub mod PathOrderLemmas
 pub mod SitesLemmas
 pub mod CheckedLemmas
 pub mod LiveLemmas
+pub mod HasLemmas
 pub mod Coherence
 pub mod NumbersLemmas
 pub mod ThingsLemmas

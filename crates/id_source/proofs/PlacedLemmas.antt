@@ -34,7 +34,7 @@ use Rattle.id_source.specs.Rounds.{Rounds, Every, Holds, Faulty}
 use Rattle.id_source.specs.Things.{IsThing}
 use Rattle.id_source.proofs.CheckedLemmas.{placed_of, thing-param}
 use Rattle.id_source.proofs.ParamsLemmas.{input_param, params-among}
-use Rattle.id_source.proofs.Coherence.{arm-among, choice}
+use Rattle.id_source.proofs.HasLemmas.{arm-among, choice}
 use Rattle.id_source.proofs.ThingsLemmas.{main-thing, node-thing, part-thing, test-thing}
 
 -- the places of the path's steps are those of the program, and so is the place
