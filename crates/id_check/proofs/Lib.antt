@@ -4,4 +4,5 @@ pub mod HomesLemmas
 pub mod NotedLemmas
 pub mod ParamsLemmas
 pub mod ProgramsLemmas
+pub mod WantedLemmas
 pub mod StandingLemmas

@@ -44,7 +44,8 @@ use Rattle.id_pieces.specs.Rows.{node, port_at, param_of}
 use Rattle.id_laws.specs.Activations.{main_head}
 use Rattle.id_laws.specs.Topics.{of_fetch, of_store}
 use Rattle.id_laws.proofs.Assumed.{IsKnown}
-use Rattle.id_check.proofs.ProgramsLemmas.{kind_fixed, loop_row, next_row}
+use Rattle.id_check.proofs.ProgramsLemmas.{kind_fixed}
+use Rattle.id_check.proofs.WantedLemmas.{loop_row, next_row}
 use Rattle.id_laws.proofs.Blocks.{IsParam, a_param}
 use Rattle.id_table.specs.Turns.{IsDefOf, params_at}
 use Rattle.id_laws.proofs.Calls.{enter_at, called_is}

@@ -11,10 +11,11 @@ use Rattle.id_check.specs.declared.checked.Checked.{Checked}
 use Rattle.id_scope.specs.Causes.{defines_main}
 use Rattle.id_scope.specs.Kinds.{kind_within, link_of}
 use Rattle.id_check.specs.Programs.{Calls, Stands, binder, kind, region, rows, tree}
-use Rattle.id_check.proofs.ProgramsLemmas.{table_of, bound_name_row, kind_along, kind_fixed, split_row, if_row}
-use Rattle.id_check.proofs.ProgramsLemmas.{def_row, enter_row, callee_row, call_row, next_row, argument_row}
-use Rattle.id_check.proofs.ProgramsLemmas.{argument_call, switches_row}
-use Rattle.id_check.proofs.ProgramsLemmas.{array_row, bounds_row, fetch_row, fetch_kind, address_row, address_kind, store_row}
+use Rattle.id_check.proofs.ProgramsLemmas.{table_of, bound_name_row, kind_along, kind_fixed}
+use Rattle.id_check.proofs.ProgramsLemmas.{enter_row, callee_row}
+use Rattle.id_check.proofs.WantedLemmas.{split_row, if_row, def_row, call_row, next_row, argument_row, argument_call}
+use Rattle.id_check.proofs.WantedLemmas.{switches_row, array_row, bounds_row, fetch_row, fetch_kind, address_row}
+use Rattle.id_check.proofs.WantedLemmas.{address_kind, store_row}
 use Rattle.id_source.specs.Sources.{head_of}
 use Rattle.id_meaning.proofs.ArgumentsLemmas.{argument-get}
 use Rattle.id_pieces.specs.Rows.{block, called, entering, first_binder, node, outer_at, param_at, param_of}

@@ -16,7 +16,8 @@ use Rattle.id_table.specs.Loops.{IsLoopOf, IsNextOf}
 use Rattle.id_table.specs.Turns.{params_at}
 use Rattle.id_check.specs.declared.checked.Checked.{Checked}
 use Rattle.id_check.specs.Programs.{binder, kind, place, rows}
-use Rattle.id_check.proofs.ProgramsLemmas.{bound_name_row, bound_use_row, kind_fixed, next_row, table_of}
+use Rattle.id_check.proofs.ProgramsLemmas.{bound_name_row, bound_use_row, kind_fixed, table_of}
+use Rattle.id_check.proofs.WantedLemmas.{next_row}
 use Rattle.id_instr.specs.declared.instr.Op.TheVariants as op
 use Rattle.id_desugar.specs.Ends.{next_of, end_of}
 use Rattle.id_desugar.specs.Regions.{bound_of, carried, first_variable, handed, has, has_index, imports_by, imports_of, is_outside, is_right_in}

@@ -14,7 +14,8 @@ use Rattle.id_table.specs.Turns.{IsDefOf, params_at}
 use Rattle.id_table.proofs.BlocksLemmas.{length-run, params_at-run, run}
 use Rattle.id_check.specs.declared.checked.Checked.{Checked}
 use Rattle.id_check.specs.Programs.{Calls, Stands, rows}
-use Rattle.id_check.proofs.ProgramsLemmas.{argument_call, call_row, table_of}
+use Rattle.id_check.proofs.ProgramsLemmas.{table_of}
+use Rattle.id_check.proofs.WantedLemmas.{argument_call, call_row}
 use Rattle.id_effects.specs.Effects.{param_row}
 use Rattle.id_source.proofs.ParamsLemmas.{params-among}
 
