@@ -1,3 +1,4 @@
 pub mod TurnsLemmas
 pub mod AroundLemmas
+pub mod EdgesLemmas
 pub mod LinksLemmas

@@ -162,7 +162,7 @@ pub record IsPassed (S : Source) (F : Fact → Type 0) (b : ℕ) (p : Path) (v :
 
 -- what follows at a parameter: its input at the empty path, or what a call passes on
 abbrev pub FollowsParam : Source → (Fact → Type 0) → ℕ → Path → SourceValue → Type 0
-pub FollowsParam S F b p v = ((c : Constant) × (p ≡ outermost) × IsInput S b c × (v ≡ value_of c)) ⊎ IsPassed S F b p v
+FollowsParam S F b p v = ((c : Constant) × (p ≡ outermost) × IsInput S b c × (v ≡ value_of c)) ⊎ IsPassed S F b p v
 
 -- the loop of a `next` at the row m
 pub record IsNext (S : Source) (m o a : ℕ) : Type 0 where
@@ -245,10 +245,10 @@ Follows S F n (Unary o a) p v =
 Follows S F n (Binary o a b) p v =
     (c : Constant) × (d : Constant) × (x : Constant) × F (Has p (place S.checked a) (value_of c)) × F (Has p (place S.checked b) (value_of d)) ×
     (result_of_binary o c d ≡ Gives x) × (v ≡ value_of x)
-pub Follows S F n (Name y) p v = (b : ℕ) × (binder S.checked n ≡ Some b) × F (Has (without (between S n b) p) (place S.checked b) v)
+Follows S F n (Name y) p v = (b : ℕ) × (binder S.checked n ≡ Some b) × F (Has (without (between S n b) p) (place S.checked b) v)
 Follows S F n (If s x y) p v =
     (t : ℕ) × (b : Truth) × (a : ℕ) × IsChoice S n t b a × F (Has p (place S.checked t) (value_of (constant.Bool b))) × F (Has p (place S.checked a) v)
-pub Follows S F n (Call e c) p v = (d : IsCall S n) × F (Has (below p (place S.checked n) 0) (place S.checked d.body) v)
+Follows S F n (Call e c) p v = (d : IsCall S n) × F (Has (below p (place S.checked n) 0) (place S.checked d.body) v)
 Follows S F n (Block b) p v = F (Has p (place S.checked b) v)
 Follows S F n (Loop h w l) p v = IsLeft S F n l p v
 Follows S F n (Next y i o a) p v = IsFirst S F n o a p v ⊎ IsLater S F n o a p v
@@ -275,7 +275,7 @@ param_follows F _ s t i = absurd (false≢true t)
 
 -- a fetch that asks stands there
 abbrev pub Fetches : Source → (Fact → Type 0) → Type 0
-pub Fetches S F = (f s : Site) (j : ℤ) → F (ask f s j) → IsFetch S f
+Fetches S F = (f s : Site) (j : ℤ) → F (ask f s j) → IsFetch S f
 
 fetched : {S : Source} (F : Fact → Type 0) {f s a : Site} {j : ℤ} {v : SourceValue} → IsFetch S f → F (ask f s j) → F (put s j v a)
     → FollowsAt S F f.path f.place v

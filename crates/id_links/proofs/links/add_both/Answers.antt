@@ -1,7 +1,7 @@
 -- The edges from both rows.
 use Rattle.std.proofs.Common.{◌∷◌, []}
 use Rattle.std.proofs.lemmas.Result.{on_ok_weaker}
-use Rattle.id_links.proofs.LinksLemmas.{gains_to-both}
+use Rattle.id_links.proofs.EdgesLemmas.{gains_to-both}
 use Rattle.id_links.proofs.links.add_both.Goals as goal
 
 pub returns : goal.returns

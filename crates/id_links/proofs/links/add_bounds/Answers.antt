@@ -1,6 +1,6 @@
 -- The edges to the bounds of an index.
 use Rattle.std.proofs.lemmas.Result.{on_ok_weaker}
-use Rattle.id_links.proofs.LinksLemmas.{gains-bounds}
+use Rattle.id_links.proofs.EdgesLemmas.{gains-bounds}
 use Rattle.id_links.proofs.links.add_bounds.Goals as goal
 
 pub returns : goal.returns

@@ -1,6 +1,6 @@
 -- The edges from the bounds of an index.
 use Rattle.std.proofs.lemmas.Result.{on_ok_weaker}
-use Rattle.id_links.proofs.LinksLemmas.{gains_to-bounds}
+use Rattle.id_links.proofs.EdgesLemmas.{gains_to-bounds}
 use Rattle.id_links.proofs.links.add_bounds_reads.Goals as goal
 
 pub returns : goal.returns

@@ -2,7 +2,7 @@
 use Rattle.std.proofs.Common.{◌∷◌, []}
 use Rattle.std.proofs.lemmas.Result.{on_ok_weaker}
 use Rattle.id_links.specs.Links.{some_row}
-use Rattle.id_links.proofs.LinksLemmas.{gains_to-both}
+use Rattle.id_links.proofs.EdgesLemmas.{gains_to-both}
 use Rattle.id_links.proofs.links.add_if_reads.Goals as goal
 
 pub returns : goal.returns

@@ -1,5 +1,5 @@
 -- The edge from the row that is read.
-use Rattle.id_links.proofs.LinksLemmas.{gains-to}
+use Rattle.id_links.proofs.EdgesLemmas.{gains-to}
 use Rattle.id_links.proofs.links.add_read.Goals as goal
 
 pub returns-in_ok-add-in-Some : goal.returns-in_ok-add-in-Some

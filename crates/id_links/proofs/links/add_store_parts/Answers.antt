@@ -1,6 +1,6 @@
 -- The edges to the parts of a store.
 use Rattle.std.proofs.lemmas.Result.{on_ok_weaker}
-use Rattle.id_links.proofs.LinksLemmas.{gains-store}
+use Rattle.id_links.proofs.EdgesLemmas.{gains-store}
 use Rattle.id_links.proofs.links.add_store_parts.Goals as goal
 
 pub returns : goal.returns

@@ -1,6 +1,6 @@
 -- The edges from the parts of a store.
 use Rattle.std.proofs.lemmas.Result.{on_ok_weaker}
-use Rattle.id_links.proofs.LinksLemmas.{gains_to-store}
+use Rattle.id_links.proofs.EdgesLemmas.{gains_to-store}
 use Rattle.id_links.proofs.links.add_store_reads.Goals as goal
 
 pub returns : goal.returns

@@ -1,7 +1,7 @@
 -- The edges to both rows.
 use Rattle.std.proofs.Common.{◌∷◌, []}
 use Rattle.std.proofs.lemmas.Result.{on_ok_weaker}
-use Rattle.id_links.proofs.LinksLemmas.{gains-both}
+use Rattle.id_links.proofs.EdgesLemmas.{gains-both}
 use Rattle.id_links.proofs.links.add_two.Goals as goal
 
 pub returns : goal.returns

@@ -1,7 +1,7 @@
 -- The last statement goes where it stands from the row on, and else none of those before it does.
 use Rattle.std.proofs.Common.{◌≡◌, [], arith}
 use Rattle.std.proofs.lemmas.List.{nil_from_length}
-use Rattle.id_links.proofs.LinksLemmas.{takes-init, takes-step, takes-some, takes-none}
+use Rattle.id_links.proofs.EdgesLemmas.{takes-init, takes-step, takes-some, takes-none}
 use Rattle.id_links.proofs.links.take_statements.Goals as goal
 
 pub loop-statement-init : goal.loop-statement-init

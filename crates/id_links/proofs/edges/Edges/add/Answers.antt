@@ -2,7 +2,7 @@
 use Rattle.std.proofs.Common.{◌∷◌, ◌++◌, [], refl, arith, ap, sym, ◌∙◌}
 use Rattle.std.specs.Vec.{with_item}
 use Rattle.id_links.specs.declared.edges.Edges.{Edges}
-use Rattle.id_links.proofs.LinksLemmas.{gains-one, kept-one, targets-at}
+use Rattle.id_links.proofs.EdgesLemmas.{gains-one, kept-one, targets-at}
 use Rattle.id_links.proofs.edges.Edges.add.Goals as goal
 
 pub returns-in_err-push-clause-kept : goal.returns-in_err-push-clause-kept

@@ -2,7 +2,7 @@
 use Rattle.std.proofs.Common.{ℕ, List, Vec, Global, sym, subst, arith}
 use Rattle.id_list.specs.List.{Among}
 use Rattle.id_links.specs.Links.{targets}
-use Rattle.id_links.proofs.LinksLemmas.{none-push}
+use Rattle.id_links.proofs.EdgesLemmas.{none-push}
 use Rattle.id_links.proofs.edges.Edges.new.Goals as goal
 
 pub loop-row-preserved : goal.loop-row-preserved

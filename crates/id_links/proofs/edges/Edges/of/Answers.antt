@@ -1,6 +1,6 @@
 -- The edges of a row.
 use Rattle.std.proofs.Common.{ap, sym, ◌∙◌, arith}
-use Rattle.id_links.proofs.LinksLemmas.{targets-at, targets-past}
+use Rattle.id_links.proofs.EdgesLemmas.{targets-at, targets-past}
 use Rattle.id_links.proofs.edges.Edges.of.Goals as goal
 
 pub returns-then-from-len : goal.returns-then-from-len
