@@ -17,7 +17,7 @@ use Rattle.id_table.specs.Rows.{enter_loop, in_top, last, naming, rows_of, size,
 use Rattle.id_table.specs.Trees.{IsProgramTree, IsTree, Sort, Expression, Arguments, Statements, by_literal, by_unary, by_binary, by_name, by_conditional}
 use Rattle.id_table.specs.Trees.{by_call, by_loop, by_for, by_array, by_fetch, next_statement, store_statement, no_arguments, more_arguments, by_block}
 use Rattle.id_table.specs.Trees.{no_statements, more_statements, no_params, more_params, no_defs, more_defs}
-use Rattle.id_table.proofs.TableLemmas.{Are-add}
+use Rattle.id_table.proofs.AddedLemmas.{Are-add}
 use Rattle.id_check.proofs.NotedLemmas.{IsProgramTree-tree_in}
 use Rattle.id_check.specs.declared.checked.Checked.{Checked}
 use Rattle.id_check.specs.Programs.{Stands, rows, tree}

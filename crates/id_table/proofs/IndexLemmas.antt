@@ -15,7 +15,8 @@ use Rattle.id_table.proofs.BlockLemmas.{in_block-more}
 use Rattle.id_table.proofs.HasLemmas.{row_in}
 use Rattle.id_table.proofs.RowLemmas.{Fits, Fits-simple, PartIs, RowIs, RowIs-fits, RowsAre, RowsAre-both, RowsAre-suc}
 use Rattle.id_table.proofs.ExpressionLemmas.{AreExpression, PartIs-wider, part_of}
-use Rattle.id_table.proofs.LoopLemmas.{AreBefore, AreTest, IsMark, LoopRows, OwnRows, is_loop_of, loop_node, single}
+use Rattle.id_table.proofs.LoopRowsLemmas.{AreBefore, AreTest, IsMark, LoopRows, OwnRows}
+use Rattle.id_table.proofs.LoopLemmas.{is_loop_of, loop_node, single}
 
 -- the rows of the bounds of an index end at the row hi before the `Start` at lo; the entries of what is carried on are
 -- behind the head; behind the entries at e stands what is in the place of a predicate, and behind the switches at w what

@@ -1,5 +1,6 @@
 -- What crates above import.
 pub mod TreeLemmas
+pub mod AddedLemmas
 pub mod TableLemmas
 pub mod PlacesLemmas
 pub mod BlocksLemmas
@@ -15,6 +16,7 @@ mod ExpressionLemmas
 mod HasLemmas
 mod IndexLemmas
 mod LoopLemmas
+mod LoopRowsLemmas
 mod NextLemmas
 mod ParamsLemmas
 mod ProcedureLemmas
