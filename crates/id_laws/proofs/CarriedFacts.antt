@@ -67,6 +67,7 @@ use Rattle.id_pieces.proofs.EndsLemmas as ends
 use Rattle.id_laws.proofs.HasKinds.{port_taking, binder_thing, operand_of, Has_kind}
 use Rattle.id_laws.proofs.Firings.{IsSettled, alone_fired, both_fired, came, spoken, start_handled, alone_formed, sent_handled}
 use Rattle.id_arcs.proofs.NamesSeen.{Sees}
+use Rattle.id_laws.proofs.ValidPorts.{element_nested}
 use Rattle.id_laws.proofs.Triggers.{Home, home, live_turned, one_activation}
 use Rattle.id_laws.proofs.Speakers.{own_origin, name_origin, block_origin, expression_speaks, binder_speaks, fed_as, fetch_origin}
 use Rattle.id_laws.proofs.Seats.{main_path}
@@ -83,7 +84,7 @@ use Rattle.id_runs.proofs.Givings.{same_firing}
 use Rattle.id_runs.proofs.OneMessage.{fired_once}
 use Rattle.id_laws.proofs.Calls.{arg_at, call_at, enter_at}
 use Rattle.id_value.specs.declared.Kind.TheVariants as sort
-use Rattle.id_value.specs.Kinds.{array_kind, element_kind, is_array}
+use Rattle.id_value.specs.Kinds.{is_array}
 use Rattle.id_laws.proofs.CarriedThings.{thing_here, here_is, live_at, same_here, operand_here, said_at, operand_spoken, constant_spoken, has_spoken, own_has}
 use Rattle.id_laws.proofs.CarriedRegions.{arm_rows, test_here, arm_here, merge_has, calling, callee_at, argument_carried, call_carried, starting}
 use Rattle.id_laws.proofs.CarriedRegions.{loop_test_here, first_carried, side_live, side_here, next_value, next_operand, next_carried, last_at}
@@ -92,11 +93,6 @@ use Rattle.id_laws.proofs.CarriedCounted.{bounds_here, index_begins_carried, ind
 
 some_is : {A : Type 0} {x y : A} → Some x ≡ Some y → x ≡ y
 some_is h = cc
-
--- the elements of an array are arrays where it is nested
-elements_are : (b : Truth) → is_array (element_kind (array_kind b)) ≡ b
-elements_are false = refl
-elements_are true = refl
 
 same_truth : (b c : Truth) → c ≡ b → beq b c ≡ true
 same_truth b c e = ap (beq b) e ∙ itself b
@@ -261,7 +257,7 @@ module _ (S : Source) (g : Parts) (number : ℕ → ℕ → ℕ) (numbered : Num
   cells_of {n} {t} {i} {c} {x} {p} within parts named holds =
       let inner = operand_of S known inputs n t within (target_operand parts) in
       let target = named_kind known named (Has_kind S known inputs t p (source.Name x) inner.0 inner.1 holds) in
-      ap (λ o. is_array (unwrap_or o sort.Int)) (known.cell_kind n t i within parts ∙ ap (λ o. Some (kind_within o)) target) ∙ elements_are c.nested
+      ap (λ o. is_array (unwrap_or o sort.Int)) (known.cell_kind n t i within parts ∙ ap (λ o. Some (kind_within o)) target) ∙ element_nested c.nested
 
   -- the row n that names a cell has given its address, where its parts have spoken what they Have
   record Addressed (n : ℕ) (a : Activation) (x : Site) (j : ℤ) : Type 0 where

@@ -1,17 +1,16 @@
 -- The `Address` of a store, the store of an `Address`, and the ports for what cells hold.
-use Rattle.std.proofs.Common.{◌≡◌, inl, ℕ, ◌<◌, Option, length, refl, sym, ◌∙◌, ap, subst, arith, unwrap_or}
-use Rattle.id_value.specs.declared.Kind.{Kind}
+use Rattle.std.proofs.Common.{◌≡◌, inl, ℕ, ◌<◌, length, refl, sym, ◌∙◌, ap, subst, arith, unwrap_or}
 use Rattle.id_value.specs.declared.Kind.TheVariants as kinds
-use Rattle.id_value.specs.Kinds.{element_kind, is_array}
 use Rattle.id_instr.specs.Held.{held_kind}
 use Rattle.id_table.specs.declared.row.Node.TheVariants.{Address, Store}
 use Rattle.id_table.specs.Tables.{HasOperand, HasPart}
 use Rattle.id_check.specs.declared.checked.Checked.{Checked}
-use Rattle.id_check.specs.Programs.{kind, place, region, rows}
+use Rattle.id_check.specs.Programs.{place, region, rows}
 use Rattle.id_pieces.specs.Rows.{holds_array, node, port_at, port_of}
 use Rattle.id_source.specs.Facts.{StoreStands}
 use Rattle.id_laws.specs.Topics.{Addresses, of_fetch, of_store}
 use Rattle.id_laws.proofs.Assumed.{IsKnown}
+use Rattle.id_laws.proofs.ValidPorts.{cell_at}
 
 -- the `Address` at the row a is that of the store at the row n
 pub record AddressAt (P : Checked) (n a : ℕ) : Type 0 where
@@ -40,18 +39,11 @@ pub target_operand : {P : Checked} {n t i : ℕ} → Addresses P n t i → HasOp
 target_operand {t = t} (of_fetch is) = subst (λ m. HasOperand m t) (sym is) (inl refl)
 target_operand {t = t} (of_store is) = subst (λ m. HasOperand m t) (sym is) (inl refl)
 
--- ports for an element's kind are for what such cells hold
-held_port : (k : Kind) → port_of (element_kind k) ≡ held_kind (is_array (element_kind k))
-held_port kinds.Int = refl
-held_port kinds.Bool = refl
-held_port kinds.Array = refl
-held_port kinds.Nested = refl
-
 -- the ports that take the value of a row that names a cell are for what the cell holds
 pub cell_port : {P : Checked} (known : IsKnown P) {n t i : ℕ} → n < length (rows P) → Addresses P n t i → port_at P n ≡ held_kind (holds_array P n)
 cell_port {P} known {n} {t} {i} within parts =
-    subst (λ (o : Option Kind). port_of (unwrap_or o kinds.Int) ≡ held_kind (is_array (unwrap_or o kinds.Int))) (sym (known.cell_kind n t i within parts))
-    (held_port (unwrap_or (kind P t) kinds.Int))
+    let c = cell_at P known n t i within parts in
+    c.held ∙ ap held_kind (sym c.holds)
 
 -- and so are those that take the value that is stored there
 pub stored_port : {P : Checked} (known : IsKnown P) {n a v : ℕ} → n < length (rows P) → node P n ≡ Store a v → port_at P v ≡ held_kind (holds_array P a)

@@ -69,7 +69,7 @@ element_port false = refl
 element_port true = refl
 
 -- the elements of arrays that are nested alone hold arrays
-element_nested : (nested : Truth) → is_array (element_kind (array_kind nested)) ≡ nested
+pub element_nested : (nested : Truth) → is_array (element_kind (array_kind nested)) ≡ nested
 element_nested false = refl
 element_nested true = refl
 
