@@ -34,7 +34,8 @@ use Rattle.id_source.specs.Things.{IsThing}
 use Rattle.id_meaning.proofs.CompleteLemmas.{among-inside}
 use Rattle.id_cells.proofs.LookupLemmas.{ask-true, fact-there, named-true, put-true, told-among}
 use Rattle.id_meaning.proofs.EffectsLemmas.{Given, given-only, haves-among, ons-among}
-use Rattle.id_meaning.proofs.FollowsLemmas.{BeginsIn, all-woken-only, answered-only, begin-only, call-only, exit-only, index-only, loop-only, pass-only, start-only}
+use Rattle.id_meaning.proofs.FollowsLemmas.{BeginsIn, answered-only, call-only, exit-only, loop-only, pass-only, start-only}
+use Rattle.id_meaning.proofs.WokenLemmas.{all-woken-only, begin-only, index-only}
 use Rattle.id_meaning.proofs.RulesLemmas as row
 
 -- switches are no thing

@@ -4,6 +4,7 @@ pub mod RulesLemmas
 pub mod CompleteLemmas
 pub mod EffectsLemmas
 pub mod FollowsLemmas
+pub mod WokenLemmas
 pub mod GivenLemmas
 pub mod TwoPartsLemmas
 pub mod PartsFollowLemmas
