@@ -1,9 +1,8 @@
 -- What follows by a rule of the source, rows give.
-use Rattle.std.proofs.Common.{◌≡◌, ◌⊎◌, inl, inr, ℕ, zero, suc, ◌+◌, ◌≤◌, ◌<◌, ℤ, Bool as Truth, true, false, Some}
+use Rattle.std.proofs.Common.{◌≡◌, ◌⊎◌, inl, inr, ℕ, zero, suc, ◌+◌, ◌<◌, ℤ, Bool as Truth, true, false, Some}
 use Rattle.std.proofs.Common.{List, [], ◌∷◌, length, refl, ap, sym, ◌∙◌, subst, arith}
 use Rattle.std.specs.Prelude.{pos, ◌+ℤ◌}
 use Rattle.id_list.specs.List.{Among}
-use Rattle.id_value.specs.declared.Constant.{Constant}
 use Rattle.id_value.specs.declared.Constant.TheVariants as constant
 use Rattle.id_table.specs.declared.row.Node.{Node}
 use Rattle.id_table.specs.declared.row.Node.TheVariants as node
@@ -17,9 +16,6 @@ use Rattle.id_source.specs.declared.Path.{Path}
 use Rattle.id_source.specs.declared.SourceValue.{SourceValue}
 use Rattle.id_source.specs.declared.SourceValue.TheVariants as value
 use Rattle.id_source.specs.declared.Site.{Site}
-use Rattle.id_source.specs.declared.Shape.{Shape as Shaped}
-use Rattle.id_source.specs.declared.Put.{Put as Stored}
-use Rattle.id_source.specs.declared.Ask.{Ask as Asked}
 use Rattle.id_source.specs.declared.Fact.{Fact}
 use Rattle.id_source.specs.declared.Fact.TheVariants as fact
 use Rattle.id_facts.specs.declared.facts.RowFact.{RowFact}
@@ -33,127 +29,23 @@ use Rattle.id_source.specs.Facts.{ForStands, GoesOn, StoreStands, Rule, ask, bel
 use Rattle.id_source.specs.Facts as rule
 use Rattle.id_source.specs.Rounds.{Every, Rounds}
 use Rattle.id_links.specs.Links.{BodyTurns, arm_of, far_from, of_binding, of_next, of_store}
-use Rattle.id_facts.specs.RowFacts.{AreBefore, fact_at, path_of, row_of}
+use Rattle.id_facts.specs.RowFacts.{fact_at, path_of, row_of}
 use Rattle.id_cells.specs.Cells.{out_of}
 use Rattle.id_facts.specs.Firsts.{row_value}
-use Rattle.id_listing.specs.Listed.{AreFound, BeginsOn, IsArrayOn, IsOfThing, IsRound, fact_of, name_at, path_at, site_at, step_at, steps_in_all}
+use Rattle.id_listing.specs.Listed.{IsOfThing, IsRound, fact_of, name_at, path_at, value_at}
 use Rattle.id_source.specs.Things.{IsThing}
-use Rattle.id_listing.specs.Listed.{steps_of, value_at}
-use Rattle.id_source.proofs.CheckedLemmas.{apart_of, binder_of, far-between, next-region, thing-binder, use_binder}
+use Rattle.id_source.proofs.CheckedLemmas.{binder_of, far-between, next-region, thing-binder, use_binder}
 use Rattle.id_source.proofs.HasLemmas.{choice}
-use Rattle.id_facts.proofs.FactsLemmas.{Inside, fact-before, inside-more}
-use Rattle.id_listing.proofs.PathsLemmas.{all_steps, path-below, path-out, steps-suc}
+use Rattle.id_listing.proofs.PathsLemmas.{path-below, path-out}
 use Rattle.id_meaning.proofs.RulesLemmas.{AllAmong, RowGoesOn, RowRule, value-row}
 use Rattle.id_facts.proofs.FactsLemmas.{IsOnBy}
 use Rattle.id_meaning.proofs.RulesLemmas as row
-use Rattle.id_source.proofs.StepsLemmas.{below-once, last-same, none-below, none-last}
+use Rattle.id_meaning.proofs.KnownLemmas.{IsHas, IsThere, constant-at, has-at, known-ask, known-has, known-on}
+use Rattle.id_meaning.proofs.KnownLemmas.{known-put, name-at, name-once, number-at, shape-of, there, thing}
+use Rattle.id_meaning.proofs.KnownLemmas.{value-constant, value-number}
+use Rattle.id_source.proofs.StepsLemmas.{below-once, none-below}
 use Rattle.id_source.proofs.ThingsLemmas.{node-thing, part-thing, test-thing}
 use Rattle.id_facts.proofs.FactsLemmas.{among-at, index-of}
-
-pub among-inside : (fs : List RowFact) → AreBefore fs → (f : RowFact) → Among f fs → Inside (length fs) (path_of f)
-among-inside fs b f h =
-    let r = index-of f fs h in
-    let F : RowFact → Type 0 = λ g. Inside (length fs) (path_of g) in
-    subst F r.2 (inside-more r.0 (length fs) (path_of (fact_at fs r.0)) (let l = r.1 in omega arith) (fact-before fs b r.0))
-
-same-shape : (s t : Shaped) → fact.Shape s ≡ fact.Shape t → s ≡ t
-same-shape s t e = cc
-
-same-put : (s t : Stored) → fact.Put s ≡ fact.Put t → s ≡ t
-same-put s t e = cc
-
-same-ask : (s t : Asked) → fact.Ask s ≡ fact.Ask t → s ≡ t
-same-ask s t e = cc
-
--- a path is there: it begins where something is On
-pub record IsThere (fs : List RowFact) (q : Trail) : Type 0 where
-  pub begins : BeginsOn fs q
-  pub inside : Inside (length fs) q
-
-module _ (S : Source) (fs : List RowFact) (a : AreFound S fs) where
-  pub there-of : (f : RowFact) → Among f fs → IsThere fs (path_of f)
-  there-of f h = record { begins = a.begin f h; inside = among-inside fs a.before f h }
-
-  -- what is On is a thing
-  thing-of : (i n : ℕ) (p : Trail) → i < length fs → fact_at fs i ≡ On p n → IsThing S n
-  thing-of i n p l e =
-      let F : RowFact → Type 0 = λ f. IsOfThing S f in
-      subst F e (a.things (fact_at fs i) (among-at fs i l))
-
-  same-row : (n m : ℕ) → IsThing S n → IsThing S m → place S.checked n ≡ place S.checked m → n ≡ m
-  same-row n m t u e = (apart_of S.checked).apart n m t.within u.within t.thing u.thing e
-
-  same-number : (i j n m : ℕ) (p q : Trail) → i < length fs → j < length fs → fact_at fs i ≡ On p n → fact_at fs j ≡ On q m → p ≡ q → n ≡ m → i ≡ j
-  same-number i j n m p q l k d e f g = a.apart i j l k (d ∙ ap (λ r. On r n) f ∙ ap (λ r. On q r) g ∙ sym e)
-
-  once : (k : ℕ) (q r : Trail) → steps_in_all q ≤ k → IsThere fs q → IsThere fs r → all_steps S.checked fs q ≡ all_steps S.checked fs r → q ≡ r
-  once k Outermost Outermost l m n e = refl
-  once k Outermost (Below j y) l m n e =
-      absurd (none-last (steps_of S.checked fs j (path_of (fact_at fs j))) (step_at S.checked (row_of (fact_at fs j)) y) e)
-  once k (Below i x) Outermost l m n e =
-      absurd (none-last (steps_of S.checked fs i (path_of (fact_at fs i))) (step_at S.checked (row_of (fact_at fs i)) x) (sym e))
-  once zero (Below i x) (Below j y) l m n e = absurd (omega arith)
-  once (suc k) (Below i x) (Below j y) l m n e =
-      let P = S.checked in
-      let f = fact_at fs i in
-      let g = fact_at fs j in
-      let b = m.begins in
-      let c = n.begins in
-      let u = there-of f (among-at fs i m.inside) in
-      let v = there-of g (among-at fs j n.inside) in
-      let w = fits i (path_of f) (fact-before fs a.before i) in
-      let z =
-      last-same (all_steps P fs (path_of f)) (all_steps P fs (path_of g)) (step_at P (row_of f) x) (step_at P (row_of g) y)
-      (sym (steps-suc P fs a.before i x) ∙ e ∙ steps-suc P fs a.before j y) in
-      let path : path_of f ≡ path_of g = once k (path_of f) (path_of g) (omega arith) u v z.0 in
-      let s = thing-of i b.1.0 b.0 m.inside b.1.1 in
-      let t = thing-of j c.1.0 c.0 n.inside c.1.1 in
-      let here : place P b.1.0 ≡ place P c.1.0 =
-      ap (λ r. place P r) (sym (ap row_of b.1.1)) ∙ ap (λ r. r.place) z.1 ∙ ap (λ r. place P r) (ap row_of c.1.1) in
-      let row = same-row b.1.0 c.1.0 s t here in
-      let paths : b.0 ≡ c.0 = sym (ap path_of b.1.1) ∙ path ∙ ap path_of c.1.1 in
-      let number = same-number i j b.1.0 c.1.0 b.0 c.0 m.inside n.inside b.1.1 c.1.1 paths row in
-      ap (λ r. Below r x) number ∙ ap (λ r. Below j r) (ap (λ r. r.number) z.1)
-    where
-      fits : (i : ℕ) (p : Trail) → Inside i p → steps_in_all p ≤ i
-      fits i Outermost h = omega arith
-      fits i (Below j k) h = omega arith
-
-  -- at a path there is one number
-  pub path-once : (q r : Trail) → IsThere fs q → IsThere fs r → path_at S.checked fs q ≡ path_at S.checked fs r → q ≡ r
-  path-once q r m n e = once (steps_in_all q) q r (omega arith) m n (ap (λ p. p.steps) e)
-
-  -- a structure has one name
-  pub name-once : (i j : ℕ) → IsArrayOn S.checked fs i → IsArrayOn S.checked fs j → name_at S.checked fs i ≡ name_at S.checked fs j → i ≡ j
-  name-once i j x y e =
-      let P = S.checked in
-      let F : Trail → Type 0 = λ q. IsThere fs q in
-      let u = subst F (ap path_of x.on) (there-of (fact_at fs i) (among-at fs i x.within)) in
-      let v = subst F (ap path_of y.on) (there-of (fact_at fs j) (among-at fs j y.within)) in
-      let same : site_at P fs x.path x.array ≡ site_at P fs y.path y.array =
-      sym (ap (λ f. site_at P fs (path_of f) (row_of f)) x.on) ∙ e ∙ ap (λ f. site_at P fs (path_of f) (row_of f)) y.on in
-      let path = path-once x.path y.path u v (ap (λ s. s.path) same) in
-      let row = same-row x.array y.array (thing-of i x.array x.path x.within x.on) (thing-of j y.array y.path y.within y.on) (ap (λ s. s.place) same) in
-      same-number i j x.array y.array x.path y.path x.within y.within x.on y.on path row
-
--- ---- values
-
-value-constant : (S : Source) (fs : List RowFact) (w : RowValue) (c : Constant) → value_of c ≡ value_at S.checked fs w → w ≡ row_value c
-value-constant S fs (Int m) (constant.Int n) e = let q : n ≡ m = cc in ap (λ k. Int k) (sym q)
-value-constant S fs (Int m) (constant.Bool b) e = cc
-value-constant S fs (Bool c) (constant.Int n) e = cc
-value-constant S fs (Bool c) (constant.Bool b) e = let q : b ≡ c = cc in ap (λ k. Bool k) (sym q)
-value-constant S fs (Name i) (constant.Int n) e = cc
-value-constant S fs (Name i) (constant.Bool b) e = cc
-
-value-number : (S : Source) (fs : List RowFact) (w : RowValue) (n : ℤ) → value.Int n ≡ value_at S.checked fs w → w ≡ Int n
-value-number S fs w n e = value-constant S fs w (constant.Int n) e
-
-value-name : (S : Source) (fs : List RowFact) (w : RowValue) (x : Site) → value.Name x ≡ value_at S.checked fs w
-    → (i : ℕ) × (w ≡ Name i) × (x ≡ name_at S.checked fs i)
-value-name S fs (Int m) x e = cc
-value-name S fs (Bool b) x e = cc
-value-name S fs (Name i) x e = (i, refl, let q : x ≡ name_at S.checked fs i = cc in q)
 
 module _ (S : Source) (k : ℕ) (fs : List RowFact) (s : IsRound S k fs) where
   abbrev Of : Trail → Path
@@ -161,151 +53,6 @@ module _ (S : Source) (k : ℕ) (fs : List RowFact) (s : IsRound S k fs) where
 
   abbrev Called : ℕ → Site
   Called i = name_at S.checked fs i
-
-  thing : (n m : ℕ) → IsThing S n → IsThing S m → place S.checked n ≡ place S.checked m → n ≡ m
-  thing n m t u e = (apart_of S.checked).apart n m t.within u.within t.thing u.thing e
-
-  -- ---- facts of the round are those of rows
-
-  known-on : (n : ℕ) (P : Path) → IsThing S n → Rounds S k (fact.On P (place S.checked n)) → (q : Trail) × (P ≡ Of q) × Among (On q n) fs
-  known-on n P t h = go (s.all (fact.On P (place S.checked n)) h).0 (s.all (fact.On P (place S.checked n)) h).1 (s.all (fact.On P (place S.checked n)) h).2
-    where
-      go : (g : RowFact) → Among g fs → fact.On P (place S.checked n) ≡ fact_of S.checked fs g → (q : Trail) × (P ≡ Of q) × Among (On q n) fs
-      go (On q m) i e =
-          let a : P ≡ Of q = cc in
-          let r : place S.checked n ≡ place S.checked m = cc in
-          let F : ℕ → Type 0 = λ j. Among (On q j) fs in
-          (q, a, subst F (sym (thing n m t (s.found.things (On q m) i) r)) i)
-      go (Has q m v) i e = cc
-      go (Shape x lo hi) i e = cc
-      go (Put q m x j v) i e = cc
-      go (Ask q m x j) i e = cc
-
-  record IsHas (n : ℕ) (P : Path) (v : SourceValue) : Type 0 where
-    pub path : Trail
-    pub value : RowValue
-    pub is_path : P ≡ Of path
-    pub is_value : v ≡ value_at S.checked fs value
-    pub known : Among (Has path n value) fs
-
-  known-has : (n : ℕ) (P : Path) (v : SourceValue) → IsThing S n → Rounds S k (fact.Has P (place S.checked n) v) → IsHas n P v
-  known-has n P v t h =
-      go (s.all (fact.Has P (place S.checked n) v) h).0 (s.all (fact.Has P (place S.checked n) v) h).1 (s.all (fact.Has P (place S.checked n) v) h).2 where
-        go : (g : RowFact) → Among g fs → fact.Has P (place S.checked n) v ≡ fact_of S.checked fs g → IsHas n P v
-        go (On q m) i e = cc
-        go (Has q m w) i e =
-            let a : P ≡ Of q = cc in
-            let r : place S.checked n ≡ place S.checked m = cc in
-            let u : v ≡ value_at S.checked fs w = cc in
-            let F : ℕ → Type 0 = λ j. Among (Has q j w) fs in
-            record { path = q; value = w; is_path = a; is_value = u; known = subst F (sym (thing n m t (s.found.things (Has q m w) i) r)) i }
-        go (Shape x lo hi) i e = cc
-        go (Put q m x j w) i e = cc
-        go (Ask q m x j) i e = cc
-
-  known-shape : (x : Site) (lo hi : ℤ) → Rounds S k (shape x lo hi) → (i : ℕ) × (x ≡ Called i) × Among (Shape i lo hi) fs
-  known-shape x lo hi h = go (s.all (shape x lo hi) h).0 (s.all (shape x lo hi) h).1 (s.all (shape x lo hi) h).2
-    where
-      go : (g : RowFact) → Among g fs → shape x lo hi ≡ fact_of S.checked fs g → (i : ℕ) × (x ≡ Called i) × Among (Shape i lo hi) fs
-      go (On q m) i e = cc
-      go (Has q m w) i e = cc
-      go (Shape y lw hg) i e =
-          let r = same-shape _ _ e in
-          let a : x ≡ Called y = ap (λ d. d.name) r in
-          let b : lw ≡ lo = sym (ap (λ d. d.low) r) in
-          let c : hg ≡ hi = sym (ap (λ d. d.high) r) in
-          let F : ℤ → Type 0 = λ j. Among (Shape y j hg) fs in
-          let G : ℤ → Type 0 = λ j. Among (Shape y lo j) fs in
-          (y, a, subst G c (subst F b i))
-      go (Put q m y j w) i e = cc
-      go (Ask q m y j) i e = cc
-
-  record IsPut (x : Site) (j : ℤ) (v : SourceValue) (a : Site) : Type 0 where
-    pub path : Trail
-    pub row : ℕ
-    pub name : ℕ
-    pub value : RowValue
-    pub is_name : x ≡ Called name
-    pub is_value : v ≡ value_at S.checked fs value
-    pub known : Among (Put path row name j value) fs
-
-  known-put : (x : Site) (j : ℤ) (v : SourceValue) (a : Site) → Rounds S k (put x j v a) → IsPut x j v a
-  known-put x j v a h = go (s.all (put x j v a) h).0 (s.all (put x j v a) h).1 (s.all (put x j v a) h).2
-    where
-      go : (g : RowFact) → Among g fs → put x j v a ≡ fact_of S.checked fs g → IsPut x j v a
-      go (On q m) i e = cc
-      go (Has q m w) i e = cc
-      go (Shape y lw hg) i e = cc
-      go (Put q m y l w) i e =
-          let r = same-put _ _ e in
-          let b : x ≡ Called y = ap (λ d. d.name) r in
-          let c : l ≡ j = sym (ap (λ d. d.index) r) in
-          let d : v ≡ value_at S.checked fs w = ap (λ d. d.value) r in
-          let F : ℤ → Type 0 = λ t. Among (Put q m y t w) fs in
-          record { path = q; row = m; name = y; value = w; is_name = b; is_value = d; known = subst F c i }
-      go (Ask q m y l) i e = cc
-
-  record IsAsk (f x : Site) (j : ℤ) : Type 0 where
-    pub path : Trail
-    pub row : ℕ
-    pub name : ℕ
-    pub is_fetch : f ≡ site_at S.checked fs path row
-    pub is_name : x ≡ Called name
-    pub known : Among (Ask path row name j) fs
-
-  known-ask : (f x : Site) (j : ℤ) → Rounds S k (ask f x j) → IsAsk f x j
-  known-ask f x j h = go (s.all (ask f x j) h).0 (s.all (ask f x j) h).1 (s.all (ask f x j) h).2
-    where
-      go : (g : RowFact) → Among g fs → ask f x j ≡ fact_of S.checked fs g → IsAsk f x j
-      go (On q m) i e = cc
-      go (Has q m w) i e = cc
-      go (Shape y lw hg) i e = cc
-      go (Put q m y l w) i e = cc
-      go (Ask q m y l) i e =
-          let r = same-ask _ _ e in
-          let a : f ≡ site_at S.checked fs q m = ap (λ d. d.fetch) r in
-          let b : x ≡ Called y = ap (λ d. d.name) r in
-          let c : l ≡ j = sym (ap (λ d. d.index) r) in
-          let F : ℤ → Type 0 = λ t. Among (Ask q m y t) fs in
-          record { path = q; row = m; name = y; is_fetch = a; is_name = b; known = subst F c i }
-
-  there : (f : RowFact) → Among f fs → IsThere fs (path_of f)
-  there f h = there-of S fs s.found f h
-
-  -- at a path that is there
-  has-at : (q : Trail) (n : ℕ) (P : Path) (v : SourceValue) → IsThere fs q → IsThing S n → P ≡ Of q → Rounds S k (fact.Has P (place S.checked n) v)
-      → (w : RowValue) × (v ≡ value_at S.checked fs w) × Among (Has q n w) fs
-  has-at q n P v i t e h =
-      let x = known-has n P v t h in
-      let F : Trail → Type 0 = λ r. Among (Has r n x.value) fs in
-      (x.value, x.is_value, subst F (path-once S fs s.found x.path q (there (Has x.path n x.value) x.known) i (sym x.is_path ∙ e)) x.known)
-
-  constant-at : (q : Trail) (n : ℕ) (P : Path) (c : Constant) → IsThere fs q → IsThing S n → P ≡ Of q → Rounds S k (fact.Has P (place S.checked n) (value_of c))
-      → Among (Has q n (row_value c)) fs
-  constant-at q n P c i t e h =
-      let x = has-at q n P (value_of c) i t e h in
-      let F : RowValue → Type 0 = λ w. Among (Has q n w) fs in
-      subst F (value-constant S fs x.0 c x.1) x.2
-
-  number-at : (q : Trail) (n : ℕ) (P : Path) (j : ℤ) → IsThere fs q → IsThing S n → P ≡ Of q → Rounds S k (fact.Has P (place S.checked n) (value.Int j))
-      → Among (Has q n (Int j)) fs
-  number-at q n P j i t e h = constant-at q n P (constant.Int j) i t e h
-
-  name-at : (q : Trail) (n : ℕ) (P : Path) (x : Site) → IsThere fs q → IsThing S n → P ≡ Of q → Rounds S k (fact.Has P (place S.checked n) (value.Name x))
-      → (y : ℕ) × (x ≡ Called y) × Among (Has q n (Name y)) fs
-  name-at q n P x i t e h =
-      let z = has-at q n P (value.Name x) i t e h in
-      let w = value-name S fs z.0 x z.1 in
-      let F : RowValue → Type 0 = λ v. Among (Has q n v) fs in
-      (w.0, w.2, subst F w.1 z.2)
-
-  -- the structure of a Shape, by its number
-  shape-of : (y : ℕ) (x : Site) (lo hi : ℤ) → IsArrayOn S.checked fs y → x ≡ Called y → Rounds S k (shape x lo hi) → Among (Shape y lo hi) fs
-  shape-of y x lo hi a e h =
-      let z = known-shape x lo hi h in
-      let same = name-once S fs s.found z.0 y (s.found.arrays (Shape z.0 lo hi) z.2) a (sym z.1 ∙ e) in
-      let F : ℕ → Type 0 = λ i. Among (Shape i lo hi) fs in
-      subst F same z.2
 
   -- ---- what follows rows give
 
@@ -320,7 +67,7 @@ module _ (S : Source) (k : ℕ) (fs : List RowFact) (s : IsRound S k fs) where
   on-rises : (n a : ℕ) (P : Path) (z : Node) → Stands S.checked n z → is_thing z ≡ true → is_call z ≡ false → Turns (rows S.checked) n a
       → Rounds S k (fact.On P (place S.checked n)) → Rises (fact.On P (place S.checked a))
   on-rises n a P z st t c u h =
-      let x = known-on n P (node-thing S n z st t) h in
+      let x = known-on S k fs s n P (node-thing S n z st t) h in
       record {
         premises = On x.0 n ∷ [];
         given = On x.0 a;
@@ -348,16 +95,16 @@ module _ (S : Source) (k : ℕ) (fs : List RowFact) (s : IsRound S k fs) where
       → (w : RowValue) × (v ≡ value_at S.checked fs w) × Among (Has (out_of fs (far_from S.checked n (Some c)) q) c w) fs
   look-known q n c P v t l on e h =
       let d = far_from S.checked n (Some c) in
-      let z = there (On q n) on in
+      let z = there S k fs s (On q n) on in
       let o = out-there d q z in
       let path : without (between S n c) P ≡ Of (out_of fs d q) =
       ap (λ j. without j P) (sym (far-between S n c l t.within)) ∙ ap (λ r. without d r) e ∙ sym (path-out S.checked fs s.found.before d q) in
-      has-at (out_of fs d q) c (without (between S n c) P) v o t path h
+      has-at S k fs s (out_of fs d q) c (without (between S n c) P) v o t path h
     where
       out-there : (d : ℕ) (q : Trail) → IsThere fs q → IsThere fs (out_of fs d q)
       out-there zero q i = i
       out-there (suc d) Outermost i = out-there d Outermost i
-      out-there (suc d) (Below i j) z = out-there d (path_of (fact_at fs i)) (there (fact_at fs i) (among-at fs i z.inside))
+      out-there (suc d) (Below i j) z = out-there d (path_of (fact_at fs i)) (there S k fs s (fact_at fs i) (among-at fs i z.inside))
 
   -- ---- iterations
 
@@ -372,10 +119,10 @@ module _ (S : Source) (k : ℕ) (fs : List RowFact) (s : IsRound S k fs) where
 
   in-iteration : (P : Path) (n j a : ℕ) (v : SourceValue) → IsThing S n → IsThing S a
       → Rounds S k (fact.Has (below P (place S.checked n) j) (place S.checked a) v) → Within P n j a v
-  in-iteration P n j a v t u h = go x.path x.is_path x.known (there (Has x.path a x.value) x.known)
+  in-iteration P n j a v t u h = go x.path x.is_path x.known (there S k fs s (Has x.path a x.value) x.known)
     where
-      x : IsHas a (below P (place S.checked n) j) v
-      x = known-has a (below P (place S.checked n) j) v u h
+      x : IsHas S k fs s a (below P (place S.checked n) j) v
+      x = known-has S k fs s a (below P (place S.checked n) j) v u h
 
       go : (q : Trail) → below P (place S.checked n) j ≡ Of q → Among (Has q a x.value) fs → IsThere fs q → Within P n j a v
       go Outermost e w z = absurd (none-below P (place S.checked n) j (sym e))
@@ -385,7 +132,7 @@ module _ (S : Source) (k : ℕ) (fs : List RowFact) (s : IsRound S k fs) where
           let y = below-once P (Of b.0) (place S.checked n) (place S.checked b.1.0) j m (e ∙ path-by i m b.1.0 b.0 on) in
           let F : RowFact → Type 0 = λ f. IsOfThing S f in
           let c = subst F b.1.1 (s.found.things (fact_at fs i) (among-at fs i z.inside)) in
-          let r : b.1.0 ≡ n = thing b.1.0 n c t (sym y.1) in
+          let r : b.1.0 ≡ n = thing S k fs s b.1.0 n c t (sym y.1) in
           let G : ℕ → Type 0 = λ g. IsOnBy fs i b.0 g in
           let H : ℕ → Type 0 = λ g. Among (Has (Below i g) a x.value) fs in
           record { number = i; path = b.0; on = subst G r on; outer = y.0; value = x.value; is_value = x.is_value; known = subst H (sym y.2) w }
@@ -440,12 +187,12 @@ module _ (S : Source) (k : ℕ) (fs : List RowFact) (s : IsRound S k fs) where
 
   bounded : (n w x a b l : ℕ) (P : Path) (lo hi : ℤ) → ForStands S.checked n w x a b l → Rounds S k (fact.On P (place S.checked n))
       → Rounds S k (fact.Has P (place S.checked a) (value.Int lo)) → Rounds S k (fact.Has P (place S.checked b) (value.Int hi)) → Bounded n P a b lo hi
-  bounded n w x a b l P lo hi s on under above =
-      let y = known-on n P (loop-thing n s.head w l s.loop) on in
+  bounded n w x a b l P lo hi st on under above =
+      let y = known-on S k fs s n P (loop-thing n st.head w l st.loop) on in
       let o = on-by y.0 n y.2 in
-      let i = there (On y.0 n) y.2 in
-      let z = number-at y.0 a P lo i (lower-thing n w x a b l s) y.1 under in
-      let u = number-at y.0 b P hi i (upper-thing n w x a b l s) y.1 above in
+      let i = there S k fs s (On y.0 n) y.2 in
+      let z = number-at S k fs s y.0 a P lo i (lower-thing n w x a b l st) y.1 under in
+      let u = number-at S k fs s y.0 b P hi i (upper-thing n w x a b l st) y.1 above in
       record { number = o.0; path = y.0; on = o.1; outer = y.1; known = (y.2, (z, (u, tt))) }
 
   record Counted (n : ℕ) (P : Path) (j x b : ℕ) (y hi : ℤ) : Type 0 where
@@ -458,12 +205,12 @@ module _ (S : Source) (k : ℕ) (fs : List RowFact) (s : IsRound S k fs) where
   counted : (n w x a b l j : ℕ) (P : Path) (y hi : ℤ) → ForStands S.checked n w x a b l
       → Rounds S k (fact.Has (below P (place S.checked n) j) (place S.checked x) (value.Int y))
       → Rounds S k (fact.Has P (place S.checked b) (value.Int hi)) → Counted n P j x b y hi
-  counted n w x a b l j P y hi s index above =
-      let r = in-iteration P n j x (value.Int y) (loop-thing n s.head w l s.loop) (node-thing S x (node.Index s.name) s.index refl) index in
+  counted n w x a b l j P y hi st index above =
+      let r = in-iteration P n j x (value.Int y) (loop-thing n st.head w l st.loop) (node-thing S x (node.Index st.name) st.index refl) index in
       let F : RowValue → Type 0 = λ v. Among (Has (Below r.number j) x v) fs in
       let G : RowFact → Type 0 = λ f. Among f fs in
       let on = subst G r.on.fact (among-at fs r.number r.on.within) in
-      let u = number-at r.path b P hi (there (On r.path n) on) (upper-thing n w x a b l s) r.outer above in
+      let u = number-at S k fs s r.path b P hi (there S k fs s (On r.path n) on) (upper-thing n w x a b l st) r.outer above in
       record {
         number = r.number;
         path = r.path;
@@ -538,7 +285,7 @@ module _ (S : Source) (k : ℕ) (fs : List RowFact) (s : IsRound S k fs) where
     is = ap (λ v. fact.Has (Of Outermost) (place S.checked b) v) (sym (value-row S fs c));
   }
   complete (rule.literal_has {n = n} {c = c} {p = p} st) h =
-      let x = known-on n p (node-thing S n (node.Literal c) st refl) h.0 in
+      let x = known-on S k fs s n p (node-thing S n (node.Literal c) st refl) h.0 in
       record {
         premises = On x.0 n ∷ [];
         given = Has x.0 n (row_value c);
@@ -550,8 +297,8 @@ module _ (S : Source) (k : ℕ) (fs : List RowFact) (s : IsRound S k fs) where
   complete (rule.left_on {n = n} {a = a} {b = b} {o = o} {p = p} st) h = on-rises n a p (node.Binary o a b) st refl refl (left st.node) h.0
   complete (rule.right_on {n = n} {a = a} {b = b} {o = o} {p = p} st) h = on-rises n b p (node.Binary o a b) st refl refl (right st.node) h.0
   complete (rule.unary_has {n = n} {a = a} {o = o} {p = p} {x = x} c st e) h =
-      let y = known-on n p (node-thing S n (node.Unary o a) st refl) h.0 in
-      let z = constant-at y.0 a p c (there (On y.0 n) y.2) (part-thing S n a (node.Unary o a) st refl) y.1 h.1.0 in
+      let y = known-on S k fs s n p (node-thing S n (node.Unary o a) st refl) h.0 in
+      let z = constant-at S k fs s y.0 a p c (there S k fs s (On y.0 n) y.2) (part-thing S n a (node.Unary o a) st refl) y.1 h.1.0 in
       record {
         premises = On y.0 n ∷ Has y.0 a (row_value c) ∷ [];
         given = Has y.0 n (row_value x);
@@ -560,10 +307,10 @@ module _ (S : Source) (k : ℕ) (fs : List RowFact) (s : IsRound S k fs) where
         is = ap (λ q. fact.Has q (place S.checked n) (value_of x)) y.1 ∙ ap (λ v. fact.Has (Of y.0) (place S.checked n) v) (sym (value-row S fs x));
       }
   complete (rule.binary_has {n = n} {a = a} {b = b} {o = o} {p = p} {x = x} c d st e) h =
-      let y = known-on n p (node-thing S n (node.Binary o a b) st refl) h.0 in
-      let i = there (On y.0 n) y.2 in
-      let z = constant-at y.0 a p c i (part-thing S n a (node.Binary o a b) st (inl refl)) y.1 h.1.0 in
-      let w = constant-at y.0 b p d i (part-thing S n b (node.Binary o a b) st (inr refl)) y.1 h.1.1.0 in
+      let y = known-on S k fs s n p (node-thing S n (node.Binary o a b) st refl) h.0 in
+      let i = there S k fs s (On y.0 n) y.2 in
+      let z = constant-at S k fs s y.0 a p c i (part-thing S n a (node.Binary o a b) st (inl refl)) y.1 h.1.0 in
+      let w = constant-at S k fs s y.0 b p d i (part-thing S n b (node.Binary o a b) st (inr refl)) y.1 h.1.1.0 in
       record {
         premises = On y.0 n ∷ Has y.0 a (row_value c) ∷ Has y.0 b (row_value d) ∷ [];
         given = Has y.0 n (row_value x);
@@ -572,7 +319,7 @@ module _ (S : Source) (k : ℕ) (fs : List RowFact) (s : IsRound S k fs) where
         is = ap (λ q. fact.Has q (place S.checked n) (value_of x)) y.1 ∙ ap (λ v. fact.Has (Of y.0) (place S.checked n) v) (sym (value-row S fs x));
       }
   complete (rule.name_has {n = n} {x = x} {b = b} {p = p} {v = v} st e) h =
-      let y = known-on n p (node-thing S n (node.Name x) st refl) h.0 in
+      let y = known-on S k fs s n p (node-thing S n (node.Name x) st refl) h.0 in
       let q = binder_of S.checked n x b st e in
       let t : IsThing S b = record { within = q.0; thing = thing-binder (at (rows S.checked) b).node q.1 } in
       let z = look-known y.0 n b p v t st.within y.2 y.1 h.1.0 in
@@ -588,8 +335,8 @@ module _ (S : Source) (k : ℕ) (fs : List RowFact) (s : IsRound S k fs) where
       on-rises n t p (node.If i.split i.then i.otherwise) i.stands refl refl (test i.stands.node i.splits.node) h.0
   complete (rule.arm_on {n = n} {t = t} {a = a} {b = b} {p = p} c) h =
       let i = choice c in
-      let y = known-on n p (node-thing S n (node.If i.split i.then i.otherwise) i.stands refl) h.0 in
-      let z = constant-at y.0 t p (constant.Bool b) (there (On y.0 n) y.2) (part-thing S i.split t (node.Split t) i.splits refl) y.1 h.1.0 in
+      let y = known-on S k fs s n p (node-thing S n (node.If i.split i.then i.otherwise) i.stands refl) h.0 in
+      let z = constant-at S k fs s y.0 t p (constant.Bool b) (there S k fs s (On y.0 n) y.2) (part-thing S i.split t (node.Split t) i.splits refl) y.1 h.1.0 in
       record {
         premises = On y.0 n ∷ Has y.0 t (Bool b) ∷ [];
         given = On y.0 (arm_of b i.then i.otherwise);
@@ -600,10 +347,10 @@ module _ (S : Source) (k : ℕ) (fs : List RowFact) (s : IsRound S k fs) where
   complete (rule.conditional_has {n = n} {t = t} {a = a} {b = b} {p = p} {v = v} c) h =
       let i = choice c in
       let z = node.If i.split i.then i.otherwise in
-      let y = known-on n p (node-thing S n z i.stands refl) h.0 in
-      let d = there (On y.0 n) y.2 in
-      let w = constant-at y.0 t p (constant.Bool b) d (part-thing S i.split t (node.Split t) i.splits refl) y.1 h.1.0 in
-      let u = has-at y.0 a p v d (part-thing S n a z i.stands (arm-part b i.then i.otherwise a i.arm)) y.1 h.1.1.0 in
+      let y = known-on S k fs s n p (node-thing S n z i.stands refl) h.0 in
+      let d = there S k fs s (On y.0 n) y.2 in
+      let w = constant-at S k fs s y.0 t p (constant.Bool b) d (part-thing S i.split t (node.Split t) i.splits refl) y.1 h.1.0 in
+      let u = has-at S k fs s y.0 a p v d (part-thing S n a z i.stands (arm-part b i.then i.otherwise a i.arm)) y.1 h.1.1.0 in
       let F : ℕ → Type 0 = λ r. Among (Has y.0 r u.0) fs in
       record {
         premises = On y.0 n ∷ Has y.0 t (Bool b) ∷ Has y.0 (arm_of b i.then i.otherwise) u.0 ∷ [];
@@ -617,7 +364,7 @@ module _ (S : Source) (k : ℕ) (fs : List RowFact) (s : IsRound S k fs) where
       arm-part true x y a e = inl (sym e)
       arm-part false x y a e = inr (sym e)
   complete (rule.argument_on {n = n} {e = e} {c = c} {m = m} {k = j} {v = a} {p = p} st t) h =
-      let y = known-on n p (node-thing S n (node.Call e c) st refl) h.0 in
+      let y = known-on S k fs s n p (node-thing S n (node.Call e c) st refl) h.0 in
       record {
         premises = On y.0 n ∷ [];
         given = On y.0 a;
@@ -626,7 +373,7 @@ module _ (S : Source) (k : ℕ) (fs : List RowFact) (s : IsRound S k fs) where
         is = ap (λ q. fact.On q (place S.checked a)) y.1;
       }
   complete (rule.callee_on {n = n} {e = e} {c = c} {b = b} {p = p} st bd df) h =
-      let y = known-on n p (node-thing S n (node.Call e c) st refl) h.0 in
+      let y = known-on S k fs s n p (node-thing S n (node.Call e c) st refl) h.0 in
       let o = on-by y.0 n y.2 in
       record {
         premises = On y.0 n ∷ [];
@@ -636,9 +383,9 @@ module _ (S : Source) (k : ℕ) (fs : List RowFact) (s : IsRound S k fs) where
         is = ap (λ q. fact.On q (place S.checked b)) (below-by o.0 0 n y.0 p o.1 y.1);
       }
   complete (rule.argument_has {n = n} {e = e} {c = c} {m = m} {i = j} {v = a} {q = q} {p = p} {u = u} st t bd df par) h =
-      let y = known-on n p (node-thing S n (node.Call e c) st refl) h.0 in
+      let y = known-on S k fs s n p (node-thing S n (node.Call e c) st refl) h.0 in
       let o = on-by y.0 n y.2 in
-      let z = has-at y.0 a p u (there (On y.0 n) y.2) (part-thing S m a (node.Arg e j a) t refl) y.1 h.1.0 in
+      let z = has-at S k fs s y.0 a p u (there S k fs s (On y.0 n) y.2) (part-thing S m a (node.Arg e j a) t refl) y.1 h.1.0 in
       record {
         premises = On y.0 n ∷ Has y.0 a z.0 ∷ [];
         given = Has (Below o.0 0) q z.0;
@@ -647,10 +394,10 @@ module _ (S : Source) (k : ℕ) (fs : List RowFact) (s : IsRound S k fs) where
         is = ap (λ r. fact.Has r (place S.checked q) u) (below-by o.0 0 n y.0 p o.1 y.1) ∙ ap (λ w. fact.Has (Of (Below o.0 0)) (place S.checked q) w) z.1;
       }
   complete (rule.call_has {n = n} {e = e} {c = c} {d = d} {x = x} {h = g} {b = b} {k = j} {p = p} {u = u} st bd df) h =
-      let y = known-on n p (node-thing S n (node.Call e c) st refl) h.0 in
+      let y = known-on S k fs s n p (node-thing S n (node.Call e c) st refl) h.0 in
       let o = on-by y.0 n y.2 in
       let z =
-      has-at (Below o.0 0) b (below p (place S.checked n) 0) u (there-below o.0 0 n y.0 o.1) (part-thing S d b (node.Def x g j b) df refl)
+      has-at S k fs s (Below o.0 0) b (below p (place S.checked n) 0) u (there-below o.0 0 n y.0 o.1) (part-thing S d b (node.Def x g j b) df refl)
       (below-by o.0 0 n y.0 p o.1 y.1) h.1.0 in
       record {
         premises = On y.0 n ∷ Has (Below o.0 0) b z.0 ∷ [];
@@ -660,7 +407,7 @@ module _ (S : Source) (k : ℕ) (fs : List RowFact) (s : IsRound S k fs) where
         is = ap (λ r. fact.Has r (place S.checked n) u) y.1 ∙ ap (λ w. fact.Has (Of y.0) (place S.checked n) w) z.1;
       }
   complete (rule.loop_test_on {n = n} {h = g} {w = w} {t = t} {l = l} {p = p} st) h =
-      let y = known-on n p (loop-thing n g w l st.loop) h.0 in
+      let y = known-on S k fs s n p (loop-thing n g w l st.loop) h.0 in
       let o = on-by y.0 n y.2 in
       record {
         premises = On y.0 n ∷ [];
@@ -670,7 +417,7 @@ module _ (S : Source) (k : ℕ) (fs : List RowFact) (s : IsRound S k fs) where
         is = ap (λ q. fact.On q (place S.checked t)) (below-by o.0 0 n y.0 p o.1 y.1);
       }
   complete (rule.first_has {n = n} {h = g} {w = w} {l = l} {m = m} {o = x} {v = a} {c = c} {p = p} {u = u} st y e) h =
-      let z = known-on n p (loop-thing n g w l st) h.0 in
+      let z = known-on S k fs s n p (loop-thing n g w l st) h.0 in
       let o = on-by z.0 n z.2 in
       let q = use_binder S.checked m g x a c y e in
       let i : IsThing S c = record { within = q.0; thing = thing-binder (at (rows S.checked) c).node q.1 } in
@@ -758,8 +505,8 @@ module _ (S : Source) (k : ℕ) (fs : List RowFact) (s : IsRound S k fs) where
   complete (rule.store_on {n = n} {m = m} {a = a} {x = x} {b = b} {p = p} st i tb) h = on-rises n m p (node.Block b) st refl refl (stored st.node i tb.node) h.0
   complete (rule.body_on {n = n} {b = b} {p = p} st) h = on-rises n b p (node.Block b) st refl refl (body st.node) h.0
   complete (rule.block_has {n = n} {b = b} {p = p} {v = v} st) h =
-      let y = known-on n p (node-thing S n (node.Block b) st refl) h.0 in
-      let z = has-at y.0 b p v (there (On y.0 n) y.2) (part-thing S n b (node.Block b) st refl) y.1 h.1.0 in
+      let y = known-on S k fs s n p (node-thing S n (node.Block b) st refl) h.0 in
+      let z = has-at S k fs s y.0 b p v (there S k fs s (On y.0 n) y.2) (part-thing S n b (node.Block b) st refl) y.1 h.1.0 in
       record {
         premises = On y.0 n ∷ Has y.0 b z.0 ∷ [];
         given = Has y.0 n z.0;
@@ -768,7 +515,7 @@ module _ (S : Source) (k : ℕ) (fs : List RowFact) (s : IsRound S k fs) where
         is = ap (λ r. fact.Has r (place S.checked n) v) y.1 ∙ ap (λ w. fact.Has (Of y.0) (place S.checked n) w) z.1;
       }
   complete (rule.binding_has {n = n} {x = x} {a = a} {p = p} {v = v} st) h =
-      let z = known-has a p v (part-thing S n a (node.Binding x a) st refl) h.0 in
+      let z = known-has S k fs s a p v (part-thing S n a (node.Binding x a) st refl) h.0 in
       record {
         premises = Has z.path a z.value ∷ [];
         given = Has z.path n z.value;
@@ -779,11 +526,11 @@ module _ (S : Source) (k : ℕ) (fs : List RowFact) (s : IsRound S k fs) where
   complete (rule.bounds_low_on {n = n} {a = a} {b = b} {nested = nested} {p = p} st) h = on-rises n a p (node.Array nested a b) st refl refl (low st.node) h.0
   complete (rule.bounds_high_on {n = n} {a = a} {b = b} {nested = nested} {p = p} st) h = on-rises n b p (node.Array nested a b) st refl refl (high st.node) h.0
   complete (rule.shape_made {n = n} {a = a} {b = b} {nested = nested} {p = p} {lo = lo} {hi = hi} st e) h =
-      let y = known-on n p (node-thing S n (node.Array nested a b) st refl) h.0 in
+      let y = known-on S k fs s n p (node-thing S n (node.Array nested a b) st refl) h.0 in
       let o = on-by y.0 n y.2 in
-      let i = there (On y.0 n) y.2 in
-      let z = number-at y.0 a p lo i (part-thing S n a (node.Array nested a b) st (inl refl)) y.1 h.1.0 in
-      let w = number-at y.0 b p hi i (part-thing S n b (node.Array nested a b) st (inr refl)) y.1 h.1.1.0 in
+      let i = there S k fs s (On y.0 n) y.2 in
+      let z = number-at S k fs s y.0 a p lo i (part-thing S n a (node.Array nested a b) st (inl refl)) y.1 h.1.0 in
+      let w = number-at S k fs s y.0 b p hi i (part-thing S n b (node.Array nested a b) st (inr refl)) y.1 h.1.1.0 in
       record {
         premises = On y.0 n ∷ Has y.0 a (Int lo) ∷ Has y.0 b (Int hi) ∷ [];
         given = Shape o.0 lo hi;
@@ -795,11 +542,11 @@ module _ (S : Source) (k : ℕ) (fs : List RowFact) (s : IsRound S k fs) where
       called : (i n : ℕ) (q : Trail) → IsOnBy fs i q n → site (Of q) (place S.checked n) ≡ Called i
       called i n q b = sym (ap (λ g. site (Of (path_of g)) (place S.checked (row_of g))) b.fact)
   complete (rule.array_has {n = n} {a = a} {b = b} {nested = nested} {p = p} {lo = lo} {hi = hi} st e) h =
-      let y = known-on n p (node-thing S n (node.Array nested a b) st refl) h.0 in
+      let y = known-on S k fs s n p (node-thing S n (node.Array nested a b) st refl) h.0 in
       let o = on-by y.0 n y.2 in
-      let i = there (On y.0 n) y.2 in
-      let z = number-at y.0 a p lo i (part-thing S n a (node.Array nested a b) st (inl refl)) y.1 h.1.0 in
-      let w = number-at y.0 b p hi i (part-thing S n b (node.Array nested a b) st (inr refl)) y.1 h.1.1.0 in
+      let i = there S k fs s (On y.0 n) y.2 in
+      let z = number-at S k fs s y.0 a p lo i (part-thing S n a (node.Array nested a b) st (inl refl)) y.1 h.1.0 in
+      let w = number-at S k fs s y.0 b p hi i (part-thing S n b (node.Array nested a b) st (inr refl)) y.1 h.1.1.0 in
       record {
         premises = On y.0 n ∷ Has y.0 a (Int lo) ∷ Has y.0 b (Int hi) ∷ [];
         given = Has y.0 n (Name o.0);
@@ -814,11 +561,11 @@ module _ (S : Source) (k : ℕ) (fs : List RowFact) (s : IsRound S k fs) where
   complete (rule.fetch_target_on {n = n} {t = t} {i = i} {p = p} st) h = on-rises n t p (node.Fetch t i) st refl refl (fetched st.node) h.0
   complete (rule.fetch_index_on {n = n} {t = t} {i = i} {p = p} st) h = on-rises n i p (node.Fetch t i) st refl refl (fetch_index st.node) h.0
   complete (rule.asks {n = n} {t = t} {i = i} {p = p} {s = x} {j = j} {lo = lo} {hi = hi} st e) h =
-      let y = known-on n p (node-thing S n (node.Fetch t i) st refl) h.0 in
-      let d = there (On y.0 n) y.2 in
-      let z = name-at y.0 t p x d (part-thing S n t (node.Fetch t i) st (inl refl)) y.1 h.1.0 in
-      let w = number-at y.0 i p j d (part-thing S n i (node.Fetch t i) st (inr refl)) y.1 h.1.1.0 in
-      let g = shape-of z.0 x lo hi (s.found.arrays (Has y.0 t (Name z.0)) z.2) z.1 h.1.1.1.0 in
+      let y = known-on S k fs s n p (node-thing S n (node.Fetch t i) st refl) h.0 in
+      let d = there S k fs s (On y.0 n) y.2 in
+      let z = name-at S k fs s y.0 t p x d (part-thing S n t (node.Fetch t i) st (inl refl)) y.1 h.1.0 in
+      let w = number-at S k fs s y.0 i p j d (part-thing S n i (node.Fetch t i) st (inr refl)) y.1 h.1.1.0 in
+      let g = shape-of S k fs s z.0 x lo hi (s.found.arrays (Has y.0 t (Name z.0)) z.2) z.1 h.1.1.1.0 in
       record {
         premises = On y.0 n ∷ Has y.0 t (Name z.0) ∷ Has y.0 i (Int j) ∷ Shape z.0 lo hi ∷ [];
         given = Ask y.0 n z.0 j;
@@ -827,8 +574,8 @@ module _ (S : Source) (k : ℕ) (fs : List RowFact) (s : IsRound S k fs) where
         is = ap (λ q. ask (site q (place S.checked n)) x j) y.1 ∙ ap (λ q. ask (site (Of y.0) (place S.checked n)) q j) z.1;
       }
   complete (rule.fetch_has {f = f} {s = x} {a = a} {j = j} {v = v}) h =
-      let y = known-ask f x j h.0 in
-      let z = known-put x j v a h.1.0 in
+      let y = known-ask S k fs s f x j h.0 in
+      let z = known-put S k fs s x j v a h.1.0 in
       let same =
       name-once S fs s.found z.name y.name (s.found.arrays (Put z.path z.row z.name j z.value) z.known).0 (s.found.arrays (Ask y.path y.row y.name j) y.known)
       (sym z.is_name ∙ y.is_name) in
@@ -844,12 +591,12 @@ module _ (S : Source) (k : ℕ) (fs : List RowFact) (s : IsRound S k fs) where
   complete (rule.store_index_on {m = m} {t = t} {i = i} {x = x} {p = p} st) h = store-on m t i x i p st (address_index st.store.node st.parts.node) h.0
   complete (rule.store_value_on {m = m} {t = t} {i = i} {x = x} {p = p} st) h = store-on m t i x x p st (stored_value st.store.node) h.0
   complete (rule.puts {m = m} {t = t} {i = i} {x = x} {p = p} {s = y} {j = j} {lo = lo} {hi = hi} {v = v} st e) h =
-      let z = known-on m p (node-thing S m (node.Store st.address x) st.store refl) h.0 in
-      let d = there (On z.0 m) z.2 in
-      let a = name-at z.0 t p y d (part-thing S st.address t (node.Address t i) st.parts (inl refl)) z.1 h.1.0 in
-      let b = number-at z.0 i p j d (part-thing S st.address i (node.Address t i) st.parts (inr refl)) z.1 h.1.1.0 in
-      let c = has-at z.0 x p v d (part-thing S m x (node.Store st.address x) st.store refl) z.1 h.1.1.1.0 in
-      let g = shape-of a.0 y lo hi (s.found.arrays (Has z.0 t (Name a.0)) a.2) a.1 h.1.1.1.1.0 in
+      let z = known-on S k fs s m p (node-thing S m (node.Store st.address x) st.store refl) h.0 in
+      let d = there S k fs s (On z.0 m) z.2 in
+      let a = name-at S k fs s z.0 t p y d (part-thing S st.address t (node.Address t i) st.parts (inl refl)) z.1 h.1.0 in
+      let b = number-at S k fs s z.0 i p j d (part-thing S st.address i (node.Address t i) st.parts (inr refl)) z.1 h.1.1.0 in
+      let c = has-at S k fs s z.0 x p v d (part-thing S m x (node.Store st.address x) st.store refl) z.1 h.1.1.1.0 in
+      let g = shape-of S k fs s a.0 y lo hi (s.found.arrays (Has z.0 t (Name a.0)) a.2) a.1 h.1.1.1.1.0 in
       record {
         premises = On z.0 m ∷ Has z.0 t (Name a.0) ∷ Has z.0 i (Int j) ∷ Has z.0 x c.0 ∷ Shape a.0 lo hi ∷ [];
         given = Put z.0 m a.0 j c.0;

@@ -31,7 +31,7 @@ use Rattle.id_given.specs.Given.{given}
 use Rattle.id_facts.specs.Firsts.{ons}
 use Rattle.id_listing.specs.Listed.{AreFound}
 use Rattle.id_source.specs.Things.{IsThing}
-use Rattle.id_meaning.proofs.CompleteLemmas.{among-inside}
+use Rattle.id_meaning.proofs.KnownLemmas.{among-inside}
 use Rattle.id_cells.proofs.LookupLemmas.{ask-true, fact-there, named-true, put-true, told-among}
 use Rattle.id_meaning.proofs.EffectsLemmas.{Given, given-only, haves-among, ons-among}
 use Rattle.id_meaning.proofs.FollowsLemmas.{BeginsIn, answered-only, call-only, exit-only, loop-only, pass-only, start-only}

@@ -35,7 +35,8 @@ use Rattle.id_listing.specs.Listed.{AreFound, BeginsOn, IsArrayOn, IsOfThing, Is
 use Rattle.id_listing.specs.Listed.{site_at, value_at}
 use Rattle.id_meaning.specs.Following.{Goes}
 use Rattle.id_facts.proofs.FactsLemmas.{among-at, index-of}
-use Rattle.id_meaning.proofs.CompleteLemmas.{among-inside, complete}
+use Rattle.id_meaning.proofs.CompleteLemmas.{complete}
+use Rattle.id_meaning.proofs.KnownLemmas.{among-inside}
 use Rattle.id_facts.proofs.FactsLemmas.{Inside, at-front, fact-before, inside-more}
 use Rattle.id_listing.proofs.PathsLemmas.{path-grown}
 use Rattle.id_source.proofs.RoundsLemmas.{Rounds-follow}

@@ -1,6 +1,7 @@
 pub mod ArgumentsLemmas
 pub mod ForLemmas
 pub mod RulesLemmas
+pub mod KnownLemmas
 pub mod CompleteLemmas
 pub mod EffectsLemmas
 pub mod FollowsLemmas

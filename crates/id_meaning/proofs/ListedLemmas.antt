@@ -26,7 +26,7 @@ use Rattle.id_facts.specs.RowFacts.{fact_at}
 use Rattle.id_listing.specs.Listed.{AreFound, AreShown, IsPart, IsRound, NamesArray, fact_of, facts_in, name_at, path_at, value_at}
 use Rattle.id_source.specs.Things.{IsThing}
 use Rattle.id_source.proofs.CheckedLemmas.{apart_of}
-use Rattle.id_meaning.proofs.CompleteLemmas.{IsThere, name-once, path-once, there-of}
+use Rattle.id_meaning.proofs.KnownLemmas.{IsThere, name-once, path-once, there-of}
 use Rattle.id_facts.proofs.FactsLemmas.{among-at}
 use Rattle.id_listing.proofs.OrdersLemmas.{FactsRise-up, is_same, is_same-flips, is_same-itself, is_same-one}
 

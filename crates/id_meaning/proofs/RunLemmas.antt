@@ -33,7 +33,7 @@ use Rattle.id_cells.specs.Waits.{AreWaits, Waits}
 use Rattle.id_meaning.specs.Following.{Goes}
 use Rattle.id_meaning.specs.Following.{AreFirst, FollowsNews, IsFewRound, IsFresh, IsStop, news_behind}
 use Rattle.id_meaning.proofs.AllFollowLemmas.{all-follow}
-use Rattle.id_meaning.proofs.CompleteLemmas.{among-inside}
+use Rattle.id_meaning.proofs.KnownLemmas.{among-inside}
 use Rattle.id_meaning.proofs.GivenLemmas.{all-effects-only}
 use Rattle.id_meaning.proofs.LearnLemmas.{Arises, arises-old-or-new, first-all, first-arises, first-round}
 use Rattle.id_facts.proofs.LearntLemmas.{Learns}
