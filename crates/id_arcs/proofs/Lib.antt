@@ -3,6 +3,7 @@ pub mod CallsLemmas
 pub mod ImportsLemmas
 pub mod OrderLemmas
 pub mod RowLemmas
+pub mod FeedsLemmas
 pub mod NamesSeen
 pub mod RegionsLemmas
 pub mod JoinedLemmas

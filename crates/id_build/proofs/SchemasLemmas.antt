@@ -5,7 +5,8 @@ use Rattle.std.specs.Prelude.{All, IsSome, option_and_then, slice_get}
 use Rattle.std.proofs.lemmas.Option.{slice_get-get_or, slice_get_within}
 use Rattle.id_build.proofs.ArcsLemmas.{AllDiffer-arcs_in, AllDiffer-dests, arcs_in-among, arcs_in-from, dests_from-among, dests_from-from, Tells}
 use Rattle.id_build.proofs.NumberLemmas.{first_in-apart, pieces_in-at, pieces_in-from}
-use Rattle.id_arcs.proofs.RowLemmas.{feeds_come, feeds_differ, feeds_take, IsBuildable, IsOrigin, Takes}
+use Rattle.id_arcs.proofs.RowLemmas.{feeds_take, IsBuildable, IsOrigin, Takes}
+use Rattle.id_arcs.proofs.FeedsLemmas.{feeds_come, feeds_differ}
 use Rattle.id_check.specs.declared.checked.Checked.{Checked}
 use Rattle.id_instr.specs.declared.instr.Op.{Op}
 use Rattle.id_instr.specs.declared.instr.Instr.{Instr}

@@ -27,7 +27,7 @@ use Rattle.id_source.specs.declared.Fact.TheVariants.{Has}
 use Rattle.id_source.specs.Sources.{Source, value_of}
 use Rattle.id_source.specs.Facts.{ForStands, GoesOn, by_predicate, by_bounds, by_index}
 use Rattle.id_source.specs.Facts.{LoopStands, below, without, between, Rule}
-use Rattle.id_source.specs.Facts.{StoreStands, ask, put, puts, second_store, shape, site}
+use Rattle.id_source.specs.Facts.{StoreStands, ask, put, second_store, shape, site}
 use Rattle.id_source.specs.Rounds.{Every, FaultFree, Rounds, Holds, IsCoherent}
 use Rattle.id_source.proofs.CheckedLemmas.{apart_of, loop-of, within-there}
 use Rattle.id_source.proofs.LiveLemmas.{GoesIn, IsFetch, all-fine, false-there, true-below}
