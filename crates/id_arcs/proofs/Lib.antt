@@ -1,5 +1,6 @@
 pub mod BuildableLemmas
 pub mod CallsLemmas
+pub mod BindersLemmas
 pub mod ImportsLemmas
 pub mod OrderLemmas
 pub mod RowLemmas

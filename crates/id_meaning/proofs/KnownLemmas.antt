@@ -202,7 +202,7 @@ module _ (S : Source) (k : ℕ) (fs : List RowFact) (s : IsRound S k fs) where
       go (Put q m y j w) i e = cc
       go (Ask q m y j) i e = cc
 
-  record IsPut (x : Site) (j : ℤ) (v : SourceValue) (a : Site) : Type 0 where
+  pub record IsPut (x : Site) (j : ℤ) (v : SourceValue) (a : Site) : Type 0 where
     pub path : Trail
     pub row : ℕ
     pub name : ℕ
@@ -227,7 +227,7 @@ module _ (S : Source) (k : ℕ) (fs : List RowFact) (s : IsRound S k fs) where
           record { path = q; row = m; name = y; value = w; is_name = b; is_value = d; known = subst F c i }
       go (Ask q m y l) i e = cc
 
-  record IsAsk (f x : Site) (j : ℤ) : Type 0 where
+  pub record IsAsk (f x : Site) (j : ℤ) : Type 0 where
     pub path : Trail
     pub row : ℕ
     pub name : ℕ
