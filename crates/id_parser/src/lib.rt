@@ -16,6 +16,7 @@ macro_rules! found {
     };
 }
 
+mod blocks;
 mod parser;
 
 pub use parser::parse_enclosed;
