@@ -208,7 +208,7 @@ Numbered-graph_by P order F t o fs = record {
       (subst H port (takes.takes (number_by F)))
       );
   answer_first = fs.at (answer_row P) o.answer_within ∙ o.answer_first;
-  parts_behind = λ n k. omega arith;
+  second_behind = λ h x. omega arith;
   blocks = refl;
 }
   where

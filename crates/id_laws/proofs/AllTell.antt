@@ -61,7 +61,7 @@ use Rattle.id_laws.proofs.Begun.{begun_at}
 use Rattle.id_laws.proofs.Sendings.{head_parts, wants_back, wants_signal}
 use Rattle.id_laws.proofs.Regions.{own_depth}
 use Rattle.id_laws.proofs.Arcs.{Does, answers, enters, gets, gets_reply, opens, doing, makes, part_of, target_part}
-use Rattle.id_laws.proofs.Blocks.{a_param}
+use Rattle.id_laws.proofs.Blocks.{a_param, all_listed}
 use Rattle.id_laws.proofs.Calls.{arg_at, call_at, callee_stands}
 use Rattle.id_laws.proofs.Sent.{sends_there}
 use Rattle.id_pieces.proofs.EndsLemmas.{end_is}
@@ -363,7 +363,8 @@ module _ (S : Source) (known : IsKnown S.checked) (g : Parts) (number : ℕ → 
       → T (Token (tag_within c (b + 1)) Zero (value.Continuation (beside t r)))
   second_tells t n c b r within x opened at back_at =
       let h = x.head in
-      let second : b + 1 ≡ number h 1 = ap (λ m. m + 1) at ∙ sym (numbered.parts_behind h 1) in
+      let begun = begun_at known within x.begins in
+      let second : b + 1 ≡ number h 1 = ap (λ m. m + 1) at ∙ sym (numbered.second_behind h (all_listed P h begun.head_within begun.head)) in
       let v = value.Continuation (beside t r) in
       let value_is : v ≡ value.Continuation (tag_in (activation_of t) (number x.end 0)) = ap (λ m. value.Continuation (beside t m)) back_at in
       record {

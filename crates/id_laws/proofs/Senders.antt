@@ -61,6 +61,8 @@ use Rattle.id_runs.proofs.Waiting.{has_fired, HasFired, OperandsHandled, one_han
 use Rattle.id_laws.specs.Activations.{Begins, Opens, ReturnsTo, to_answer, to_row}
 use Rattle.id_laws.specs.Topics.{AllTell, IsPart, Tells, Told, ToldRead, ShownContext, ShownWayBack}
 use Rattle.id_laws.specs.Ways.{Way, by_arc, by_move, by_send, by_enter, by_continuation, by_back, by_reply, SendsTo}
+use Rattle.id_laws.proofs.Begun.{begun_at}
+use Rattle.id_laws.proofs.Blocks.{all_listed}
 use Rattle.id_laws.proofs.Arcs.{answers, doing, gets_reply, part_of, target_part}
 use Rattle.id_laws.proofs.Assumed.{IsKnown}
 use Rattle.id_laws.proofs.Sendings.{Passing, is_back, is_enter, is_fetch, is_send, is_store, head_parts, returns_at}
@@ -459,7 +461,8 @@ module _ (S : Source) (g : Parts) (number : ℕ → ℕ → ℕ) (numbered : Num
   came_second : (e : Event) (x : Payload) (t : Tag) (c : Context) (b back : ℕ) → Opening t c e b back
       → x ≡ Token (tag_within c (b + 1)) Zero (Continuation (beside t back)) → CameBy S number run e x
   came_second e x t c b back o says =
-      let second : b + 1 ≡ number o.head 1 = ap (λ k. k + 1) o.first ∙ sym (numbered.parts_behind o.head 1) in
+      let begun = begun_at known o.within o.begins in
+      let second : b + 1 ≡ number o.head 1 = ap (λ k. k + 1) o.first ∙ sym (numbered.second_behind o.head (all_listed S.checked o.head begun.head_within begun.head)) in
       let to : beside t back ≡ tag_in (activation_of t) (number o.end 0) = ap (beside t) o.returns_to in
       record {
         activation = at_iteration c 0;

@@ -171,7 +171,7 @@ module _ (S : Source) (g : Parts) (number : ℕ → ℕ → ℕ) (numbered : Num
   pub starting_is : starting g S.inputs ≡ signal_to ∷ way_back_to ∷ inputs_to (params_at (rows P) main) S.inputs
   starting_is =
       ap (λ bs. map (λ (m : Message). m.payload) (block_messages bs S.inputs)) main_block
-      ∙ (λ i. signal_to ∷ Token (tag_in main_activation (sym (numbered.parts_behind main 1) i)) Zero
+      ∙ (λ i. signal_to ∷ Token (tag_in main_activation (sym (numbered.second_behind main (all_listed P main main_within (ap begins_block main_is_head))) i)) Zero
       (Continuation (tag_in main_activation (sym numbered.answer_first i)))
       ∷ inputs_sent 2 (params_at (rows P) main) S.inputs i)
 

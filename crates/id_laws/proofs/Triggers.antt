@@ -49,6 +49,7 @@ use Rattle.id_valid.specs.Roles.{op_at}
 use Rattle.id_tag.specs.declared.Payload.TheVariants.{Token}
 use Rattle.id_instr.specs.declared.instr.Instr.{Instr}
 use Rattle.id_laws.proofs.Begun.{begun_at}
+use Rattle.id_laws.proofs.Blocks.{all_listed}
 use Rattle.id_laws.proofs.Conditionals.{tests_no_block}
 use Rattle.id_laws.proofs.Regions.{as_tests, home_depth, home_row, region_of, same_depth}
 use Rattle.id_laws.proofs.Sources.{tests_other}
@@ -111,9 +112,10 @@ module _ (S : Source) (g : Parts) (number : ℕ → ℕ → ℕ) (numbered : Num
       → Among (Token (tag_in (at_iteration c 0) (number h 1)) Zero (Continuation (tag_in a (number q 0)))) (handled run)
   second_came {a} {n} {h} {q} {c} within is o =
       let v = Continuation (tag_in a (number q 0)) in
+      let z = begun_at known within is in
       let out = sent_handled S g number numbered known count only s run r quiet o (Token (tag_in (at_iteration c 0) (number h 0 + 1)) Zero v)
       (second_sent g (tag_in a (number n 0)) c (number h 0) (number q 0) (opener_names within is)) in
-      subst (λ k. Among (Token (tag_in (at_iteration c 0) k) Zero v) (handled run)) (sym (numbered.parts_behind h 1)) out
+      subst (λ k. Among (Token (tag_in (at_iteration c 0) k) Zero v) (handled run)) (sym (numbered.second_behind h (all_listed P h z.head_within z.head))) out
 
   -- what feeds the first of a row's switches
   switch_fed : {n t : ℕ} → Tests P n t → n < length (rows P) → Feeds P (origin P t) n 0 Zero × Feeds P (trigger_of (region P n)) n 0 Second

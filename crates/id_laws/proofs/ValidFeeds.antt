@@ -54,7 +54,7 @@ use Rattle.id_laws.proofs.Arcs.{resets, gets_last, allocates, addresses, fetches
 use Rattle.id_laws.proofs.Arcs.{meets_bound, goes_further, hands_index, has_one, adds_one, turned, carries_on}
 use Rattle.id_laws.proofs.Arcs.{none_carried, three_carried, gets_reply, stores, target_part, opens, passes, gets}
 use Rattle.id_laws.proofs.Feeders.{FromArm, import_listed, imports_fed, one_feed}
-use Rattle.id_laws.proofs.Blocks.{param_listed}
+use Rattle.id_laws.proofs.Blocks.{all_listed, param_listed}
 use Rattle.id_laws.proofs.LoopRows.{entered_as}
 use Rattle.id_pieces.proofs.EndsLemmas.{loop_same, not_last}
 use Rattle.id_pieces.proofs.LoopsLemmas.{switches_high, switches_low}
@@ -146,7 +146,7 @@ module _ (P : Checked) (known : IsKnown P) (g : Parts) (number : ℕ → ℕ →
       let k = number n 1 in
       let second : is_second g k ≡ true =
       any_among (λ (b : Block). b.first + 1 == k) (block_of P number n) g.blocks (block_among P known g number numbered n within is)
-      (same_number (number n 0 + 1) k (sym (numbered.parts_behind n 1))) in
+      (same_number (number n 0 + 1) k (sym (numbered.second_behind n (all_listed P n within is)))) in
       still (is_reply g k) (fourth_of (k == 0) (is_first g k) (is_entry g k) (is_second g k && same_port Zero Zero) (rw second refl))
 
   -- a parameter stands in the block of a procedure

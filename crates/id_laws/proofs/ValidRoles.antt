@@ -81,7 +81,7 @@ module _ (P : Checked) (known : IsKnown P) (g : Parts) (number : ℕ → ℕ →
   second_is n h =
       let t = among_any (λ (b : Block). b.first + 1 == n) g.blocks h in
       let d = block_from t.0 t.1 in
-      let at : number d.head 1 ≡ n = numbered.parts_behind d.head 1 ∙ sym (ap (λ (b : Block). b.first + 1) d.is) ∙ number_is ((t.0).first + 1) n t.2 in
+      let at : number d.head 1 ≡ n = numbered.second_behind d.head (all_listed P d.head d.within d.begins) ∙ sym (ap (λ (b : Block). b.first + 1) d.is) ∙ number_is ((t.0).first + 1) n t.2 in
       subst (λ k. IsSome (option_and_then back_kind (op_at g k))) at (second_does d.head d.within d.begins)
 
   entry_is : (n : ℕ) → IsTrue (is_entry g n) → IsSome (option_and_then merge_kind (op_at g n))

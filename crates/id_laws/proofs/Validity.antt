@@ -35,7 +35,7 @@ use Rattle.id_laws.proofs.Arcs.{answers, makes, sends_in, gives_back, varies, ta
 use Rattle.id_laws.proofs.Arcs.{resets, gets_last, allocates, addresses, fetches, bounds_meet, begins_index, carries}
 use Rattle.id_laws.proofs.Arcs.{meets_bound, goes_further, hands_index, has_one, adds_one, gets_reply, stores, opens}
 use Rattle.id_laws.proofs.Arcs.{passes, gets}
-use Rattle.id_laws.proofs.Blocks.{a_param}
+use Rattle.id_laws.proofs.Blocks.{a_param, all_listed}
 use Rattle.id_laws.proofs.LoopRows.{loop_merge}
 use Rattle.id_pieces.proofs.EndsLemmas.{end_is}
 use Rattle.id_pieces.proofs.LoopsLemmas.{the_loop, start_head}
@@ -93,7 +93,7 @@ module _ (P : Checked) (known : IsKnown P) (g : Parts) (number : ℕ → ℕ →
         kind = port_at P (end_of P n);
         first = any_among (λ (b : Block). b.first == number h 0) (block_of P number h) g.blocks (block_among P known g number numbered h head.0 (ap begins_block head.1))
             (same_number (number h 0) (number h 0) refl);
-        back = ap (op_at g) (sym (numbered.parts_behind h 1)) ∙ op_made P known g number numbered head.0 (returns head.1) ∙ ap (λ z. Some (Back z)) result_is;
+        back = ap (op_at g) (sym (numbered.second_behind h (all_listed P h head.0 (ap begins_block head.1)))) ∙ op_made P known g number numbered head.0 (returns head.1) ∙ ap (λ z. Some (Back z)) result_is;
         reply = op_made P known g number numbered c.within (gets c.node);
       }
 
@@ -124,7 +124,7 @@ module _ (P : Checked) (known : IsKnown P) (g : Parts) (number : ℕ → ℕ →
         kind = port_at P (end_of P h);
         first = any_among (λ (b : Block). b.first == number h 0) (block_of P number h) g.blocks (block_among P known g number numbered h head.0 (ap begins_block head.1))
             (same_number (number h 0) (number h 0) refl);
-        back = ap (op_at g) (sym (numbered.parts_behind h 1)) ∙ op_made P known g number numbered head.0 (gives_back head.1);
+        back = ap (op_at g) (sym (numbered.second_behind h (all_listed P h head.0 (ap begins_block head.1)))) ∙ op_made P known g number numbered head.0 (gives_back head.1);
         reply = op_made P known g number numbered c.within (gets_last c.node);
       }
 
@@ -196,7 +196,7 @@ module _ (P : Checked) (known : IsKnown P) (g : Parts) (number : ℕ → ℕ →
       let result = port_of (result_of (node P P.main)) in
       let last : answer_row P < length R = (let some = (k.table).some in omega (arith, some)) in
       let back : op_at g (number main 0 + 1) ≡ Some (Back result) =
-      ap (op_at g) (sym (numbered.parts_behind main 1)) ∙ op_made P known g number numbered within (returns is) ∙ ap (λ e. Some (Back (port_of (result_of (node P e))))) end in
+      ap (op_at g) (sym (numbered.second_behind main (all_listed P main within (ap begins_block is)))) ∙ op_made P known g number numbered within (returns is) ∙ ap (λ e. Some (Back (port_of (result_of (node P e))))) end in
       record {
         kind = result;
         block = the_block S g number numbered k;

@@ -94,9 +94,9 @@ pub record Numbered (P : Checked) (G : Parts) (number : ℕ → ℕ → ℕ) : T
   pub sides : (m : ℕ) (i : Instr) (side : Truth) (to : Dest) → slice_get G.instrs m ≡ Some i
       → Among to (arcs_on side i) → HasSide i.op side
   pub ports : (m : ℕ) (side : Truth) (to : Dest) → Sends G m side to → IsPort G.instrs to
-  -- the answer's instruction is the first; the parts of a row stand one behind another
+  -- the answer's instruction is the first; the second of a block stands behind its first
   pub answer_first : number (answer_row P) 0 ≡ 0
-  pub parts_behind : (n k : ℕ) → number n k ≡ number n 0 + k
+  pub second_behind : (h : ℕ) → Among h (all_heads P) → number h 1 ≡ number h 0 + 1
   -- there is one block for each procedure, in order of definition, and then one for each loop, in order of place
   pub blocks : G.blocks ≡ map (block_of P number) (all_heads P)
 
