@@ -1,5 +1,6 @@
 pub mod EventsLemmas
 pub mod FitsLemmas
+pub mod HandledLemmas
 pub mod OutcomeLemmas
 pub mod ReplaysLemmas
 pub mod SentLemmas

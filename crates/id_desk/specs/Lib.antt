@@ -3,3 +3,4 @@ pub mod Desks
 pub mod Replays
 -- For use inside.
 pub mod Concluded
+pub mod Handled

@@ -35,8 +35,8 @@ pub struct Desk<'a> {
 }
 
 impl<'a> Desk<'a> {
-    ghost use Rattle.std.specs.Prelude.{◌≡◌, ◌+◌, ◌-◌, ◌^◌, ◌<◌, ◌≤◌, ◌++◌, ◌∷◌};
-    ghost use Rattle.std.specs.Prelude.{[], ◌↔◌, Some, slice_get, length};
+    ghost use Rattle.std.specs.Prelude.{◌≡◌, ◌+◌, ◌-◌, ◌^◌, ◌<◌, ◌≤◌, ◌++◌};
+    ghost use Rattle.std.specs.Prelude.{◌↔◌, Some, slice_get};
     ghost use Rattle.std.specs.Prelude.{IfErr, IfOk, IfSome, OnOk, OnErr, IsTrue};
     ghost use Rattle.id_firing.specs.declared.step.TakeError.TheVariants.{StampEnd};
     ghost use Rattle.id_line.specs.Events.{full_step, tag_of};
@@ -50,10 +50,11 @@ impl<'a> Desk<'a> {
     ghost use Rattle.id_tag.specs.declared.Payload.TheVariants.{Token};
     ghost use Rattle.id_firing.specs.Steps.{fired_verdict, is_ended, made_by, next_stamp, step_of};
     ghost use Rattle.id_firing.specs.Steps.{outputs_of, state_after};
-    ghost use Rattle.id_record.specs.Sends.{numbered, sent};
+    ghost use Rattle.id_record.specs.Sends.{sent};
     ghost use Rattle.id_valid.specs.Validator.{IsValid};
     ghost use Rattle.id_desk.specs.Desks.{state_of, IsShort, IsToken, fired_by};
     ghost use Rattle.id_desk.specs.Concluded.{IsConcluded, IsUnchanged};
+    ghost use Rattle.id_desk.specs.Handled.{IsRecorded, IsSent, token_outcome, token_sends};
     ghost use Rattle.id_firing.specs.Shorts.{IsHandled, step_in};
     ghost use Rattle.id_firing.specs.declared.step.Short.{Short};
     ghost use Rattle.id_front.specs.Waiting.{Store};
@@ -417,26 +418,10 @@ impl<'a> Desk<'a> {
         requires numbered { self.old.structures + 1 < 2 ^ 64 }
 
         ensures verdict { result ≡ reaction.now.verdict }
-        ensures waiting { self.new.waiting ≡ self.old.waiting }
-        ensures cells { self.new.cells ≡ self.old.cells }
-        ensures stamp { self.new.stamp ≡ stamp }
-        ensures contexts { self.new.contexts ≡ self.old.contexts + made_by reaction.now.fired }
-        ensures structures { self.new.structures
-            ≡ self.old.structures + allocated_by instr.now.op reaction.now.fired }
-        ensures number { self.new.log.element ≡ self.old.log.element }
-        ensures graph { self.new.log.graph ≡ self.old.log.graph }
-        ensures events { self.new.log.events ≡ self.old.log.events ++ record {
-          element = self.old.log.element;
-          stamp = stamp;
-          message = message.now;
-          fired = reaction.now.fired;
-          outputs = numbered self.old.log.element (length self.old.log.events) stamp 0
-              (sent (Some instr.now.op) (arcs_on (side_of reaction.now.fired) instr.now) tag reaction.now.fired);
-          step = full_step message.now.payload reaction.now.verdict;
-        } ∷ [] }
-        ensures outputs { outputs.new.messages ≡ outputs.old.messages
-            ++ numbered self.old.log.element (length self.old.log.events) stamp 0
-            (sent (Some instr.now.op) (arcs_on (side_of reaction.now.fired) instr.now) tag reaction.now.fired) }
+        ensures recorded { IsRecorded self.old self.new message.now stamp (token_outcome self.old instr.now
+            tag reaction.now.fired (full_step message.now.payload reaction.now.verdict)) }
+        ensures sent { IsSent self.old outputs.old.messages outputs.new.messages stamp
+            (token_sends instr.now tag reaction.now.fired) }
     {
         let envelope = Envelope {
             number: self.log.element(),
@@ -457,24 +442,9 @@ impl<'a> Desk<'a> {
         requires counted { self.old.contexts + 1 < 2 ^ 64 }
         requires numbered { self.old.structures + 1 < 2 ^ 64 }
 
-        ensures waiting { self.new.waiting ≡ self.old.waiting }
-        ensures cells { self.new.cells ≡ self.old.cells }
-        ensures stamp { self.new.stamp ≡ stamp }
-        ensures contexts { self.new.contexts ≡ self.old.contexts + made_by reaction.now.fired }
-        ensures structures { self.new.structures
-            ≡ self.old.structures + allocated_by instr.now.op reaction.now.fired }
-        ensures number { self.new.log.element ≡ self.old.log.element }
-        ensures graph { self.new.log.graph ≡ self.old.log.graph }
-        ensures events { self.new.log.events ≡ self.old.log.events ++ record {
-          element = self.old.log.element;
-          stamp = stamp;
-          message = message.now;
-          fired = reaction.now.fired;
-          outputs = numbered self.old.log.element (length self.old.log.events) stamp 0
-              (sent (Some instr.now.op) (arcs_on (side_of reaction.now.fired) instr.now) (tag_of message.now.payload)
-              reaction.now.fired);
-          step = full_step message.now.payload reaction.now.verdict;
-        } ∷ [] }
+        ensures { IsRecorded self.old self.new message.now stamp (token_outcome self.old instr.now
+            (tag_of message.now.payload) reaction.now.fired
+            (full_step message.now.payload reaction.now.verdict)) }
     {
         self.log.push(Handling {
             message,
@@ -510,25 +480,10 @@ impl<'a> Desk<'a> {
         requires counted { self.old.contexts + 1 < 2 ^ 64 }
         requires numbered { self.old.structures + 1 < 2 ^ 64 }
 
-        ensures waiting { self.new.waiting ≡ self.old.waiting }
-        ensures cells { self.new.cells ≡ self.old.cells }
-        ensures stamp { self.new.stamp ≡ stamp }
-        ensures contexts { self.new.contexts ≡ self.old.contexts + made_by (fired_of shot) }
-        ensures structures { self.new.structures ≡ self.old.structures + allocated_by instr.now.op (fired_of shot) }
-        ensures number { self.new.log.element ≡ self.old.log.element }
-        ensures graph { self.new.log.graph ≡ self.old.log.graph }
-        ensures events { self.new.log.events ≡ self.old.log.events ++ record {
-          element = self.old.log.element;
-          stamp = stamp;
-          message = message_of token.now;
-          fired = fired_of shot;
-          outputs = numbered self.old.log.element (length self.old.log.events) stamp 0 (sent
-              (Some instr.now.op) (arcs_on (side_of (fired_of shot)) instr.now) (tag_in token.now) (fired_of shot));
-          step = Went;
-        } ∷ [] }
-        ensures outputs { outputs.new.messages ≡ outputs.old.messages
-            ++ numbered self.old.log.element (length self.old.log.events) stamp 0 (sent
-            (Some instr.now.op) (arcs_on (side_of (fired_of shot)) instr.now) (tag_in token.now) (fired_of shot)) }
+        ensures recorded { IsRecorded self.old self.new (message_of token.now) stamp
+            (token_outcome self.old instr.now (tag_in token.now) (fired_of shot) Went) }
+        ensures sent { IsSent self.old outputs.old.messages outputs.new.messages stamp
+            (token_sends instr.now (tag_in token.now) (fired_of shot)) }
     {
         let sample = PlainToken {
             position: self.log.len() as u32,
@@ -559,28 +514,10 @@ impl<'a> Desk<'a> {
         requires counted { self.old.contexts + 1 < 2 ^ 64 }
         requires numbered { self.old.structures + 1 < 2 ^ 64 }
 
-        ensures waiting { self.new.waiting ≡ self.old.waiting }
-        ensures cells { self.new.cells ≡ self.old.cells }
-        ensures stamp { self.new.stamp ≡ stamp }
-        ensures contexts { self.new.contexts ≡ self.old.contexts + made_by (fired_by_deed (tag_in token.now) deed) }
-        ensures structures { self.new.structures
-            ≡ self.old.structures + allocated_by instr.now.op (fired_by_deed (tag_in token.now) deed) }
-        ensures number { self.new.log.element ≡ self.old.log.element }
-        ensures graph { self.new.log.graph ≡ self.old.log.graph }
-        ensures events { self.new.log.events ≡ self.old.log.events ++ record {
-          element = self.old.log.element;
-          stamp = stamp;
-          message = message_of token.now;
-          fired = fired_by_deed (tag_in token.now) deed;
-          outputs = numbered self.old.log.element (length self.old.log.events) stamp 0 (sent (Some instr.now.op)
-              (arcs_on (side_of (fired_by_deed (tag_in token.now) deed)) instr.now) (tag_in token.now)
-              (fired_by_deed (tag_in token.now) deed));
-          step = Went;
-        } ∷ [] }
-        ensures outputs { outputs.new.messages ≡ outputs.old.messages
-            ++ numbered self.old.log.element (length self.old.log.events) stamp 0 (sent (Some instr.now.op)
-            (arcs_on (side_of (fired_by_deed (tag_in token.now) deed)) instr.now) (tag_in token.now)
-            (fired_by_deed (tag_in token.now) deed)) }
+        ensures recorded { IsRecorded self.old self.new (message_of token.now) stamp
+            (token_outcome self.old instr.now (tag_in token.now) (fired_by_deed (tag_in token.now) deed) Went) }
+        ensures sent { IsSent self.old outputs.old.messages outputs.new.messages stamp
+            (token_sends instr.now (tag_in token.now) (fired_by_deed (tag_in token.now) deed)) }
     {
         let sample = PlainToken {
             position: self.log.len() as u32,
@@ -618,30 +555,11 @@ impl<'a> Desk<'a> {
         ensures handled { IsHandled result }
         ensures verdict { step_in result (tag_in token.now) ≡ full_step
             (message_of token.now).payload (fired_verdict (fired_by self.old instr.now token.now operands)) }
-        ensures waiting { self.new.waiting ≡ self.old.waiting }
-        ensures cells { self.new.cells ≡ self.old.cells }
-        ensures stamp { self.new.stamp ≡ stamp }
-        ensures contexts { self.new.contexts
-            ≡ self.old.contexts + made_by (fired_by self.old instr.now token.now operands) }
-        ensures structures { self.new.structures
-            ≡ self.old.structures + allocated_by instr.now.op (fired_by self.old instr.now token.now operands) }
-        ensures number { self.new.log.element ≡ self.old.log.element }
-        ensures graph { self.new.log.graph ≡ self.old.log.graph }
-        ensures events { self.new.log.events ≡ self.old.log.events ++ record {
-          element = self.old.log.element;
-          stamp = stamp;
-          message = message_of token.now;
-          fired = fired_by self.old instr.now token.now operands;
-          outputs = numbered self.old.log.element (length self.old.log.events) stamp 0
-              (sent (Some instr.now.op) (arcs_on (side_of (fired_by self.old instr.now token.now operands)) instr.now)
-              (tag_in token.now) (fired_by self.old instr.now token.now operands));
-          step = full_step (message_of token.now).payload
-              (fired_verdict (fired_by self.old instr.now token.now operands));
-        } ∷ [] }
-        ensures outputs { outputs.new.messages ≡ outputs.old.messages
-            ++ numbered self.old.log.element (length self.old.log.events) stamp 0
-            (sent (Some instr.now.op) (arcs_on (side_of (fired_by self.old instr.now token.now operands)) instr.now)
-            (tag_in token.now) (fired_by self.old instr.now token.now operands)) }
+        ensures recorded { IsRecorded self.old self.new (message_of token.now) stamp (token_outcome self.old instr.now
+            (tag_in token.now) (fired_by self.old instr.now token.now operands) (full_step
+            (message_of token.now).payload (fired_verdict (fired_by self.old instr.now token.now operands)))) }
+        ensures sent { IsSent self.old outputs.old.messages outputs.new.messages stamp
+            (token_sends instr.now (tag_in token.now) (fired_by self.old instr.now token.now operands)) }
     {
         match deed_of(instr.op, operands) {
             Some(deed) => {
@@ -675,30 +593,11 @@ impl<'a> Desk<'a> {
         ensures handled { IsHandled result }
         ensures verdict { step_in result (tag_in token.now) ≡ full_step
             (message_of token.now).payload (fired_verdict (fired_by self.old instr.now token.now operands)) }
-        ensures waiting { self.new.waiting ≡ self.old.waiting }
-        ensures cells { self.new.cells ≡ self.old.cells }
-        ensures stamp { self.new.stamp ≡ stamp }
-        ensures contexts { self.new.contexts
-            ≡ self.old.contexts + made_by (fired_by self.old instr.now token.now operands) }
-        ensures structures { self.new.structures
-            ≡ self.old.structures + allocated_by instr.now.op (fired_by self.old instr.now token.now operands) }
-        ensures number { self.new.log.element ≡ self.old.log.element }
-        ensures graph { self.new.log.graph ≡ self.old.log.graph }
-        ensures events { self.new.log.events ≡ self.old.log.events ++ record {
-          element = self.old.log.element;
-          stamp = stamp;
-          message = message_of token.now;
-          fired = fired_by self.old instr.now token.now operands;
-          outputs = numbered self.old.log.element (length self.old.log.events) stamp 0
-              (sent (Some instr.now.op) (arcs_on (side_of (fired_by self.old instr.now token.now operands)) instr.now)
-              (tag_in token.now) (fired_by self.old instr.now token.now operands));
-          step = full_step (message_of token.now).payload
-              (fired_verdict (fired_by self.old instr.now token.now operands));
-        } ∷ [] }
-        ensures outputs { outputs.new.messages ≡ outputs.old.messages
-            ++ numbered self.old.log.element (length self.old.log.events) stamp 0
-            (sent (Some instr.now.op) (arcs_on (side_of (fired_by self.old instr.now token.now operands)) instr.now)
-            (tag_in token.now) (fired_by self.old instr.now token.now operands)) }
+        ensures recorded { IsRecorded self.old self.new (message_of token.now) stamp (token_outcome self.old instr.now
+            (tag_in token.now) (fired_by self.old instr.now token.now operands) (full_step
+            (message_of token.now).payload (fired_verdict (fired_by self.old instr.now token.now operands)))) }
+        ensures sent { IsSent self.old outputs.old.messages outputs.new.messages stamp
+            (token_sends instr.now (tag_in token.now) (fired_by self.old instr.now token.now operands)) }
     {
         let reaction = self.fire_full(instr, token, stamp, operands, outputs);
         self.note(instr, &token.message(), u64::from(stamp), &reaction);
@@ -726,10 +625,8 @@ impl<'a> Desk<'a> {
 
         ensures fired { result.fired ≡ fired_by self.now instr.now token.now operands }
         ensures verdict { result.verdict ≡ fired_verdict (fired_by self.now instr.now token.now operands) }
-        ensures outputs { outputs.new.messages ≡ outputs.old.messages
-            ++ numbered self.now.log.element (length self.now.log.events) stamp 0
-            (sent (Some instr.now.op) (arcs_on (side_of (fired_by self.now instr.now token.now operands)) instr.now)
-            (tag_in token.now) (fired_by self.now instr.now token.now operands)) }
+        ensures sent { IsSent self.now outputs.old.messages outputs.new.messages stamp
+            (token_sends instr.now (tag_in token.now) (fired_by self.now instr.now token.now operands)) }
     {
         let next = fresh_numbers(self.log.element(), self.contexts, self.structures);
         let reaction = react_operands(instr, next, token.tag(), operands);

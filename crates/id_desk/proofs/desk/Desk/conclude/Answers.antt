@@ -12,5 +12,5 @@ send-requires-clause-second c =
     HasSecond-valid log.graph (tag_of c.args.message.now.payload).instr (Some c.args.instr.now.op) c.requires.graph c.requires.valid
     (ap (option_map (λ i. i.op)) c.requires.own)
 
-pub returns-clause-events : goal.returns-clause-events
-returns-clause-events c = rw c.requires.tag c.note.ensures.events
+pub returns-clause-recorded : goal.returns-clause-recorded
+returns-clause-recorded c = rw c.requires.tag c.note.ensures

@@ -1,10 +1,10 @@
 -- What is recorded is the element step, by what came of the token.
-use Rattle.std.proofs.Common.{refl, sym, ◌∙◌}
+use Rattle.std.proofs.Common.{refl}
 use Rattle.id_front.specs.Waiting.{Store}
 use Rattle.id_firing.specs.declared.step.Reacted.TheVariants.{Waits, One, Two, Fires}
 use Rattle.id_desk.specs.Desks.{state_of}
 use Rattle.id_firing.specs.Firings.{IsReaction}
-use Rattle.id_firing.proofs.FiringsLemmas.{after_by, outputs_by}
+use Rattle.id_desk.proofs.HandledLemmas.{concluded}
 use Rattle.id_desk.proofs.ShortLemmas.{IsStepOn, step_on, shot_of_none, shot_of_one, shot_of_two, went_apart, handled_apart}
 use Rattle.id_desk.proofs.desk.Desk.conclude_reacted.Goals as goal
 use Rattle.id_desk.proofs.desk.Desk.conclude_reacted.Goals.{After-conclude_shot, After-conclude_shot-in-One, After-conclude_shot-in-Two}
@@ -45,12 +45,7 @@ fires c w comes =
 pub returns-in-Waits-clause-handled : goal.returns-in-Waits-clause-handled
 returns-in-Waits-clause-handled c = λ w comes handled.
     let done = c.conclude_shot.ensures in
-    let by = waits c w comes in
-    record {
-      step = sym by.step;
-      state = after_by _ _ _ _ _ _ _ by c.requires.stamp done.waiting done.cells done.stamp done.contexts done.structures done.events;
-      outputs = outputs_by _ _ _ _ _ _ _ _ by c.requires.stamp done.outputs;
-    }
+    concluded c.args.self.now _ _ _ _ _ _ _ _ (waits c w comes) c.requires.stamp refl done.recorded done.sent
 
 pub returns-in-Waits-clause-apart : goal.returns-in-Waits-clause-apart
 returns-in-Waits-clause-apart c = went_apart
@@ -58,12 +53,7 @@ returns-in-Waits-clause-apart c = went_apart
 pub returns-in-One-clause-handled : goal.returns-in-One-clause-handled
 returns-in-One-clause-handled c = λ w comes handled.
     let done = c.conclude_shot-in-One.ensures in
-    let by = one c w comes in
-    record {
-      step = sym by.step;
-      state = after_by _ _ _ _ _ _ _ by c.requires.stamp done.waiting done.cells done.stamp done.contexts done.structures done.events;
-      outputs = outputs_by _ _ _ _ _ _ _ _ by c.requires.stamp done.outputs;
-    }
+    concluded c.args.self.now _ _ _ _ _ _ _ _ (one c w comes) c.requires.stamp refl done.recorded done.sent
 
 pub returns-in-One-clause-apart : goal.returns-in-One-clause-apart
 returns-in-One-clause-apart c = went_apart
@@ -71,12 +61,7 @@ returns-in-One-clause-apart c = went_apart
 pub returns-in-Two-clause-handled : goal.returns-in-Two-clause-handled
 returns-in-Two-clause-handled c = λ w comes handled.
     let done = c.conclude_shot-in-Two.ensures in
-    let by = two c w comes in
-    record {
-      step = sym by.step;
-      state = after_by _ _ _ _ _ _ _ by c.requires.stamp done.waiting done.cells done.stamp done.contexts done.structures done.events;
-      outputs = outputs_by _ _ _ _ _ _ _ _ by c.requires.stamp done.outputs;
-    }
+    concluded c.args.self.now _ _ _ _ _ _ _ _ (two c w comes) c.requires.stamp refl done.recorded done.sent
 
 pub returns-in-Two-clause-apart : goal.returns-in-Two-clause-apart
 returns-in-Two-clause-apart c = went_apart
@@ -84,12 +69,7 @@ returns-in-Two-clause-apart c = went_apart
 pub returns-in-Fires-clause-handled : goal.returns-in-Fires-clause-handled
 returns-in-Fires-clause-handled c = λ w comes handled.
     let done = c.conclude_plain.ensures in
-    let by = fires c w comes in
-    record {
-      step = done.verdict ∙ sym by.step;
-      state = after_by _ _ _ _ _ _ _ by c.requires.stamp done.waiting done.cells done.stamp done.contexts done.structures done.events;
-      outputs = outputs_by _ _ _ _ _ _ _ _ by c.requires.stamp done.outputs;
-    }
+    concluded c.args.self.now _ _ _ _ _ _ _ _ (fires c w comes) c.requires.stamp done.verdict done.recorded done.sent
 
 pub returns-in-Fires-clause-apart : goal.returns-in-Fires-clause-apart
 returns-in-Fires-clause-apart c = handled_apart c.conclude_plain.result c.conclude_plain.ensures.handled
@@ -243,25 +223,25 @@ pub conclude_plain-requires-clause-numbered : goal.conclude_plain-requires-claus
 conclude_plain-requires-clause-numbered c = c.requires.numbered
 
 pub returns-in-Waits-clause-number : goal.returns-in-Waits-clause-number
-returns-in-Waits-clause-number c = c.conclude_shot.ensures.number
+returns-in-Waits-clause-number c = c.conclude_shot.ensures.recorded.number
 
 pub returns-in-Waits-clause-graph : goal.returns-in-Waits-clause-graph
-returns-in-Waits-clause-graph c = c.conclude_shot.ensures.graph
+returns-in-Waits-clause-graph c = c.conclude_shot.ensures.recorded.graph
 
 pub returns-in-One-clause-number : goal.returns-in-One-clause-number
-returns-in-One-clause-number c = c.conclude_shot-in-One.ensures.number
+returns-in-One-clause-number c = c.conclude_shot-in-One.ensures.recorded.number
 
 pub returns-in-One-clause-graph : goal.returns-in-One-clause-graph
-returns-in-One-clause-graph c = c.conclude_shot-in-One.ensures.graph
+returns-in-One-clause-graph c = c.conclude_shot-in-One.ensures.recorded.graph
 
 pub returns-in-Two-clause-number : goal.returns-in-Two-clause-number
-returns-in-Two-clause-number c = c.conclude_shot-in-Two.ensures.number
+returns-in-Two-clause-number c = c.conclude_shot-in-Two.ensures.recorded.number
 
 pub returns-in-Two-clause-graph : goal.returns-in-Two-clause-graph
-returns-in-Two-clause-graph c = c.conclude_shot-in-Two.ensures.graph
+returns-in-Two-clause-graph c = c.conclude_shot-in-Two.ensures.recorded.graph
 
 pub returns-in-Fires-clause-number : goal.returns-in-Fires-clause-number
-returns-in-Fires-clause-number c = c.conclude_plain.ensures.number
+returns-in-Fires-clause-number c = c.conclude_plain.ensures.recorded.number
 
 pub returns-in-Fires-clause-graph : goal.returns-in-Fires-clause-graph
-returns-in-Fires-clause-graph c = c.conclude_plain.ensures.graph
+returns-in-Fires-clause-graph c = c.conclude_plain.ensures.recorded.graph

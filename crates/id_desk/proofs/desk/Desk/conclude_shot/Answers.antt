@@ -6,10 +6,11 @@ use Rattle.id_tag.specs.Plains.{message_of, tag_in}
 use Rattle.id_ops.specs.Shots.{fired_of}
 use Rattle.id_line.specs.Lines.{no_replies}
 use Rattle.id_record.proofs.RecordsLemmas.{event_at_instr}
+use Rattle.id_desk.proofs.HandledLemmas.{and_none, recorded, shot_makes_none}
 use Rattle.id_desk.proofs.desk.Desk.conclude_shot.Goals as goal
 
-pub returns-clause-events : goal.returns-clause-events
-returns-clause-events c =
+pub returns-clause-recorded : goal.returns-clause-recorded
+returns-clause-recorded c =
     let log = c.args.self.now.log in
     let event : Handled = record {
       message = message_of c.args.token.now;
@@ -17,8 +18,12 @@ returns-clause-events c =
       reaction = record { fired = fired_of c.args.shot; verdict = Went };
       replies = no_replies;
     } in
-    c.push_shot.ensures.events ∙ ap (λ e. log.events ++ e ∷ [])
-    (event_at_instr log.graph log.element log.replies (length log.events) event c.args.instr.now (tag_in c.args.token.now) refl c.requires.own refl)
+    recorded _ _ _ _ _ refl refl c.from-self.ensures (and_none _ _ (shot_makes_none c.args.shot))
+    (and_none _ _ c.requires.makes_none)
+    (c.push_shot.ensures.events ∙ ap (λ e. log.events ++ e ∷ [])
+    (event_at_instr log.graph log.element log.replies (length log.events) event c.args.instr.now
+    (tag_in c.args.token.now) refl c.requires.own refl))
+    c.push_shot.ensures.element c.push_shot.ensures.graph
 
 -- what is sent and recorded is as it was required
 pub send_shot-requires-clause-room : goal.send_shot-requires-clause-room
@@ -47,9 +52,3 @@ push_shot-requires-clause-own c = c.requires.own_value
 
 pub push_shot-requires-clause-brief : goal.push_shot-requires-clause-brief
 push_shot-requires-clause-brief c = c.requires.brief
-
-pub returns-clause-number : goal.returns-clause-number
-returns-clause-number c = c.push_shot.ensures.element
-
-pub returns-clause-graph : goal.returns-clause-graph
-returns-clause-graph c = c.push_shot.ensures.graph

@@ -1,7 +1,6 @@
 -- After an error all is as it was, and else what is recorded is the element step, by the outcome at the instruction.
-use Rattle.std.proofs.Common.{◌≡◌, ◌∙◌, ◌+◌, ◌<◌, ◌^◌, Some, arith, ap, slice_get, subst, sym}
+use Rattle.std.proofs.Common.{◌≡◌, ◌∙◌, ◌+◌, ◌<◌, ◌^◌, Some, ap, slice_get, subst, sym}
 use Rattle.id_valid.specs.Validator.{IsValid}
-use Rattle.std.proofs.lemmas.Grind.{common_steps}
 use Rattle.id_instr.specs.Graph.{arcs_on}
 use Rattle.id_ops.specs.Operators.{side_of}
 use Rattle.id_line.specs.Events.{full_step, tag_of}
@@ -11,6 +10,8 @@ use Rattle.id_desk.specs.Desks.{state_of}
 use Rattle.id_firing.specs.Fits.{PayloadFits}
 use Rattle.id_firing.specs.Steps.{Outcome, State, allocated_by, made_by}
 use Rattle.id_firing.proofs.FiringsLemmas.{IsStepBy}
+use Rattle.id_desk.specs.Handled.{token_outcome}
+use Rattle.id_desk.proofs.HandledLemmas.{after_recorded, outputs_recorded}
 use Rattle.id_desk.proofs.ShortLemmas.{if_err, on_ok, on_err, err_as, own_at, token_step}
 use Rattle.id_desk.proofs.desk.Desk.take_token.Goals as goal
 use Rattle.id_desk.proofs.desk.Desk.take_token.Goals.{After-conclude}
@@ -44,19 +45,27 @@ pub returns-clause-step : goal.returns-clause-step
 returns-clause-step g c =
     ap (full_step c.args.message.now.payload) c.conclude.ensures.verdict ∙ sym (stepped g c).step
 
+-- what is recorded has that outcome
+comes : (g : _) (c : After-conclude g)
+    → token_outcome c.react_with_room.new.self c.index-instrs-tag.result c.in-Token.tag
+    c.in_ok-reaction.reaction.fired (full_step c.args.message.now.payload c.in_ok-reaction.reaction.verdict)
+    ≡ came_to g c c.args.message.now.payload
+comes g c =
+    ap (λ (s : State). record (came_to g c c.args.message.now.payload) { cells = s.cells })
+    c.in_ok-reaction.ensures.state
+
 pub returns-clause-state : goal.returns-clause-state
 returns-clause-state g c =
-    let after = (stepped g c).state in
-    let before = c.in_ok-reaction.ensures.state in
-    let done = c.conclude.ensures in
-    let number = c.in_ok-reaction.ensures.number in
-    grind (arith, common_steps, after, before, c.requires.stamp, number, done.waiting, done.cells, done.stamp, done.contexts, done.structures, done.events)
+    let before = c.in_ok-reaction.ensures in
+    after_recorded c.react_with_room.new.self _ _ _ _ _ _ _ _ _ _ (stepped g c) c.requires.stamp
+    before.state before.number (comes g c) c.conclude.ensures.recorded
 
 pub returns-clause-outputs : goal.returns-clause-outputs
 returns-clause-outputs g c =
-    let after = (stepped g c).outputs in
-    let before = c.in_ok-reaction.ensures.state in
-    grind (arith, common_steps, after, before, c.requires.stamp, c.in_ok-reaction.ensures.number, c.in_ok-reaction.ensures.messages, c.conclude.ensures.outputs)
+    let before = c.in_ok-reaction.ensures in
+    outputs_recorded c.react_with_room.new.self _ _ _ _ _ _ _ _ _ _ _ _ (stepped g c) c.requires.stamp
+    before.state before.number
+    (ap (λ (o : Outcome). o.sends) (comes g c)) before.messages c.conclude.ensures.sent
 
 -- after an error all is as it was
 pub returns-in_err-reaction-clause-step : goal.returns-in_err-reaction-clause-step
@@ -118,10 +127,10 @@ react_with_room-requires-clause-structures g c = c.requires.structures
 
 -- its number and its graph stay
 pub returns-clause-number : goal.returns-clause-number
-returns-clause-number g c = c.conclude.ensures.number ∙ c.in_ok-reaction.ensures.number
+returns-clause-number g c = c.conclude.ensures.recorded.number ∙ c.in_ok-reaction.ensures.number
 
 pub returns-clause-graph : goal.returns-clause-graph
-returns-clause-graph g c = c.conclude.ensures.graph ∙ c.in_ok-reaction.ensures.graph
+returns-clause-graph g c = c.conclude.ensures.recorded.graph ∙ c.in_ok-reaction.ensures.graph
 
 pub returns-in_err-reaction-clause-number : goal.returns-in_err-reaction-clause-number
 returns-in_err-reaction-clause-number g c = c.in_err-reaction.ensures.number
