@@ -1,6 +1,6 @@
 //! What an element does with reads and writes of its cells, in full and in short.
 
-ghost use Rattle.std.specs.Prelude.{◌≡◌, ◌-◌, ◌^◌, ◌<◌, ◌≤◌, ◌++◌, ◌∷◌, []};
+ghost use Rattle.std.specs.Prelude.{◌≡◌, ◌-◌, ◌^◌, ◌<◌, ◌≤◌, ◌++◌};
 ghost use Rattle.std.specs.Prelude.{◌↔◌, Some, length};
 ghost use Rattle.std.specs.Prelude.{true, false, IfErr, IfOk, OnOk, OnErr, IsTrue};
 ghost use Rattle.id_firing.specs.declared.step.TakeError.TheVariants.{StampEnd};
@@ -9,19 +9,18 @@ ghost use Rattle.id_slot.specs.Cells.{count_expected, write_after, write_answer}
 ghost use Rattle.id_line.specs.Events.{full_step, tag_of, value_of};
 ghost use Rattle.id_flight.specs.Demands.{demanded};
 ghost use Rattle.id_line.specs.Lines.{AreThere};
-ghost use Rattle.id_record.specs.Records.{event_of_handled};
 ghost use Rattle.id_shots.specs.Shootings.{HasLine};
 ghost use Rattle.id_shots.specs.Visits.{fated};
 ghost use Rattle.id_tag.specs.Plains.{tag_in, whole};
-ghost use Rattle.id_ops.specs.declared.Fired.TheVariants.{Nothing};
 ghost use Rattle.id_line.specs.declared.step.Step.TheVariants.{Went};
 ghost use Rattle.id_line.specs.declared.step.Verdict.TheVariants as verdict;
-ghost use Rattle.id_firing.specs.Steps.{answer_fired, answer_sends, fill_sends, fill_verdict};
+ghost use Rattle.id_firing.specs.Steps.{answer_sends, fill_sends, fill_verdict};
 ghost use Rattle.id_firing.specs.Steps.{is_ended, next_stamp, step_of};
 ghost use Rattle.id_firing.specs.Steps.{outputs_of, readers_of, state_after};
-ghost use Rattle.id_record.specs.Sends.{numbered};
 ghost use Rattle.id_desk.specs.Desks.{state_of, IsShort};
-ghost use Rattle.id_visit.specs.Visited.{IsRead, IsWrite, visit_of};
+ghost use Rattle.id_desk.specs.Handled.{IsRecorded, IsSent};
+ghost use Rattle.id_visit.specs.Visited.{IsRead, IsWrite, answer_outcome, fill_outcome};
+ghost use Rattle.id_visit.specs.Visited.{visit_message, visit_outcome};
 
 use id_bank::{ReadAnswer, WriteAnswer};
 use id_desk::{Desk, Gate};
@@ -228,22 +227,9 @@ fn answer_demand(
     requires room_aside { 0 < desk.old.log.room_aside }
     requires room_in_outputs { 1 ≤ outputs.old.room }
 
-    ensures state { state_of desk.new ≡ record (state_of desk.old) {
-      stamp = stamp;
-      events = desk.old.log.events ++ record {
-        element = desk.old.log.element;
-        stamp = stamp;
-        message = demanded read.now;
-        fired = answer_fired (tag_in read.now.like) answer;
-        outputs = numbered desk.old.log.element (length desk.old.log.events) stamp 0
-            (answer_sends (tag_in read.now.like) answer);
-        step = Went;
-      } ∷ [];
-    } }
-    ensures number { desk.new.log.element ≡ desk.old.log.element }
-    ensures graph { desk.new.log.graph ≡ desk.old.log.graph }
-    ensures outputs { outputs.new.messages ≡ outputs.old.messages
-        ++ numbered desk.old.log.element (length desk.old.log.events) stamp 0
+    ensures recorded { IsRecorded desk.old desk.new (demanded read.now) stamp
+        (answer_outcome desk.old (tag_in read.now.like) answer) }
+    ensures sent { IsSent desk.old outputs.old.messages outputs.new.messages stamp
         (answer_sends (tag_in read.now.like) answer) }
 {
     match answer {
@@ -281,22 +267,9 @@ fn answer_full(
     requires room_aside { 0 < desk.old.log.room_aside }
     requires room_in_outputs { 1 ≤ outputs.old.room }
 
-    ensures state { state_of desk.new ≡ record (state_of desk.old) {
-      stamp = stamp;
-      events = desk.old.log.events ++ record {
-        element = desk.old.log.element;
-        stamp = stamp;
-        message = demanded read.now;
-        fired = answer_fired (tag_in read.now.like) answer;
-        outputs = numbered desk.old.log.element (length desk.old.log.events) stamp 0
-            (answer_sends (tag_in read.now.like) answer);
-        step = Went;
-      } ∷ [];
-    } }
-    ensures number { desk.new.log.element ≡ desk.old.log.element }
-    ensures graph { desk.new.log.graph ≡ desk.old.log.graph }
-    ensures outputs { outputs.new.messages ≡ outputs.old.messages
-        ++ numbered desk.old.log.element (length desk.old.log.events) stamp 0
+    ensures recorded { IsRecorded desk.old desk.new (demanded read.now) stamp
+        (answer_outcome desk.old (tag_in read.now.like) answer) }
+    ensures sent { IsSent desk.old outputs.old.messages outputs.new.messages stamp
         (answer_sends (tag_in read.now.like) answer) }
 {
     let message = read.message();
@@ -430,22 +403,9 @@ fn fill_demand(
     requires room_for_replies { length (readers_of answer.now) ≤ desk.old.log.room_for_replies }
     requires room_in_outputs { length (readers_of answer.now) ≤ outputs.old.room }
 
-    ensures state { state_of desk.new ≡ record (state_of desk.old) {
-      stamp = stamp;
-      events = desk.old.log.events ++ record {
-        element = desk.old.log.element;
-        stamp = stamp;
-        message = demanded write.now;
-        fired = Nothing;
-        outputs = numbered desk.old.log.element (length desk.old.log.events) stamp 0
-            (fill_sends (whole value) answer.now);
-        step = Went;
-      } ∷ [];
-    } }
-    ensures number { desk.new.log.element ≡ desk.old.log.element }
-    ensures graph { desk.new.log.graph ≡ desk.old.log.graph }
-    ensures outputs { outputs.new.messages ≡ outputs.old.messages
-        ++ numbered desk.old.log.element (length desk.old.log.events) stamp 0
+    ensures recorded { IsRecorded desk.old desk.new (demanded write.now) stamp
+        (fill_outcome desk.old (whole value) answer.now Went) }
+    ensures sent { IsSent desk.old outputs.old.messages outputs.new.messages stamp
         (fill_sends (whole value) answer.now) }
 {
     let envelope = Envelope {
@@ -471,14 +431,8 @@ fn visit(desk: &mut Desk<'_>, demand: &Demand, stamp: u32, fate: Fate)
     requires fits { HasLine demand.now.like }
     requires replies { AreThere desk.old.log.replies (fated fate demand.now.cell (tag_in demand.now.like)).replies }
 
-    ensures state { state_of desk.new ≡ record (state_of desk.old) {
-      stamp = stamp;
-      events = desk.old.log.events
-          ++ event_of_handled desk.old.log.graph desk.old.log.element desk.old.log.replies
-          (length desk.old.log.events) (visit_of demand.now stamp fate) ∷ [];
-    } }
-    ensures number { desk.new.log.element ≡ desk.old.log.element }
-    ensures graph { desk.new.log.graph ≡ desk.old.log.graph }
+    ensures { IsRecorded desk.old desk.new (visit_message demand.now fate) stamp
+        (visit_outcome desk.old demand.now fate) }
 {
     desk.log.push_visit(Visiting {
         token: &demand.like,
@@ -503,22 +457,9 @@ fn answer_read(
     requires room_in_outputs { 1 ≤ outputs.old.room }
 
     ensures verdict { result ≡ verdict.Went }
-    ensures state { state_of desk.new ≡ record (state_of desk.old) {
-      stamp = stamp;
-      events = desk.old.log.events ++ record {
-        element = desk.old.log.element;
-        stamp = stamp;
-        message = read.now;
-        fired = answer_fired (tag_of read.now.payload) answer;
-        outputs = numbered desk.old.log.element (length desk.old.log.events) stamp 0
-            (answer_sends (tag_of read.now.payload) answer);
-        step = Went;
-      } ∷ [];
-    } }
-    ensures number { desk.new.log.element ≡ desk.old.log.element }
-    ensures graph { desk.new.log.graph ≡ desk.old.log.graph }
-    ensures outputs { outputs.new.messages ≡ outputs.old.messages
-        ++ numbered desk.old.log.element (length desk.old.log.events) stamp 0
+    ensures recorded { IsRecorded desk.old desk.new read.now stamp
+        (answer_outcome desk.old (tag_of read.now.payload) answer) }
+    ensures sent { IsSent desk.old outputs.old.messages outputs.new.messages stamp
         (answer_sends (tag_of read.now.payload) answer) }
 {
     let envelope = Envelope {
@@ -560,22 +501,10 @@ fn fill(
     requires room_in_outputs { length (readers_of answer.now) ≤ outputs.old.room }
 
     ensures verdict { result ≡ fill_verdict (tag_of write.now.payload) answer.now }
-    ensures state { state_of desk.new ≡ record (state_of desk.old) {
-      stamp = stamp;
-      events = desk.old.log.events ++ record {
-        element = desk.old.log.element;
-        stamp = stamp;
-        message = write.now;
-        fired = Nothing;
-        outputs = numbered desk.old.log.element (length desk.old.log.events) stamp 0
-            (fill_sends (value_of write.now.payload) answer.now);
-        step = full_step write.now.payload (fill_verdict (tag_of write.now.payload) answer.now);
-      } ∷ [];
-    } }
-    ensures number { desk.new.log.element ≡ desk.old.log.element }
-    ensures graph { desk.new.log.graph ≡ desk.old.log.graph }
-    ensures outputs { outputs.new.messages ≡ outputs.old.messages
-        ++ numbered desk.old.log.element (length desk.old.log.events) stamp 0
+    ensures recorded { IsRecorded desk.old desk.new write.now stamp
+        (fill_outcome desk.old (value_of write.now.payload) answer.now
+        (full_step write.now.payload (fill_verdict (tag_of write.now.payload) answer.now))) }
+    ensures sent { IsSent desk.old outputs.old.messages outputs.new.messages stamp
         (fill_sends (value_of write.now.payload) answer.now) }
 {
     let envelope = Envelope {

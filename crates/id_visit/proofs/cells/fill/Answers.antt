@@ -7,12 +7,13 @@ use Rattle.id_line.specs.declared.step.Verdict.{Verdict}
 use Rattle.id_line.specs.Events.{EventView, full_step, tag_of, value_of}
 use Rattle.id_record.specs.Records.{event_of_handled}
 use Rattle.id_record.specs.Sends.{numbered, replies}
-use Rattle.id_firing.specs.Steps.{State, fill_verdict, readers_of}
+use Rattle.id_firing.specs.Steps.{fill_verdict, readers_of}
 use Rattle.id_record.proofs.RecordsLemmas.{event_of_fill}
+use Rattle.id_desk.proofs.HandledLemmas.{and_none, recorded}
 use Rattle.id_visit.proofs.cells.fill.Goals as goal
 
-pub returns-clause-state : goal.returns-clause-state
-returns-clause-state c =
+pub returns-clause-recorded : goal.returns-clause-recorded
+returns-clause-recorded c =
     let d = c.args.desk.now in
     let log = d.log in
     let rs = c.readers_of-readers.result.now in
@@ -22,14 +23,6 @@ returns-clause-state c =
       stamp = c.args.stamp;
       reaction = record { fired = Nothing; verdict = c.fill_verdict-verdict.result };
       replies = record { from = c.count_replies-from.result; count = length rs };
-    } in
-    let state : List EventView → State = λ es. record {
-      waiting = d.waiting;
-      cells = d.cells;
-      stamp = c.args.stamp;
-      contexts = d.contexts;
-      structures = d.structures;
-      events = es;
     } in
     let shown : Verdict → List Tag → EventView = λ v ts. record {
       element = log.element;
@@ -45,5 +38,10 @@ returns-clause-state c =
     shown (fill_verdict (tag_of x) c.args.answer.now) (readers_of c.args.answer.now) =
     event_of_fill log.graph log.element log.replies rs (length log.events) event refl c.count_replies-from.ensures refl
     ∙ ap (λ v. shown v rs) verdict ∙ ap (shown (fill_verdict (tag_of x) c.args.answer.now)) c.readers_of-readers.ensures in
-    ap state (c.push.ensures.events ∙ rw (c.send_replies.ensures.events, c.send_replies.ensures.number, c.send_replies.ensures.replies)
-    (ap (λ e. log.events ++ e ∷ []) is))
+    let sent = c.send_replies.ensures in
+    let events : c.push.new.self.events
+    ≡ log.events ++ shown (fill_verdict (tag_of x) c.args.answer.now) (readers_of c.args.answer.now) ∷ [] =
+    c.push.ensures.events ∙ rw (sent.events, sent.number, sent.replies)
+    (ap (λ e. log.events ++ e ∷ []) is) in
+    recorded _ _ _ _ _ refl refl refl (and_none _ _ refl) (and_none _ _ refl) events
+    (c.push.ensures.element ∙ sent.number) (c.push.ensures.graph ∙ sent.graph)

@@ -1,13 +1,16 @@
 -- What is recorded is the element step on a first write, and after an error all is as it was.
-use Rattle.std.proofs.Common.{◌++◌, length, ap, ◌∙◌}
-use Rattle.id_tag.specs.Plains.{whole}
+use Rattle.std.proofs.Common.{◌≡◌, refl, ap, ◌∙◌}
+use Rattle.id_tag.specs.Plains.{tag_in, whole}
 use Rattle.id_flight.specs.Demands.{demanded}
-use Rattle.id_record.specs.Sends.{numbered}
-use Rattle.id_firing.specs.Steps.{State, fill_sends}
-use Rattle.id_firing.proofs.FiringsLemmas.{IsStepBy, outputs_by}
+use Rattle.id_slot.specs.Cells.{write_after}
+use Rattle.id_line.specs.declared.step.Step.TheVariants.{Went}
+use Rattle.id_firing.specs.Steps.{Outcome, State}
+use Rattle.id_firing.proofs.FiringsLemmas.{IsStepBy}
 use Rattle.id_desk.specs.Desks.{state_of}
+use Rattle.id_desk.proofs.HandledLemmas.{after_recorded, outputs_recorded}
 use Rattle.id_desk.proofs.ShortLemmas.{IsShort-kept, on_ok, on_err, err_as}
-use Rattle.id_visit.proofs.VisitsLemmas.{first_outcome, first_readers, first_state, first_write}
+use Rattle.id_visit.specs.Visited.{fill_outcome}
+use Rattle.id_visit.proofs.VisitsLemmas.{fill_comes, first_outcome, first_readers, first_write}
 use Rattle.id_visit.proofs.cells.put_first.Goals as goal
 use Rattle.id_visit.proofs.cells.put_first.Goals.{Joined-answer}
 
@@ -21,35 +24,34 @@ stepped g c =
 pub returns-clause-step : goal.returns-clause-step
 returns-clause-step g c = (stepped g c).step
 
+-- what is recorded has that outcome
+comes : (g : _) (c : Joined-answer g)
+    → fill_outcome c.write_cell.new.desk (whole c.args.value) c.in_ok-answer.answer Went
+    ≡ first_outcome (state_of c.args.desk.now) c.args.write.now c.args.value
+comes g c =
+    let s = state_of c.args.desk.now in
+    let x = c.args.write.now in
+    let there = c.in_ok-answer.ensures in
+    fill_comes c.write_cell.new.desk s x.cell (whole c.args.value) _ (tag_in x.like) _ _ _ refl
+    (there.state ∙ ap (λ t. record s { cells = write_after s.cells x.cell c.value.result t }) c.tag-tag.ensures
+    ∙ ap (λ v. record s { cells = write_after s.cells x.cell v (tag_in x.like) }) c.value.ensures) there.answer refl
+
 pub returns-clause-state : goal.returns-clause-state
 returns-clause-state g c =
-    let there = c.in_ok-answer.ensures in
-    first_state c.args.desk.now.log.graph c.args.desk.now.log.element c.write_cell.new.desk.log.element (state_of c.args.desk.now)
-    (state_of c.write_cell.new.desk) (state_of c.fill_demand.new.desk) c.args.write.now c.args.value c.value.result c.args.readers
-    c.args.stamp c.in_ok-answer.answer c.tag-tag.result c.requires.is c.requires.first c.requires.stamp c.tag-tag.ensures c.value.ensures there.state there.answer
-    there.number c.fill_demand.ensures.state
+    after_recorded c.write_cell.new.desk _ _ _ _ _ _ _ _ _ _ (stepped g c) c.requires.stamp c.in_ok-answer.ensures.state
+    c.in_ok-answer.ensures.number (comes g c) c.fill_demand.ensures.recorded
 
 pub returns-clause-outputs : goal.returns-clause-outputs
 returns-clause-outputs g c =
-    let there = c.in_ok-answer.ensures in
-    let before = c.args.outputs.now.messages in
-    let s = state_of c.args.desk.now in
-    let e = c.args.desk.now.log.element in
-    let a = c.write_cell.new.desk in
-    let answer = c.in_ok-answer.answer in
-    let m = whole c.args.value in
-    outputs_by before _ c.args.desk.now.log.graph e s (demanded c.args.write.now) _ c.args.stamp (stepped g c) c.requires.stamp
-    (c.fill_demand.ensures.outputs
-    ∙ ap (λ xs. xs ++ numbered a.log.element (length a.log.events) c.args.stamp 0 (fill_sends m answer)) there.messages
-    ∙ ap (λ n. before ++ numbered n (length a.log.events) c.args.stamp 0 (fill_sends m answer)) there.number
-    ∙ ap (λ (x : State). before ++ numbered e (length x.events) c.args.stamp 0 (fill_sends m answer)) there.state
-    ∙ ap (λ w. before ++ numbered e (length s.events) c.args.stamp 0 (fill_sends m w)) there.answer)
+    outputs_recorded c.write_cell.new.desk _ _ _ _ _ _ _ _ _ _ _ _ (stepped g c) c.requires.stamp
+    c.in_ok-answer.ensures.state c.in_ok-answer.ensures.number (ap (λ (o : Outcome). o.sends) (comes g c))
+    c.in_ok-answer.ensures.messages c.fill_demand.ensures.sent
 
 pub returns-clause-number : goal.returns-clause-number
-returns-clause-number g c = c.fill_demand.ensures.number ∙ c.in_ok-answer.ensures.number
+returns-clause-number g c = c.fill_demand.ensures.recorded.number ∙ c.in_ok-answer.ensures.number
 
 pub returns-clause-graph : goal.returns-clause-graph
-returns-clause-graph g c = c.fill_demand.ensures.graph ∙ c.in_ok-answer.ensures.graph
+returns-clause-graph g c = c.fill_demand.ensures.recorded.graph ∙ c.in_ok-answer.ensures.graph
 
 pub returns-clause-memory : goal.returns-clause-memory
 returns-clause-memory g c = tt
