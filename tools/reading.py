@@ -313,6 +313,42 @@ def binder_of(node, above):
     return None
 
 
+def uses_of(program):
+    """The binder, or None, that each use of a name, and the first value of each next, means: as binder_of, at once."""
+    found = {}
+
+    def meant(name, scopes):
+        return next((scope[name] for scope in reversed(scopes) if name in scope), None)
+
+    def seen(binders):
+        return {it.name: it for it in reversed(binders)}
+
+    def go(node, scopes):
+        inside = scopes
+        if node.form == "name":
+            found[node] = meant(node.name, scopes)
+        elif node.form in ("block", "definition"):
+            own = node.params if node.form == "definition" else [it for it in node.statements if it.form == "binding"]
+            inside = scopes + [seen(own)]
+        elif node.form in ("loop", "for"):
+            bounds = bounds_of(node)
+            turns = [it for it in node.statements if it.form == "next"]
+            found.update((it, meant(it.name, scopes)) for it in turns)
+            body = scopes + [seen(node.params + [it for it in node.statements if it.form != "store"])]
+            for it in node.statements:
+                go(it, body)
+            outer = scopes + [seen(turns)]
+            for it in node.parts:
+                go(it, scopes if it in bounds else outer)
+            return
+        for it in node.statements + node.parts:
+            go(it, inside)
+
+    for it in program.parts:
+        go(it, [])
+    return found
+
+
 def line_col(text, at):
     """The line and column of a place."""
     start = text.rfind(b"\n", 0, at) + 1
