@@ -1,7 +1,32 @@
 #!/usr/bin/env bash
 # Runs idc with the words given, by the program that tools/program names: the proved one where ./prove has built it, else
-# one with checks at run time in place of proofs.
+# one with checks at run time in place of proofs. Behind `--version` stands which build it is. The program takes the
+# place of this script, so its output, its status and signals are its own. Beside it a line on standard error says each
+# few seconds that it still runs; where that is a terminal, one says where to look when a run was stopped. IDC_QUIET=1
+# silences both.
 here=$(dirname -- "$(readlink -f -- "${BASH_SOURCE[0]}")")
-command=$("$here/tools/program") || exit 5
-mapfile -t words <<<"$command"
+. "$here/tools/program"
+
+if [ $# = 1 ] && { [ "$1" = --version ] || [ "$1" = -V ]; }; then
+    "${words[@]}" "$1" || exit
+    build_line || exit 5
+    exit
+fi
+
+case ${IDC_QUIET-} in '' | 0) ;; *) exec "${words[@]}" "$@" ;; esac
+
+more=''
+[ "${1-}" != run ] || more="; --steps N stops a run, tools/why FILE says what goes on"
+exec 8> >(tell "still running" "$more") # which ends when the program has ended, and with it this pipe
+if [ "${1-}" = run ] && [ -t 2 ]; then
+    # the program ends with this script, also where that is killed
+    guard=()
+    if setpriv --pdeathsig KILL true 2>/dev/null; then
+        guard=(setpriv --pdeathsig KILL)
+    fi
+    "${guard[@]}" "${words[@]}" "$@"
+    status=$?
+    [ "$status" != 3 ] || say "messages were left at its limit of steps; tools/why FILE says what goes on without end"
+    exit "$status"
+fi
 exec "${words[@]}" "$@"
