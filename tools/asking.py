@@ -1,8 +1,27 @@
-"""What idc prints, asked of it by a tool. IDC has the words of another command than tools/program names."""
-import os, shlex, subprocess, sys
+"""What idc prints, asked of it by a tool. IDC has the words of another command than tools/program names.
+
+Where that takes long, a tool says so on standard error each few seconds, unless IDC_QUIET is set.
+"""
+import os, shlex, signal, subprocess, sys, time
 
 HERE = os.path.dirname(os.path.realpath(__file__))
+FIRST, NEXT = 5, 15  # seconds until a tool says that it still works, and between two such lines
 _words = []
+# Control-C ends a tool, as it ends other filters, and a full pipe does
+signal.signal(signal.SIGINT, signal.SIG_DFL)
+
+
+class Progress:
+    """Says how far a tool is, each few seconds, from the fifth one on."""
+
+    def __init__(self, name):
+        self.name, self.due = name, time.monotonic() + FIRST
+
+    def say(self, text):
+        if time.monotonic() >= self.due:
+            self.due = time.monotonic() + NEXT
+            if os.environ.get("IDC_QUIET", "") in ("", "0"):
+                print(f"{self.name}: {text}", file=sys.stderr, flush=True)
 
 
 def program():
@@ -18,10 +37,26 @@ def program():
     return _words
 
 
+def outcome(*words):
+    """The status and the bytes of both streams."""
+    start, tool = time.monotonic(), Progress(os.path.basename(sys.argv[0]) or "idc")
+    pipe = subprocess.PIPE
+    try:
+        it = subprocess.Popen([*program(), *words], stdin=subprocess.DEVNULL, stdout=pipe, stderr=pipe)
+    except (OSError, ValueError) as error:
+        sys.exit(f"{tool.name}: the program can't be started: {error}")
+    while True:
+        try:
+            out, err = it.communicate(timeout=FIRST)
+            return it.returncode, out, err
+        except subprocess.TimeoutExpired:
+            tool.say(f"`idc {words[0]}` still runs, for {time.monotonic() - start:.0f} s")
+
+
 def ask(*words):
     """The status and the lines of standard output. Where idc says something on standard error, that is the end."""
-    done = subprocess.run([*program(), *words], stdin=subprocess.DEVNULL, capture_output=True)
-    if done.stderr:
-        sys.stderr.write(done.stderr.decode(errors="replace"))
-        sys.exit(done.returncode)
-    return done.returncode, done.stdout.decode(errors="replace").split("\n")[:-1]
+    status, out, err = outcome(*words)
+    if err:
+        sys.stderr.write(err.decode(errors="replace"))
+        sys.exit(status)
+    return status, out.decode(errors="replace").split("\n")[:-1]
