@@ -1,6 +1,7 @@
 """What idc prints, asked of it by a tool. IDC has the words of another command than tools/program names.
 
-Where that takes long, a tool says so on standard error each few seconds, unless IDC_QUIET is set.
+Where that takes long, a tool says so each few seconds on standard error, where that is a terminal, unless IDC_QUIET is
+set.
 """
 import os, shlex, signal, subprocess, sys, time
 
@@ -20,7 +21,7 @@ class Progress:
     def say(self, text):
         if time.monotonic() >= self.due:
             self.due = time.monotonic() + NEXT
-            if os.environ.get("IDC_QUIET", "") in ("", "0"):
+            if sys.stderr.isatty() and os.environ.get("IDC_QUIET", "") in ("", "0"):
                 print(f"{self.name}: {text}", file=sys.stderr, flush=True)
 
 
