@@ -61,3 +61,11 @@ def ask(*words):
         sys.stderr.write(err.decode(errors="replace"))
         sys.exit(status)
     return status, out.decode(errors="replace").split("\n")[:-1]
+
+
+def build():
+    """Which build the program is that tools/program names; nothing where IDC has another command."""
+    if os.environ.get("IDC"):
+        return None
+    done = subprocess.run([os.path.join(HERE, "program"), "--build"], stdout=subprocess.PIPE, text=True)
+    return done.stdout.strip() or None
