@@ -149,6 +149,14 @@ def value_of(text, binding):
     return words if len(words) <= 40 and "%" not in words else ".."
 
 
+def never_end(text):
+    """Whether an accepted text has a procedure or a loop that surely goes on, once it has begun to."""
+    program = reading.tree_of(text)
+    needs = needing.Needs(program)
+    always = (node.form == "loop" and node.parts[0].name == "true" for node, _ in reading.walk(program))
+    return bool(needs.endless() or needs.same_in_each() or any(always))
+
+
 def warnings(text):
     """Of an accepted text, what surely isn't meant: places, each with a sentence and a hint, in the text's order."""
     program = reading.tree_of(text)
