@@ -1,0 +1,446 @@
+"use strict";
+// The page: inputs and settings, the commands, links, and how the page tries itself.
+
+const THEMES = dataOf("examples"), OF = dataOf("of");
+const STATUSES = {
+  0: "done", 1: "the run stopped at a fault", 2: "refused", 3: "stopped at a limit", 4: "the command line is refused",
+  5: "no file, or no memory", stack: "the browser's stack is too small for this text",
+  trap: "the program ended at a check; please report it with this text",
+};
+
+// ---- inputs and settings
+
+const values = new Map();
+const wordsIn = (text) => text.split(/\s+/).filter(Boolean);
+const fieldValue = (name) => by(name).value.trim();
+
+// A field for a parameter; what was typed for a name is kept.
+function inputField({ name, kind }) {
+  const keep = (event) => values.set(name, event.target.value);
+  const choices = ["", "true", "false"].map((it) => made("option", {}, it));
+  const plain = { placeholder: "whole number", autocapitalize: "off", autocomplete: "off", spellcheck: "false" };
+  const isBool = kind === "bool", number = { ...plain, oninput: keep };
+  const field = isBool ? made("select", { onchange: keep }, ...choices) : made("input", number);
+  field.dataset.name = name;
+  field.value = values.get(name) || "";
+  return made("label", {}, made("code", {}, name), " = ", field);
+}
+
+// The fields for those parameters of `main` that take an input.
+function fields() {
+  const wanted = parametersOf(tokens).filter((it) => it.kind === "int" || it.kind === "bool");
+  const key = JSON.stringify(wanted);
+  if (by("inputs").dataset.key === key) return;
+  by("inputs").dataset.key = key;
+  by("inputs").replaceChildren(...wanted.map(inputField));
+}
+
+// Fills the fields from words of a command line.
+function setWords(words) {
+  const rest = [], params = new Set(parametersOf(tokens).map((it) => it.name));
+  values.clear();
+  for (const name of ["order", "steps"]) by(name).value = "";
+  for (const name of ["names", "trace"]) by(name).checked = false;
+  by("elements").value = "1";
+  for (let at = 0; at < words.length; at++) {
+    const word = words[at], pair = /^([A-Za-z_][A-Za-z_0-9]*)=(.+)$/.exec(word);
+    if (/^--(elements|order|steps)$/.test(word) && at + 1 < words.length) by(word.slice(2)).value = words[++at];
+    else if (word === "--names" || word === "--trace") by(word.slice(2)).checked = true;
+    else if (pair && !values.has(pair[1]) && params.has(pair[1])) values.set(pair[1], pair[2]);
+    else rest.push(word);
+  }
+  by("more").value = rest.join(" ");
+  delete by("inputs").dataset.key;
+  fields();
+}
+
+// The words for `main`'s parameters, and those that are typed freely.
+function inputWords() {
+  const filled = [...by("inputs").querySelectorAll("[data-name]")].filter((it) => it.value.trim() !== "");
+  return [...filled.map((it) => `${it.dataset.name}=${it.value.trim()}`), ...wordsIn(by("more").value)];
+}
+
+function settingWords() {
+  const given = Object.entries({ elements: "1", order: "", steps: "" }).map(([name, usual]) => {
+    const value = fieldValue(name);
+    return value === "" || value === usual ? [] : ["--" + name, value];
+  });
+  return given.flat();
+}
+
+const printedWords = () => ["names", "trace"].filter((name) => by(name).checked).map((name) => "--" + name);
+
+// ---- the commands
+
+const TABS = { run: "Run", walk: "Walk", graph: "Graph", facts: "Facts", check: "Check" };
+const settings = { dot: false, triggers: false, calls: false, rounds: "100" };
+const runner = new Caller();
+let tab = "run", performed = 0, shownWalk = null;
+
+function wordsOf(which) {
+  if (which === "check") return ["check", FILE];
+  if (which === "graph") return ["graph", ...(settings.dot ? ["--dot"] : []), FILE];
+  if (which === "facts") return ["facts", FILE, settings.rounds.trim(), ...inputWords()];
+  if (which === "walk") return ["run", FILE, ...inputWords(), ...settingWords(), "--trace"];
+  return ["run", FILE, ...inputWords(), ...settingWords(), ...printedWords()];
+}
+
+function checkbox(name, text) {
+  const change = (event) => {
+    settings[name] = event.target.checked;
+    perform();
+  };
+  return made("label", {}, made("input", { type: "checkbox", checked: settings[name], onchange: change }), " " + text);
+}
+
+// What a tab has to choose beside the settings of a run.
+function optionsOf(which) {
+  if (which === "graph") {
+    const drawn = [checkbox("triggers", "triggers"), checkbox("calls", "arcs between blocks")];
+    return [...drawn, checkbox("dot", "print it for Graphviz")];
+  }
+  if (which !== "facts") return [];
+  const field = { value: settings.rounds, size: "6", inputmode: "numeric" };
+  const keep = (event) => { settings.rounds = event.target.value; };
+  const enter = (event) => { if (event.key === "Enter" && !event.ctrlKey) perform(); };
+  return [made("label", {}, "rounds ", made("input", { ...field, oninput: keep, onkeydown: enter }))];
+}
+
+// What the program wrote, as it is. A long output is cut until all of it is asked for.
+function showPrinted(text) {
+  const isLong = text.length > MOST.characters;
+  const all = () => {
+    by("printed").textContent = text;
+    by("rest").hidden = true;
+    by("printed").focus();
+  };
+  by("printed").textContent = isLong ? text.slice(0, MOST.characters) : text;
+  by("rest").hidden = !isLong;
+  const told = `These are the first ${MOST.characters} of ${text.length} characters. `;
+  by("rest").replaceChildren(told, made("button", { type: "button", onclick: all }, "Show all"));
+}
+
+function setBusy(busy) {
+  by("go").disabled = busy;
+  by("stop").disabled = !busy;
+}
+
+function showStatus(text, isBad) {
+  by("status").textContent = text;
+  by("status").className = isBad ? "bad" : "";
+}
+
+// Does what the chosen tab stands for, and shows it.
+async function perform() {
+  const which = tab, number = ++performed, files = { [FILE]: textNow() }, words = wordsOf(which);
+  if (!compiled) return;
+  if (runner.isBusy()) runner.end();
+  setBusy(true);
+  const slow = setTimeout(() => showStatus("running"), 150);
+  try {
+    const answer = await runner.ask(words, files);
+    const more = await extra(which, files, answer);
+    if (number !== performed) return;
+    const told = `Status ${answer.status}: ${STATUSES[answer.status] || ""} (${answer.took.toFixed(1)} ms)`;
+    show(which, words, told, answer.status !== 0);
+    showPrinted(answer.printed + answer.refused);
+    by("view").replaceChildren(...viewOf(which, answer, more));
+    if (by("walk")) mount(answer, more);
+  } catch (error) {
+    if (number !== performed) return;
+    const isEnded = error instanceof Ended;
+    show(which, words, isEnded ? "Stopped by you." : "The page failed: " + error.message, true);
+    showPrinted("");
+    if (!isEnded) console.error(error);
+  } finally {
+    clearTimeout(slow);
+    if (number === performed) setBusy(false);
+  }
+}
+
+// The command, its options and its status; what was shown of another one goes.
+function show(which, words, status, isBad) {
+  if (shownWalk) shownWalk.unmount();
+  shownWalk = null;
+  by("command").textContent = "$ idc " + words.join(" ");
+  if (by("options").dataset.tab !== which) by("options").replaceChildren(...optionsOf(which));
+  by("options").dataset.tab = which;
+  by("view").replaceChildren();
+  showStatus(status, isBad);
+}
+
+// What a view asks of the program beside its own command.
+async function extra(which, files, answer) {
+  const rounds = settings.rounds.trim();
+  if (which === "walk" && answer.printed) return runner.ask(["graph", FILE], files);
+  if (answer.status !== 0) return null;
+  if (which === "graph" && settings.dot) return runner.ask(["graph", FILE], files);
+  if (which !== "facts" || !/^\d{1,4}$/.test(rounds)) return null;
+  return runner.ask(["facts", FILE, String(Number(rounds) + 1), ...inputWords()], files);
+}
+
+function viewOf(which, answer, more) {
+  const said = answer.refused.trim();
+  if (/^refused /.test(said)) return [saying(explained(said), "bad", said)];
+  if (which === "run") return reportView(answer.printed, () => choose("walk", true));
+  if (which === "walk" && answer.printed) return [made("div", { id: "walk" })];
+  if (answer.status !== 0) return [];
+  if (which === "check") return [made("p", { class: "answer good" }, "The program accepts this text.")];
+  if (which === "facts") return factsView(answer.printed, more);
+  return which === "graph" ? graphView(settings.dot ? more.printed : answer.printed) : [];
+}
+
+function graphView(listing) {
+  const tells = { tabindex: "0", role: "region", "aria-label": "Picture of the graph" };
+  const picture = made("div", { class: "picture", ...tells });
+  const how = { go: goTo, withTriggers: settings.triggers, withCalls: settings.calls, most: MOST.boxes };
+  const count = drawGraph(picture, listing, namesOf(textNow(), tokens), how);
+  if (count > MOST.boxes) return [paragraph(`${count} instructions are too many for a picture; the listing has them.`)];
+  const legend = "Dashed arcs leave a switch on false; dotted ones are what comes back of a call, a loop or a fetch.";
+  return [dimmed(`${count} instructions. ${legend} A click on a box goes to its place in the text.`), picture];
+}
+
+// The walk of the run that was just made.
+function mount(answer, graph) {
+  const root = by("walk"), lines = answer.printed.split("\n"), trace = lines.filter((line) => EVENT.test(line));
+  const has = typeof mountWalk === "function";
+  if (!graph || !has || trace.length > MOST.walk) {
+    const many = `The run has ${trace.length} events; ${MOST.walk} can be walked at most: give it fewer steps.`;
+    root.replaceWith(paragraph(has ? many : "This page has no walk."));
+    return;
+  }
+  const printed = lines.filter((line) => !EVENT.test(line)).join("\n"), names = namesOf(textNow(), tokens);
+  shownWalk = mountWalk(root, { listing: graph.printed, trace: trace.join("\n"), text: textNow(), printed, names });
+}
+
+function choose(which, focuses) {
+  tab = which;
+  for (const button of by("tabs").children) {
+    const isIt = button.dataset.tab === which;
+    button.setAttribute("aria-selected", isIt);
+    button.tabIndex = isIt ? 0 : -1;
+    if (isIt) by("panel").setAttribute("aria-labelledby", button.id);
+    if (isIt && focuses) button.focus();
+  }
+  return perform();
+}
+
+function makeTabs() {
+  const names = Object.keys(TABS);
+  const move = (event) => {
+    const at = names.indexOf(event.target.dataset.tab), last = names.length - 1;
+    const to = { ArrowRight: at === last ? 0 : at + 1, ArrowLeft: at ? at - 1 : last, Home: 0, End: last }[event.key];
+    if (to === undefined) return;
+    event.preventDefault();
+    choose(names[to], true);
+  };
+  by("tabs").onkeydown = move;
+  by("tabs").replaceChildren(...names.map((name) => {
+    const tells = { type: "button", role: "tab", id: "tab-" + name, "data-tab": name, "aria-controls": "panel" };
+    return made("button", { ...tells, onclick: () => choose(name) }, TABS[name]);
+  }));
+}
+
+// ---- examples and links
+
+const EXAMPLES = new Map(THEMES.flatMap((theme) => theme.examples).map((it) => [it.name, it]));
+
+function fillExamples() {
+  const groups = THEMES.map(({ theme, examples }) => {
+    const options = examples.map((it) => made("option", { value: it.name }, it.name.replaceAll("_", " ")));
+    return made("optgroup", { label: theme }, ...options);
+  });
+  by("example").append(...groups, made("option", { value: "", hidden: true }, "your own text"));
+}
+
+function load(text, words) {
+  by("text").value = text;
+  by("text").scrollTop = 0;
+  marks = [];
+  paint();
+  setWords(words);
+  isExample();
+  check();
+}
+
+function loadExample(name) {
+  const it = EXAMPLES.get(name);
+  load(it.text, wordsIn(it.words));
+}
+
+// Which example the text is, if it is one: then its name is shown, with what it shows.
+function isExample() {
+  const it = [...EXAMPLES.values()].find((one) => one.text === textNow());
+  by("example").value = it ? it.name : "";
+  const told = it ? it.told : "your own text; a link keeps it.";
+  by("told").textContent = told[0].toUpperCase() + told.slice(1);
+  return it;
+}
+
+// Bytes as letters that stand in a link as they are.
+function asLetters(bytes) {
+  const letters = btoa(Array.from(bytes, (byte) => String.fromCharCode(byte)).join(""));
+  return letters.replaceAll("+", "-").replaceAll("/", "_").replaceAll("=", "");
+}
+
+function asBytes(letters) {
+  const whole = atob(letters.replaceAll("-", "+").replaceAll("_", "/"));
+  return Uint8Array.from(whole, (letter) => letter.charCodeAt(0));
+}
+
+// All that a stream gives, unless it is more than a text may have.
+async function wholeOf(stream) {
+  const parts = [], reader = stream.getReader();
+  for (let size = 0; ; ) {
+    const { done, value } = await reader.read();
+    if (done) return new Uint8Array(await new Blob(parts).arrayBuffer());
+    parts.push(value);
+    size += value.length;
+    if (size > MOST.text) throw new Error("its text is too long");
+  }
+}
+
+// The page's state as a fragment: an example's name or a text, packed, and the words.
+async function fragment() {
+  const found = new URLSearchParams(), it = isExample();
+  if (it) found.set("example", it.name);
+  else {
+    const stream = new Blob([textNow()]).stream().pipeThrough(new CompressionStream("deflate-raw"));
+    found.set("text", asLetters(new Uint8Array(await new Response(stream).arrayBuffer())));
+  }
+  found.set("words", [...inputWords(), ...settingWords(), ...printedWords()].join(" "));
+  if (tab !== "run") found.set("show", tab);
+  return "#" + found;
+}
+
+// Reads a fragment, and answers whether it has a text. It comes from outside: what can't be read is said, and changes
+// nothing.
+async function readFragment() {
+  const said = new URLSearchParams(location.hash.slice(1)), name = said.get("example"), packed = said.get("text");
+  try {
+    const words = said.get("words");
+    if (name !== null) {
+      if (!EXAMPLES.has(name)) throw new Error("there is no such example");
+      loadExample(name);
+      if (words !== null) setWords(wordsIn(words));
+    } else if (packed !== null) {
+      const stream = new Blob([asBytes(packed)]).stream().pipeThrough(new DecompressionStream("deflate-raw"));
+      load(new TextDecoder("utf-8", { fatal: true }).decode(await wholeOf(stream)), wordsIn(words || ""));
+    } else return false;
+    if (Object.hasOwn(TABS, said.get("show") || "")) tab = said.get("show");
+    return true;
+  } catch (error) {
+    by("told").textContent = "The link can't be read: " + error.message;
+    return false;
+  }
+}
+
+async function share() {
+  const to = location.href.split("#")[0] + (await fragment());
+  history.replaceState(null, "", to);
+  by("linked").hidden = false;
+  by("link").value = to;
+  by("link").select();
+  const written = navigator.clipboard ? navigator.clipboard.writeText(to) : Promise.reject(new Error("none"));
+  by("copied").textContent = await written.then(() => "copied", () => "copy it from the field");
+}
+
+// ---- the page tries itself
+
+// The examples, whose files have what is printed on either stream, or the cases that .ci/play put into the page.
+function casesHere() {
+  if (by("cases")) return dataOf("cases");
+  return [...EXAMPLES.values()].map((it) => {
+    const file = it.name + ".id";
+    return { words: ["run", file, ...wordsIn(it.words)], files: { [file]: it.text }, whole: it.out };
+  });
+}
+
+function isAsWanted(answer, wanted) {
+  if (wanted.whole !== undefined) return answer.printed + answer.refused === wanted.whole;
+  return answer.printed === wanted.out && answer.refused === wanted.err && answer.status === wanted.status;
+}
+
+// Runs them all, and tells how many give what they should.
+async function selftest() {
+  const caller = new Caller(), bad = [], times = [], cases = casesHere();
+  by("tested").dataset.state = "busy";
+  for (const it of cases) {
+    const answer = await caller.ask(it.words, it.files);
+    times.push(answer.took);
+    if (!isAsWanted(answer, it)) bad.push(it.words.join(" "));
+  }
+  caller.end();
+  times.sort((one, other) => one - other);
+  const middle = times[times.length >> 1].toFixed(1), longest = times[times.length - 1].toFixed(0);
+  const told = `${cases.length - bad.length} of ${cases.length} as they should be`;
+  const others = bad.length ? ": not " + bad.slice(0, 9).join("; ") : "";
+  by("tested").textContent = `${told}; a call took ${middle} ms in the middle, ${longest} at most${others}`;
+  by("tested").className = bad.length ? "bad" : "good";
+  by("tested").dataset.state = "done";
+}
+
+// ---- the start
+
+function tellOf() {
+  const without = "of a program without proofs, with checks at run time in their place";
+  const is = OF.proved ? "The" : "UNPROVED: the", whose = OF.proved ? "that of the proved program" : without;
+  const program = `${is} module in this page is ${whose}`;
+  by("foot").textContent = `${program}, of the sources at commit ${OF.commit} (sum ${OF.code}), by ${OF.kit.trim()}.`;
+  by("foot").classList.toggle("unproved", !OF.proved);
+}
+
+let typing = 0;
+
+function typed() {
+  paint();
+  fields();
+  isExample();
+  clearTimeout(typing);
+  typing = setTimeout(check, 250);
+}
+
+function listen() {
+  by("text").oninput = typed;
+  by("text").onscroll = follow;
+  by("example").onchange = () => {
+    loadExample(by("example").value);
+    perform();
+  };
+  by("request").onsubmit = (event) => {
+    event.preventDefault();
+    perform();
+  };
+  by("stop").onclick = () => runner.end();
+  by("share").onclick = share;
+  by("selftest").onclick = selftest;
+  document.addEventListener("keydown", (event) => {
+    if (event.key !== "Enter" || !(event.ctrlKey || event.metaKey)) return;
+    event.preventDefault();
+    perform();
+  });
+  window.addEventListener("hashchange", async () => {
+    if (await readFragment()) choose(tab);
+  });
+}
+
+async function start() {
+  const packed = compile();
+  fillExamples();
+  makeTabs();
+  tellOf();
+  listen();
+  loadExample("fib_table");
+  try {
+    compiled = await packed;
+  } catch (error) {
+    showStatus("This browser can't compile the program: " + error.message, true);
+    return;
+  }
+  await readFragment();
+  choose(tab);
+  check();
+  if (location.hash === "#selftest") selftest();
+}
+
+start();

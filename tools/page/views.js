@@ -1,0 +1,164 @@
+"use strict";
+// What a run has printed, for reading: the answer, arrays as rows and matrices, and sentences for what has no value.
+
+const paragraph = (...parts) => made("p", {}, ...parts);
+const dimmed = (text) => made("p", { class: "dim" }, text);
+const rowOf = (...cells) => made("tr", {}, ...cells);
+const headOf = (scope, text) => made("th", { scope }, text);
+// A table that scrolls where it is wide, also by keys.
+const scrolled = (...rows) => made("div", { class: "cells", tabindex: "0" }, made("table", {}, ...rows));
+
+// A path in words: the steps from the outermost on.
+function inWords(path) {
+  const steps = path.split("/").slice(1).map((step) => {
+    const [place, turn] = step.split("#");
+    return [turn === undefined ? " in the call at " : ` in iteration ${turn} of the loop at `, placeButton(place)];
+  });
+  if (steps.length <= 6) return steps.flat();
+  return [...steps.slice(0, 2).flat(), ` and ${steps.length - 4} more steps`, ...steps.slice(-2).flat()];
+}
+
+// A thing's place, and the path in words.
+function thing(text) {
+  const where = whereOf(text);
+  return where ? [placeButton(where.place), ...inWords(where.path)] : [text];
+}
+
+// An array as the text names it.
+function arrayCalled(name, called) {
+  const where = whereOf(name), own = where && called[where.place];
+  if (!where) return [name];
+  const named = own ? [made("code", {}, own), ", "] : [];
+  return [...named, "the array made at ", ...thing(name)];
+}
+
+// The line of a thing, with a caret below it.
+function lineOf(text) {
+  const where = whereOf(text);
+  if (!where) return "";
+  const [line, column] = where.place.split(":").map(Number);
+  const at = indexOf(textNow(), line, column);
+  return pointed(at, tokenAt(textNow(), at).length);
+}
+
+function valueCell(array, index) {
+  const value = array.cells.get(index);
+  return value === undefined ? made("td", { class: "none", title: "no value" }, "\u00b7") : made("td", {}, value);
+}
+
+function rowTable(array) {
+  const indexes = indexesOf(array, MOST.cells);
+  const head = rowOf(headOf("row", "index"), ...indexes.map((it) => headOf("col", it)));
+  return scrolled(head, rowOf(headOf("row", "value"), ...indexes.map((it) => valueCell(array, it))));
+}
+
+// An array of arrays: a row for each of its cells, a column for each index that one of its arrays has.
+function matrixTable(array, report) {
+  const inner = (index) => report.arrays.get(array.cells.get(index)), indexes = indexesOf(array, MOST.rows);
+  const has = indexes.map(inner).filter(Boolean);
+  const low = has.reduce((least, it) => (it.low < least ? it.low : least), has[0].low);
+  const high = has.reduce((most, it) => (it.high > most ? it.high : most), has[0].high);
+  const columns = indexesOf({ low, high }, Math.max(20, Math.floor(20000 / indexes.length)));
+  const cell = (row, index) => {
+    const isInside = row && BigInt(index) >= row.low && BigInt(index) <= row.high;
+    return isInside ? valueCell(row, index) : made("td", { class: "none" });
+  };
+  const rows = indexes.map((it) => rowOf(headOf("row", it), ...columns.map((index) => cell(inner(it), index))));
+  return scrolled(rowOf(made("td"), ...columns.map((it) => headOf("col", it))), ...rows);
+}
+
+function arrayView(array, report, called) {
+  const head = made("h3", {}, ...arrayCalled(array.name, called), `, ${array.low}..${array.high}`);
+  if (array.high < array.low) return [head, dimmed("It has no cells.")];
+  const whole = array.high - array.low + 1n, isCut = whole > BigInt(array.isNested ? MOST.rows : MOST.cells);
+  const found = [head, array.isNested ? matrixTable(array, report) : rowTable(array)];
+  if (isCut) found.push(dimmed(`The first cells of ${whole}; the output below has those with a value.`));
+  return found;
+}
+
+const FAULTS = {
+  overflow: "a number leaves the 64 bits of a whole number",
+  "division by zero": "the divisor is 0",
+  "bad bounds": "an array's lower bound is above its upper bound by more than 1",
+  "out of bounds": "an index lies outside of its array's bounds",
+};
+
+function faultView({ kind, array, index, at }, called) {
+  const places = at.map((it) => made("pre", {}, lineOf(it)));
+  const box = (...parts) => made("div", { class: "said bad" }, ...parts);
+  if (kind !== "second store") {
+    return box(paragraph(`Fault: ${kind}, ${FAULTS[kind] || ""}, at `, ...thing(at[0]), "."), places[0]);
+  }
+  const stores = at.flatMap((it, number) => [paragraph(...thing(it)), places[number]]);
+  const cell = [`Fault: a second store for the cell [${index}] of `, ...arrayCalled(array, called), ". The stores:"];
+  return box(paragraph(...cell), ...stores);
+}
+
+function namesView(report) {
+  const named = namesOf(textNow(), tokens), left = { class: "left" };
+  const head = ["name", "place", "path", "value"].map((it) => made("th", { scope: "col", ...left }, it));
+  const rows = report.names.slice(0, MOST.rows).map(({ at, value }) => {
+    const { path, place } = whereOf(at) || { path: "", place: at };
+    const words = [named[place] || "", placeButton(place), path].map((it) => made("td", left, it));
+    return rowOf(...words, made("td", {}, value));
+  });
+  const found = [made("h3", {}, "Names"), scrolled(rowOf(...head), ...rows)];
+  if (report.names.length > MOST.rows) found.push(dimmed(`The first ${MOST.rows} of ${report.names.length}.`));
+  return found;
+}
+
+function answerView(report, called) {
+  const value = report.arrays.has(report.answer) ? arrayCalled(report.answer, called) : [made("b", {}, report.answer)];
+  const found = [made("p", { class: "answer" }, "Answer: ", ...value)];
+  if (report.answer === "none" && !report.isStopped) {
+    const body = ["No message is left, and the body of ", made("code", {}, "main"), " has no value: "];
+    found.push(paragraph(...body, "what it needs never comes."));
+  }
+  return found;
+}
+
+function waitingView(waiting, called) {
+  const found = waiting.slice(0, 20).map((it) => {
+    const cell = [` waits for the cell [${it.index}] of `, ...arrayCalled(it.array, called)];
+    const said = paragraph("The fetch at ", ...thing(it.at), ...cell, ", in which nobody has stored a value.");
+    return made("div", { class: "said warned" }, said, made("pre", {}, lineOf(it.at)));
+  });
+  if (waiting.length > 20) found.push(dimmed(`and ${waiting.length - 20} more, in the output below`));
+  return [made("h3", {}, "Waiting fetches"), ...found];
+}
+
+// A run's report.
+function reportView(printed, walk) {
+  const report = readReport(printed), called = arrayNames(textNow(), tokens), found = [];
+  if (report.fault) found.push(faultView(report.fault, called));
+  if (report.isStopped) {
+    const why = "The run was stopped at its limit of messages, and some are left: it needs more steps, or has no end.";
+    found.push(made("div", { class: "said warned" }, paragraph(why + " Below stands what it has shown.")));
+  }
+  if (report.answer !== null) found.push(...answerView(report, called));
+  const arrays = outermost(report);
+  arrays.slice(0, 40).forEach((array) => found.push(...arrayView(array, report, called)));
+  if (arrays.length > 40) found.push(dimmed(`and ${arrays.length - 40} more arrays, in the output below`));
+  if (report.waiting.length) found.push(...waitingView(report.waiting, called));
+  if (report.names.length) found.push(...namesView(report));
+  if (report.events) {
+    const button = made("button", { type: "button", onclick: walk }, "Walk through them");
+    found.push(paragraph(`The trace has ${report.events} events. `, button));
+  }
+  return found;
+}
+
+const FACTS = { on: "evaluated", has: "values", shape: "arrays", put: "stores", ask: "fetches" };
+
+// How many facts of each kind there are, and whether these are all: then one round more has the same.
+function factsView(printed, more) {
+  const counts = new Map(), lines = printed.split("\n").filter(Boolean);
+  for (const line of lines) {
+    const [kind] = line.split(" ");
+    counts.set(kind, (counts.get(kind) || 0) + 1);
+  }
+  const each = [...counts].map(([kind, count]) => `${count} ${FACTS[kind] || kind} (${kind})`);
+  const same = "One round more gives the same, so these are all.", other = "One round more gives more.";
+  const told = !more ? "" : more.printed === printed ? same : other;
+  return [paragraph(`${lines.length} facts: ${each.join(", ")}.`), paragraph(told)];
+}
