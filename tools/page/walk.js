@@ -9,7 +9,7 @@
 // out. names: the name of each binder, and `def NAME` of each procedure, by its place `L:C`, else taken from the text;
 // title: what stands above; at: the event to begin with; whole: whether the page is nothing but the walk, so that its
 // keys are heard everywhere. `root` is an element with a height of its own; walk.css gives the rest, all of it below
-// the class `walk`. Where there is no document, `wordsOf(run)` gives the sentences, one for each event.
+// the class `walk`. `node walk.js LISTING TRACE SOURCE` prints the sentences, one for each event.
 //
 // It makes the machine's states anew from the trace (docs/MACHINE.md has the rules), so it proves nothing, and says in
 // red where an event is none of the graph's.
@@ -34,8 +34,16 @@ function instruction(line) {
   return { number: Number(words[0]), op, args, place, yes: sides[0] || [], no: sides[1] || [], ports };
 }
 
+// The instructions of a listing; none where a line is not of one, or names an instruction that there isn't.
 function readListing(text) {
-  return text.split("\n").filter((line) => /^\d+ /.test(line)).map(instruction);
+  const graph = text.split("\n").filter((line) => /^\d+ /.test(line)).map((line) => instruction(line.trimEnd()));
+  const isThere = (number) => Number.isInteger(number) && number >= 0 && number < graph.length;
+  const isSound = ({ number, op, args, place, yes, no }, index) => {
+    const named = { enter: [args[0], args[1]], send: [args[1]], fetch: args.slice(-1) }[op] || [];
+    return number === index && /^\d+:\d+$/.test(place) && named.every((word) => isThere(Number(word))) &&
+      [...yes, ...no].every((dest) => isThere(dest.instr) && (dest.port === 0 || dest.port === 1));
+  };
+  return graph.every(isSound) ? graph : [];
 }
 
 // Context and iteration of `c0.1#2` or `k0.1#2`.
@@ -55,7 +63,9 @@ function messageOf(text) {
   return { kind, text, ...turnOf(words[turn]), instr: Number(words[turn + 1]), port: 0, cell: words[1], value };
 }
 
-const EVENT = /^(\d+) (\d+) ((?:token \S+ \d+\.\d|read \S+ \S+ \d|write \S+ \S+ \S+ \d).*?)( fault| stuck)?\r?$/;
+const TURN = "c\\d+\\.\\d+#\\d+", CELL = "s\\d+\\.\\d+\\[-?\\d+\\]";
+const MESSAGE = `token ${TURN} \\d+\\.[01] \\S+|read ${CELL} ${TURN} \\d+|write ${CELL} \\S+ ${TURN} \\d+`;
+const EVENT = new RegExp(`^(\\d+) (\\d+) (${MESSAGE})( fault| stuck)?\\r?$`);
 
 // An event: its stamp, element and message, and whether it was a fault or stuck. Lines of a report are none.
 function eventOf(line) {
@@ -97,8 +107,10 @@ function calculated(op, left, right) {
   }
 }
 
-const token = (context, iteration, instr, port, value) =>
-  ({ kind: "token", text: `token c${context}#${iteration} ${instr}.${port} ${value}`, context, iteration, instr, port, value });
+function token(context, iteration, instr, port, value) {
+  const text = `token c${context}#${iteration} ${instr}.${port} ${value}`;
+  return { kind: "token", text, context, iteration, instr, port, value };
+}
 
 // What an instruction sends, or null where it fails. `made` counts what an element has made.
 function fired(graph, instr, event, operands, run) {
@@ -136,13 +148,10 @@ function fired(graph, instr, event, operands, run) {
       return index < low || index > high ? null : toAll(instr.yes, `${left}[${right}]`);
     }
     case "fetch": {
-      const reply = Number(instr.args[instr.args.length - 1]);
-      return [{ kind: "read", text: `read ${left} c${context}#${iteration} ${reply}`, context, iteration, instr: reply,
-        port: 0, cell: left, value: null }];
+      const reply = instr.args[instr.args.length - 1];
+      return [messageOf(`read ${left} c${context}#${iteration} ${reply}`)];
     }
-    case "store":
-      return [{ kind: "write", text: `write ${left} ${right} c${context}#${iteration} ${event.instr}`, context, iteration,
-        instr: event.instr, port: 0, cell: left, value: right }];
+    case "store": return [messageOf(`write ${left} ${right} c${context}#${iteration} ${event.instr}`)];
     default: {
       const value = calculated(instr.op, left, right);
       return value === null ? null : toAll(instr.yes, value);
@@ -181,15 +190,16 @@ function inputsOf(graph) {
 
 const NEVER = 2 ** 31 - 1;
 
-// A run of a graph: what each event came to, and for each message and each thing that waits from which event to which it
-// does. So the state behind any event is what these spans have there, and none is kept. Events count from 1; 0 is the
-// start.
+// A run of a graph: what each event came to, and for each message and each thing that waits from which event to which
+// it does. So the state behind any event is what these spans have there, and none is kept. Events count from 1; 0 is
+// the start.
 class Run {
   constructor(listing, trace) {
     this.graph = readListing(listing);
-    this.events = [null, ...readTrace(trace)];
+    this.events = [null, ...(this.graph.length ? readTrace(trace) : [])];
     this.last = this.events.length - 1;
-    this.elements = this.events.reduce((most, event) => (event ? Math.max(most, event.element) : most), 0) + 1;
+    const highest = this.events.reduce((most, event) => (event ? Math.max(most, event.element) : most), 0);
+    this.elements = Math.min(64, highest + 1);
     this.frames = [];
     this.frameIds = new Map();
     this.contexts = new Map();
@@ -330,13 +340,15 @@ class Run {
   }
 
   sendsOf(at) {
-    return at ? this.messages.slice(this.sendsFrom[at], this.sendsFrom[at + 1]) : this.messages.slice(0, this.sendsFrom[1]);
+    return this.messages.slice(at ? this.sendsFrom[at] : 0, this.sendsFrom[at + 1]);
   }
 
   // The messages in flight behind an event.
   flying(at) {
     const found = [];
-    for (let id = 0; id < this.messages.length && this.sentAt[id] <= at; id++) if (this.takenAt[id] > at) found.push(id);
+    for (let id = 0; id < this.messages.length && this.sentAt[id] <= at; id++) {
+      if (this.takenAt[id] > at) found.push(id);
+    }
     return found;
   }
 
@@ -363,8 +375,13 @@ class Run {
 
 // ---- what stands in the text, and the words for it
 
-const SIGNS = { add: "+", sub: "-", mul: "*", lt: "<", le: "<=", gt: ">", ge: ">=", eq: "==", ne: "<>", eqb: "==", neb: "<>",
-  neg: "-", alloc: "array" };
+const SIGNS = {
+  add: "+", sub: "-", mul: "*", neg: "-", lt: "<", le: "<=", gt: ">", ge: ">=", eq: "==", ne: "<>", eqb: "==",
+  neb: "<>", alloc: "array",
+};
+
+// What a `for` asks before each iteration.
+const GOES_ON = "whether it goes on";
 
 // A name with its value; a literal is its own name.
 const pair = (name, value) => (name === value ? name : `${name} = ${value}`.replace(/^(its .*) = /, "$1, "));
@@ -393,7 +410,8 @@ class Words {
 
   connect(instr, number) {
     for (const dest of [...instr.yes, ...instr.no]) {
-      if (this.feeders[dest.instr] && this.feeders[dest.instr][dest.port] === null) this.feeders[dest.instr][dest.port] = number;
+      const ports = this.feeders[dest.instr];
+      if (ports && ports[dest.port] === null) ports[dest.port] = number;
     }
     const last = Number(instr.args[instr.args.length - 1]);
     if (instr.op === "send") this.sender.set(last, number);
@@ -420,10 +438,11 @@ class Words {
     return found ? found[1] : "";
   }
 
-  // What stands before the `[` at a place: a name, or `(..)`.
+  // What stands before the `[` at a place: a name, which may have an index itself, or `(..)`.
   target(place) {
-    const found = /(\w+)\s*$/.exec(this.around(place)[0]);
-    return found ? found[1] : this.lines.join("") ? "(..)" : "cell";
+    const before = this.around(place)[0], found = /(\w+)\s*((?:\[[^[\]]{1,12}\]\s*)?)$/.exec(before);
+    if (found) return found[1] + found[2].trim();
+    return this.lines.join("") ? "(..)" : "cell";
   }
 
   // The name of a merge: of a parameter, a binding, a variable of a loop, or of what is carried into a loop.
@@ -435,6 +454,10 @@ class Words {
     return word && word[1] !== "if" ? word[1] : "";
   }
 
+  entryName(number) {
+    return this.names[number] || `at ${this.graph[number].place}`;
+  }
+
   // The name of what comes from an instruction, through switches and what carries it into a loop.
   valueName(number, steps = 0) {
     const instr = this.graph[number];
@@ -444,7 +467,7 @@ class Words {
     if (instr.op === "switch") return before(1) === null ? "a value" : this.valueName(before(1), steps + 1);
     if (instr.op === "next" || instr.op === "reset") return this.valueName(before(0), steps + 1);
     if (instr.op === "const") return instr.args[0];
-    if (this.isCounting(number)) return instr.op === "add" ? "its index" : "whether it goes on";
+    if (this.isCounting(number)) return instr.op === "add" ? "its index" : GOES_ON;
     if (instr.op === "merge" && this.sender.has(number)) {
       const sender = this.feeders[this.sender.get(number)][1];
       return sender === null ? "a value" : this.valueName(sender, steps + 1);
@@ -474,7 +497,7 @@ class Words {
     const instr = this.graph[number], { place } = instr;
     if (number === 0) return "the answer";
     const reply = this.replyOf.get(number);
-    if (reply !== undefined && this.graph[reply].op === "fetch") return `the fetch ${this.target(place)}[..] (${place})`;
+    if (reply !== undefined && this.graph[reply].op === "fetch") return this.cellThing(reply, "..");
     if (reply !== undefined) return this.entered(reply);
     if (this.names[number]) return `${this.names[number]} (${place})`;
     if (instr.op === "enter") return this.entered(number);
@@ -489,13 +512,15 @@ class Words {
   // What an `enter` enters.
   entered(number) {
     const instr = this.graph[number];
-    return this.isLoop(Number(instr.args[0])) ? `the loop (${instr.place})` : `the call of ${this.callee(number)} (${instr.place})`;
+    if (this.isLoop(Number(instr.args[0]))) return `the loop (${instr.place})`;
+    return `the call of ${this.callee(number)} (${instr.place})`;
   }
 
   // `the fetch a[2] (3:5)`; an address is of a store where it leads to one.
   cellThing(number, index) {
-    const instr = this.graph[number], { place } = instr;
-    const isStore = instr.op === "store" || (instr.op === "address" && instr.yes.some((dest) => this.graph[dest.instr].op === "store"));
+    if (!this.graph[number]) return `the cell [${index}]`;
+    const { op, place, yes } = this.graph[number];
+    const isStore = op === "store" || (op === "address" && yes.some((dest) => this.graph[dest.instr].op === "store"));
     return `the ${isStore ? "store" : "fetch"} ${this.target(place)}[${index}] (${place})`;
   }
 
@@ -503,7 +528,8 @@ class Words {
   value(text) {
     if (text === null || text === undefined) return "";
     if (/^s[\d.]+$/.test(text)) return this.structure(text);
-    if (/^s[\d.]+\[/.test(text)) return this.structure(text.slice(0, text.indexOf("["))) + text.slice(text.indexOf("["));
+    const cell = /^(s[\d.]+)(\[.*)$/.exec(text);
+    if (cell) return this.structure(cell[1]) + cell[2];
     if (text[0] === "c") {
       const entered = this.run.contexts.get(text.slice(1));
       return entered ? `the frame of ${this.title(this.blocks[this.blockOf[entered.block]])}` : "a frame";
@@ -511,17 +537,31 @@ class Words {
     return text[0] === "k" ? "the way back" : text;
   }
 
-  // An array: by the name that it is bound to, and by its number where that made several.
+  // An array: by the name that it is bound to, or by the cell where it is stored, and by its number where a part of the
+  // text made several.
   structure(name) {
     const made = this.run.structures.get(name);
     if (!made) return name;
-    if (!made.label) {
-      const dest = this.graph[made.instr].yes[0], bound = dest ? this.names[dest.instr] : "";
-      const label = bound || `array ${this.graph[made.instr].place}`;
+    if (made.label) return made.label;
+    const dest = this.graph[made.instr].yes[0], bound = dest ? this.names[dest.instr] : "";
+    const stored = bound ? undefined : this.rows().get(name);
+    made.label = bound || `array ${this.graph[made.instr].place} `;
+    if (stored) made.label = this.value(stored);
+    else {
       const all = [...this.run.structures.values()].filter((it) => it.instr === made.instr);
-      all.forEach((it, index) => { it.label = all.length > 1 ? `${label}.${index + 1}` : label; });
+      const number = String(all.indexOf(made) + 1).replace(/\d/g, (digit) => "₀₁₂₃₄₅₆₇₈₉"[digit]);
+      made.label = (made.label + (all.length > 1 ? number : "")).trim();
     }
     return made.label;
+  }
+
+  // The cells in which arrays are stored, by these.
+  rows() {
+    if (!this.stored) {
+      const writes = this.run.events.filter((event) => event && event.kind === "write" && event.value[0] === "s");
+      this.stored = new Map(writes.map((event) => [event.value, event.cell]));
+    }
+    return this.stored;
   }
 
   // What the port of an instruction takes.
@@ -535,8 +575,8 @@ class Words {
       case "address": return port ? "its index" : "its array";
       case "store": return port ? "its value" : "its cell";
       default:
-        if (this.isCounting(number)) return port ? { le: "its high bound", lt: "its high bound", add: "its step" }[instr.op] : "its index";
-        return port ? "its right side" : "its left side";
+        if (!this.isCounting(number)) return port ? "its right side" : "its left side";
+        return port === 0 ? "its index" : instr.op === "add" ? "its step" : "its high bound";
     }
   }
 
@@ -557,7 +597,8 @@ class Words {
   // Who takes what comes to the port.
   taker(number) {
     const instr = this.graph[number];
-    if (instr.op === "back") return this.title(this.blocks[this.blockOf[number]]).replace(/^loop (.*)/, "the loop ($1)");
+    const block = this.blocks[this.blockOf[number]];
+    if (instr.op === "back") return block.isLoop ? `the loop (${instr.place})` : this.title(block);
     if (instr.op === "send") return this.sent(number);
     return this.thing(number);
   }
@@ -566,7 +607,8 @@ class Words {
   sent(number) {
     const instr = this.graph[number], target = Number(instr.args[1]);
     if (this.blocks[this.blockOf[target]].isLoop) return `${this.valueName(target)} for the loop (${instr.place})`;
-    return `the argument ${this.names[target]} of ${this.title(this.blocks[this.blockOf[target]])} (${instr.place})`;
+    const callee = this.title(this.blocks[this.blockOf[target]]);
+    return `the argument ${this.entryName(target)} of ${callee} (${instr.place})`;
   }
 
   // A token that waits for its partner: `div (3:42) has 7, lacks its right side`.
@@ -629,7 +671,10 @@ class Words {
         return `${pair(this.nextName(number), left)} goes on to iteration ${to}`;
       }
       case "reset": return `the last expression of the loop (${instr.place}) has its value, ${left}`;
-      case "alloc": return `${who} has both bounds, ${left} and ${right}${event.fails ? ", and fails: bad bounds" : ": it is made"}`;
+      case "alloc": {
+        const so = event.fails ? ", and fails: bad bounds" : ": it is made";
+        return `${who} has both bounds, ${left} and ${right}${so}`;
+      }
       case "address": {
         if (!event.fails) return `${this.cellThing(number, right)} has its array and its index`;
         const { low, high } = this.run.structures.get(event.operands[0]);
@@ -647,29 +692,34 @@ class Words {
 
   // What a `for` does to count.
   counted(event, instr, left, right) {
-    const who = `the loop (${instr.place})`;
-    if (instr.op === "le") return `${who} goes from ${left} to ${right}: ${event.result === "true" ? "it begins" : "no iteration"}`;
-    if (instr.op === "lt") return `${who} is at ${left} of ${right}: ${event.result === "true" ? "another iteration follows" : "this is the last one"}`;
+    const who = `the loop (${instr.place})`, isMore = event.result === "true";
+    if (instr.op === "le") return `${who} goes from ${left} to ${right}: ${isMore ? "it begins" : "no iteration"}`;
+    if (instr.op === "lt") {
+      return `${who} is at ${left} of ${right}: ${isMore ? "another iteration follows" : "this is the last one"}`;
+    }
     return `${who} counts on, from ${left} to ${this.value(event.result)}`;
   }
 
+  // A merge that has what it is for: of the answer, a block's beginning, a reply, an entry or a name.
   merged(event, instr, value) {
-    const number = event.instr, block = this.blocks[this.blockOf[number]];
+    const number = event.instr, block = this.blocks[this.blockOf[number]], loop = `the loop (${instr.place})`;
+    const reply = this.replyOf.get(number), name = this.names[number];
     if (number === 0) return `the answer is ${value}`;
     if (number === block.from) {
-      return block.isLoop ? `iteration ${event.iteration} of the loop (${instr.place}) begins` : `${this.title(block)} begins`;
+      return block.isLoop ? `iteration ${event.iteration} of ${loop} begins` : `${this.title(block)} begins`;
     }
-    const reply = this.replyOf.get(number);
-    if (reply !== undefined && this.graph[reply].op === "fetch") return `${this.fetchOf(event, reply)} has its value, ${value}`;
+    if (reply !== undefined && this.graph[reply].op === "fetch") {
+      return `${this.fetchOf(event, reply)} has its value, ${value}`;
+    }
     if (this.entries.has(number) && !block.isLoop) {
-      const what = this.sender.has(number) ? `the parameter ${this.names[number]} of ${this.title(block)}` : `the input ${this.names[number]}`;
-      return `${what} has its value, ${value}`;
+      const what = this.entryName(number), of = ` of ${this.title(block)}`;
+      return `${this.sender.has(number) ? `the parameter ${what}${of}` : `the input ${what}`} has its value, ${value}`;
     }
-    if (this.entries.has(number) && !this.names[number]) {
-      const name = this.valueName(number);
-      return `the loop (${instr.place}) ${name === "whether it goes on" ? `knows ${name}: ${value}` : `has ${pair(name, value)}`}`;
+    if (this.entries.has(number) && !name) {
+      const carried = this.valueName(number);
+      return carried === GOES_ON ? `${loop} knows ${carried}: ${value}` : `${loop} has ${pair(carried, value)}`;
     }
-    return `${this.thing(number)} has its value, ${value === this.names[number] ? "an array" : value}`;
+    return `${this.thing(number)} has its value, ${value === name ? "an array" : value}`;
   }
 
   // The fetch whose value comes, with its index: that of the address which its frame sent.
@@ -685,8 +735,8 @@ class Words {
   // A conditional's choice, or whether a loop goes on.
   switched(event, number, isTrue, right) {
     const instr = this.graph[number], side = isTrue ? instr.yes : instr.no, isSignal = right === "signal";
-    const what = pair(this.switchedName(number), right), word = this.wordAt(instr.place), feeder = this.feeders[number][0];
-    if (word !== "{") {
+    const what = pair(this.switchedName(number), right), feeder = this.feeders[number][0];
+    if (this.wordAt(instr.place) !== "{") {
       const arm = isTrue ? "then" : "else", who = `if (${instr.place}): ${isTrue}, so`;
       if (isSignal) return `${who} its ${arm} is turned on`;
       return `${who} ${what} ${side.length ? `goes to its ${arm}` : `isn't needed in its ${arm}`}`;
@@ -696,7 +746,8 @@ class Words {
     const so = feeder !== null && this.isCounting(feeder) ? (isTrue ? "another iteration follows" : "none follows")
       : isTrue ? "it goes on" : "it ends";
     if (isSignal) return `${who}: ${isTrue}, so ${so}`;
-    return `${who}: ${isTrue}, so ${what} ${side.length ? (isTrue ? "goes on" : "leaves it") : "isn't needed any more"}`;
+    const goes = isTrue ? "goes on" : "leaves it";
+    return `${who}: ${isTrue}, so ${what} ${side.length ? goes : "isn't needed any more"}`;
   }
 
   // A message in flight: what it brings, and to whom.
@@ -706,7 +757,9 @@ class Words {
     const instr = this.graph[it.instr];
     if (!instr) return it.text;
     const value = this.value(it.value), to = this.taker(it.instr), block = this.blocks[this.blockOf[it.instr]];
-    if (it.instr === block.from && it.instr > 0) return `a signal to ${block.isLoop ? `the loop (${instr.place}), iteration ${it.iteration}` : this.title(block)}`;
+    if (it.instr === block.from && it.instr > 0) {
+      return `a signal to ${block.isLoop ? `the loop (${instr.place}), iteration ${it.iteration}` : this.title(block)}`;
+    }
     const port = this.port(it.instr, it.port);
     if (port === "its way back" || port === "its frame") return `${port} to ${to}`;
     const named = it.value === "signal" ? "a signal" : value;
@@ -731,8 +784,8 @@ class Words {
       });
     }
     return frame.names.filter((number) => number <= at).map((number) => {
-      const { instr, value } = this.run.events[number];
-      return { instr, name: this.names[instr], value: this.value(value) };
+      const { instr, value } = this.run.events[number], name = this.names[instr], said = this.value(value);
+      return { instr, name, value: said === name ? "array" : said };
     });
   }
 
@@ -787,7 +840,9 @@ function layersOf(graph, block) {
   const order = sorted(block, dests), rank = new Map(order.map((number, index) => [number, index]));
   const depth = new Map(order.map((number) => [number, 0]));
   const forward = (number) => dests.get(number).filter((dest) => rank.get(dest) > rank.get(number));
-  for (const number of order) for (const dest of forward(number)) depth.set(dest, Math.max(depth.get(dest), depth.get(number) + 1));
+  for (const number of order) {
+    for (const dest of forward(number)) depth.set(dest, Math.max(depth.get(dest), depth.get(number) + 1));
+  }
   for (const number of order.slice().reverse()) {
     const uses = forward(number).map((dest) => depth.get(dest));
     if (uses.length && (graph[number].op === "const" || graph[number].op === "enter")) {
@@ -795,8 +850,31 @@ function layersOf(graph, block) {
     }
   }
   const layers = [];
-  for (const [number, level] of [...depth].sort((a, b) => a[0] - b[0])) (layers[level] = layers[level] || []).push(number);
-  return { layers: layers.filter(Boolean), dests };
+  for (const [number, level] of [...depth].sort((a, b) => a[0] - b[0])) {
+    (layers[level] = layers[level] || []).push(number);
+  }
+  spread(layers.filter(Boolean), (number) => dests.get(number).length === 0 && graph[number].op !== "back");
+  return { layers: layers.filter(Boolean).flatMap(inParts), dests };
+}
+
+const MOST_IN_LAYER = 9;
+
+// Moves what sends to nothing below from a wide layer to a narrower one.
+function spread(layers, isLast) {
+  layers.forEach((layer, level) => {
+    for (const number of layer.filter(isLast).reverse()) {
+      const below = layers.slice(level + 1), least = below.reduce((a, b) => (b.length < a.length ? b : a), layer);
+      if (layer.length <= MOST_IN_LAYER - 2 || least.length + 1 >= layer.length) return;
+      layer.splice(layer.indexOf(number), 1);
+      least.push(number);
+    }
+  });
+}
+
+// A layer in parts of about one size that are not too wide.
+function inParts(layer) {
+  const count = Math.ceil(layer.length / MOST_IN_LAYER), size = Math.ceil(layer.length / count);
+  return Array.from({ length: count }, (_, index) => layer.slice(index * size, (index + 1) * size));
 }
 
 // Orders each layer by the middle of what its boxes are joined to, above and below in turn.
@@ -945,7 +1023,8 @@ const SHELL = `
   </div>
 </div>
 <div class="keys">keys: arrows, Home, End, page keys for ten, a number for that event, space plays; f the next fault,
-  w the next fetch that waits, b the next event of the box, g all blocks. Click a word, a box, a message or a frame.</div>`;
+  w the next fetch that waits, b the next event of the box, g all blocks. Click a word, a box, a message or a frame.
+</div>`;
 
 const MOST_BOXES = 2000;
 
@@ -958,6 +1037,7 @@ function mountWalk(root, given) {
   if (mounted.has(root)) mounted.get(root).unmount();
   root.innerHTML = SHELL;
   root.classList.add("walk");
+  root.classList.toggle("alone", Boolean(data.whole));
   if (root.tabIndex < 0) root.tabIndex = 0;
   const parts = new Map([...root.querySelectorAll("[data-part]")].map((part) => [part.dataset.part, part]));
   const by = (name) => parts.get(name);
@@ -972,21 +1052,32 @@ function mountWalk(root, given) {
   // The two lines of a box: its number and what it is of; its operator and its place.
   function labelOf(number) {
     const instr = run.graph[number];
-    const name = words.names[number] || (instr.op === "const" ? instr.args[0] : SIGNS[instr.op]) || plainName(number, instr);
-    return [`${number} ${name}`, `${instr.op} ${instr.place}`];
+    const name = words.names[number] || (instr.op === "const" ? instr.args[0] : SIGNS[instr.op]);
+    return [`${number} ${name || plainName(number, instr)}`, `${instr.op} ${instr.place}`];
   }
 
+  // What stands in a box of an instruction without a name.
   function plainName(number, instr) {
-    const reply = words.replyOf.get(number), word = words.wordAt(instr.place);
+    const reply = words.replyOf.get(number), word = words.wordAt(instr.place), isSignal = instr.args[0] === "signal";
+    const short = (name) => (name === GOES_ON ? "more?" : name.replace(/ \(\d+:\d+\)$/, "").replace(/^its /, ""));
+    const enters = (enter) => words.isLoop(Number(enter.args[0]));
     if (number === 0) return "answer";
-    if (reply !== undefined && run.graph[reply].op === "enter") return words.isLoop(Number(run.graph[reply].args[0])) ? "loop" : word;
-    if (instr.op === "merge" && instr.args[0] === "signal") return "begin";
-    if (instr.op === "enter") return words.isLoop(Number(instr.args[0])) ? "enter loop" : `call ${words.callee(number)}`;
-    if (instr.op === "send") return words.valueName(Number(instr.args[1]));
-    if (instr.op === "next") return `next ${words.nextName(number)}`.trim();
-    if (/^(address|fetch|store)$/.test(instr.op) || reply !== undefined) return `${words.target(instr.place)}[..]`;
-    if (/^(back|switch|reset)$/.test(instr.op)) return instr.op === "switch" && word === "if" ? "if" : instr.op;
-    if (instr.op === "merge" && words.entries.has(number)) return words.valueName(number);
+    if (reply !== undefined && run.graph[reply].op === "enter") return enters(run.graph[reply]) ? "loop" : word;
+    if (reply !== undefined) return `${words.target(instr.place)}[..]`;
+    switch (instr.op) {
+      case "enter": return enters(instr) ? "enter loop" : `call ${words.callee(number)}`;
+      case "send": return short(words.valueName(Number(instr.args[1])));
+      case "next": return `next ${short(words.nextName(number))}`.trim();
+      case "address": case "fetch": case "store": return `${words.target(instr.place)}[..]`;
+      case "switch": {
+        const what = isSignal ? "" : short(words.switchedName(number));
+        return `${word === "if" ? "if" : "switch"} ${what}`.trim();
+      }
+      case "back": case "reset": return instr.op;
+      case "merge":
+        if (isSignal) return "begin";
+        if (words.entries.has(number)) return short(words.valueName(number));
+    }
     return word === "{" ? "loop" : word || instr.op;
   }
 
@@ -1001,18 +1092,22 @@ function mountWalk(root, given) {
     return `<path class="arc ${kind}" data-arc="${number}-${dest.instr}-${dest.port}" d="${curve}"/>`;
   }
 
-  const portX = (place, dest) =>
-    place.x + place.wide / 2 + (run.graph[dest.instr].ports === 2 ? (dest.port ? 1 : -1) * Math.min(22, place.wide / 4) : 0);
+  // Where a port is on the upper edge of its box.
+  function portX(place, dest) {
+    const aside = run.graph[dest.instr].ports === 2 ? Math.min(22, place.wide / 4) : 0;
+    return place.x + place.wide / 2 + (dest.port ? aside : -aside);
+  }
 
   function boxText(number, { x, y, wide }) {
     const instr = run.graph[number], line = [number, instr.op, ...instr.args].join(" ");
     const [name, rest] = labels[number].map(escaped), ports = run.graph[number].ports === 2 ? [0, 1] : [0];
     const inputs = ports.map((port) => `<text class="in" data-in="${number}.${port}" y="${y - 4}" ` +
       `x="${portX({ x, wide }, { instr: number, port })}"></text>`);
+    const out = `<text class="out" data-out="${number}" x="${x + wide / 2 + 4}" y="${y + HIGH + 12}"></text>`;
     return `<g class="box" data-box="${number}"><title>${escaped(`${words.thing(number)}: ${line}`)}</title>` +
       `<rect class="node" data-node="${number}" rx="4" x="${x}" y="${y}" width="${wide}" height="${HIGH}"/>` +
       `<text x="${x + 5}" y="${y + 14}">${name}</text><text class="dim" x="${x + 5}" y="${y + 28}">${rest}</text>` +
-      `<text class="out" data-out="${number}" x="${x + wide / 2 + 4}" y="${y + HIGH + 12}"></text>${inputs.join("")}</g>`;
+      `${out}${inputs.join("")}</g>`;
   }
 
   // A picture of these blocks, one below the other.
@@ -1045,7 +1140,8 @@ function mountWalk(root, given) {
     });
     const svg = `<svg viewBox="0 0 ${width} ${top}" role="img" aria-label="graph">${frames}${arcs}${boxes}</svg>`;
     by("graph").innerHTML = svg;
-    const all = (name) => new Map([...by("graph").querySelectorAll(`[data-${name}]`)].map((it) => [it.dataset[name], it]));
+    const found = (name) => [...by("graph").querySelectorAll(`[data-${name}]`)];
+    const all = (name) => new Map(found(name).map((it) => [it.dataset[name], it]));
     drawing = { width, height: top, nodes: all("node"), arcs: all("arc"), ins: all("in"), outs: all("out"), lit: [] };
     fit();
   }
@@ -1055,7 +1151,8 @@ function mountWalk(root, given) {
     const svg = by("graph").querySelector("svg"), room = by("graph");
     if (!svg || !room.clientWidth) return;
     let scale = Math.min(1.35, (room.clientWidth - 4) / drawing.width);
-    if (drawing.height * scale > room.clientHeight) scale = Math.max(room.clientHeight / drawing.height, Math.min(scale, 0.8));
+    const low = room.clientHeight / drawing.height;
+    if (scale > low) scale = Math.max(low, Math.min(scale, 0.8));
     scale = Math.max(scale, 0.5);
     svg.setAttribute("width", Math.floor(drawing.width * scale));
     svg.setAttribute("height", Math.floor(drawing.height * scale));
@@ -1080,27 +1177,29 @@ function mountWalk(root, given) {
       drawing.lit.push(() => { part.textContent = ""; });
     };
     const node = (number) => drawing.nodes.get(String(number));
+    const port = (it) => drawing.ins.get(`${it.instr}.${it.port}`);
     const inFrame = (it) => it.context === shownFrame.context && it.iteration === shownFrame.iteration;
-    const signal = (value) => (value === "signal" ? "•" : value[0] === "k" ? "↩" : value[0] === "c" ? "▭" : words.value(value));
+    const sign = (value) => ({ s: value === "signal" && "•", k: "↩", c: "▭" }[value[0]] || words.value(value));
     if (shownFrame) {
       for (const number of shownFrame.events) {
         if (number > at) break;
         const it = run.events[number];
-        if (it.fires && it.result && it.result !== "signal") write(drawing.outs.get(String(it.instr)), signal(it.result), "gave");
-        if (it.fires) add(node(it.instr), "done");
+        if (!it.fires) continue;
+        if (it.result && it.result !== "signal") write(drawing.outs.get(String(it.instr)), sign(it.result), "gave");
+        add(node(it.instr), "done");
       }
     }
     waiting.forEach((number) => {
       const it = run.events[number];
       if (!allBlocks && !inFrame(it)) return;
       add(node(it.instr), "waits");
-      if (it.kind === "token" && inFrame(it)) write(drawing.ins.get(`${it.instr}.${it.port}`), signal(it.value), "waits");
+      if (it.kind === "token" && inFrame(it)) write(port(it), sign(it.value), "waits");
     });
     flying.forEach((id) => {
       const it = run.messages[id];
       if (it.kind !== "token" || (!allBlocks && !inFrame(it))) return;
       add(node(it.instr), "flies");
-      write(drawing.ins.get(`${it.instr}.${it.port}`), signal(it.value), "flies");
+      write(port(it), sign(it.value), "flies");
     });
     if (!event) return;
     run.sendsOf(at).forEach((it) => {
@@ -1156,7 +1255,8 @@ function mountWalk(root, given) {
       (/^fault /.test(line) && run.faults.length && run.faults[0] <= at);
     const out = printed.filter(isOut);
     const hidden = out.length < printed.length;
-    by("report").innerHTML = out.map(escaped).join("\n") + (hidden ? `${out.length ? "\n" : ""}<span class="dim">hidden until it is there</span>` : "");
+    const rest = hidden ? ['<span class="dim">hidden until it is there</span>'] : [];
+    by("report").innerHTML = [...out.map(escaped), ...rest].join("\n");
     by("reveal").hidden = !hidden;
   }
 
@@ -1188,25 +1288,25 @@ function mountWalk(root, given) {
     const sign = row.inner ? (closed.has(row.key) ? "▸" : "▾") : "";
     const frame = row.frame || row.loop.frames[0];
     const given = !row.isTurn && frame && frame.given && frame.given <= at ? run.events[frame.given].result : null;
-    let name, values = "";
+    let name, bound = [];
     if (row.loop) name = words.title(words.blocks[words.blockOf[row.loop.block]]);
-    else if (row.isTurn) {
-      name = "#" + frame.iteration;
-      values = words.bound(frame, at).map((it) => `${it.name}=${it.value}`).join(" ");
-    } else {
-      name = words.frameName(frame, at);
-      values = words.bound(frame, at).filter((it) => !words.entries.has(it.instr)).map((it) => `${it.name}=${it.value}`).join(" ");
+    else {
+      name = row.isTurn ? "#" + frame.iteration : words.frameName(frame, at);
+      bound = words.bound(frame, at).filter((it) => row.isTurn || !words.entries.has(it.instr));
     }
+    const values = bound.map((it) => `${it.name}=${it.value}`).join(" ");
     const ours = row.frame ? [row.frame.id] : closed.has(row.key) ? row.loop.frames.map((it) => it.id) : [];
     const waits = ours.reduce((sum, id) => sum + (rows.waits.get(id) || 0), 0);
     const flies = ours.reduce((sum, id) => sum + (rows.flies.get(id) || 0), 0);
-    const html = `<span class="fold" data-fold="${row.key}" style="margin-left:${(row.depth * step).toFixed(1)}px">${sign}</span>` +
+    const left = (row.depth * step).toFixed(1);
+    const html = `<span class="fold" data-fold="${row.key}" style="margin-left:${left}px">${sign}</span>` +
       `<b>${escaped(name)}</b> <span class="values">${escaped(values)}</span>` +
       (given !== null ? ` <b class="gave">= ${escaped(words.value(given))}</b>` : "") +
       (waits ? ` <span class="badge waits" title="values that wait">${waits}</span>` : "") +
       (flies ? ` <span class="badge flies" title="in flight">${flies}</span>` : "");
     const isNow = row.frame && row.frame === shownFrame, isDone = given !== null && !waits && !flies;
-    return { html, name: `frame${isNow ? " here" : ""}${isDone ? " over" : ""}`, data: row.frame ? `data-frame="${row.frame.id}"` : "" };
+    const data = row.frame ? `data-frame="${row.frame.id}"` : "";
+    return { html, name: `frame${isNow ? " here" : ""}${isDone ? " over" : ""}`, data };
   }
 
   function showFrames() {
@@ -1228,7 +1328,9 @@ function mountWalk(root, given) {
 
   function cellText(index, cell, asked) {
     const name = cell ? (cell.event === at ? "now" : "full") : asked ? "waits" : "";
-    return `<span class="cell ${name}" title="${asked ? asked + " wait" : ""}"><i>${index}</i>${cell ? escaped(words.value(cell.value)) : "&nbsp;"}</span>`;
+    const value = cell ? escaped(words.value(cell.value)) : "&nbsp;";
+    const tells = asked ? `title="${asked} wait for it"` : "";
+    return `<span class="cell ${name}" ${tells}><i>${index}</i>${value}</span>`;
   }
 
   function showArrays() {
@@ -1242,33 +1344,41 @@ function mountWalk(root, given) {
     by("arrays").innerHTML = made.slice(0, 40).map((it) => {
       const cells = new Map(it.cells.filter((cell) => cell.event <= at).map((cell) => [Number(cell.index), cell]));
       const low = Number(it.low), high = Math.min(Number(it.high), low + 63), shown = [];
-      for (let index = low; index <= high; index++) shown.push(cellText(index, cells.get(index), asked.get(`${it.name}[${index}]`)));
+      for (let index = low; index <= high; index++) {
+        shown.push(cellText(index, cells.get(index), asked.get(`${it.name}[${index}]`)));
+      }
       const more = Number(it.high) > high ? ` <span class="dim">.. ${it.high}</span>` : "";
-      const path = run.path(run.frame(run.events[it.event].context, run.events[it.event].iteration));
-      return `<div class="array"><b title="${escaped(it.name + " " + path)}">${escaped(words.structure(it.name))}</b> ${shown.join("")}${more}</div>`;
+      const { context, iteration } = run.events[it.event], path = run.path(run.frame(context, iteration));
+      const name = `<b title="${escaped(it.name + " " + path)}">${escaped(words.structure(it.name))}</b>`;
+      return `<div class="array">${name} ${shown.join("")}${more}</div>`;
     }).join("") + (made.length > 40 ? `<div class="dim">and ${made.length - 40} more</div>` : "");
   }
 
   // ---- lists
 
+  // What is told where the pointer rests: the whole row, the message as the trace has it, and its path.
+  const tip = (said, it, frame) => `title="${escaped(`${said}\n${it.text} ${run.path(frame)}`)}"`;
+
   // A message, by which a click goes to the event that handles it.
   function messageRow(id) {
     const it = run.messages[id], frame = run.frame(it.context, it.iteration), taken = run.takenAt[id];
     const where = frame !== shownFrame ? ` <span class="path">${escaped(words.frameName(frame, at))}</span>` : "";
-    const data = taken === NEVER ? "" : `data-go="${taken}"`;
-    return { html: escaped(words.message(it)) + where, name: "go", data: `${data} title="${escaped(it.text + " " + run.path(frame))}"` };
+    const data = taken === NEVER ? "" : `data-go="${taken}"`, said = words.message(it);
+    return { html: escaped(said) + where, name: "go", data: `${data} ${tip(said, it, frame)}` };
   }
 
   function waitRow(number) {
     const it = run.events[number], frame = run.frame(it.context, it.iteration);
-    const said = it.kind === "read" ? `${words.cellAt(words.replyOf.get(it.instr), it.cell)} waits for a store` : words.lacks(it);
+    const isRead = it.kind === "read", name = isRead && words.cellAt(words.replyOf.get(it.instr), it.cell);
+    const said = isRead ? `${name} waits for a store` : words.lacks(it);
     const where = frame !== shownFrame ? ` <span class="path">${escaped(words.frameName(frame, at))}</span>` : "";
-    return { html: escaped(said) + where, name: "go", data: `data-frame="${frame.id}" title="${escaped(it.text + " " + run.path(frame))}"` };
+    return { html: escaped(said) + where, name: "go", data: `data-frame="${frame.id}" ${tip(said, it, frame)}` };
   }
 
   function storyRow(index) {
     const number = index + 1, name = `go${number === at ? " here" : ""}${run.events[number].end ? " bad" : ""}`;
-    return { html: `<span class="dim number">${number}</span> ${escaped(words.sentence(number))}`, name, data: `data-go="${number}"` };
+    const said = escaped(words.sentence(number)), data = `data-go="${number}" title="${said}"`;
+    return { html: `<span class="dim number">${number}</span> ${said}`, name, data };
   }
 
   const lists = {
@@ -1282,8 +1392,8 @@ function mountWalk(root, given) {
     if (run.elements === 1) return;
     const handled = new Array(run.elements).fill(0);
     for (let number = 1; number <= at; number++) handled[run.events[number].element] += 1;
-    by("elements").innerHTML = "elements: " + handled.map((count, number) =>
-      `<span class="chip${event && event.element === number ? " now" : ""}" title="handled">${number}: ${count}</span>`).join(" ");
+    by("elements").innerHTML = "elements, and what each has handled: " + handled.map((count, number) =>
+      `<span class="chip${event && event.element === number ? " now" : ""}">${number}: ${count}</span>`).join(" ");
   }
 
   // ---- what is shown
@@ -1293,14 +1403,15 @@ function mountWalk(root, given) {
     if (!run.last) return run.graph.length ? "There is no trace." : "There is no listing.";
     if (!event) return `<b>The start</b><br><span class="dim">what is in flight now is there before any event</span>`;
     const bad = run.bad.find((it) => it.at === at), frame = run.frame(event.context, event.iteration);
-    const line = `${event.stamp} ${event.element} ${event.text}${event.end ? " " + event.end : ""} ${run.path(frame)}`;
+    const line = `${event.stamp} ${event.element} ${event.text} ${event.end} ${run.path(frame)}`.replace("  ", " ");
+    const name = `<span class="path">in ${escaped(words.frameName(frame, at))}</span>`;
     return `<b class="${event.end ? "bad" : ""}">${escaped(words.sentence(at))}</b>` +
-      `<br><span class="path">in ${escaped(words.frameName(frame, at))}</span> <span class="dim mono">${escaped(line)}</span>` +
+      `<br>${name} <span class="dim mono">${escaped(line)}</span>` +
       (bad ? `<br><b class="bad">${escaped(bad.why)}</b>` : "");
   }
 
   function showSent() {
-    const from = at ? run.sendsFrom[at] : 0, end = run.sendsFrom[at + 1] === undefined ? run.messages.length : run.sendsFrom[at + 1];
+    const from = at ? run.sendsFrom[at] : 0, end = run.sendsFrom[at + 1];
     const some = [];
     for (let id = from; id < Math.min(end, from + 12); id++) {
       const { html, name, data: more } = messageRow(id);
@@ -1311,15 +1422,16 @@ function mountWalk(root, given) {
   }
 
   function showGraph(event) {
-    const block = shownFrame ? words.blocks[words.blockAt(shownFrame)] : words.blocks[0], key = allBlocks ? "all" : block.from;
     if (!run.graph.length) return;
+    const block = words.blocks[shownFrame ? words.blockAt(shownFrame) : 0], key = allBlocks ? "all" : block.from;
     if (!drawing || drawing.key !== key) {
       draw(allBlocks ? words.blocks : [block]);
       drawing.key = key;
     }
     by("frameview").classList.toggle("on", !allBlocks);
     by("wholeview").classList.toggle("on", allBlocks);
-    by("where").innerHTML = shownFrame ? `Graph of <span class="path">${escaped(words.frameName(shownFrame, at))}</span>` : "Graph";
+    const name = shownFrame ? escaped(words.frameName(shownFrame, at)) : "";
+    by("where").innerHTML = `Graph of <span class="path">${name}</span>`;
     paint(event);
   }
 
@@ -1398,7 +1510,8 @@ function mountWalk(root, given) {
     if (press.target.isContentEditable || (tag === "INPUT" && press.target !== by("slider"))) return;
     const moves = { ArrowLeft: at - 1, ArrowRight: at + 1, ArrowUp: at - 1, ArrowDown: at + 1, PageUp: at - 10,
       PageDown: at + 10, Home: 0, End: run.last };
-    const does = { " ": play, f: () => after(run.faults), w: () => after(run.waits), g: () => view(!allBlocks), b: boxOn };
+    const to = (list) => () => after(list);
+    const does = { " ": play, f: to(run.faults), w: to(run.waits), g: () => view(!allBlocks), b: boxOn };
     if (press.key in moves) go(moves[press.key]);
     else if (/^\d$/.test(press.key)) digit(press.key);
     else if (press.key in does) does[press.key]();
@@ -1425,7 +1538,7 @@ function mountWalk(root, given) {
     if (sizes) sizes.disconnect();
     ear.removeEventListener("keydown", key);
     root.removeEventListener("click", click);
-    root.classList.remove("walk");
+    root.classList.remove("walk", "alone");
     root.innerHTML = "";
     mounted.delete(root);
   }
@@ -1445,7 +1558,8 @@ function mountWalk(root, given) {
   const first = run.bad[0];
   if (first) {
     by("wrong").classList.add("there");
-    by("wrong").textContent = `The trace is not of this graph: event ${first.at}, ${run.events[first.at].text}: ${first.why}`;
+    const { text } = run.events[first.at];
+    by("wrong").textContent = `The trace is not of this graph: event ${first.at}, ${text}: ${first.why}`;
   }
   ear.addEventListener("keydown", key);
   root.addEventListener("click", click);
@@ -1465,6 +1579,13 @@ function wordsOf({ listing, trace, text = "", names = {} }) {
   });
 }
 
-if (typeof module !== "undefined") module.exports = { wordsOf, Run, Words };
+// As a command: node walk.js LISTING TRACE SOURCE prints these sentences.
+if (typeof module !== "undefined") {
+  module.exports = { wordsOf, Run, Words };
+  if (require.main === module) {
+    const [listing, trace, text] = process.argv.slice(2).map((name) => require("fs").readFileSync(name, "utf8"));
+    process.stdout.write(wordsOf({ listing, trace, text }).map((line) => line + "\n").join(""));
+  }
+}
 return mountWalk;
 })();
