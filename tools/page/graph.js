@@ -192,8 +192,9 @@ const drawGraph = (() => {
 
   // Draws the listing into an element. `names` has the name of each binder by its place; a click on a box goes to its
   // place by `go`. Triggers with their arcs, and arcs between blocks, are drawn where withTriggers and withCalls say
-  // so. Answers how many instructions there are, and draws none where there are more than `most`.
-  return function (root, listing, names, { go, withTriggers, withCalls, most }) {
+  // so, in a picture of about this width. Answers how many instructions there are, and draws none where there are more
+  // than `most`.
+  return function (root, listing, names, { go, withTriggers, withCalls, wide: room, most }) {
     root.replaceChildren();
     const graph = listing.split("\n").filter((line) => /^\d+ /.test(line)).map(instruction);
     if (graph.length > most) return graph.length;
@@ -204,8 +205,8 @@ const drawGraph = (() => {
     const shown = arcs.filter((arc) => !isLeftOut(arc.from) && !isLeftOut(arc.to));
     const blockOf = (number) => blocks.findIndex(({ from, to }) => number >= from && number < to);
     const frames = blocks.map((block) => ({ block, ...placed(block, shown, wideOf, isLeftOut) }));
-    // the frames stand side by side in rows that are about as wide as the largest one
-    const widest = Math.max(700, ...frames.map((frame) => frame.wide));
+    // the frames stand side by side, in rows
+    const widest = Math.max(room, ...frames.map((frame) => frame.wide));
     let x = 0, y = 0, row = 0, whole = 0;
     for (const frame of frames) {
       if (x && x + frame.wide > widest) {

@@ -166,6 +166,7 @@ function show(which, words, status, isBad) {
   if (by("options").dataset.tab !== which) by("options").replaceChildren(...optionsOf(which));
   by("options").dataset.tab = which;
   by("view").replaceChildren();
+  by("view").closest("main").classList.toggle("wide", which === "walk");
   showStatus(status, isBad);
 }
 
@@ -194,6 +195,7 @@ function graphView(listing) {
   const tells = { tabindex: "0", role: "region", "aria-label": "Picture of the graph" };
   const picture = made("div", { class: "picture", ...tells });
   const how = { go: goTo, withTriggers: settings.triggers, withCalls: settings.calls, most: MOST.boxes };
+  how.wide = by("view").clientWidth - 20;
   const count = drawGraph(picture, listing, namesOf(textNow(), tokens), how);
   if (count > MOST.boxes) return [paragraph(`${count} instructions are too many for a picture; the listing has them.`)];
   const legend = "Dashed arcs leave a switch on false; dotted ones are what comes back of a call, a loop or a fetch.";
@@ -288,6 +290,18 @@ function asBytes(letters) {
   return Uint8Array.from(whole, (letter) => letter.charCodeAt(0));
 }
 
+// The text of a link.
+async function unpacked(letters) {
+  try {
+    const stream = new Blob([asBytes(letters)]).stream().pipeThrough(new DecompressionStream("deflate-raw"));
+    return new TextDecoder("utf-8", { fatal: true }).decode(await wholeOf(stream));
+  } catch (error) {
+    throw error instanceof TooLong ? error : new Error("a part of it is missing or changed");
+  }
+}
+
+class TooLong extends Error {}
+
 // All that a stream gives, unless it is more than a text may have.
 async function wholeOf(stream) {
   const parts = [], reader = stream.getReader();
@@ -296,7 +310,7 @@ async function wholeOf(stream) {
     if (done) return new Uint8Array(await new Blob(parts).arrayBuffer());
     parts.push(value);
     size += value.length;
-    if (size > MOST.text) throw new Error("its text is too long");
+    if (size > MOST.text) throw new TooLong("its text is too long");
   }
 }
 
@@ -323,10 +337,8 @@ async function readFragment() {
       if (!EXAMPLES.has(name)) throw new Error("there is no such example");
       loadExample(name);
       if (words !== null) setWords(wordsIn(words));
-    } else if (packed !== null) {
-      const stream = new Blob([asBytes(packed)]).stream().pipeThrough(new DecompressionStream("deflate-raw"));
-      load(new TextDecoder("utf-8", { fatal: true }).decode(await wholeOf(stream)), wordsIn(words || ""));
-    } else return false;
+    } else if (packed !== null) load(await unpacked(packed), wordsIn(words || ""));
+    else return false;
     if (Object.hasOwn(TABS, said.get("show") || "")) tab = said.get("show");
     return true;
   } catch (error) {

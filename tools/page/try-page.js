@@ -1,0 +1,64 @@
+"use strict";
+// node try-page.js: does the page read texts and reports as it should? The wanted values are worked by hand. Prints the
+// counts, and ends with status 1 where anything differs.
+
+const fs = require("fs"), path = require("path");
+const code = ["text.js", "report.js"].map((it) => fs.readFileSync(path.join(__dirname, it), "utf8")).join("\n");
+const ofTexts = "tokensOf, parametersOf, namesOf, arrayNames, placeOf, indexOf, tokenAt";
+const ofReports = "whereOf, readReport, outermost, indexesOf";
+const page = new Function(`${code}; return { ${ofTexts}, ${ofReports} };`)();
+const COLOURS = { definition: ["def"], type: ["int", "bool"], array: ["array"], repeat: ["for", "do", "next"] };
+const tokens = (text) => page.tokensOf(text, COLOURS);
+const report = (...lines) => page.readReport(lines.join("\n") + "\n");
+const matrix = ["answer @1:7", "array @1:7 1..2", "cell @1:7[1] = /2:3#0@2:9", "cell @1:7[2] = /2:3#1@2:9",
+  "array /2:3#0@2:9 1..1", "cell /2:3#0@2:9[1] = 5", "array /2:3#1@2:9 0..-1"];
+
+const CASES = [
+  ["classes of tokens", tokens("def f(n: int) % c\n= 12a<-b;").map((it) => it.kind).join(" "),
+    "definition procedure delimiter name operator type delimiter comment operator number name operator name delimiter"],
+  ["parameters of main", page.parametersOf(tokens("def f(z: int): int = z; def main(n: int, p: bool): int = n;")),
+    [{ name: "n", kind: "int" }, { name: "p", kind: "bool" }]],
+  ["parameters of a nested array", page.parametersOf(tokens("def main(a: array array, n: int): int = n;")),
+    [{ name: "a", kind: "array" }]],
+  ["main in a comment", page.parametersOf(tokens("% def main(q: int)\ndef main(): int = 1;")), []],
+  ["a call of main", page.parametersOf(tokens("def f(): int = main(1);")), []],
+  ["names of binders",
+    page.namesOf(...both("def f(n: int): int = { x = 1; in { for i <- x to n do next s = i; finally x } };")),
+    { "1:5": "def f", "1:7": "n", "1:24": "x", "1:40": "i", "1:55": "s" }],
+  ["a comparison is no binding", page.namesOf(...both("def f(): bool = a == b;")), { "1:5": "def f" }],
+  ["names of arrays", page.arrayNames(...both("{ a = array(1, 2); b[1] = array(1, 2); c = array array(1, 2); }")),
+    { "1:7": "a", "1:44": "c" }],
+  ["a place behind two bytes", page.placeOf("\u00e4 x\ny", [0, 4], 2), "1:4"],
+  ["a place on the second line", page.placeOf("\u00e4 x\ny", [0, 4], 4), "2:1"],
+  ["an index behind four bytes", page.indexOf("%\u{1f600}$", 1, 6), 3],
+  ["an index behind the end", page.indexOf("ab", 3, 1), 2],
+  ["the token at an index", page.tokenAt("a <- b", 2), "<-"],
+  ["a path and a place", page.whereOf("/3:25/2:48#7@2:7"), { path: "/3:25/2:48#7", place: "2:7" }],
+  ["a number is no place", page.whereOf("12"), null],
+  ["an answer", report("answer -3").answer, "-3"],
+  ["events", report("1 0 token c0.0#0 1.0 signal", "2 0 read s0.0[1] c0.0#0 7", "answer none").events, 2],
+  ["a fault", report("fault division by zero at /2:31#3@2:41").fault,
+    { kind: "division by zero", at: ["/2:31#3@2:41"] }],
+  ["a second store", report("fault second store of @1:7[-2] at @1:9 and /2:3@1:9").fault,
+    { kind: "second store", array: "@1:7", index: "-2", at: ["@1:9", "/2:3@1:9"] }],
+  ["a fetch that waits", report("answer none", "waiting /1:2@5:14 of @3:7[2]").waiting,
+    [{ at: "/1:2@5:14", array: "@3:7", index: "2" }]],
+  ["a stopped run", report("stopped", "answer none").isStopped, true],
+  ["the outermost arrays", page.outermost(report(...matrix)).map((it) => [it.name, it.isNested]), [["@1:7", true]]],
+  ["an array in itself", page.outermost(report("array @1:7 1..1", "cell @1:7[1] = @1:7")).length, 1],
+  ["indexes at the end of the numbers",
+    page.indexesOf({ low: 9223372036854775806n, high: 9223372036854775807n }, 5),
+    ["9223372036854775806", "9223372036854775807"]],
+  ["a line that is none", report("answer 1", "what is this").other, ["what is this"]],
+];
+
+function both(text) {
+  return [text, tokens(text)];
+}
+
+const bad = CASES.filter(([, got, wanted]) => JSON.stringify(got) !== JSON.stringify(wanted));
+for (const [what, got, wanted] of bad) {
+  console.log(`${what}:\n  wanted ${JSON.stringify(wanted)}\n  got    ${JSON.stringify(got)}`);
+}
+console.log(`try-page: ${CASES.length - bad.length} of ${CASES.length} as they should be`);
+process.exit(bad.length ? 1 : 0);
