@@ -763,7 +763,9 @@ class Words {
     const port = this.port(it.instr, it.port);
     if (port === "its way back" || port === "its frame") return `${port} to ${to}`;
     const named = it.value === "signal" ? "a signal" : value;
-    return `${named} to ${to}${instr.ports === 2 && instr.op !== "switch" ? ", as " + port : ""}`;
+    if (instr.op !== "switch") return `${named} to ${to}${instr.ports === 2 ? ", as " + port : ""}`;
+    if (it.port === 0) return `${value} to ${to}, as its predicate for ${this.port(it.instr, 1)}`;
+    return `${it.value === "signal" ? named : pair(port, value)} to ${to}`;
   }
 
   // A frame's name: `fib(n=3)`, or `loop 4:6 #2`; with the parameters that it has behind an event.
@@ -1132,7 +1134,8 @@ function mountWalk(root, given) {
     }
     places.forEach((place, number) => {
       const instr = run.graph[number], grey = instr.args[0] === "signal" && instr.op !== "back" ? "signal" : "";
-      instr.yes.forEach((dest) => { arcs += arc(places, number, dest, grey); });
+      // a `next` sends to the frame of the next iteration, which is another picture
+      if (allBlocks || instr.op !== "next") instr.yes.forEach((dest) => { arcs += arc(places, number, dest, grey); });
       instr.no.forEach((dest) => { arcs += arc(places, number, dest, grey + " false"); });
       const reply = instr.op === "enter" || instr.op === "fetch" ? Number(instr.args[instr.args.length - 1]) : null;
       if (reply !== null) arcs += arc(places, number, { instr: reply, port: 0 }, "reply");
