@@ -3,7 +3,7 @@
 Where that takes long, a tool says so each few seconds on standard error, where that is a terminal, unless IDC_QUIET is
 set.
 """
-import os, shlex, signal, subprocess, sys, time
+import atexit, os, shlex, signal, stat, subprocess, sys, tempfile, time
 
 HERE = os.path.dirname(os.path.realpath(__file__))
 FIRST, NEXT = 5, 15  # seconds until a tool says that it still works, and between two such lines
@@ -23,6 +23,19 @@ class Progress:
             self.due = time.monotonic() + NEXT
             if sys.stderr.isatty() and os.environ.get("IDC_QUIET", "") in ("", "0"):
                 print(f"{self.name}: {text}", file=sys.stderr, flush=True)
+
+
+def kept(path):
+    """A path at which a text can be read several times: of a pipe, which /dev/stdin may be, that of a copy."""
+    try:
+        if not stat.S_ISFIFO(os.stat(path).st_mode):
+            return path
+        with open(path, "rb") as file, tempfile.NamedTemporaryFile(suffix=".id", delete=False) as copy:
+            atexit.register(os.remove, copy.name)
+            copy.write(file.read())
+            return copy.name
+    except OSError:
+        return path  # the program refuses it
 
 
 def program():
