@@ -8,7 +8,9 @@ fails sends nothing, so no other one needs it.
 Of a run on several elements the elements show in the trace alone: which messages are in flight, and what each of them
 gives, is the same on any number of them. So contexts and structures are things here, and get their numbers in a trace.
 """
-import re
+import re, sys
+
+import asking, reading
 
 LEAST, MOST = -(2**63), 2**63 - 1
 LARGEST = 1000000  # the most cells of a structure
@@ -355,40 +357,88 @@ class Run:
 
     def trace(self, numbers, count):
         """The lines of these events, which are handled in this order on so many elements: by stamp, then by element."""
-        elements = [[0, 0, 0] for _ in range(count)]  # the last stamp, and how many contexts and structures it has made
-        named, stamps, lines = {id(self.main): (0, 0)}, {None: 0}, []
+        trace = Trace(self, count)
+        return [line for _, _, line in sorted([trace.line(number) for number in numbers])]
 
-        def name(it):
-            return "%d.%d" % named[id(it)]
 
-        def written(value):
-            if isinstance(value, Context):
-                return "c" + name(value)
-            if isinstance(value, Structure):
-                return "s" + name(value)
-            if isinstance(value, tuple) and isinstance(value[0], Context):
-                return f"k{name(value[0])}#{value[1]}:{value[2]}"
-            return f"s{name(value[0])}[{value[1]}]" if isinstance(value, tuple) else shown(value)
+class Trace:
+    """The lines of events of a run on so many elements, in the order in which they are handled."""
 
-        for number in numbers:
-            message = self.events[number][0]
-            if message[0] >= 0:
-                to, port, context, turn, value, sender = message
-                route = sum(named[id(context)]) + turn
-                line = f"token c{name(context)}#{turn} {to}.{port} {written(value)}"
-            else:
-                kind, structure, index, context, turn, to, sender = message[:7]
-                route = sum(named[id(structure)]) + index - structure.low
-                value = f" {written(message[7])}" if kind == WRITE else ""
-                kind = "write" if kind == WRITE else "read"
-                line = f"{kind} s{name(structure)}[{index}]{value} c{name(context)}#{turn} {to}"
-            element = route % count
-            state = elements[element]
-            stamps[number] = state[0] = max(state[0], stamps[sender]) + 1
-            for which, made in ((1, self.entered.get(number)), (2, self.structures.get(number))):
-                if made is not None:
-                    state[which] += 1
-                    named[id(made)] = element, state[which]
-            failed = " fault" if number in self.faults else ""
-            lines.append((state[0], element, f"{state[0]} {element} {line}{failed}"))
-        return [line for _, _, line in sorted(lines)]
+    def __init__(self, run, count):
+        self.run, self.count = run, count
+        self.named, self.stamps = {id(run.main): (0, 0)}, {None: 0}
+        # of each element the last stamp, and how many contexts and structures it has made
+        self.elements = [[0, 0, 0] for _ in range(count)]
+
+    def name(self, it):
+        return "%d.%d" % self.named[id(it)]
+
+    def value(self, value):
+        """A value as a trace has it: an address is a pair, a continuation a triple."""
+        if isinstance(value, Context):
+            return "c" + self.name(value)
+        if isinstance(value, Structure):
+            return "s" + self.name(value)
+        if not isinstance(value, tuple):
+            return shown(value)
+        if isinstance(value[0], Context):
+            return f"k{self.name(value[0])}#{value[1]}:{value[2]}"
+        return f"s{self.name(value[0])}[{value[1]}]"
+
+    def message(self, message):
+        """A message of which all contexts and structures are named."""
+        if message[0] >= 0:
+            to, port, context, turn, value, _ = message
+            return f"token c{self.name(context)}#{turn} {to}.{port} {self.value(value)}"
+        kind, structure, index, context, turn, to = message[:6]
+        what = f"s{self.name(structure)}[{index}]"
+        if kind == WRITE:
+            return f"write {what} {self.value(message[7])} c{self.name(context)}#{turn} {to}"
+        return f"read {what} c{self.name(context)}#{turn} {to}"
+
+    def route(self, message):
+        """The element that a message is for."""
+        if message[0] >= 0:
+            return (sum(self.named[id(message[2])]) + message[3]) % self.count
+        return (sum(self.named[id(message[1])]) + message[2] - message[1].low) % self.count
+
+    def line(self, number):
+        """The next event, by its number: its stamp, its element and its line. What it has made has a name then."""
+        message, run = self.run.events[number][0], self.run
+        element = self.route(message)
+        state, sender = self.elements[element], message[5] if message[0] >= 0 else message[6]
+        self.stamps[number] = state[0] = max(state[0], self.stamps[sender]) + 1
+        text = self.message(message)
+        for which, made in ((1, run.entered.get(number)), (2, run.structures.get(number))):
+            if made is not None:
+                state[which] += 1
+                self.named[id(made)] = element, state[which]
+        failed = " fault" if number in run.faults else ""
+        return state[0], element, f"{state[0]} {element} {text}{failed}"
+
+
+def inputs_of(graph, file, words):
+    """The values of main's inputs, which the program has taken, by the number of their instruction."""
+    with open(file, "rb") as it:
+        text = it.read()
+    given = {word.partition("=")[0]: word.partition("=")[2] for word in words}
+    found = {}
+    for number, place in graph.inputs.items():
+        name = re.match(rb"\w+", text[reading.place_at(text, *place) :]).group().decode()
+        value = given[name]
+        if graph.instrs[number].args[0] == "bool":
+            found[number] = value == "true"
+        else:
+            found[number] = int(re.sub("^(-?)0+(?=[0-9])", r"\1", value))
+    return found
+
+
+def start(words):
+    """The graph and the inputs of a run, by the words of its file and its inputs; the program refuses wrong ones."""
+    listing = asking.ask("graph", words[0])[1]
+    asking.ask("run", *words, "--steps", "1")
+    try:
+        graph = Graph(listing)
+    except Unread as line:
+        sys.exit(f"`idc graph` prints what is no listing: {line}")
+    return graph, inputs_of(graph, words[0], words[1:])
