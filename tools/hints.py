@@ -153,7 +153,7 @@ def never_end(text):
     """Whether an accepted text has a procedure or a loop that surely goes on, once it has begun to."""
     program = reading.tree_of(text)
     needs = needing.Needs(program)
-    always = (node.form == "loop" and node.parts[0].name == "true" for node, _ in reading.walk(program))
+    always = (node.form == "loop" and node.parts[0].name == "true" for node in reading.outer_of(program))
     return bool(needs.endless() or needs.same_in_each() or any(always))
 
 
@@ -161,14 +161,15 @@ def warnings(text):
     """Of an accepted text, what surely isn't meant: places, each with a sentence and a hint, in the text's order."""
     program = reading.tree_of(text)
     needs, said, found, told = needing.Needs(program), TABLE["warnings"], [], set()
-    above_of = dict(reading.walk(program))
+    outer = reading.outer_of(program)
 
     def others(circle):
-        return " and ".join(f"{it.name} ({'%d:%d' % reading.line_col(text, it.at)})" for it in circle[1:])
+        told = [f"{it.name} ({'%d:%d' % reading.line_col(text, it.at)})" for it in circle[1:6]]
+        return " and ".join(told + [f"{len(circle) - 6} more"] * (len(circle) > 6))
 
     for circle in needs.circles():
         told |= set(circle)
-        node, above = circle[0], above_of[circle[0]]
+        node, above = circle[0], reading.round_it(circle[0], outer)
         loops = above[-1].form in ("loop", "for")
         words = {"name": node.name, "where": "iteration" if loops else "block", "others": others(circle)}
         variable = loops and reading.binder_of(reading.Node("next", node.at, node.name), above) is not None

@@ -27,7 +27,7 @@ class Needs:
         self.procedures = {it.name: it for it in reversed(program.parts)}
         self.callers = {name: set() for name in self.procedures}
         for head in self.procedures.values():
-            for node, _ in reading.walk(head):
+            for node in reading.outer_of(head):
                 if node.form == "call" and node.name in self.callers:
                     self.callers[node.name].add(head.name)
         # the parameters that a procedure's body needs: all at first, and then fewer, until each stands by the others
@@ -108,7 +108,7 @@ class Needs:
         """The bindings that need themselves, in lists by circle, each by place, the lists too."""
         graph = {}
         for head in self.procedures.values():
-            for node, _ in reading.walk(head):
+            for node in reading.outer_of(head):
                 if node.form == "binding":
                     graph[node] = [it for it in self.needs(node.parts[0]) if it.form == "binding"]
         found = [sorted(it, key=lambda node: node.at) for it in circles_of(graph)]
@@ -148,14 +148,12 @@ class Needs:
     def same_in_each(self):
         """The loops whose predicate names something, but no variable of the loop, by place."""
         found = []
-        for node, _ in reading.walk(self.program):
+        for node in reading.outer_of(self.program):
             if node.form == "loop":
-                names = [self.uses.get(it) for it, _ in reading.walk(node.parts[0]) if it.form in ("name", "next")]
-                inside = {it for it, _ in reading.walk(node)}
-                outside = [it for it in names if it is not None and it not in inside]
-                turns = set(node.statements) & set(names)
-                if outside and not turns:
-                    found.append((node, outside))
+                inside = reading.outer_of(node.parts[0])
+                names = [self.uses[it] for it in inside if self.uses.get(it) and self.uses[it] not in inside]
+                if names and not set(names) & set(node.statements):
+                    found.append((node, names))
         return found
 
 

@@ -278,6 +278,25 @@ def walk(node, above=()):
         yield from walk(part, above + (node,))
 
 
+def outer_of(node):
+    """Each thing of a tree, in the order of walk, and the one that it stands in, which costs less than walk."""
+    found, left = {}, [(node, None)]
+    while left:
+        here, outer = left.pop()
+        found[here] = outer
+        left += [(part, here) for part in reversed(here.below())]
+    return found
+
+
+def round_it(node, outer):
+    """The things round a thing, the innermost last, by what outer_of gives."""
+    found = []
+    while outer[node] is not None:
+        node = outer[node]
+        found.append(node)
+    return tuple(reversed(found))
+
+
 # What binds the name of a value.
 BINDERS = ("binding", "next", "parameter", "index")
 

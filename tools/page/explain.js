@@ -284,13 +284,25 @@ var idExplain = (function () {
     });
   }
 
-  // Each thing of a tree, with the things round it, the innermost last.
-  function walk(it, above = [], found = []) {
-    found.push([it, above]);
-    const inside = above.concat([it]);
-    for (const part of below(it)) walk(part, inside, found);
+  // Each thing of a tree, in the text's order but for operators, and the one that it stands in.
+  function outerOf(tree) {
+    const found = new Map(), left = [[tree, null]];
+    while (left.length) {
+      const [it, outer] = left.pop();
+      found.set(it, outer);
+      for (const part of below(it).reverse()) left.push([part, it]);
+    }
     return found;
   }
+
+  // The things round a thing, the innermost last.
+  function roundIt(it, outer) {
+    const found = [];
+    for (let at = outer.get(it); at; at = outer.get(at)) found.push(at);
+    return found.reverse();
+  }
+
+  const things = (tree) => [...outerOf(tree).keys()];
 
   const boundsOf = (it) => (it.form === "for" ? it.parts.slice(0, 2) : []);
   const isLoop = (it) => it.form === "loop" || it.form === "for";
@@ -360,7 +372,7 @@ var idExplain = (function () {
       this.procedures = new Map([...program.parts].reverse().map((it) => [it.name, it]));
       this.callers = new Map([...this.procedures.keys()].map((name) => [name, new Set()]));
       for (const head of this.procedures.values()) {
-        for (const [it] of walk(head)) {
+        for (const it of things(head)) {
           if (it.form === "call" && this.callers.has(it.name)) this.callers.get(it.name).add(head.name);
         }
       }
@@ -451,7 +463,7 @@ var idExplain = (function () {
     circles() {
       const graph = new Map();
       for (const head of this.procedures.values()) {
-        for (const [it] of walk(head)) {
+        for (const it of things(head)) {
           if (it.form !== "binding") continue;
           graph.set(it, [...this.needs(it.parts[0])].filter((at) => at.form === "binding"));
         }
@@ -483,12 +495,11 @@ var idExplain = (function () {
     // The loops whose predicate names something, but no variable of the loop, by place.
     sameInEach() {
       const found = [];
-      for (const [it] of walk(this.program)) {
+      for (const it of things(this.program)) {
         if (it.form !== "loop") continue;
-        const names = walk(it.parts[0]).map(([at]) => this.uses.get(at)).filter((at) => at);
-        const inside = new Set(walk(it).map(([at]) => at));
-        const outside = names.filter((at) => !inside.has(at));
-        if (outside.length && !names.some((at) => it.statements.includes(at))) found.push([it, outside]);
+        const inside = outerOf(it.parts[0]), own = new Set(it.statements);
+        const names = [...inside.keys()].map((at) => this.uses.get(at)).filter((at) => at && !inside.has(at));
+        if (names.length && !names.some((at) => own.has(at))) found.push([it, names]);
       }
       return found;
     }
@@ -611,13 +622,12 @@ var idExplain = (function () {
   }
 
   // The hint of an expression that has another kind than is wanted of it.
-  function ofKind(table, wanted, found, it, above) {
-    const outer = above[above.length - 1];
-    let role = outer ? outer.form : "";
-    if (outer && outer.form === "binary") role = outer.name;
-    if (outer && outer.form === "store" && it === outer.parts[2]) role = "value";
-    if (outer && outer.form === "definition") role = "body";
-    const left = outer && outer.form === "binary" ? outer.parts[0] : null;
+  function ofKind(table, wanted, found, it, outer) {
+    let role = outer.form;
+    if (outer.form === "binary") role = outer.name;
+    if (outer.form === "store" && it === outer.parts[2]) role = "value";
+    if (outer.form === "definition") role = "body";
+    const left = outer.form === "binary" ? outer.parts[0] : null;
     const row = table.kinds.find(
       (at) =>
         (at.wanted === undefined || at.wanted === wanted) && at.found === found &&
@@ -786,17 +796,17 @@ var idExplain = (function () {
   }
 
   function explainName(said) {
-    const { text, at, table } = said, program = treeOf(text), all = walk(program);
-    const found = all.find(([it]) => it.at === at && ["name", "next", "call"].includes(it.form));
-    if (!found) return said.cause("a name without binder");
-    const [it, above] = found, { name } = it, { seen } = table;
-    const inSight = [].concat(...scopesOf(it, above)), binders = all.filter(([one]) => BINDERS.includes(one.form));
+    const { text, at, table } = said, program = treeOf(text), outer = outerOf(program), all = [...outer.keys()];
+    const it = all.find((one) => one.at === at && ["name", "next", "call"].includes(one.form));
+    if (!it) return said.cause("a name without binder");
+    const { name } = it, { seen } = table, above = roundIt(it, outer);
+    const inSight = scopesOf(it, above).flat(), binders = all.filter((one) => BINDERS.includes(one.form));
     let names = inSight.map((one) => one.name);
     if (it.form === "call") {
       said.cause("no definition is of a procedure " + name);
       names = program.parts.map((one) => one.name);
       if (inSight.some((one) => one.name === name)) said.tip(filled(seen.cell, { name }));
-      else if (binders.some(([one]) => one.name === name)) {
+      else if (binders.some((one) => one.name === name)) {
         said.tip("names of values are apart from those of procedures");
       }
     } else {
@@ -806,10 +816,10 @@ var idExplain = (function () {
       } else {
         said.cause("no " + name + " is bound that is seen here");
       }
-      const other = binders.find(([one]) => one.name === name && one !== it);
+      const other = binders.find((one) => one.name === name && one !== it);
       if (other) {
-        said.tip("the " + name + " of " + said.where(other[0].at) + " is not seen here");
-        said.tip(ofUnseen(table, other[0], other[1], above));
+        said.tip("the " + name + " of " + said.where(other.at) + " is not seen here");
+        said.tip(ofUnseen(table, other, roundIt(other, outer), above));
       } else if (program.parts.some((one) => one.name === name)) {
         said.tip(filled(seen.call, { name }));
       }
@@ -820,12 +830,10 @@ var idExplain = (function () {
   }
 
   function explainSecond(said) {
-    const found = walk(treeOf(said.text)).find(
-      ([it]) => it.at === said.at && (BINDERS.includes(it.form) || it.form === "definition")
-    );
-    if (!found) return said.cause("a second binder of one name");
-    const [it, above] = found;
-    const first = below(above[above.length - 1]).find((one) => one.name === it.name && one.form !== "store");
+    const outer = outerOf(treeOf(said.text)), forms = [...BINDERS, "definition"];
+    const it = [...outer.keys()].find((one) => one.at === said.at && forms.includes(one.form));
+    if (!it) return said.cause("a second binder of one name");
+    const first = below(outer.get(it)).find((one) => one.name === it.name && one.form !== "store");
     const what = { definition: "procedure", parameter: "parameter" }[it.form] || "binder";
     said.cause("a second " + what + " of the name " + it.name + ": the first stands at " + said.where(first.at));
     said.tip(ofSecond(said.table, first, it));
@@ -833,20 +841,21 @@ var idExplain = (function () {
 
   function explainCount(said) {
     const program = treeOf(said.text);
-    const found = walk(program).find(([it]) => it.at === said.at && it.form === "call");
-    const callee = found && program.parts.find((it) => it.name === found[0].name);
+    const found = things(program).find((it) => it.at === said.at && it.form === "call");
+    const callee = found && program.parts.find((it) => it.name === found.name);
     if (!callee) return said.cause("a call with another number of arguments than its procedure has parameters");
     const { name, params, at } = callee, plural = params.length === 1 ? "" : "s";
     const wants = name + " takes " + params.length + " argument" + plural;
-    said.cause(wants + ", and here has " + found[0].parts.length);
+    said.cause(wants + ", and here has " + found.parts.length);
     const told = params.map((it) => it.name + ": " + it.kind).join(", ");
     said.line("it is defined at " + said.where(at) + ": " + name + "(" + told + ")");
   }
 
   function explainKind(said, wanted, found) {
     said.cause(wanted + " is wanted here, and this is " + found);
-    const head = walk(treeOf(said.text)).find(([it]) => it.at === said.at);
-    if (head) said.tip(ofKind(said.table, wanted, found, ...head));
+    const outer = outerOf(treeOf(said.text));
+    const it = [...outer.keys()].find((one) => one.at === said.at && outer.get(one));
+    if (it) said.tip(ofKind(said.table, wanted, found, it, outer.get(it)));
   }
 
   function mainParams(text) {
@@ -938,9 +947,11 @@ var idExplain = (function () {
       if (error instanceof Refused) return [];
       throw error;
     }
-    const needs = new Needs(program), told = new Set(), aboveOf = new Map(walk(program));
-    const others = (circle) =>
-      circle.slice(1).map((it) => it.name + " (" + lineCol(text, it.at).join(":") + ")").join(" and ");
+    const needs = new Needs(program), told = new Set(), outer = outerOf(program);
+    const others = (circle) => {
+      const names = circle.slice(1, 6).map((it) => it.name + " (" + lineCol(text, it.at).join(":") + ")");
+      return names.concat(circle.length > 6 ? [circle.length - 6 + " more"] : []).join(" and ");
+    };
     const add = (at, message, hint) => {
       const said = new Said(table, text, at);
       said.cause(message);
@@ -949,7 +960,7 @@ var idExplain = (function () {
     };
     for (const circle of needs.circles()) {
       circle.forEach((it) => told.add(it));
-      const it = circle[0], above = aboveOf.get(it), loops = isLoop(above[above.length - 1]);
+      const it = circle[0], above = roundIt(it, outer), loops = isLoop(above[above.length - 1]);
       const fill = { name: it.name, where: loops ? "iteration" : "block", others: others(circle) };
       const outside = scopesOf(node("next", it.at, it.name), above);
       const variable = loops && outside.some((scope) => scope.some((one) => one.name === it.name));
