@@ -52,15 +52,23 @@ function turnOf(word) {
   return { context, iteration: Number(iteration) };
 }
 
-// A message of its text.
+// A token, with its line.
+function token(context, iteration, instr, port, value, text) {
+  const line = text || `token c${context}#${iteration} ${instr}.${port} ${value}`;
+  return { kind: "token", text: line, context, iteration, instr, port, cell: "", value };
+}
+
+// A message of its text. Most are tokens, and a trace has many, so of these no words are made.
 function messageOf(text) {
-  const words = text.split(" "), kind = words[0];
-  if (kind === "token") {
-    const [instr, port] = words[2].split(".");
-    return { kind, text, ...turnOf(words[1]), instr: Number(instr), port: Number(port), value: words[3] };
+  if (text[0] === "t") {
+    const turn = text.indexOf("#"), to = text.indexOf(" ", turn);
+    const dot = text.indexOf(".", to), end = text.indexOf(" ", dot);
+    const iteration = Number(text.slice(turn + 1, to)), instr = Number(text.slice(to + 1, dot));
+    return token(text.slice(7, turn), iteration, instr, Number(text.slice(dot + 1, end)), text.slice(end + 1), text);
   }
-  const turn = kind === "read" ? 2 : 3, value = kind === "read" ? null : words[2];
-  return { kind, text, ...turnOf(words[turn]), instr: Number(words[turn + 1]), port: 0, cell: words[1], value };
+  const words = text.split(" "), kind = words[0], at = kind === "read" ? 2 : 3;
+  const value = kind === "read" ? null : words[2];
+  return { kind, text, ...turnOf(words[at]), instr: Number(words[at + 1]), port: 0, cell: words[1], value };
 }
 
 const TURN = "c\\d+\\.\\d+#\\d+", CELL = "s\\d+\\.\\d+\\[-?\\d+\\]";
@@ -70,7 +78,12 @@ const EVENT = new RegExp(`^(\\d+) (\\d+) (${MESSAGE})( fault| stuck)?\\r?$`);
 // An event: its stamp, element and message, and whether it was a fault or stuck. Lines of a report are none.
 function eventOf(line) {
   const found = EVENT.exec(line);
-  return found && { stamp: found[1], element: Number(found[2]), end: (found[4] || "").trim(), ...messageOf(found[3]) };
+  if (!found) return null;
+  const event = messageOf(found[3]);
+  event.stamp = found[1];
+  event.element = Number(found[2]);
+  event.end = (found[4] || "").trim();
+  return event;
 }
 
 const isEvent = (line) => EVENT.test(line);
@@ -105,11 +118,6 @@ function calculated(op, left, right) {
     case "or": return String(left === "true" || right === "true");
     default: return null;
   }
-}
-
-function token(context, iteration, instr, port, value) {
-  const text = `token c${context}#${iteration} ${instr}.${port} ${value}`;
-  return { kind: "token", text, context, iteration, instr, port, value };
 }
 
 // What an instruction sends, or null where it fails. `made` counts what an element has made.
