@@ -1414,10 +1414,12 @@ function mountWalk(root, given) {
     if (!run.last) return run.graph.length ? "There is no trace." : "There is no listing.";
     if (!event) return `<b>The start</b><br><span class="dim">what is in flight now is there before any event</span>`;
     const bad = run.bad.find((it) => it.at === at), frame = run.frame(event.context, event.iteration);
-    const line = `${event.stamp} ${event.element} ${event.text} ${event.end} ${run.path(frame)}`.replace("  ", " ");
+    const path = run.path(frame), end = path.indexOf("/", path.length - 40);
+    const tail = path.length > 60 ? "/.." + path.slice(end) : path;
+    const line = `${event.stamp} ${event.element} ${event.text} ${event.end} ${tail}`.replace("  ", " ");
     const name = `<span class="path">in ${escaped(words.frameName(frame, at))}</span>`;
     return `<b class="${event.end ? "bad" : ""}">${escaped(words.sentence(at))}</b>` +
-      `<br>${name} <span class="dim mono">${escaped(line)}</span>` +
+      `<br>${name} <span class="dim mono" title="${escaped(path)}">${escaped(line)}</span>` +
       (bad ? `<br><b class="bad">${escaped(bad.why)}</b>` : "");
   }
 
@@ -1457,14 +1459,15 @@ function mountWalk(root, given) {
     showSent();
     mark(event);
     showReport();
+    // these take room from the lists, which want to know theirs
+    showArrays();
+    showElements(event);
     by("flying").textContent = `In flight: ${flying.length}`;
     by("waithead").textContent = `Waits: ${waiting.length}`;
     lists.story.set(at, at ? at - 1 : null);
     lists.waiting.set(waiting.length);
     lists.flight.set(flying.length);
     showFrames();
-    showArrays();
-    showElements(event);
     showGraph(event);
   }
 
