@@ -359,6 +359,10 @@ async function share() {
 
 // ---- the page tries itself
 
+// A file that is no text stands as a list of its bytes.
+const filesOf = (files) => Object.fromEntries(Object.entries(files).map(([name, it]) =>
+  [name, Array.isArray(it) ? Uint8Array.from(it) : it]));
+
 // The examples, whose files have what is printed on either stream, or the cases that .ci/play put into the page.
 function casesHere() {
   if (by("cases")) return dataOf("cases");
@@ -378,7 +382,7 @@ async function selftest() {
   const caller = new Caller(), bad = [], times = [], cases = casesHere();
   by("tested").dataset.state = "busy";
   for (const it of cases) {
-    const answer = await caller.ask(it.words, it.files);
+    const answer = await caller.ask(it.words, filesOf(it.files));
     times.push(answer.took);
     if (!isAsWanted(answer, it)) bad.push(it.words.join(" "));
   }
