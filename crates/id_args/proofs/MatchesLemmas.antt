@@ -19,11 +19,11 @@ use Rattle.clap.specs.Faults.{fault_of, is_simple_and_free}
 use Rattle.clap.specs.declared.error.Error.{Error}
 use Rattle.clap.specs.declared.error.kind.ErrorKind.TheVariants as kind
 use Rattle.clap.specs.declared.parser.matches.ArgMatches.{ArgMatches}
-use Rattle.id_request.specs.declared.Unasked.{Unasked}
-use Rattle.id_request.specs.declared.Unasked.TheVariants.{Help, Refused, Memory}
+use Rattle.id_args.specs.declared.request.Unasked.{Unasked}
+use Rattle.id_args.specs.declared.request.Unasked.TheVariants.{Help, Refused, Memory}
 use Rattle.id_args.specs.Commands.{program_app}
-use Rattle.id_request.specs.declared.Request.{Request}
-use Rattle.id_request.specs.declared.Request.TheVariants as asks
+use Rattle.id_args.specs.declared.request.Request.{Request}
+use Rattle.id_args.specs.declared.request.Request.TheVariants as asks
 use Rattle.id_args.specs.Requests.{AskFor, HasFile, HasNumber, HasOrder, IsNumber, IsRequestOf, input_words, is_set}
 use Rattle.id_args.specs.Matches.{Gives, IsNumberOf, Tells}
 

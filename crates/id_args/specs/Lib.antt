@@ -1,4 +1,5 @@
+-- What public clauses cite.
 pub mod Commands
 pub mod Requests
--- for use inside
+-- For use inside.
 pub mod Matches

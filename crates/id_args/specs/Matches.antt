@@ -4,9 +4,9 @@ use Rattle.std.specs.Prelude.{IsSomeAnd}
 use Rattle.clap.specs.Walk.{Row, Text}
 use Rattle.clap.specs.declared.error.kind.ErrorKind.{ErrorKind}
 use Rattle.clap.specs.declared.error.kind.ErrorKind.TheVariants.{DisplayHelp, DisplayVersion, OutOfMemory}
-use Rattle.id_request.specs.declared.Request.{Request}
-use Rattle.id_request.specs.declared.Unasked.{Unasked}
-use Rattle.id_request.specs.declared.Unasked.TheVariants.{Help, Refused, Memory}
+use Rattle.id_args.specs.declared.request.Request.{Request}
+use Rattle.id_args.specs.declared.request.Unasked.{Unasked}
+use Rattle.id_args.specs.declared.request.Unasked.TheVariants.{Help, Refused, Memory}
 use Rattle.id_args.specs.Requests.{HasNumber, HasOrder, IsRequestOf}
 
 -- an error of this kind tells so: help or the version for help alone, a refusal for all else but want of memory

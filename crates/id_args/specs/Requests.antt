@@ -14,10 +14,10 @@ use Rattle.clap.specs.Kinds.{IsAmong, Kinds}
 use Rattle.clap.specs.Faults.{fault_of}
 use Rattle.clap.specs.declared.error.kind.ErrorKind.{ErrorKind}
 use Rattle.clap.specs.declared.error.kind.ErrorKind.TheVariants.{DisplayHelp, DisplayVersion}
-use Rattle.id_request.specs.declared.Request.{Request}
-use Rattle.id_request.specs.declared.Request.TheVariants as asks
-use Rattle.id_request.specs.declared.Unasked.{Unasked}
-use Rattle.id_request.specs.declared.Unasked.TheVariants.{Help, Refused, Memory}
+use Rattle.id_args.specs.declared.request.Request.{Request}
+use Rattle.id_args.specs.declared.request.Request.TheVariants as asks
+use Rattle.id_args.specs.declared.request.Unasked.{Unasked}
+use Rattle.id_args.specs.declared.request.Unasked.TheVariants.{Help, Refused, Memory}
 use Rattle.id_args.specs.Commands.{program_app}
 
 -- ---- what the matches of a command ask for

@@ -2,34 +2,9 @@
 //!
 //! Keeps: nothing beyond its values.
 //! Errors: `Unasked`: help, a refused command line, or want of memory.
-//! Read first: `specs/Requests.antt`, then `read_words`; docs/PROMISES.md, "The program".
+//! Read first: `Request`, `specs/Requests.antt`, then `read_words`; docs/PROMISES.md, "The program".
 //! Not here: what is done with a request (`id_engine`).
 #![tactic(auto)]
-
-#[cfg(test)]
-mod tests;
-
-ghost use Rattle.std.specs.Prelude.{◌≡◌, ◌++◌, ◌∷◌, [], List, IfErr, IfOk, OnOk, codes, false, map};
-ghost use Rattle.std.specs.IoError.{error_kind};
-ghost use Rattle.std.specs.List.{All};
-ghost use Rattle.clap.specs.Simple.{Shape};
-ghost use Rattle.clap.specs.Words.{app_of, found_of, kind_of, rows_of, rule_of, subcommand_rows_of};
-ghost use Rattle.id_args.specs.Commands.{AreCommands, IsCommand, bare_shape, check_shape, command_shape};
-ghost use Rattle.id_args.specs.Commands.{elements_rule, facts_shape, file_rule, flag_rule, graph_shape};
-ghost use Rattle.id_args.specs.Commands.{inputs_rule, number_rule, order_rule, program_app, rounds_rule};
-ghost use Rattle.id_args.specs.Commands.{run_rules, run_shape, steps_rule};
-ghost use Rattle.id_args.specs.Matches.{Gives, IsAsked, IsAskedIn, IsNumberOf, IsOrderOf, IsRefusal, Tells};
-ghost use Rattle.id_args.specs.Requests.{AskFor, HasFile, IsRequestOf, IsUnread, IsUnreadWords, end_in_help};
-ghost use Rattle.id_args.specs.Requests.{input_words, is_help, is_set, words_read};
-
-use clap::builder::ValueParser;
-use clap::error::ErrorKind;
-use clap::{Arg, ArgAction, ArgMatches, Command, Error, value_parser};
-use id_request::{Request, Unasked};
-use std::alloc::{AllocError, Global};
-use std::convert::AsStr;
-use std::env::Env;
-use std::{env, io};
 
 /// The elements of a machine where the words say nothing.
 const DEFAULT_ELEMENTS: &str = "1";
@@ -67,6 +42,32 @@ Example:
         )
     };
 }
+
+ghost use Rattle.std.specs.Prelude.{◌≡◌, ◌++◌, ◌∷◌, [], List, IfErr, IfOk, OnOk, codes, false, map};
+ghost use Rattle.std.specs.IoError.{error_kind};
+ghost use Rattle.std.specs.List.{All};
+ghost use Rattle.clap.specs.Simple.{Shape};
+ghost use Rattle.clap.specs.Words.{app_of, found_of, kind_of, rows_of, rule_of, subcommand_rows_of};
+ghost use Rattle.id_args.specs.Commands.{AreCommands, IsCommand, bare_shape, check_shape, command_shape};
+ghost use Rattle.id_args.specs.Commands.{elements_rule, facts_shape, file_rule, flag_rule, graph_shape};
+ghost use Rattle.id_args.specs.Commands.{inputs_rule, number_rule, order_rule, program_app, rounds_rule};
+ghost use Rattle.id_args.specs.Commands.{run_rules, run_shape, steps_rule};
+ghost use Rattle.id_args.specs.Matches.{Gives, IsAsked, IsAskedIn, IsNumberOf, IsOrderOf, IsRefusal, Tells};
+ghost use Rattle.id_args.specs.Requests.{AskFor, HasFile, IsRequestOf, IsUnread, IsUnreadWords, end_in_help};
+ghost use Rattle.id_args.specs.Requests.{input_words, is_help, is_set, words_read};
+
+mod request;
+#[cfg(test)]
+mod tests;
+
+use clap::builder::ValueParser;
+use clap::error::ErrorKind;
+use clap::{Arg, ArgAction, ArgMatches, Command, Error, value_parser};
+pub use request::{Request, Unasked};
+use std::alloc::{AllocError, Global};
+use std::convert::AsStr;
+use std::env::Env;
+use std::{env, io};
 
 /// What stands below the help of `run`.
 const STATUSES: &str = with_statuses!("");

@@ -1,5 +1,5 @@
+use crate::request::Unasked;
 use crate::unread;
-use id_request::Unasked;
 use std::io;
 
 #[test]

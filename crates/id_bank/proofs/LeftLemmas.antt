@@ -8,10 +8,10 @@ use Rattle.std.proofs.lemmas.List.Concat.{flat_map-cons}
 use Rattle.std.proofs.lemmas.Grind.{flat_map-append}
 use Rattle.id_tag.specs.declared.Cell.{Cell}
 use Rattle.id_tag.specs.declared.Structure.{Structure}
-use Rattle.id_slot.specs.declared.slot.Slot.{Slot}
-use Rattle.id_slot.specs.declared.Filled.{Filled}
-use Rattle.id_slot.specs.Cells.{CellState, Present, Deferred, count_expected, filled_at}
-use Rattle.id_slot.specs.Slots.{cell_in, state_in, entry_at, cells_below, cells_above, cells_left, page_cells, cells_in, filled_by}
+use Rattle.id_bank.specs.declared.slot.Slot.{Slot}
+use Rattle.id_bank.specs.declared.cell.Filled.{Filled}
+use Rattle.id_bank.specs.Cells.{CellState, Present, Deferred, count_expected, filled_at}
+use Rattle.id_bank.specs.Slots.{cell_in, state_in, entry_at, cells_below, cells_above, cells_left, page_cells, cells_in, filled_by}
 use Rattle.id_bank.proofs.SlotsLemmas.{cells_below-none, cells_below-next}
 
 -- the first places and the others are all

@@ -22,9 +22,9 @@ use Rattle.id_tag.specs.declared.Structure.{Structure}
 use Rattle.id_tag.specs.Tags.{cell_cmp, structure_cmp}
 use Rattle.id_tag.proofs.TagsLemmas.{cells_total, exact_cells}
 use Rattle.id_tag.proofs.SortedLemmas.{entries-from_sort}
-use Rattle.id_slot.specs.declared.slot.Slot.{Slot}
-use Rattle.id_slot.specs.Cells.{CellState}
-use Rattle.id_slot.specs.Slots.{IsPage, page_of, offset_of, cell_in, same_page, state_in, entry_at, cells_below, page_cells, cells_in}
+use Rattle.id_bank.specs.declared.slot.Slot.{Slot}
+use Rattle.id_bank.specs.Cells.{CellState}
+use Rattle.id_bank.specs.Slots.{IsPage, page_of, offset_of, cell_in, same_page, state_in, entry_at, cells_below, page_cells, cells_in}
 use Rattle.id_bank.proofs.SlotsLemmas.{IsBelow, named, page_cell, index_parts, below_8, cell_in-page_of}
 use Rattle.id_bank.proofs.SlotsLemmas.{keys_of-append, all_append, all_weaker, below-cells_below}
 use Rattle.id_bank.proofs.SlotsLemmas.{same-from_permutation, distinct-from_permutation}

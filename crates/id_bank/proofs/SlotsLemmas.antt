@@ -34,10 +34,10 @@ use Rattle.id_tag.specs.declared.Cell.{Cell}
 use Rattle.id_tag.specs.declared.Structure.{Structure}
 use Rattle.id_tag.specs.Tags.{cell_cmp, same_structure}
 use Rattle.id_tag.proofs.TagsLemmas.{cells_total, exact_cells, one_from_same_cell, ties-same_cell}
-use Rattle.id_slot.specs.declared.slot.Slot.{Slot}
-use Rattle.id_slot.specs.Cells.{CellState, Present, Deferred, Cells, count_readers, deferred_of, readers_at}
-use Rattle.id_slot.specs.Slots.{IsPage, HasNone, HasNoReaders, page_of, offset_of, cell_in, same_page, state_in}
-use Rattle.id_slot.specs.Slots.{state_at, entry_at, cells_below, page_cells, cells_in}
+use Rattle.id_bank.specs.declared.slot.Slot.{Slot}
+use Rattle.id_bank.specs.Cells.{CellState, Present, Deferred, Cells, count_readers, deferred_of, readers_at}
+use Rattle.id_bank.specs.Slots.{IsPage, HasNone, HasNoReaders, page_of, offset_of, cell_in, same_page, state_in}
+use Rattle.id_bank.specs.Slots.{state_at, entry_at, cells_below, page_cells, cells_in}
 
 -- ---- tests
 

@@ -6,7 +6,7 @@ use Rattle.std.specs.FinMap as map
 use Rattle.id_tag.specs.declared.Tag.{Tag}
 use Rattle.id_tag.specs.declared.Value.{Value}
 use Rattle.id_tag.specs.Codes.{coded_tag, coded_cell, coded_value}
-use Rattle.id_slot.specs.Cells.{CellState, Present, Deferred, Cells}
+use Rattle.id_bank.specs.Cells.{CellState, Present, Deferred, Cells}
 
 -- what a cell holds: a value with its origin, or replies
 abbrev pub Held : Type 0

@@ -1,4 +1,4 @@
--- for models that hold cells
+-- What public clauses cite.
+pub mod Cells
+pub mod Slots
 pub mod Codes
-
--- for use inside

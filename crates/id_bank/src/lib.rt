@@ -1,10 +1,10 @@
-//! The bank: the cells of structures, each of which is stored into once and may be read before.
+//! The bank, the I-structure store: the cells of structures, each of which is stored into once and may be read before.
 //!
 //! Keeps: of each cell that was read or written the value with the tag of its store, or the replies that wait
 //!     for it, in order of arrival: in pages of eight neighbours, and where these were found of late. Clauses see a
 //!     finite map.
 //! Errors: want of memory alone, and then nothing has changed.
-//! Read first: `specs/Cells.antt`, then `read` and `write`.
+//! Read first: `specs/Cells.antt`, `specs/Slots.antt`, then `read` and `write`.
 //! Not here: addresses and their bounds (`id_ops`), who sends the replies (`id_element`).
 #![tactic(auto)]
 
@@ -14,19 +14,21 @@ ghost use Rattle.std.specs.FinMap as map;
 ghost use Rattle.std.specs.List.{flat_map};
 ghost use Rattle.indexmap.specs.IndexMap.{keys, IsUnique};
 ghost use Rattle.id_tag.specs.Tags.{cell_cmp};
-ghost use Rattle.id_slot.specs.declared.ReadAnswer.TheVariants.{Deferred as PutOff};
-ghost use Rattle.id_slot.specs.Cells.{filled_at, read_answer, write_answer};
-ghost use Rattle.id_slot.specs.Slots.{HasNone, HasNoReaders, IsPage, same_page, state_in, held_in, entry_at, cell_in};
-ghost use Rattle.id_slot.specs.Slots.{cells_below, cells_in, page_cells};
+ghost use Rattle.id_bank.specs.declared.cell.ReadAnswer.TheVariants.{Deferred as PutOff};
+ghost use Rattle.id_bank.specs.Cells.{filled_at, read_answer, write_answer};
+ghost use Rattle.id_bank.specs.Slots.{HasNone, HasNoReaders, IsPage, same_page, state_in, held_in, entry_at, cell_in};
+ghost use Rattle.id_bank.specs.Slots.{cells_below, cells_in, page_cells};
 
+mod cell;
 mod page;
+mod slot;
 
 use crate::page::{
     Recent, cell_in, count_filled_in, expected_in, filled_in, has_no_readers, has_none, offset_of,
     page_of, place, read_at, readers_in, write_at,
 };
-pub use id_slot::{Filled, ReadAnswer, Reader, Replies, WriteAnswer};
-use id_slot::{Slot, waiting};
+use crate::slot::{Slot, waiting};
+pub use cell::{Filled, ReadAnswer, Reader, Replies, WriteAnswer};
 use id_tag::{Cell, NearHasher, Structure, Tag, Value};
 use indexmap::IndexMap;
 use std::alloc::{AllocError, Global};
@@ -42,11 +44,11 @@ pub struct Bank {
 
 impl Model for Bank {
     ghost use Rattle.std.specs.FinMap as map;
-    ghost use Rattle.id_slot.specs.Cells.{Cells};
+    ghost use Rattle.id_bank.specs.Cells.{Cells};
     ghost use Rattle.id_bank.specs.Codes.{coded_cells};
     ghost use Rattle.std.specs.Prelude.{All};
     ghost use Rattle.indexmap.specs.IndexMap.{keys};
-    ghost use Rattle.id_slot.specs.Slots.{IsPage, cells_in};
+    ghost use Rattle.id_bank.specs.Slots.{IsPage, cells_in};
 
     ghost Value = { Cells };
 
@@ -59,8 +61,8 @@ impl Model for Bank {
 
 impl Bank {
     ghost use Rattle.std.specs.Prelude.{◌↔◌, IsTrue};
-    ghost use Rattle.id_slot.specs.Cells.{read_after, write_after, cells_of, deferred_of};
-    ghost use Rattle.id_slot.specs.Cells.{count_expected, count_readers};
+    ghost use Rattle.id_bank.specs.Cells.{read_after, write_after, cells_of, deferred_of};
+    ghost use Rattle.id_bank.specs.Cells.{count_expected, count_readers};
 
     /// The bank of which no cell was read or written. Takes no memory.
     pub fn new(alloc: Global) -> Bank
@@ -185,9 +187,9 @@ pub struct Cells<'a> {
 impl<'a> Model for Cells<'a> {
     ghost use Rattle.std.specs.Prelude.{◌≡◌, ◌≤◌, List, All, drop, length, map};
     ghost use Rattle.std.specs.List.{flat_map};
-    ghost use Rattle.id_slot.specs.Cells.{filled_at};
-    ghost use Rattle.id_slot.specs.declared.Filled.{Filled};
-    ghost use Rattle.id_slot.specs.Slots.{IsPage, cells_left};
+    ghost use Rattle.id_bank.specs.Cells.{filled_at};
+    ghost use Rattle.id_bank.specs.declared.cell.Filled.{Filled};
+    ghost use Rattle.id_bank.specs.Slots.{IsPage, cells_left};
 
     ghost Value = { List Filled };
 

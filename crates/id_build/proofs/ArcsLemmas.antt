@@ -2,16 +2,16 @@
 use Rattle.std.proofs.Common.{◌≡◌, inl, inr, ℕ, Bool, true, false, cond, eqb, List, [], ◌∷◌, refl, ap, sym, subst, ◌∙◌}
 use Rattle.std.specs.Prelude.{map, ◌&&◌}
 use Rattle.std.proofs.lemmas.Bool.{eqb-true}
-use Rattle.id_arcs.proofs.JoinedLemmas.{is_from, is_from-here}
+use Rattle.id_build.proofs.JoinedLemmas.{is_from, is_from-here}
 use Rattle.id_check.specs.declared.checked.Checked.{Checked}
 use Rattle.id_instr.specs.declared.dests.Dest.{Dest}
 use Rattle.id_pieces.specs.declared.arc.Arc.{Arc}
 use Rattle.id_pieces.specs.declared.arc.Feed.{Feed}
 use Rattle.id_pieces.specs.Made.{arc_of, arcs_in, dest_of, dests_from}
 use Rattle.id_pieces.specs.Rows.{feeds}
-use Rattle.id_list.proofs.DifferLemmas.{AllDiffer-append}
-use Rattle.id_list.proofs.AmongLemmas.{Among-either, Among-from_map, Among-left, Among-map, Among-right}
-use Rattle.id_list.specs.List.{AllDiffer, Among}
+use Rattle.id_value.proofs.DifferLemmas.{AllDiffer-append}
+use Rattle.id_value.proofs.AmongLemmas.{Among-either, Among-from_map, Among-left, Among-map, Among-right}
+use Rattle.id_value.specs.List.{AllDiffer, Among}
 use Rattle.std.specs.Bool.{beq}
 
 beq-refl : (s : Bool) → beq s s ≡ true

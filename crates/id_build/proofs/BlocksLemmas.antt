@@ -19,7 +19,7 @@ use Rattle.id_desugar.specs.Regions.{carried, first_variable, has_index, is_loop
 use Rattle.id_desugar.proofs.HeadsLemmas.{loop_heads-is}
 use Rattle.id_pieces.specs.Rows.{Entry, entries, entries_by, node, param_entry, variable_entries}
 use Rattle.id_pieces.specs.Schemas.{block_of}
-use Rattle.id_list.specs.List.{Among}
+use Rattle.id_value.specs.List.{Among}
 use Rattle.id_check.proofs.ProgramsLemmas.{table_of}
 use Rattle.id_table.proofs.BlocksLemmas.{not_last}
 use Rattle.id_pieces.proofs.EndsLemmas.{end_is}

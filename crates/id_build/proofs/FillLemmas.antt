@@ -10,8 +10,8 @@ use Rattle.id_build.proofs.NumberLemmas.{first_in-push, pieces_in-push}
 use Rattle.id_check.specs.declared.checked.Checked.{Checked}
 use Rattle.id_pieces.specs.Made.{first_in, number_by, pieces_in}
 use Rattle.id_pieces.specs.Rows.{made}
-use Rattle.id_list.proofs.AmongLemmas.{Among-from_at}
-use Rattle.id_list.specs.List.{AllDiffer, Among}
+use Rattle.id_value.proofs.AmongLemmas.{Among-from_at}
+use Rattle.id_value.specs.List.{AllDiffer, Among}
 use Rattle.id_check.specs.Programs.{rows}
 
 pub Among-get_or : (xs : List ℕ) (i : ℕ) → i < length xs → Among (get_or xs i 0) xs

@@ -6,7 +6,7 @@ use Rattle.std.proofs.Math.ListN.{get_or-eq_default}
 use Rattle.std.proofs.lemmas.Bool.{cases_lt, eqb-true, false≢true}
 use Rattle.std.proofs.lemmas.List.{map-append}
 use Rattle.std.proofs.lemmas.Option.{slice_get-get_or}
-use Rattle.id_list.specs.List.{Among}
+use Rattle.id_value.specs.List.{Among}
 use Rattle.id_table.specs.declared.row.Row.{Row}
 use Rattle.id_table.specs.declared.row.Node.{Node}
 use Rattle.id_table.specs.declared.row.Node.TheVariants.{Head, Param, Literal, Name, Unary, Binary, Split, If, Enter, Arg, Call}
@@ -27,7 +27,7 @@ use Rattle.id_pieces.specs.declared.arc.Piece.{Piece}
 use Rattle.id_pieces.specs.Made.{AreFirsts, EntriesFit, Fits, first_in, number_by, pieces_in}
 use Rattle.id_pieces.specs.Rows.{block, called, entries_row, for_each, import_entries, made, made_of, node, param_at, param_entry, send_to, variable_entries}
 use Rattle.id_pieces.proofs.LoopsLemmas.{entries_node, entries_stand, entries_within, start_head}
-use Rattle.id_arcs.proofs.OrderLemmas.{IsOrder}
+use Rattle.id_build.proofs.OrderLemmas.{IsOrder}
 use Rattle.id_build.proofs.SizeLemmas.{length-entries}
 
 -- where the form is a `send`, its entry is a part of a row, or just behind, and so is the reply of a `fetch`

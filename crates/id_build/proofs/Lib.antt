@@ -1,3 +1,13 @@
+pub mod BuildableLemmas
+pub mod CallsLemmas
+pub mod BindersLemmas
+pub mod ImportsLemmas
+pub mod OrderLemmas
+pub mod RowLemmas
+pub mod FeedsLemmas
+pub mod NamesSeen
+pub mod RegionsLemmas
+pub mod JoinedLemmas
 pub mod NumberLemmas
 pub mod SizeLemmas
 pub mod FitsLemmas

@@ -9,8 +9,8 @@ use Rattle.id_check.specs.declared.checked.Checked.{Checked}
 use Rattle.id_pieces.specs.declared.arc.Piece.{Piece}
 use Rattle.id_pieces.specs.Made.{first_in, pieces_in}
 use Rattle.id_pieces.specs.Rows.{made}
-use Rattle.id_list.proofs.PlacesLemmas.{slice_get-left, slice_get-right}
-use Rattle.id_list.specs.List.{AllDiffer, Among}
+use Rattle.id_value.proofs.PlacesLemmas.{slice_get-left, slice_get-right}
+use Rattle.id_value.specs.List.{AllDiffer, Among}
 
 abbrev count : Checked → ℕ → ℕ
 count P x = length (made P x)

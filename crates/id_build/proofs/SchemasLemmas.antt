@@ -5,8 +5,8 @@ use Rattle.std.specs.Prelude.{All, IsSome, option_and_then, slice_get}
 use Rattle.std.proofs.lemmas.Option.{slice_get-get_or, slice_get_within}
 use Rattle.id_build.proofs.ArcsLemmas.{AllDiffer-arcs_in, AllDiffer-dests, arcs_in-among, arcs_in-from, dests_from-among, dests_from-from, Tells}
 use Rattle.id_build.proofs.NumberLemmas.{first_in-apart, pieces_in-at, pieces_in-from}
-use Rattle.id_arcs.proofs.RowLemmas.{feeds_take, IsBuildable, IsOrigin, Takes}
-use Rattle.id_arcs.proofs.FeedsLemmas.{feeds_come, feeds_differ}
+use Rattle.id_build.proofs.RowLemmas.{feeds_take, IsBuildable, IsOrigin, Takes}
+use Rattle.id_build.proofs.FeedsLemmas.{feeds_come, feeds_differ}
 use Rattle.id_check.specs.declared.checked.Checked.{Checked}
 use Rattle.id_instr.specs.declared.instr.Op.{Op}
 use Rattle.id_instr.specs.declared.instr.Instr.{Instr}
@@ -20,13 +20,13 @@ use Rattle.id_pieces.specs.Rows.{answer_row, feed, feeds, made, node, op_by, pie
 use Rattle.id_instr.specs.Graph.{arcs, arcs_on, false_arcs}
 use Rattle.id_instr.specs.Ports.{two_sides}
 use Rattle.id_pieces.specs.Schemas.{HasSide, Numbered, Schemas}
-use Rattle.id_list.proofs.AmongLemmas.{Among-either, Among-from_at}
-use Rattle.id_list.specs.List.{AllDiffer, Among}
+use Rattle.id_value.proofs.AmongLemmas.{Among-either, Among-from_at}
+use Rattle.id_value.specs.List.{AllDiffer, Among}
 use Rattle.id_check.specs.Programs.{place, region, rows}
 use Rattle.id_instr.specs.Graph.{IsPort, Parts, PortsExist, kind_at}
-use Rattle.id_arcs.proofs.JoinedLemmas.{length-instrs_from}
+use Rattle.id_build.proofs.JoinedLemmas.{length-instrs_from}
 use Rattle.id_instr.specs.Ports.{port_kind}
-use Rattle.id_arcs.proofs.OrderLemmas.{IsOrder}
+use Rattle.id_build.proofs.OrderLemmas.{IsOrder}
 
 -- the instruction at a number of the graph
 instrs_from-at : (F : List ℕ) (ps : List Piece) (m k : ℕ) (vs : List Arc) (p : Piece) → slice_get ps k ≡ Some p →

@@ -1,11 +1,17 @@
-//! The graph that the schemas give a checked program, row by row.
+//! The graph that the schemas give a checked program, row by row: where each operand comes from, and what each name
+//! joins.
 //!
 //! Keeps: nothing beyond its values.
 //! Errors: `BuildError`, the refusal 14 or want of memory.
-//! Read first: docs/GRAPH.md ("Schemas"), `specs/Rows.antt`, `specs/Schemas.antt`, then `build`.
-//! Not here: the order of blocks and imports (`id_desugar`), which graphs are sound (`id_valid`).
+//! Read first: docs/GRAPH.md ("Schemas"), `specs/Rows.antt`, `specs/Schemas.antt` and `specs/Made.antt` of `id_pieces`,
+//! then `feeds::push_feeds` and `build`.
+//! Not here: the pieces (`id_pieces`), the order of blocks and imports (`id_desugar`), which graphs are sound
+//! (`id_valid`).
 #![tactic(auto)]
 
+mod feeds;
+mod joined;
+mod origins;
 mod program;
 mod size;
 

@@ -3,7 +3,7 @@
 ghost use Rattle.std.specs.Prelude.{◌≡◌, ◌++◌, ◌∷◌, [], true, ℕ, ◌+◌, ◌<◌, ◌≤◌, length};
 ghost use Rattle.std.specs.Prelude.{map, MatchResult};
 ghost use Rattle.std.specs.Prelude.{◌^◌, All, IfOk, IfErr, OnOk, fold};
-ghost use Rattle.id_list.specs.List.{AllDiffer, Among};
+ghost use Rattle.id_value.specs.List.{AllDiffer, Among};
 ghost use Rattle.id_check.specs.Programs as programs;
 ghost use Rattle.id_desugar.specs.Regions as regions;
 ghost use Rattle.id_desugar.specs.Regions.{carried, first_variable, imports_of, loop_heads, nexts_of};
@@ -17,16 +17,17 @@ ghost use Rattle.id_pieces.specs.Made.{AreFirsts, EntriesFit, Fits, IsBetween, a
 ghost use Rattle.id_pieces.specs.Made.{instrs_from, number_by, pieces_in};
 ghost use Rattle.id_pieces.specs.Slots.{AreColumns, AreSlots};
 
+use crate::feeds::{Arcs, number_by, push_feeds};
+use crate::joined::{connect_all, push_bare};
 use crate::size::made_count;
-use id_arcs::{Arcs, connect_all, number_by, push_bare, push_feeds};
 use id_check::Checked;
 use id_desugar::{Kernel, row_at};
 use id_instr::{Block, Graph, Instr};
-use id_list::Sequence;
 use id_pieces::{
     BuildError, Columns, Piece, Slots, entries_row, find_slots, is_param, push_pieces,
 };
 use id_table::Node;
+use id_value::Sequence;
 use std::alloc::Global;
 
 /// A graph that the schemas give the program.

@@ -3,7 +3,7 @@ use Rattle.std.proofs.Common.{◌≡◌, ℕ, List, [], ◌∷◌, ◌++◌, Opt
 use Rattle.std.specs.Prelude.{IfOk, OnOk}
 use Rattle.id_check.specs.declared.checked.Checked.{Checked}
 use Rattle.id_compile.specs.Programs.{IsProgramOf}
-use Rattle.id_inputs.specs.Inputs.{AreInputsOf}
+use Rattle.id_source.specs.Inputs.{AreInputsOf}
 use Rattle.id_value.specs.declared.Constant.{Constant}
 use Rattle.id_core.specs.Machines.{IsQuiet, MachineView, World, delivered, run, start}
 use Rattle.id_core.specs.Observed.{answer}

@@ -3,7 +3,7 @@ use Rattle.std.specs.Prelude.{◌≡◌, ℕ, List, Option}
 use Rattle.id_check.specs.declared.checked.Checked.{Checked}
 use Rattle.id_compile.specs.Programs.{IsProgramOf}
 use Rattle.id_core.specs.Machines.{MachineView, run}
-use Rattle.id_inputs.specs.Inputs.{AreInputsOf}
+use Rattle.id_source.specs.Inputs.{AreInputsOf}
 use Rattle.id_source.specs.declared.SourceValue.{SourceValue}
 use Rattle.id_source.specs.Rounds.{IsAnswer}
 use Rattle.id_source.specs.Sources.{source}

@@ -3,7 +3,7 @@
 //! Keeps: nothing.
 //! Errors: `Failure`.
 //! Read first: `specs/ByHand.antt`, then `answer_by_hand`.
-//! Not here: what comes of a text with its inputs (`id_prepare`), machines (`id_core`), the laws (`id_laws`).
+//! Not here: what comes of a text with its inputs (`id_compile`), machines (`id_core`), the laws (`id_laws`).
 #![tactic(auto)]
 
 ghost use Rattle.std.specs.Prelude.{◌≡◌, map, IfOk, OnOk};
@@ -13,8 +13,8 @@ ghost use Rattle.id_source.specs.Rounds.{IsAnswer};
 ghost use Rattle.id_source.specs.Sources.{AreInputs, source};
 ghost use Rattle.id_by_hand.specs.ByHand.{IsAnswerOf, IsLater};
 
+use id_compile::{Prepared, prepare};
 use id_core::{Machine, TakeError};
-use id_prepare::{Prepared, prepare};
 use id_source::SourceValue;
 use std::alloc::Global;
 use std::io;

@@ -4,8 +4,8 @@ ghost use Rattle.std.specs.Prelude.{◌≡◌};
 ghost use Rattle.id_check.specs.Programs as programs;
 
 use crate::checked::Checked;
-use id_parts::Row;
 use id_scope::wide;
+use id_table::Row;
 use id_tree::Kind;
 
 impl Checked {

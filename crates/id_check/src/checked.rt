@@ -11,7 +11,7 @@ ghost use Rattle.id_scope.specs.Causes.{IsMain, causes};
 ghost use Rattle.id_scope.specs.Kinds.{AreKinds};
 ghost use Rattle.id_scope.specs.Scopes.{AreBinders, HasDepths, column};
 
-use id_parts::Table;
+use id_table::Table;
 use id_tree::{Kind, Program};
 use once_cell::race::Note;
 

@@ -5,7 +5,7 @@
 //! things have one place; that the number of each literal is one of the language.
 //! Errors: `CheckError`, the refusals 7 to 13 or want of memory, with the program handed back.
 //! Read first: `Checked`, `specs/Programs.antt`, then `check`; docs/LANGUAGE.md ("Names", "Kinds").
-//! Not here: binders, and of what kinds come (`id_scope`), the table of parts (`id_parts`), the graph (`id_build`).
+//! Not here: binders, and of what kinds come (`id_scope`), the table of parts (`id_table`), the graph (`id_build`).
 #![tactic(auto)]
 
 mod access;

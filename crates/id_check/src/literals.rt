@@ -6,7 +6,7 @@ ghost use Rattle.id_value.specs.Results.{is_whole};
 ghost use Rattle.id_table.specs.declared.row.Node.TheVariants.{Literal};
 ghost use Rattle.id_check.specs.Literals.{AreLiterals};
 
-use id_parts::{Node, Row};
+use id_table::{Node, Row};
 use id_value::Constant;
 
 /// Sees that the number of each literal in these rows is one of the language, as every number of 64 bits is. Nothing

@@ -8,7 +8,7 @@ ghost use Rattle.id_table.specs.Tables.{IsFormed};
 ghost use Rattle.id_check.specs.Counts.{AreCounts};
 ghost use Rattle.id_check.specs.Depths.{AreDepths, AreInBlocks};
 
-use id_parts::{Node, Row};
+use id_table::{Node, Row};
 use std::alloc::{AllocError, Global};
 
 /// The most loops that a row may be in, and the most arguments that are counted. No text comes near it.

@@ -5,7 +5,7 @@ ghost use Rattle.id_table.specs.Turns.{IsDefOf, IsTable, params_at};
 ghost use Rattle.id_scope.specs.Causes as causes;
 ghost use Rattle.id_check.specs.Params as params;
 
-use id_parts::{Node, Row};
+use id_table::{Node, Row};
 
 /// The most parameters that a definition may have.
 pub const MAX_PARAMS: usize = 16;

@@ -7,7 +7,7 @@ ghost use Rattle.id_table.specs.Rows.{parts_of, rows_of};
 ghost use Rattle.id_check.specs.Kept.{Distinct-prop};
 ghost use Rattle.id_check.specs.Noted.{tree_in};
 
-use id_parts::Table;
+use id_table::Table;
 use id_tree::Program;
 use once_cell::race::Note;
 

@@ -19,8 +19,8 @@ ghost use Rattle.id_check.specs.Params.{array_cause, count_cause};
 ghost use Rattle.id_check.specs.Wants.{wrong_parts};
 
 use crate::params::{MAX_PARAMS, first_array, has_param, has_params};
-use id_parts::{Node, Row};
 use id_scope::{CheckCause, binder_at, note, unary_kind};
+use id_table::{Node, Row};
 use id_tree::{BinaryOp, Kind};
 use id_value::Comparison;
 

@@ -12,8 +12,8 @@ use Rattle.id_tree.specs.Accepted.{StopsAt, RefusedBy}
 use Rattle.id_scope.specs.declared.cause.CheckCause.{CheckCause}
 use Rattle.id_scope.specs.declared.cause.CheckCause.TheVariants as checker
 use Rattle.id_scope.specs.Causes as check
-use Rattle.id_list.specs.List.{Among}
-use Rattle.id_list.proofs.AmongLemmas.{Among-right, at-from_Among}
+use Rattle.id_value.specs.List.{Among}
+use Rattle.id_value.proofs.AmongLemmas.{Among-right, at-from_Among}
 use Rattle.std.proofs.lemmas.List.Elements.{All-get_or}
 use Rattle.std.proofs.lemmas.Option.{slice_get_within, get_or_from_slice_get}
 use Rattle.id_compile.specs.Refusals.{lexer_refusal, parser_refusal, checker_refusal, IsDetailInside, IsInside}

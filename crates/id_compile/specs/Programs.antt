@@ -14,8 +14,8 @@ use Rattle.id_check.specs.Programs.{rows, tree}
 use Rattle.id_check.specs.declared.checked.Checked.{Checked}
 use Rattle.id_scope.specs.declared.cause.CheckCause.{CheckCause}
 use Rattle.id_value.specs.declared.Constant.{Constant}
-use Rattle.id_inputs.specs.declared.inputs.Wanted.{Wanted}
-use Rattle.id_inputs.specs.Inputs.{AreInputsOf, wanted}
+use Rattle.id_source.specs.declared.inputs.Wanted.{Wanted}
+use Rattle.id_source.specs.Inputs.{AreInputsOf, wanted}
 use Rattle.id_instr.specs.Graph.{Parts}
 use Rattle.id_pieces.specs.Rows.{size}
 use Rattle.id_compile.specs.declared.compiled.CompileError.{CompileError}

@@ -11,9 +11,9 @@ use Rattle.id_grammar.specs.declared.tree.TreeError.TheVariants as parser
 use Rattle.id_check.specs.declared.checked.Checked.{Checked}
 use Rattle.id_scope.specs.declared.cause.CheckCause.{CheckCause}
 use Rattle.id_scope.specs.declared.cause.CheckCause.TheVariants as checker
-use Rattle.id_inputs.specs.declared.inputs.InputError.TheVariants as input
+use Rattle.id_source.specs.declared.inputs.InputError.TheVariants as input
 use Rattle.id_source.specs.Sources.{source}
-use Rattle.id_inputs.specs.Inputs.{AreRefusedInputs}
+use Rattle.id_source.specs.Inputs.{AreRefusedInputs}
 use Rattle.id_source.specs.declared.Fact.{Fact}
 use Rattle.id_source.specs.Computed.{AreFacts, HasMoreFacts}
 use Rattle.id_pieces.specs.Rows.{size}
@@ -24,8 +24,8 @@ use Rattle.id_compile.specs.declared.compiled.CompileError.{CompileError}
 use Rattle.id_compile.specs.declared.compiled.CompileError.TheVariants as compiler
 use Rattle.id_compile.specs.declared.error.EngineError.{EngineError}
 use Rattle.id_compile.specs.declared.error.EngineError.TheVariants as engine
-use Rattle.id_edge.specs.declared.source.SourceFault.{SourceFault}
-use Rattle.id_edge.specs.declared.source.SourceFault.TheVariants as fault
+use Rattle.id_sink.specs.declared.source.SourceFault.{SourceFault}
+use Rattle.id_sink.specs.declared.source.SourceFault.TheVariants as fault
 use Rattle.id_compile.specs.declared.refusal.Detail.{Detail}
 use Rattle.id_compile.specs.declared.refusal.Detail.TheVariants.{Nothing, Place, Kinds, Word}
 use Rattle.id_compile.specs.declared.refusal.Refusal.{Refusal}

@@ -1,2 +1,3 @@
+pub mod FlightLemmas
 pub mod InputsLemmas
 pub mod MachinesLemmas

@@ -22,19 +22,19 @@ use Rattle.id_tag.specs.declared.Value.TheVariants as value
 use Rattle.id_tag.specs.declared.Message.{Message}
 use Rattle.id_valid.specs.Roles.{has_main_place, IsMain}
 use Rattle.id_valid.specs.Validator.{IsMainBlock}
-use Rattle.id_firing.specs.Fits.{Fits, TokenFits}
-use Rattle.id_firing.specs.Fits.{IsFor}
-use Rattle.id_firing.specs.Steps.{fresh, outputs_of, event_of, state_after, step_of, is_ended}
-use Rattle.id_firing.specs.declared.step.TakeError.{TakeError}
-use Rattle.id_firing.specs.declared.step.TakeError.TheVariants.{StampEnd}
-use Rattle.id_firing.specs.declared.step.Short.TheVariants.{Apart}
-use Rattle.id_desk.specs.Replays.{ElementView}
-use Rattle.id_line.specs.declared.step.Step.{Step}
+use Rattle.id_element.specs.Fits.{Fits, TokenFits}
+use Rattle.id_element.specs.Fits.{IsFor}
+use Rattle.id_element.specs.Steps.{fresh, outputs_of, event_of, state_after, step_of, is_ended}
+use Rattle.id_element.specs.declared.step.TakeError.{TakeError}
+use Rattle.id_element.specs.declared.step.TakeError.TheVariants.{StampEnd}
+use Rattle.id_element.specs.declared.step.Short.TheVariants.{Apart}
+use Rattle.id_element.specs.Replays.{ElementView}
+use Rattle.id_record.specs.declared.step.Step.{Step}
 use Rattle.id_core.specs.Machines.{world_of, taken_from, given_to, routed_to, delivered, event_of_given}
 use Rattle.id_core.specs.Machines.{event_of_routed, event_at, start_message, input_messages, block_messages, AreTaken}
 use Rattle.id_core.specs.Machines.{IsElement, AreElements, IsMachine, MachineView}
 use Rattle.id_observe.specs.Observed.{main_tag}
-use Rattle.id_desk.proofs.SentLemmas.{kind_at_op}
+use Rattle.id_element.proofs.SentLemmas.{kind_at_op}
 use Rattle.id_core.proofs.InputsLemmas.{inputs_fit}
 
 -- what holds of each image holds of what it is the image of

@@ -5,9 +5,9 @@ ghost use Rattle.id_instr.specs.declared.instr.Op.TheVariants.{Merge};
 ghost use Rattle.id_core.specs.Machines.{AreTaken, TakesInputs};
 
 use id_element::op_at;
-use id_inputs::Inputs;
 use id_instr::{Graph, Op, PortKind};
 use id_ops::value_of;
+use id_source::Inputs;
 use id_valid::Valid;
 use id_value::Constant;
 

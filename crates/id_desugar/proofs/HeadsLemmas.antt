@@ -5,9 +5,9 @@ use Rattle.std.specs.Prelude.{◌&&◌, max, nat_eq, if◌then◌else◌}
 use Rattle.std.specs.Option.{option_or}
 use Rattle.std.proofs.Math.Nat.{le-max_left, le-max_right}
 use Rattle.std.proofs.lemmas.Bool.{cases_lt, eqb-true, false≢true}
-use Rattle.id_list.specs.List.{Among, AllDiffer}
-use Rattle.id_list.proofs.AmongLemmas.{Among-either, Among-left, Among-right}
-use Rattle.id_list.proofs.DifferLemmas.{AllDiffer-append}
+use Rattle.id_value.specs.List.{Among, AllDiffer}
+use Rattle.id_value.proofs.AmongLemmas.{Among-either, Among-left, Among-right}
+use Rattle.id_value.proofs.DifferLemmas.{AllDiffer-append}
 use Rattle.id_table.specs.declared.row.Node.{Node}
 use Rattle.id_table.specs.declared.row.Node.TheVariants.{LoopHead, Loop}
 use Rattle.id_table.specs.Loops.{IsLoopOf}

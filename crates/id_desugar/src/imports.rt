@@ -10,7 +10,7 @@ ghost use Rattle.id_desugar.specs.Ends.{AreEnds, AreNexts, end_row};
 ghost use Rattle.id_desugar.specs.Regions.{all_imports, imports, imports_by, imports_of, nexts_of, taken, with_use};
 ghost use Rattle.id_desugar.specs.Gathering.{AllCount, AreBelow, AreFilled, AreGathered, AreMarked, AreTurned};
 ghost use Rattle.id_desugar.specs.Gathering.{EndsNothing, is_opening, used_in, with_uses};
-ghost use Rattle.id_list.specs.List.{Among};
+ghost use Rattle.id_value.specs.List.{Among};
 ghost use Rattle.id_table.specs.Rows.{at};
 ghost use Rattle.id_table.specs.Tables as table;
 

@@ -6,7 +6,7 @@ ghost use Rattle.id_check.specs.Programs.{rows};
 ghost use Rattle.id_desugar.specs.Gathering.{AreChains};
 ghost use Rattle.id_desugar.specs.Regions.{head_at, in_block, in_procedure, loop_heads, loops_by, order_of, reach};
 ghost use Rattle.id_desugar.specs.Regions.{those};
-ghost use Rattle.id_list.specs.List.{Among};
+ghost use Rattle.id_value.specs.List.{Among};
 ghost use Rattle.std.specs.Option.{option_or};
 
 use crate::access::{is_loop_head, row_at};

@@ -21,13 +21,13 @@ use Rattle.id_ops.specs.declared.Fresh.{Fresh}
 use Rattle.id_ops.specs.declared.Operands.{Operands}
 use Rattle.id_ops.specs.declared.Operands.TheVariants.{One, Two}
 use Rattle.id_ops.specs.Operators.{fired, fired_alloc, fired_enter}
-use Rattle.id_front.specs.Waiting.{Store, answer_of, offer_answer, pair_of, waits}
-use Rattle.id_front.specs.Ports.{other_port}
-use Rattle.id_slot.specs.Cells.{Cells}
-use Rattle.id_ledger.specs.Tellings.{is_number, makes}
-use Rattle.id_firing.specs.declared.step.Arrival.{Arrival}
-use Rattle.id_firing.specs.declared.step.Arrival.TheVariants.{Fires, Waits, Blocked}
-use Rattle.id_firing.specs.Steps.{arrival, arrival_of, arriving, at_instr, firing, outcome, waiting_after}
+use Rattle.id_match.specs.Waiting.{Store, answer_of, offer_answer, pair_of, waits}
+use Rattle.id_match.specs.Ports.{other_port}
+use Rattle.id_bank.specs.Cells.{Cells}
+use Rattle.id_record.specs.Tellings.{is_number, makes}
+use Rattle.id_element.specs.declared.step.Arrival.{Arrival}
+use Rattle.id_element.specs.declared.step.Arrival.TheVariants.{Fires, Waits, Blocked}
+use Rattle.id_element.specs.Steps.{arrival, arrival_of, arriving, at_instr, firing, outcome, waiting_after}
 
 -- ---- `enter`
 

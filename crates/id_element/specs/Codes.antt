@@ -5,17 +5,17 @@ use Rattle.id_instr.specs.Graph.{Parts}
 use Rattle.id_valid.specs.contracts.valid.Valid as valid
 use Rattle.id_tag.specs.declared.Message.{Message}
 use Rattle.id_tag.specs.contracts.Message as message
-use Rattle.id_front.specs.Waiting.{Store}
+use Rattle.id_match.specs.Waiting.{Store}
 use Rattle.id_match.specs.Codes.{coded_store}
-use Rattle.id_slot.specs.Cells.{Cells}
+use Rattle.id_bank.specs.Cells.{Cells}
 use Rattle.id_bank.specs.Codes.{coded_cells}
 use Rattle.id_ops.specs.declared.Fired.{Fired}
 use Rattle.id_ops.specs.contracts.Fired as fired
-use Rattle.id_line.specs.declared.step.Step.{Step}
-use Rattle.id_line.specs.contracts.step.Step as step
-use Rattle.id_line.specs.Events.{EventView}
-use Rattle.id_firing.specs.Steps.{State}
-use Rattle.id_desk.specs.Replays.{ElementView}
+use Rattle.id_record.specs.declared.step.Step.{Step}
+use Rattle.id_record.specs.contracts.step.Step as step
+use Rattle.id_record.specs.Events.{EventView}
+use Rattle.id_element.specs.Steps.{State}
+use Rattle.id_element.specs.Replays.{ElementView}
 
 -- a graph, a message, what was fired and what an event came to have the codes of their types
 abbrev pub coded_graph : Coded Parts

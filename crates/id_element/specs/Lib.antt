@@ -1,4 +1,12 @@
 -- What public clauses cite.
+pub mod Firings
+pub mod Fits
+pub mod Shorts
+pub mod Steps
+pub mod Desks
+pub mod Replays
 pub mod Codes
-
 -- For use inside.
+pub mod Concluded
+pub mod Handled
+pub mod Visited

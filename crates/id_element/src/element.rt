@@ -1,14 +1,16 @@
 //! An element: what waits at it, its cells, its last stamp and its record (docs/MACHINE.md, "Element step").
 
 ghost use Rattle.std.specs.Prelude.{◌≡◌, ◌↔◌, IsTrue};
-ghost use Rattle.id_line.specs.declared.step.Step.TheVariants.{Went};
-ghost use Rattle.id_firing.specs.Shorts.{IsHandled, step_in};
-ghost use Rattle.id_firing.specs.declared.step.Short.{Short};
+ghost use Rattle.id_record.specs.declared.step.Step.TheVariants.{Went};
+ghost use Rattle.id_element.specs.Shorts.{IsHandled, step_in};
+ghost use Rattle.id_element.specs.declared.step.Short.{Short};
 ghost use Rattle.id_tag.specs.declared.Tag.{Tag};
 
+use crate::desk::Desk;
+use crate::gate::{Gate, Open};
+use crate::outcome::bound;
+use crate::step::{Short, TakeError};
 use id_bank::{Cells, Reader};
-use id_desk::{Desk, Gate, Open};
-use id_firing::{Short, TakeError, bound};
 use id_flight::{Demand, Queue};
 use id_record::{Events, Step, full_step};
 use id_tag::{Message, PlainToken};
@@ -29,9 +31,9 @@ pub struct Element<'a> {
 
 impl<'a> Model for Element<'a> {
     ghost use Rattle.id_element.specs.Codes.{coded_element};
-    ghost use Rattle.id_desk.specs.Replays.{ElementView, IsKept};
-    ghost use Rattle.id_desk.specs.Desks.{state_of};
-    ghost use Rattle.id_firing.specs.Firings.{IsBound};
+    ghost use Rattle.id_element.specs.Replays.{ElementView, IsKept};
+    ghost use Rattle.id_element.specs.Desks.{state_of};
+    ghost use Rattle.id_element.specs.Firings.{IsBound};
 
     ghost Value = { ElementView };
 
@@ -57,15 +59,15 @@ impl<'a> Element<'a> {
     ghost use Rattle.std.specs.Prelude.{◌↔◌, All, IfOk, OnOk, OnErr, IsTrue};
     ghost use Rattle.std.specs.Prelude.{true, false};
     ghost use Rattle.std.specs.FinMap.{empty};
-    ghost use Rattle.id_firing.specs.declared.step.TakeError.TheVariants.{StampEnd};
-    ghost use Rattle.id_line.specs.Events.{AllWent};
-    ghost use Rattle.id_firing.specs.Fits.{Fits, IsFor};
+    ghost use Rattle.id_element.specs.declared.step.TakeError.TheVariants.{StampEnd};
+    ghost use Rattle.id_record.specs.Events.{AllWent};
+    ghost use Rattle.id_element.specs.Fits.{Fits, IsFor};
     ghost use Rattle.id_flight.specs.Demands.{demanded};
-    ghost use Rattle.id_desk.specs.Replays.{Replays};
-    ghost use Rattle.id_slot.specs.Cells.{cells_of, deferred_of};
-    ghost use Rattle.id_firing.specs.Steps.{fresh, is_ended, step_of, outputs_of, state_after};
-    ghost use Rattle.id_firing.specs.Shorts.{IsHandled, step_in};
-    ghost use Rattle.id_firing.specs.declared.step.Short.{Short};
+    ghost use Rattle.id_element.specs.Replays.{Replays};
+    ghost use Rattle.id_bank.specs.Cells.{cells_of, deferred_of};
+    ghost use Rattle.id_element.specs.Steps.{fresh, is_ended, step_of, outputs_of, state_after};
+    ghost use Rattle.id_element.specs.Shorts.{IsHandled, step_in};
+    ghost use Rattle.id_element.specs.declared.step.Short.{Short};
     ghost use Rattle.id_tag.specs.Plains.{message_of, tag_in};
 
     /// The element of this number, of so many, that has handled nothing. Takes no memory, and looks at each instruction
@@ -137,7 +139,7 @@ impl<'a> Element<'a> {
         ensures err_outputs { OnErr result (outputs.new.messages ≡ outputs.old.messages) }
     {
         let graph = self.desk.log.graph();
-        let verdict = id_visit::take(&mut self.desk, graph.graph(), message, outputs, gate)?;
+        let verdict = crate::taking::take(&mut self.desk, graph.graph(), message, outputs, gate)?;
         let step = full_step(&message.payload, verdict);
         self.went = still_went(self.went, &step);
         Ok(step)
@@ -207,7 +209,7 @@ impl<'a> Element<'a> {
         ensures err { OnErr result (self.new ≡ self.old) }
         ensures err_outputs { OnErr result (outputs.new.messages ≡ outputs.old.messages) }
     {
-        let handled = id_visit::take_demand(&mut self.desk, demand, outputs, gate)?;
+        let handled = crate::cells::take_demand(&mut self.desk, demand, outputs, gate)?;
         Ok(handled)
     }
 

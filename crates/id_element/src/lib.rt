@@ -1,14 +1,23 @@
 //! Elements: each message is handled in one step, and recorded.
 //!
-//! Keeps: an element's state is what its record leads to.
+//! Keeps: an element's state, its store, its cells and its numbers, is what its record leads to.
 //! Errors: `TakeError`; after each of them nothing has changed.
-//! Read first: `specs/Steps.antt`, then `Element::take`.
+//! Read first: `specs/Steps.antt`, then `Element::take`; `specs/Firings.antt`, then `outcome::react`;
+//! `specs/Desks.antt`, then `Desk::take_token`.
 //! Not here: what an operator does (`id_ops`), matching (`id_match`), how events are kept (`id_record`), runs
 //! (`id_core`).
 #![tactic(auto)]
 
+mod cells;
+mod desk;
 mod element;
+mod fitting;
+mod gate;
+mod outcome;
+mod step;
+mod taking;
 
 pub use element::Element;
-pub use id_desk::{Gate, Handling, Open};
-pub use id_firing::{Short, TakeError, fits, op_at};
+pub use fitting::{fits, op_at};
+pub use gate::{Gate, Handling, Open};
+pub use step::{Short, TakeError};

@@ -12,7 +12,7 @@ use Rattle.id_tag.specs.Routes.{route_of}
 use Rattle.id_core.specs.Events.{EventView}
 use Rattle.id_core.specs.Steps.{State, event_of, fresh, outputs_of, state_after}
 use Rattle.id_core.specs.Machines.{World, MachineView, delivered, start, start_messages, taken_from}
-use Rattle.id_orders.specs.Accounts.{IsAccounted, sent_of, taken_of}
+use Rattle.id_runs.specs.Accounts.{IsAccounted, sent_of, taken_of}
 use Rattle.id_elements.specs.Runs.{AreHeldBefore, HasCount, IsFree}
 use Rattle.id_elements.proofs.FinishLemmas.{IsFree-within, before_removed, counts_on, delivered-free, goes_on, held_on, within_on}
 

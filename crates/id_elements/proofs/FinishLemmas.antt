@@ -8,14 +8,14 @@ use Rattle.std.proofs.lemmas.Option.{get_or_from_slice_get, slice_get-get_or, sl
 use Rattle.id_instr.specs.Graph.{Parts}
 use Rattle.id_tag.specs.declared.Message.{Message}
 use Rattle.id_tag.specs.Routes.{route_of}
-use Rattle.id_line.specs.declared.step.Step.{Step}
-use Rattle.id_line.specs.declared.step.Step.TheVariants.{Went}
+use Rattle.id_record.specs.declared.step.Step.{Step}
+use Rattle.id_record.specs.declared.step.Step.TheVariants.{Went}
 use Rattle.id_core.specs.Events.{EventView, AllWent}
 use Rattle.id_core.specs.Steps.{State, event_of, is_ended, outputs_of, state_after}
 use Rattle.id_core.specs.Machines.{World, MachineView, delivered, event_at, event_of_given, event_of_routed, given_to, routed_to, taken_from, world_of}
-use Rattle.id_desk.specs.Replays.{ElementView}
-use Rattle.id_list.proofs.PlacesLemmas.{set-here, set-elsewhere, slice_get-image}
-use Rattle.id_orders.specs.Accounts.{IsAccounted}
+use Rattle.id_element.specs.Replays.{ElementView}
+use Rattle.id_value.proofs.PlacesLemmas.{set-here, set-elsewhere, slice_get-image}
+use Rattle.id_runs.specs.Accounts.{IsAccounted}
 use Rattle.id_elements.specs.Runs.{AreHeldBefore, GoesOn, HasCount, HasWent, IsFree, IsHeldBack}
 use Rattle.id_elements.specs.Workers.{sent_in, weight_taken}
 use Rattle.id_elements.proofs.WorkersLemmas.{sent_after, taken_after, weight_removed}

@@ -5,9 +5,9 @@ use Rattle.std.proofs.lemmas.List.Sums.{sum_by-cons}
 use Rattle.id_instr.specs.Graph.{Parts}
 use Rattle.id_tag.specs.declared.Message.{Message}
 use Rattle.id_inbox.specs.Doors.{DoorView}
-use Rattle.id_firing.specs.Steps.{State}
-use Rattle.id_desk.specs.Replays.{ElementView}
-use Rattle.id_orders.specs.Accounts.{sent_of, taken_of}
+use Rattle.id_element.specs.Steps.{State}
+use Rattle.id_element.specs.Replays.{ElementView}
+use Rattle.id_runs.specs.Accounts.{sent_of, taken_of}
 use Rattle.id_elements.specs.Doors.{IsCut, IsMerged}
 use Rattle.id_elements.specs.Gathered.{AreGathered, IsGathered, IsWhole}
 use Rattle.id_elements.specs.Workers.{IsKept, WorkerView, sent_in, weight_taken}

@@ -12,19 +12,19 @@ use Rattle.std.proofs.lemmas.List.Elements.{All-append, All-from_recursion, All-
 use Rattle.id_instr.specs.Graph.{Parts}
 use Rattle.id_value.specs.declared.Constant.{Constant}
 use Rattle.id_tag.specs.declared.Message.{Message}
-use Rattle.id_list.specs.List.{Among}
-use Rattle.id_list.proofs.AmongLemmas.{Among-either, Among-left, Among-right}
-use Rattle.id_line.specs.declared.step.Step.TheVariants.{Stuck}
+use Rattle.id_value.specs.List.{Among}
+use Rattle.id_value.proofs.AmongLemmas.{Among-either, Among-left, Among-right}
+use Rattle.id_record.specs.declared.step.Step.TheVariants.{Stuck}
 use Rattle.id_core.specs.Events.{AllWent, EventView}
-use Rattle.id_firing.specs.Fits.{Fits}
+use Rattle.id_element.specs.Fits.{Fits}
 use Rattle.id_core.specs.Steps.{State}
-use Rattle.id_desk.specs.Replays.{ElementView, Replays}
+use Rattle.id_element.specs.Replays.{ElementView, Replays}
 use Rattle.id_core.specs.Machines.{AreElements, IsElement, IsMachine, MachineView, World, start_messages, world_of}
 use Rattle.id_core.specs.Observed.{events_of}
-use Rattle.id_orders.specs.Accounts.{IsAccounted}
-use Rattle.id_orders.specs.Orders.{AreReplayed, OrdersAreRuns}
-use Rattle.id_orders.proofs.Elements.{AreReplayed-from}
-use Rattle.id_orders.proofs.Orders.{left_holds}
+use Rattle.id_runs.specs.Accounts.{IsAccounted}
+use Rattle.id_runs.specs.Orders.{AreReplayed, OrdersAreRuns}
+use Rattle.id_runs.proofs.Elements.{AreReplayed-from}
+use Rattle.id_runs.proofs.Orders.{left_holds}
 use Rattle.std.proofs.lemmas.Bool.{cases_eq}
 use Rattle.std.proofs.lemmas.Option.{get_or_from_slice_get, slice_get-get_or}
 use Rattle.id_elements.proofs.FinishLemmas.{upto}

@@ -17,11 +17,11 @@ use Rattle.id_tag.specs.declared.Message.{Message}
 use Rattle.id_tag.specs.declared.Payload.{Payload}
 use Rattle.id_inbox.specs.Doors.{DoorView}
 use Rattle.id_inbox.specs.Hands.{sending, taking}
-use Rattle.id_line.specs.Events.{EventView}
-use Rattle.id_firing.specs.Fits.{Fits, IsFor}
-use Rattle.id_firing.specs.Steps.{State, event_of, outputs_of, state_after}
-use Rattle.id_firing.specs.declared.step.TakeError.{TakeError}
-use Rattle.id_desk.specs.Replays.{ElementView}
+use Rattle.id_record.specs.Events.{EventView}
+use Rattle.id_element.specs.Fits.{Fits, IsFor}
+use Rattle.id_element.specs.Steps.{State, event_of, outputs_of, state_after}
+use Rattle.id_element.specs.declared.step.TakeError.{TakeError}
+use Rattle.id_element.specs.Replays.{ElementView}
 use Rattle.id_elements.specs.Doors.{HaveParts, queues_of}
 use Rattle.id_elements.specs.Passing.{AreFor, Gives, IsGiven, IsPassed, IsRouted, IsStayed, Passes}
 use Rattle.id_elements.specs.Workers.{AreWorkers, IsKept, IsSame, IsSameWithin, IsWorker, WorkerView, sent_in, weight_taken}

@@ -4,11 +4,11 @@ use Rattle.std.specs.List.{sum_by}
 use Rattle.id_instr.specs.Graph.{Parts}
 use Rattle.id_tag.specs.declared.Message.{Message}
 use Rattle.id_inbox.specs.Doors.{DoorView}
-use Rattle.id_firing.specs.Fits.{Fits}
-use Rattle.id_firing.specs.Steps.{State}
-use Rattle.id_desk.specs.Replays.{ElementView}
+use Rattle.id_element.specs.Fits.{Fits}
+use Rattle.id_element.specs.Steps.{State}
+use Rattle.id_element.specs.Replays.{ElementView}
 use Rattle.id_core.specs.Machines.{IsElement}
-use Rattle.id_orders.specs.Accounts.{sent_of, taken_of}
+use Rattle.id_runs.specs.Accounts.{sent_of, taken_of}
 use Rattle.id_elements.specs.Doors.{sent_by, taken_by}
 use Rattle.id_elements.specs.Workers.{sent_in}
 

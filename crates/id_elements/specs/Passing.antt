@@ -4,10 +4,10 @@ use Rattle.std.specs.Prelude.{drop, Some}
 use Rattle.std.specs.List.{remove}
 use Rattle.id_tag.specs.declared.Message.{Message}
 use Rattle.id_tag.specs.Routes.{route_of}
-use Rattle.id_firing.specs.Fits.{Fits, IsFor}
-use Rattle.id_firing.specs.Steps.{outputs_of, state_after}
-use Rattle.id_firing.specs.declared.step.TakeError.{TakeError}
-use Rattle.id_desk.specs.Replays.{ElementView}
+use Rattle.id_element.specs.Fits.{Fits, IsFor}
+use Rattle.id_element.specs.Steps.{outputs_of, state_after}
+use Rattle.id_element.specs.declared.step.TakeError.{TakeError}
+use Rattle.id_element.specs.Replays.{ElementView}
 
 -- these messages are for the element
 abbrev pub AreFor : ElementView → List Message → Type 0

@@ -5,16 +5,16 @@ use Rattle.id_instr.specs.Graph.{Parts}
 use Rattle.id_tag.specs.declared.Message.{Message}
 use Rattle.id_tag.specs.Routes.{route_of}
 use Rattle.id_value.specs.declared.Constant.{Constant}
-use Rattle.id_list.specs.List.{Among}
-use Rattle.id_line.specs.declared.step.Step.TheVariants.{Stuck}
+use Rattle.id_value.specs.List.{Among}
+use Rattle.id_record.specs.declared.step.Step.TheVariants.{Stuck}
 use Rattle.id_core.specs.Events.{AllWent, EventView}
-use Rattle.id_merge.specs.Firsts.{AreMergedOf}
+use Rattle.id_observe.specs.Firsts.{AreMergedOf}
 use Rattle.id_core.specs.Machines.{MachineView, World}
 use Rattle.id_core.specs.Observed.{events_of}
 use Rattle.id_core.specs.Steps.{State, is_ended}
 use Rattle.id_runs.specs.Legal.{IsRunOf}
-use Rattle.id_orders.specs.Accounts.{IsAccounted}
-use Rattle.id_orders.specs.Orders.{IsLegalOrder}
+use Rattle.id_runs.specs.Accounts.{IsAccounted}
+use Rattle.id_runs.specs.Orders.{IsLegalOrder}
 use Rattle.id_elements.specs.declared.settings.RunError.{RunError}
 use Rattle.id_elements.specs.declared.settings.RunError.TheVariants.{BadElements, BadSteps, Memory}
 use Rattle.id_elements.specs.declared.settings.RunError.TheVariants as error

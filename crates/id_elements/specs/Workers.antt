@@ -6,9 +6,9 @@ use Rattle.crossbeam_queue.specs.SegTies.{SegId}
 use Rattle.id_instr.specs.Graph.{Parts}
 use Rattle.id_tag.specs.declared.Message.{Message}
 use Rattle.id_inbox.specs.Doors.{DoorView}
-use Rattle.id_firing.specs.Fits.{Fits}
-use Rattle.id_firing.specs.Steps.{State, fresh}
-use Rattle.id_desk.specs.Replays.{ElementView}
+use Rattle.id_element.specs.Fits.{Fits}
+use Rattle.id_element.specs.Steps.{State, fresh}
+use Rattle.id_element.specs.Replays.{ElementView}
 use Rattle.id_core.specs.Machines.{IsElement}
 use Rattle.id_elements.specs.Doors.{HaveParts, queues_of, sent_by, taken_by}
 use Rattle.id_elements.specs.Passing.{AreFor, IsRouted}

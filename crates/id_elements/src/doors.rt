@@ -3,11 +3,11 @@
 ghost use Rattle.std.specs.Prelude.{◌≡◌, ◌<◌, ◌≤◌, ◌+◌, [], All, IfOk, List, OnErr, OnOk, length};
 ghost use Rattle.std.specs.Prelude.{vec_len};
 ghost use Rattle.id_tag.specs.declared.Message.{Message};
-ghost use Rattle.id_firing.specs.Steps.{State};
+ghost use Rattle.id_element.specs.Steps.{State};
 ghost use Rattle.id_inbox.specs.Hands.{sending};
 ghost use Rattle.id_elements.specs.Doors.{AreUnused, HaveParts, IsCut, IsDrained, IsMerged, queues_of};
 ghost use Rattle.id_elements.specs.Gathered.{IsWhole};
-ghost use Rattle.id_orders.specs.Accounts.{IsAccounted};
+ghost use Rattle.id_runs.specs.Accounts.{IsAccounted};
 
 use id_flight::{Letter, Queue};
 use id_inbox::Door;

@@ -12,7 +12,7 @@ use crate::finish::{first_free, is_held_back};
 use crate::running::{moves_on, replay_all};
 use crate::settings::{MAX_STEPS, RunError, Settings};
 use id_core::{MAX_ELEMENTS, Machine, MachineError, Step, TakeError};
-use id_inputs::Inputs;
+use id_source::Inputs;
 use id_valid::Valid;
 use rand_core::{Rng, SeedableRng};
 use rand_pcg::Pcg64Mcg;
@@ -155,7 +155,7 @@ fn run_drawn<'a>(
     ensures moves { IfOk result (λ r. MovesOn r.world) }
     ensures refused { IfErr result (IsRefusedRun graph.now inputs.now.values settings.elements settings.steps) }
 {
-    id_orders::orders_are_runs();
+    id_runs::orders_are_runs();
     let mut machine = start_of(alloc, graph, inputs, settings.elements)?;
     let mut rng = Pcg64Mcg::seed_from_u64(seed);
     deliver_drawn(&mut machine, &mut rng, settings.elements, settings.steps)?;

@@ -4,7 +4,7 @@ ghost use Rattle.std.specs.Prelude.{◌≡◌, ◌≢◌, ◌<◌, ◌≤◌, �
 ghost use Rattle.std.specs.Prelude.{slice_get, IfOk, IsFalse, IsTrue, OnOk};
 ghost use Rattle.std.specs.Prelude.{Some};
 ghost use Rattle.id_core.specs.Steps.{is_ended};
-ghost use Rattle.id_line.specs.Events.{AllWent};
+ghost use Rattle.id_record.specs.Events.{AllWent};
 ghost use Rattle.id_tag.specs.Routes.{route_of};
 ghost use Rattle.id_elements.specs.Runs.{AreHeldBefore, GoesOn, HasCount, HasWent, IsFinished, IsFree, IsHeldBack};
 

@@ -2,7 +2,7 @@
 
 ghost use Rattle.std.specs.Prelude.{◌≡◌, ◌<◌, ◌≤◌, length, IsTrue};
 
-use id_gap::InFlight;
+use id_core::InFlight;
 use id_tag::Context;
 
 /// What a worker has at hand: the position at which its last message stood, its context, and whether the one right in

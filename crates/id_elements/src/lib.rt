@@ -5,7 +5,7 @@
 //! Errors: `RunError`.
 //! Read first: `specs/Runs.antt`, then `run`, `run_limited` and `run_in_order`; docs/THREADS.md.
 //! Not here: inboxes (`id_inbox`), the element step (`id_element`), the law that what is accounted for is a run
-//! (`id_orders`), what is printed of a run (`id_print`).
+//! (`id_runs`), what is printed of a run (`id_print`).
 #![tactic(auto)]
 
 mod doors;

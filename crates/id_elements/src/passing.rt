@@ -3,13 +3,13 @@
 ghost use Rattle.std.specs.Prelude.{◌≡◌, ◌<◌, ◌+◌, ℕ, length, IsTrue, OnErr, OnOk};
 ghost use Rattle.std.specs.List.{sum_by};
 ghost use Rattle.id_tag.specs.declared.Message.{Message};
-ghost use Rattle.id_firing.specs.Fits.{IsFor};
+ghost use Rattle.id_element.specs.Fits.{IsFor};
 ghost use Rattle.id_elements.specs.Passing.{AreFor, Gives, IsStayed, Passes};
 
+use id_core::InFlight;
 use id_element::{Element, Gate, Short, TakeError, fits};
 use id_flight::{Letter, Queue};
-use id_gap::InFlight;
-use id_line::Step;
+use id_record::Step;
 use id_tag::{Message, route};
 use std::alloc::AllocError;
 

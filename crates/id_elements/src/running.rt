@@ -5,10 +5,10 @@ ghost use Rattle.std.specs.Prelude.{◌↔◌, [], ℕ, All, IfOk, IfErr, List, 
 ghost use Rattle.std.specs.Prelude.{length, slice_index_or, vec_len, Err, IsTrue};
 ghost use Rattle.std.specs.List.{sum_by};
 ghost use Rattle.id_tag.specs.declared.Message.{Message};
-ghost use Rattle.id_firing.specs.Fits.{Fits};
+ghost use Rattle.id_element.specs.Fits.{Fits};
 ghost use Rattle.id_core.specs.Machines.{TakesInputs, start_messages};
-ghost use Rattle.id_orders.specs.Accounts.{IsAccounted};
-ghost use Rattle.id_orders.specs.Orders.{AreReplayed};
+ghost use Rattle.id_runs.specs.Accounts.{IsAccounted};
+ghost use Rattle.id_runs.specs.Orders.{AreReplayed};
 ghost use Rattle.id_elements.specs.Doors.{HaveParts, queues_of};
 ghost use Rattle.id_elements.specs.Gathered.{AreGathered, IsWhole, states_of};
 ghost use Rattle.id_elements.specs.Runs.{AllMove, AreBadSteps, HasCount, IsRefusedRun, IsRun, MovesOn};
@@ -22,11 +22,10 @@ use crate::finish::finish;
 use crate::settings::{MAX_STEPS, RunError, Settings};
 use crate::shared::Shared;
 use crate::worker::Worker;
-use id_core::{Element, Events, Gate, MAX_ELEMENTS, Machine, Step, start_flight};
+use id_core::{Element, Events, Gate, InFlight, MAX_ELEMENTS, Machine, Step, start_flight};
 use id_flight::Queue;
-use id_gap::InFlight;
 use id_inbox::Door;
-use id_inputs::Inputs;
+use id_source::Inputs;
 use id_valid::Valid;
 use std::alloc::{AllocError, Global};
 use std::sync::Wait;
@@ -242,7 +241,7 @@ fn machine_of<'a, R: Threads + Wait + Sync, G: Gate + Sync>(
     ensures accounted { IfOk result (λ m. IsAccounted (start_messages graph.now inputs.now.values) m.world.elements
         m.world.flight) }
 {
-    id_orders::orders_are_runs();
+    id_runs::orders_are_runs();
     let start = start_flight(alloc, graph, inputs)?;
     let Gathered { elements, left } = run_workers(rt, alloc, graph, &start, settings, limit, gate)?;
     Ok(Machine::resume(alloc, graph, elements, left))
@@ -309,7 +308,7 @@ fn run_allowed<'a, R: Threads + Wait + Sync, G: Gate + Sync>(
     ensures moves { IfOk result (λ r. MovesOn r.world) }
     ensures refused { IfErr result (IsRefusedRun graph.now inputs.now.values settings.elements settings.steps) }
 {
-    id_orders::orders_are_runs();
+    id_runs::orders_are_runs();
     let mut machine = machine_of(rt, alloc, graph, inputs, settings, limit, gate)?;
     finish(rt, &mut machine, settings.elements, settings.steps)?;
     replay_all(&machine);

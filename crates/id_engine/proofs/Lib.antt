@@ -1,1 +1,13 @@
+pub mod AlikeLemmas
+pub mod AnsweredLemmas
+pub mod HeldLemmas
+pub mod NamesLemmas
+pub mod PlacedLemmas
+pub mod RunLemmas
+pub mod ShownLemmas
+pub mod LeftLemmas
+pub mod TraceLemmas
+pub mod PrintedLemmas
+pub mod HeldBackLemmas
+pub mod StatusLemmas
 mod ServedLemmas

@@ -1,7 +1,7 @@
 -- Requests, and how a refused one is served (specs/Asked.antt, specs/Served.antt).
 use Rattle.std.proofs.Common.{◌≡◌, ◌≢◌, ℕ, List, [], Option, Result, refl, sym, ap, subst, ◌∙◌}
 use Rattle.id_sink.specs.Told.{Told}
-use Rattle.id_request.specs.declared.Request.{Request}
+use Rattle.id_args.specs.declared.request.Request.{Request}
 use Rattle.id_compile.specs.declared.error.EngineError.{EngineError}
 use Rattle.id_compile.specs.declared.error.EngineError.TheVariants.{Compile, MissingInput, UnknownInput, RepeatedInput}
 use Rattle.id_compile.specs.declared.error.EngineError.TheVariants.{BadInput, BadElements, BadSteps, BadRounds}
@@ -10,9 +10,9 @@ use Rattle.id_compile.specs.declared.refusal.Cause.{Cause}
 use Rattle.id_compile.specs.declared.refusal.Detail.{Detail}
 use Rattle.id_compile.specs.declared.refusal.Detail.TheVariants.{Nothing, Place, Kinds, Word}
 use Rattle.id_compile.specs.declared.refusal.Refusal.{Refusal}
-use Rattle.id_edge.specs.declared.source.SourceFault.{SourceFault}
-use Rattle.id_edge.specs.Reading.{IsUnread}
-use Rattle.id_runner.specs.Commands.{ShowsFront}
+use Rattle.id_sink.specs.declared.source.SourceFault.{SourceFault}
+use Rattle.id_sink.specs.Reading.{IsUnread}
+use Rattle.id_engine.specs.Commands.{ShowsFront}
 use Rattle.id_compile.specs.Refusals.{compiler_refusal, IsDetailInside, IsInsideOf, IsPrintedLine, IsToldRefusal, IsWord, Tells, plain, row_of, source_cause}
 use Rattle.id_engine.specs.Served.{command_of, words_of, IsRefusedRequest, IsRunFront, Serves, refused, Drives, unread}
 use Rattle.id_engine.specs.Served.Serves.{cut}

@@ -1,11 +1,11 @@
 -- What is printed of what a request asks for, before an error is told (specs/Served.antt).
 use Rattle.std.specs.Prelude.{◌≡◌, ◌≢◌, ℕ, List, Option, Result, Err, IfErr, IfOk}
 use Rattle.id_sink.specs.Told.{Told}
-use Rattle.id_request.specs.declared.Request.{Request}
-use Rattle.id_request.specs.declared.Request.TheVariants as asks
+use Rattle.id_args.specs.declared.request.Request.{Request}
+use Rattle.id_args.specs.declared.request.Request.TheVariants as asks
 use Rattle.id_compile.specs.declared.error.EngineError.{EngineError}
 use Rattle.id_compile.specs.declared.error.EngineError.TheVariants.{Write}
-use Rattle.id_runner.specs.Commands.{ShowsAll, ShowsFront}
+use Rattle.id_engine.specs.Commands.{ShowsAll, ShowsFront}
 use Rattle.id_compile.specs.Refusals.{IsInsideOf}
 use Rattle.id_engine.specs.Served.{command_of, IsRefusedRequest, IsRun, IsRunFront, IsTaken}
 

@@ -1,4 +1,12 @@
+-- What public clauses cite.
+pub mod Commands
+pub mod Runs
+pub mod Alike
+pub mod Stopped
+pub mod Status
 pub mod Served
 pub mod Settled
--- for use inside
+-- For use inside.
+pub mod Reports
 pub mod Asked
+pub mod Found

@@ -3,20 +3,20 @@ use Rattle.std.specs.Prelude.{◌≡◌, ◌≢◌, ℕ, List, [], map, Option, 
 use Rattle.std.specs.Prelude.{string_bytes}
 use Rattle.id_sink.specs.declared.sink.PrintError.{PrintError}
 use Rattle.id_sink.specs.Told.{Told, Prints}
-use Rattle.id_request.specs.declared.Request.{Request}
-use Rattle.id_request.specs.declared.Request.TheVariants as asks
-use Rattle.id_request.specs.declared.Unasked.{Unasked}
-use Rattle.id_request.specs.declared.Unasked.TheVariants.{Help, Refused, Memory}
+use Rattle.id_args.specs.declared.request.Request.{Request}
+use Rattle.id_args.specs.declared.request.Request.TheVariants as asks
+use Rattle.id_args.specs.declared.request.Unasked.{Unasked}
+use Rattle.id_args.specs.declared.request.Unasked.TheVariants.{Help, Refused, Memory}
 use Rattle.id_args.specs.Requests.{AskFor, words_read}
 use Rattle.id_compile.specs.declared.error.EngineError.{EngineError}
 use Rattle.id_compile.specs.declared.error.EngineError.TheVariants.{Write}
 use Rattle.id_compile.specs.declared.refusal.Cause.TheVariants as cause
-use Rattle.id_edge.specs.declared.source.SourceFault.{SourceFault}
-use Rattle.id_edge.specs.Reading.{IsToldText, IsUnread}
+use Rattle.id_sink.specs.declared.source.SourceFault.{SourceFault}
+use Rattle.id_sink.specs.Reading.{IsToldText, IsUnread}
 use Rattle.id_compile.specs.Programs.{HasProgram}
-use Rattle.id_runner.specs.Commands.{Command, Check, List_graph, Draw_graph, Facts, Run, ShowsAll}
-use Rattle.id_runner.specs.Commands.{ShowsFront}
-use Rattle.id_runner.specs.Runs.{Ran, RanFront}
+use Rattle.id_engine.specs.Commands.{Command, Check, List_graph, Draw_graph, Facts, Run, ShowsAll}
+use Rattle.id_engine.specs.Commands.{ShowsFront}
+use Rattle.id_engine.specs.Runs.{Ran, RanFront}
 use Rattle.id_compile.specs.Refusals.{IsRefusedText, IsRefusedRun, IsTakenRun, AreRefusedFacts, AreTakenFacts}
 use Rattle.id_compile.specs.Refusals.{IsToldRefusal, IsPrintedLine, plain, row_of, source_cause}
 
@@ -130,3 +130,9 @@ pub record ServesWords (words : List (List ℕ)) (told : List ℕ → Option (Re
   pub read : AskFor (words_read words) asked
   pub done : IfOk asked (λ r. Drives (told (file_of r)) r out out' err err' status)
   pub answered : IfErr asked (λ u. Answers out out' err err' u status)
+
+-- words that were had are served, and of words that could not be had it is answered why
+abbrev pub AnswersWords : Result (List (List ℕ)) Unasked → (List ℕ → Option (Result (List ℕ) SourceFault))
+    → Option Told → Option Told → Option Told → Option Told → ℕ → Type 0
+AnswersWords (Ok words) told out out' err err' status = ServesWords words told out out' err err' status
+AnswersWords (Err u) told out out' err err' status = Answers out out' err err' u status

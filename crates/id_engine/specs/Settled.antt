@@ -1,10 +1,13 @@
 -- What a stream comes to at the end (docs/PROMISES.md, "The edge").
-use Rattle.std.specs.Prelude.{◌≡◌, ◌≢◌, ℕ, [], Option, Result, Ok, Err}
+use Rattle.std.specs.Prelude.{◌≡◌, ◌≢◌, ℕ, List, [], Option, Result, Ok, Err}
 use Rattle.id_sink.specs.declared.sink.SinkFault.{SinkFault}
 use Rattle.id_sink.specs.Told.{Told}
-use Rattle.id_edge.specs.Writing.{DeviceView, IsSentOn}
+use Rattle.id_sink.specs.declared.source.SourceFault.{SourceFault}
+use Rattle.id_sink.specs.Writing.{DeviceView, IsSentOn, told_of}
+use Rattle.id_args.specs.declared.request.Unasked.{Unasked}
 use Rattle.id_compile.specs.declared.refusal.Cause.TheVariants as cause
 use Rattle.id_compile.specs.Refusals.{IsPrintedLine, plain, row_of}
+use Rattle.id_engine.specs.Served.{AnswersWords}
 
 -- what sending on came to tells the status: it stays, or it is that of a failed write, whose line is printed
 abbrev pub IsStatusAfter : Result (Unit {0}) SinkFault → Option Told → Option Told → ℕ → ℕ → Type 0
@@ -18,3 +21,17 @@ pub data Settles (old new : DeviceView) (err err' : Option Told) (status result 
       → Settles old new err err' status result
   sent : (answer : Result (Unit {0}) SinkFault) → status ≢ (row_of cause.Write).2 → IsSentOn old new answer
       → IsStatusAfter answer err err' status result → Settles old new err err' status result
+
+-- the words are answered, then standard output sends on what it holds back, and then standard error
+pub record AnswersSettled (words : Result (List (List ℕ)) Unasked)
+    (told : List ℕ → Option (Result (List ℕ) SourceFault)) (out out' err err' : DeviceView) (result : ℕ)
+    : Type 0 where
+  pub status : ℕ
+  pub out_told : DeviceView
+  pub err_told : DeviceView
+  pub err_settled : DeviceView
+  pub answered : AnswersWords words told (told_of out.outlook) (told_of out_told.outlook) (told_of err.outlook)
+      (told_of err_told.outlook) status
+  pub settled : Settles out_told out' (told_of err_told.outlook) (told_of err_settled.outlook) status result
+  pub sent : Result (Unit {0}) SinkFault
+  pub sent_on : IsSentOn err_settled err' sent

@@ -4,19 +4,23 @@ ghost use Rattle.std.specs.Prelude.{◌≡◌, ◌≢◌, ◌≤◌, length, map
 ghost use Rattle.id_pieces.specs.Schemas.{Schemas};
 ghost use Rattle.id_source.specs.Computed.{AreFacts};
 ghost use Rattle.id_source.specs.Sources.{AreInputs, source};
-ghost use Rattle.id_names.specs.Within.{FactsWithin};
+ghost use Rattle.id_print.specs.Within.{FactsWithin};
+ghost use Rattle.id_facts.specs.Listed.{facts_in};
+ghost use Rattle.id_sink.specs.Told.{Prints};
+ghost use Rattle.id_print.specs.Texts.{facts_text};
+ghost use Rattle.id_engine.specs.Found.{facts_found};
 ghost use Rattle.id_graph.specs.Dot.{dot_text};
-ghost use Rattle.id_runner.specs.Commands.{AreFactsOf, Check, Draw_graph, Facts, IsListingOf, IsPictureOf, List_graph};
-ghost use Rattle.id_runner.specs.Commands.{ShowsAll, ShowsFront};
+ghost use Rattle.id_engine.specs.Commands.{AreFactsOf, Check, Draw_graph, Facts, IsListingOf, IsPictureOf, List_graph};
+ghost use Rattle.id_engine.specs.Commands.{ShowsAll, ShowsFront};
 ghost use Rattle.id_compile.specs.Programs.{HasProgram, IsPlacedWithin, IsProgramOf};
 ghost use Rattle.id_compile.specs.Refusals.{AreRefusedFacts, AreTakenFacts, IsInsideOf, IsRefusedText};
-ghost use Rattle.id_runner.specs.Reports.{AreRefusedRounds};
+ghost use Rattle.id_engine.specs.Reports.{AreRefusedRounds};
 
-use id_compile::{Compiled, EngineError, accept, compile};
+use id_compile::{Compiled, EngineError, Prepared, accept, compile, prepare};
 use id_graph::{draw, list};
-use id_meaning::{Fact, RoundsError, rounds};
-use id_print::{Sink, put, write_facts};
-use id_runner::{Prepared, prepare};
+use id_meaning::RoundsError;
+use id_print::{PrintError, Sink, put, write_round};
+use id_round::{Round, find_round};
 use std::alloc::Global;
 
 /// Writes `ok` where the text is accepted, and answers the status, 0.
@@ -169,22 +173,37 @@ pub fn facts_text<W: Sink>(
     ensures refused { IfErr result (AreRefusedFacts text.now (map (λ w. w.now) inputs.now) round) }
     ensures inside { IfErr result (IsInsideOf text.now) }
 {
-    let facts = facts_of(alloc, text, inputs, round)?;
-    match write_facts(facts.as_slice(), text, out) {
+    let found = facts_of(alloc, text, inputs, round)?;
+    match print_found(found, text, out) {
         Ok(()) => Ok(0),
         Err(_) => Err(EngineError::Write),
     }
 }
 
+/// A text's program with its inputs, and the facts of a round of it.
+#[derive(Drop)]
+struct Found {
+    prepared: Prepared,
+    round: Round,
+}
+
+/// Writes the facts that were found, a line for each. Takes no memory.
+fn print_found<W: Sink>(found: Found, text: &str, out: &mut W) -> Result<(), PrintError>
+    requires within { FactsWithin (length text.now) (facts_found found) }
+    requires short { length text.now ≤ 1048576 }
+    ensures { Prints (W.told out.old) (W.told out.new) (facts_text text.now (facts_found found)) result }
+{
+    let Found { prepared, round } = found;
+    let done = write_round(round, prepared.compiled.checked(), text, out);
+    drop(prepared);
+    done
+}
+
 /// The facts of a round of the text on these input words.
-fn facts_of(
-    alloc: Global,
-    text: &str,
-    inputs: &[&str],
-    round: u32,
-) -> Result<Vec<Fact>, EngineError>
-    ensures facts { IfOk result (λ v. AreFactsOf text.now (map (λ w. w.now) inputs.now) round v.items) }
-    ensures within { IfOk result (λ v. FactsWithin (length text.now) v.items) }
+fn facts_of(alloc: Global, text: &str, inputs: &[&str], round: u32) -> Result<Found, EngineError>
+    ensures facts { IfOk result
+        (λ f. AreFactsOf text.now (map (λ w. w.now) inputs.now) round (facts_found f)) }
+    ensures within { IfOk result (λ f. FactsWithin (length text.now) (facts_found f)) }
     ensures short { OnOk result (length text.now ≤ 1048576) }
     ensures taken { OnOk result (AreTakenFacts text.now (map (λ w. w.now) inputs.now) round) }
     ensures refused { IfErr result (AreRefusedFacts text.now (map (λ w. w.now) inputs.now) round) }
@@ -197,34 +216,38 @@ fn facts_of(
     }
 }
 
-/// The facts of a round of a compiled program on its inputs. The program is let go.
-fn facts_once(alloc: Global, prepared: Prepared, round: u32) -> Result<Vec<Fact>, EngineError>
+/// The facts of a round of a compiled program on its inputs, with that program.
+fn facts_once(alloc: Global, prepared: Prepared, round: u32) -> Result<Found, EngineError>
     requires { AreInputs prepared.compiled.checked prepared.inputs.values }
     ensures facts { IfOk result
-        (λ v. AreFacts (source prepared.compiled.checked prepared.inputs.values) round v.items) }
-    ensures few { IfOk result (λ v. (round ≤ 10000) × (length v.items ≤ 1000000)) }
+        (λ f. AreFacts (source prepared.compiled.checked prepared.inputs.values) round (facts_found f)) }
+    ensures few { IfOk result (λ f. (round ≤ 10000) × (length (facts_found f) ≤ 1000000)) }
     ensures refused { IfErr result
         (AreRefusedRounds (source prepared.compiled.checked prepared.inputs.values) round) }
 {
-    let facts = facts_of_prepared(alloc, &prepared, round);
-    drop(prepared);
-    facts
+    match facts_of_prepared(alloc, &prepared, round) {
+        Ok(facts) => Ok(Found {
+            prepared,
+            round: facts,
+        }),
+        Err(error) => {
+            drop(prepared);
+            Err(error)
+        }
+    }
 }
 
 /// The facts of a round of a compiled program on its inputs.
-fn facts_of_prepared(
-    alloc: Global,
-    prepared: &Prepared,
-    round: u32,
-) -> Result<Vec<Fact>, EngineError>
+fn facts_of_prepared(alloc: Global, prepared: &Prepared, round: u32) -> Result<Round, EngineError>
     requires { AreInputs prepared.now.compiled.checked prepared.now.inputs.values }
-    ensures facts { IfOk result
-        (λ v. AreFacts (source prepared.now.compiled.checked prepared.now.inputs.values) round v.items) }
-    ensures few { IfOk result (λ v. (round ≤ 10000) × (length v.items ≤ 1000000)) }
+    ensures facts { IfOk result (λ r. AreFacts (source prepared.now.compiled.checked prepared.now.inputs.values) round
+        (facts_in prepared.now.compiled.checked r.paths r.rows.items)) }
+    ensures few { IfOk result (λ r. (round ≤ 10000)
+        × (length (facts_in prepared.now.compiled.checked r.paths r.rows.items) ≤ 1000000)) }
     ensures refused { IfErr result
         (AreRefusedRounds (source prepared.now.compiled.checked prepared.now.inputs.values) round) }
 {
-    match rounds(alloc, prepared.compiled.checked(), &prepared.inputs, round) {
+    match find_round(alloc, prepared.compiled.checked(), &prepared.inputs, round) {
         Ok(facts) => Ok(facts),
         Err(RoundsError::BadRounds) => Err(EngineError::BadRounds),
         Err(RoundsError::TooManyFacts) => Err(EngineError::TooManyFacts),

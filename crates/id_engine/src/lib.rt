@@ -1,28 +1,34 @@
-//! Words, or a request on a text, to printed bytes and a status.
+//! Words, or a request on a text, to printed bytes and a status; a program with its inputs, run on worker threads; and
+//! what the status of a run tells of its program.
 //!
-//! Keeps: standard output has what was asked for or nothing, standard error one refusal.
+//! Keeps: standard output has what was asked for or nothing, standard error one refusal. What is printed of a run is a
+//! report of one that has come to its end, or a front of it.
 //! Errors: `EngineError`.
-//! Read first: `specs/Served.antt`, then `serve`, `drive_asked` and `drive`; docs/PROMISES.md.
+//! Read first: `specs/Commands.antt`, `specs/Runs.antt`, then `engine`; `specs/Served.antt`, then `serve`,
+//! `drive_asked` and `drive`; `specs/Status.antt`, then `status_told`; docs/PROMISES.md.
 //! Not here: which words ask for what (`id_args`), the streams of the process (`idc`), what comes of a text and how a
-//! refusal is told (`id_compile`), its run (`id_runner`), and every step between, which have a crate each.
+//! refusal is told (`id_compile`), runs (`id_elements`), and every step between, which have a crate each.
 #![tactic(auto)]
 
 mod commands;
 mod memory;
 mod program;
+mod run;
+mod status;
 mod stream;
 mod words;
 
 pub use commands::{check_text, draw_text, facts_text, graph_text};
+pub use id_args::{Request, Unasked};
 pub use id_compile::{
     Cause, CompileError, Compiled, Detail, EngineError, Refusal, compile, put_refusal,
 };
-pub use id_edge::{
+pub use id_elements::{MAX_STEPS, Settings};
+pub use id_sink::{
     Device, Disk, Folder, ReadFault, Source, SourceFault, Stream, SystemFolder, read_text,
     write_some,
 };
-pub use id_request::{Request, Unasked};
-pub use id_runner::{MAX_STEPS, Settings, engine, printed_alike};
 pub use program::{drive_asked, serve};
+pub use run::{engine, printed_alike};
 pub use stream::settle;
-pub use words::drive;
+pub use words::{drive, drive_settled};

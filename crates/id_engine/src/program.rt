@@ -6,11 +6,12 @@ ghost use Rattle.id_compile.specs.Refusals.{IsInsideOf, IsPrintedLine, IsToldRef
 ghost use Rattle.id_engine.specs.Served.{Answers, Drives, HasHelped, Serves, file_of, words_of};
 
 use crate::commands::{check_text, draw_text, facts_text, graph_text};
+use crate::run::engine;
+use id_args::{Request, Unasked};
 use id_compile::{Cause, EngineError, Source, of_engine_error, of_source_fault, plain, refuse};
 use id_core::{Gate, Open};
+use id_elements::Settings;
 use id_print::{Sink, put};
-use id_request::{Request, Unasked};
-use id_runner::{Settings, engine};
 use std::alloc::Global;
 use std::sync::Wait;
 use std::thread::Threads;

@@ -4,8 +4,8 @@ ghost use Rattle.std.specs.Io.KnownBytes.{Keeps};
 ghost use Rattle.id_engine.specs.Settled.{Settles};
 
 use id_compile::{Cause, plain, refuse};
-use id_edge::{Device, Stream};
 use id_print::Sink;
+use id_sink::{Device, Stream};
 
 /// Sends on what the device of a stream still holds back, and answers the status of the whole: this one, or, where that
 /// fails, the one of a failed write, whose line it prints. After a failed write nothing more is sent on.

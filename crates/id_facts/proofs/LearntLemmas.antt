@@ -9,8 +9,8 @@ use Rattle.std.proofs.lemmas.Bool.{and_from, cases_lt, eq-eqb, false≢true, lt-
 use Rattle.std.proofs.lemmas.Bool.Decides.{Decides-int_eq}
 use Rattle.std.proofs.lemmas.List.{append-nil, append_assoc, length-append}
 use Rattle.std.proofs.Math.Seq.{get_or-append_seam}
-use Rattle.id_list.specs.List.{Among}
-use Rattle.id_list.proofs.AmongLemmas.{Among-either, Among-left, Among-right}
+use Rattle.id_value.specs.List.{Among}
+use Rattle.id_value.proofs.AmongLemmas.{Among-either, Among-left, Among-right}
 use Rattle.id_facts.specs.declared.facts.RowFact.{RowFact}
 use Rattle.id_facts.specs.declared.facts.RowFact.TheVariants.{On, Has, Shape, Put, Ask}
 use Rattle.id_facts.specs.declared.facts.RowValue.{RowValue}
@@ -18,8 +18,8 @@ use Rattle.id_facts.specs.declared.facts.RowValue.TheVariants.{Int, Bool, Name}
 use Rattle.id_facts.specs.declared.facts.Trail.{Trail}
 use Rattle.id_facts.specs.declared.facts.Trail.TheVariants.{Outermost, Below}
 use Rattle.id_facts.specs.declared.facts.Sort.TheVariants.{Shapes, Puts, Asks}
-use Rattle.id_links.specs.declared.edges.Edges.{Edges}
-use Rattle.id_links.specs.Links.{Gains, Leads, width}
+use Rattle.id_source.specs.declared.edges.Edges.{Edges}
+use Rattle.id_source.specs.Links.{Gains, Leads, width}
 use Rattle.id_facts.specs.RowFacts.{AreBefore, AreHeld, all_learnt, chain_at, chain_by, fact_at, is_among, is_inside}
 use Rattle.id_facts.specs.RowFacts.{is_path_inside, is_value_inside, learnt, path_of}
 use Rattle.id_facts.specs.RowFacts.{index_mark, mark_of, member_chain, same_fact, same_trail, same_value, value_mark}

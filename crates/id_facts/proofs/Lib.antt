@@ -3,3 +3,10 @@ pub mod OneLemmas
 pub mod SameLemmas
 pub mod MembersLemmas
 pub mod LearntLemmas
+pub mod ToldLemmas
+pub mod ChainsLemmas
+pub mod LookupLemmas
+pub mod QueuesLemmas
+pub mod WaitsLemmas
+pub mod OrdersLemmas
+pub mod PathsLemmas

@@ -8,10 +8,10 @@ use Rattle.id_facts.specs.declared.facts.RowFact.{RowFact}
 use Rattle.id_facts.specs.declared.facts.RowFact.TheVariants.{On, Has, Shape, Put, Ask}
 use Rattle.id_facts.specs.declared.facts.RowValue.{RowValue}
 use Rattle.id_facts.specs.declared.facts.RowValue.TheVariants.{Int, Bool, Name}
-use Rattle.id_links.specs.declared.edges.Edges.{Edges}
+use Rattle.id_source.specs.declared.edges.Edges.{Edges}
 use Rattle.id_facts.specs.RowFacts.{AreHeld, fact_at, is_among, member_chain, same_fact, same_trail}
 use Rattle.id_facts.specs.RowFacts as facts
-use Rattle.id_links.specs.Links.{Leads, targets}
+use Rattle.id_source.specs.Links.{Leads, targets}
 use Rattle.id_facts.proofs.SameLemmas.{in-at, is_in, same-among}
 use Rattle.id_facts.proofs.FactsLemmas.{index-of}
 use Rattle.id_facts.proofs.OneLemmas.{on-true, trail-true}

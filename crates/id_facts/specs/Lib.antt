@@ -1,3 +1,7 @@
 -- What public clauses cite.
 pub mod RowFacts
 pub mod Firsts
+pub mod Cells
+pub mod Queues
+pub mod Waits
+pub mod Listed

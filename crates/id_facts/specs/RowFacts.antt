@@ -12,10 +12,10 @@ use Rattle.id_facts.specs.declared.facts.RowValue.{RowValue}
 use Rattle.id_facts.specs.declared.facts.RowValue.TheVariants.{Int, Bool, Name}
 use Rattle.id_facts.specs.declared.facts.Sort.{Sort}
 use Rattle.id_facts.specs.declared.facts.Sort.TheVariants.{Shapes, Named, Puts, Asks}
-use Rattle.id_links.specs.declared.edges.Edges.{Edges}
+use Rattle.id_source.specs.declared.edges.Edges.{Edges}
 use Rattle.id_facts.specs.declared.facts.Trail.{Trail}
 use Rattle.id_facts.specs.declared.facts.Trail.TheVariants.{Outermost, Below}
-use Rattle.id_links.specs.Links.{Leads, width}
+use Rattle.id_source.specs.Links.{Leads, width}
 
 -- ---- facts
 

@@ -6,7 +6,7 @@ ghost use Rattle.id_facts.specs.RowFacts.{chain_at, chain_by, chain_of, fact_at,
 ghost use Rattle.id_facts.specs.RowFacts.{is_path_inside, is_value_inside, mark_of, member_chain, path_of, row_of};
 ghost use Rattle.id_facts.specs.RowFacts.{same_fact, same_trail, same_value, sort_mark, value_mark};
 
-use id_links::Edges;
+use id_source::Edges;
 use std::alloc::{AllocError, Global};
 use std::marker::Model;
 

@@ -3,7 +3,7 @@
 ghost use Rattle.std.specs.Prelude.{◌≡◌, [], ◌∷◌, ◌++◌, OnOk};
 ghost use Rattle.id_facts.specs.declared.facts.RowFact.TheVariants.{Has};
 ghost use Rattle.id_facts.specs.Firsts.{haves, ons, row_value};
-ghost use Rattle.id_links.specs.Links.{some_row};
+ghost use Rattle.id_source.specs.Links.{some_row};
 
 use crate::facts::{RowFact, RowValue, Trail};
 use id_value::Constant;

@@ -4,7 +4,7 @@
 //! Errors: want of memory alone, and then the messages are the same.
 //! Read first: `Queue`, then `specs/Parcels.antt`.
 //! Not here: the element that a message goes to (`id_tag`), the order in which messages are taken out
-//! (`id_gap`, `id_inbox`).
+//! (`id_core`, `id_inbox`).
 #![tactic(auto)]
 
 mod demand;

@@ -4,7 +4,7 @@
 //! Errors: `TreeError`, the refusals 5 and 6 or want of memory.
 //! Read first: docs/LANGUAGE.md ("Grammar", "Nesting", "Place"), `specs/Tree.antt`, `specs/Grammar.antt`,
 //! then `Expr`.
-//! Not here: tokens (`id_text`), operators (`id_value`), the productions' readers (`id_parser`).
+//! Not here: tokens (`id_text`), operators (`id_value`), the productions' readers (`id_tree`).
 #![tactic(auto)]
 
 /// What is found, unless it is an error, which is the answer then.

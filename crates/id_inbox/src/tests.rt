@@ -2,7 +2,7 @@
 ghost use Rattle.std.specs.Prelude.{◌≡◌, ◌<◌, ℕ, All, IfOk, OnOk, length, slice_index_or, vec_len};
 ghost use Rattle.id_inbox.specs.Doors.{DoorView};
 
-use crate::Door;
+use crate::door::Door;
 use id_flight::Letter;
 use id_instr::Port;
 use id_tag::{Cell, Context, Message, Payload, Sender, Structure, Tag, Value};

@@ -7,7 +7,7 @@ ghost use Rattle.id_instr.specs.Graph.{parts, kind_at, ArcsExist, IsFirstBad, Is
 
 use crate::dests::Dest;
 use crate::instr::{Block, Instr, PortKind};
-use id_list::Sequence;
+use id_value::Sequence;
 use std::fmt;
 use std::marker::Model;
 use thiserror::Error;

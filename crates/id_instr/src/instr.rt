@@ -6,8 +6,7 @@ ghost use Rattle.id_instr.specs.Ports.{two_sides, unary_kind};
 ghost use Rattle.id_instr.specs.Graph.{false_arcs};
 
 use crate::dests::{Dest, Dests, Others, Port};
-use id_list::Sequence;
-use id_value::{Arithmetic, Comparison, Constant, Truth, UnaryOp};
+use id_value::{Arithmetic, Comparison, Constant, Sequence, Truth, UnaryOp};
 
 /// The kind of what a port takes.
 #[derive(Clone, Copy, Debug, PartialEq, Eq)]

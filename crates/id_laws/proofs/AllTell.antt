@@ -1,8 +1,8 @@
 -- Every message of a run of a schemas' graph tells what its port wants, and so does every firing.
 use Rattle.std.proofs.Common.{◌≡◌, ◌⊎◌, inl, inr, length, arith, ℕ, ◌+◌, ◌<◌, Bool as Truth, true, Some, List, slice_get, refl, sym, ◌∙◌, ap, subst}
 use Rattle.std.specs.Prelude.{option_map}
-use Rattle.id_list.specs.List.{Among}
-use Rattle.id_list.proofs.AmongLemmas.{Among-from_at}
+use Rattle.id_value.specs.List.{Among}
+use Rattle.id_value.proofs.AmongLemmas.{Among-from_at}
 use Rattle.id_table.specs.declared.row.Node.TheVariants.{Head, Param, Enter, Call, Program}
 use Rattle.id_table.specs.Rows.{at, top}
 use Rattle.id_table.specs.Tables.{HasPart, is_expression}

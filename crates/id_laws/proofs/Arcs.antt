@@ -11,8 +11,8 @@ use Rattle.id_value.specs.declared.Kind.{Kind}
 use Rattle.id_value.specs.declared.Constant.{Constant}
 use Rattle.id_value.specs.declared.UnaryOp.{UnaryOp}
 use Rattle.id_value.specs.declared.BinaryOp.{BinaryOp}
-use Rattle.id_list.specs.List.{Among}
-use Rattle.id_list.proofs.AmongLemmas.{Among-either}
+use Rattle.id_value.specs.List.{Among}
+use Rattle.id_value.proofs.AmongLemmas.{Among-either}
 use Rattle.id_table.specs.declared.row.Region.{Region}
 use Rattle.id_table.specs.declared.row.Node.{Node}
 use Rattle.id_table.specs.declared.row.Node.TheVariants.{Head, Param, Literal, Name, Unary, Binary, Split, If, Enter, Arg, Call, Block}

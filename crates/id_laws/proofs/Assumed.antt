@@ -1,7 +1,7 @@
 -- What is known of the rows of a checked program.
 use Rattle.std.proofs.Common.{◌≡◌, ℕ, suc, ◌+◌, ◌<◌, Bool, true, List, ◌++◌, length, slice_get, Some}
 use Rattle.std.specs.Prelude.{◌||◌}
-use Rattle.id_list.specs.List.{Among}
+use Rattle.id_value.specs.List.{Among}
 use Rattle.id_value.specs.declared.Kind.{Kind}
 use Rattle.id_value.specs.declared.Kind.TheVariants as kinds
 use Rattle.id_value.specs.Kinds.{array_kind as kind_made}
@@ -25,7 +25,7 @@ use Rattle.id_table.specs.Loops.{depth}
 use Rattle.id_pieces.specs.Rows.{block, called, entering, first_binder, node, param_of}
 use Rattle.id_laws.specs.Activations.{main_head, Tests}
 use Rattle.id_laws.specs.Topics.{Addresses}
-use Rattle.id_arcs.proofs.NamesSeen.{Sees}
+use Rattle.id_build.proofs.NamesSeen.{Sees}
 
 -- what is handed into a region has its value from a label: a binder, or what a loop carries on for its index
 abbrev pub is_handed : Node → Bool

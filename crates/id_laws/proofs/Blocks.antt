@@ -4,9 +4,9 @@ use Rattle.std.proofs.Common.{subst, arith, length}
 use Rattle.std.specs.Prelude.{filter}
 use Rattle.std.proofs.lemmas.Bool.{cases_eq, eqb-true, eq-eqb}
 use Rattle.id_value.specs.declared.Kind.{Kind}
-use Rattle.id_list.specs.List.{Among, AllDiffer}
-use Rattle.id_list.proofs.AmongLemmas.{Among-left, Among-right, Among-either}
-use Rattle.id_list.proofs.DifferLemmas.{AllDiffer-append}
+use Rattle.id_value.specs.List.{Among, AllDiffer}
+use Rattle.id_value.proofs.AmongLemmas.{Among-left, Among-right, Among-either}
+use Rattle.id_value.proofs.DifferLemmas.{AllDiffer-append}
 use Rattle.id_table.specs.declared.row.Row.{Row}
 use Rattle.id_table.specs.declared.row.Node.{Node}
 use Rattle.id_table.specs.declared.row.Node.TheVariants.{Head, Param, LoopHead}

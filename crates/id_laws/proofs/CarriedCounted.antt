@@ -1,7 +1,7 @@
 -- In a quiet run what a loop with an index runs is carried: its bounds, its index, and whether it goes on.
 use Rattle.std.proofs.Common.{◌≡◌, inl, inr, ℕ, suc, ◌+◌, ◌-◌, ◌<◌, arith, Bool as Truth, true, cond, List, length, refl, sym}
 use Rattle.std.proofs.Common.{◌∙◌, ap, subst}
-use Rattle.id_list.specs.List.{Among}
+use Rattle.id_value.specs.List.{Among}
 use Rattle.id_table.specs.declared.row.Node.TheVariants.{Loop}
 use Rattle.id_table.specs.declared.row.Node.TheVariants.{Bounds, Count, Index}
 use Rattle.id_table.specs.Loops.{bounds_row, index_row}
@@ -54,7 +54,7 @@ use Rattle.id_laws.proofs.Iterations.{turned_again as live_again}
 use Rattle.id_laws.proofs.Loops.{LoopOf, start_region}
 use Rattle.id_laws.proofs.Loops.{IsCounted, bounds_mean, bounds_node, bounds_region, counted_of, counts_stands, counts_within}
 use Rattle.id_laws.proofs.Counted.{flag_origin, index_block}
-use Rattle.id_arcs.proofs.RegionsLemmas.{index_loop, index_region}
+use Rattle.id_build.proofs.RegionsLemmas.{index_loop, index_region}
 use Rattle.id_laws.proofs.Counting.{bound_home, bound_inside, flag_first, flag_next, index_first, index_next}
 use Rattle.id_laws.proofs.LoopFacts.{loop_is}
 use Rattle.id_laws.proofs.Opened.{loop_path, one_seats}

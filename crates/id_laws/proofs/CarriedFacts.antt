@@ -2,7 +2,7 @@
 use Rattle.std.proofs.Common.{◌≡◌, inl, inr, ℕ, zero, suc, ◌<◌, Bool as Truth, true, false, cond, ℤ, Some, List, [], ◌∷◌, length, refl, sym, ◌∙◌, ap, subst, unwrap_or}
 use Rattle.std.specs.Prelude.{◌&&◌}
 use Rattle.std.specs.Bool.{beq}
-use Rattle.id_list.proofs.AmongLemmas.{Among-from_at}
+use Rattle.id_value.proofs.AmongLemmas.{Among-from_at}
 use Rattle.id_table.specs.declared.row.Node.TheVariants.{Param, Literal, Name, Unary, Binary, Binding, Program, Array, Fetch, Address, Store}
 use Rattle.id_table.specs.Rows.{top}
 use Rattle.id_table.specs.Tables.{HasNear, HasOperand, is_binder, is_expression, is_thing}
@@ -15,7 +15,7 @@ use Rattle.id_instr.specs.Held.{held_kind}
 use Rattle.id_scope.specs.Kinds.{kind_within}
 use Rattle.id_value.specs.Bounds.{are_good, is_inside}
 use Rattle.id_value.specs.declared.FaultKind.TheVariants.{BadBounds, OutOfBounds}
-use Rattle.id_slot.specs.declared.WriteAnswer.TheVariants.{Second}
+use Rattle.id_bank.specs.declared.cell.WriteAnswer.TheVariants.{Second}
 use Rattle.id_tag.specs.declared.Cell.{Cell}
 use Rattle.id_tag.specs.declared.Structure.{Structure}
 use Rattle.id_tag.specs.declared.Tag.{Tag}
@@ -66,7 +66,7 @@ use Rattle.id_laws.proofs.Blocks.{a_param}
 use Rattle.id_pieces.proofs.EndsLemmas as ends
 use Rattle.id_laws.proofs.HasKinds.{port_taking, binder_thing, operand_of, Has_kind}
 use Rattle.id_laws.proofs.Firings.{IsSettled, alone_fired, both_fired, came, spoken, start_handled, alone_formed, sent_handled}
-use Rattle.id_arcs.proofs.NamesSeen.{Sees}
+use Rattle.id_build.proofs.NamesSeen.{Sees}
 use Rattle.id_laws.proofs.ValidPorts.{element_nested}
 use Rattle.id_laws.proofs.Triggers.{Home, home, live_turned, one_activation}
 use Rattle.id_laws.proofs.Speakers.{own_origin, name_origin, block_origin, expression_speaks, binder_speaks, fed_as, fetch_origin}

@@ -1,8 +1,8 @@
 -- In a quiet run what conditionals, calls and loops run in regions of their own is carried, and so is what comes back.
 use Rattle.std.proofs.Common.{◌≡◌, inl, inr, ℕ, suc, ◌+◌, ◌-◌, ◌<◌, arith, get_or, Bool as Truth, true, false, cond, Some, List, [], ◌∷◌, length, refl, sym}
 use Rattle.std.proofs.Common.{◌∙◌, ap, subst, unwrap_or, slice_get}
-use Rattle.id_list.specs.List.{Among}
-use Rattle.id_list.proofs.AmongLemmas.{Among-from_at}
+use Rattle.id_value.specs.List.{Among}
+use Rattle.id_value.proofs.AmongLemmas.{Among-from_at}
 use Rattle.id_table.specs.declared.row.Node.TheVariants.{Param, Split, If, Head, Enter, Arg, Call, Def, Start, LoopHead, Variable, Next, Reset, Loop, Program}
 use Rattle.id_table.specs.declared.row.Region.{Region}
 use Rattle.id_table.specs.Rows.{arm_at, top}
@@ -55,7 +55,7 @@ use Rattle.id_laws.proofs.Conditionals.{arm_live, arm_of, arms_test, Conditional
 use Rattle.id_pieces.proofs.EndsLemmas as ends
 use Rattle.id_laws.proofs.HasKinds.{port_taking, binder_thing, expression_thing, operand_of}
 use Rattle.id_laws.proofs.Firings.{IsSettled, alone_fired, both_fired, came, spoken, alone_formed, both_formed, sent_handled}
-use Rattle.id_arcs.proofs.NamesSeen.{Sees, listed}
+use Rattle.id_build.proofs.NamesSeen.{Sees, listed}
 use Rattle.id_laws.proofs.Triggers.{Home, home, live_turned, one_activation, second_came}
 use Rattle.id_laws.proofs.Speakers.{own_origin, binder_speaks, fed_as}
 use Rattle.id_laws.proofs.Seats.{below_is, length_snoc, entered_path}

@@ -1,6 +1,6 @@
 -- In a quiet run what stands in a live region is carried, and so is what it has spoken.
 use Rattle.std.proofs.Common.{◌≡◌, ℕ, ◌<◌, true, false, List, length, refl, sym, ◌∙◌, ap, subst}
-use Rattle.id_list.specs.List.{Among}
+use Rattle.id_value.specs.List.{Among}
 use Rattle.id_table.specs.declared.row.Node.{Node}
 use Rattle.id_table.specs.Tables.{HasNear, HasOperand, is_binder, is_expression, is_index, is_next, is_thing}
 use Rattle.id_check.specs.declared.checked.Checked.{Checked}

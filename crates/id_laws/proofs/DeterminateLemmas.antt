@@ -6,10 +6,10 @@ use Rattle.std.proofs.lemmas.List.Sorted.{IsPermutation-cons, IsPermutation-refl
 use Rattle.std.proofs.lemmas.Option.{slice_get_within, get_or_from_slice_get}
 use Rattle.id_core.specs.Machines.{IsQuiet}
 use Rattle.id_core.specs.Observed as shown
-use Rattle.id_list.specs.List.{AllDiffer, Among}
-use Rattle.id_list.proofs.AmongLemmas.{Among-from_at, at-from_Among}
-use Rattle.id_list.proofs.DifferLemmas.{AllDiffer-from_map}
-use Rattle.id_list.proofs.PlacesLemmas.{Among-from_remove, taken-or-left}
+use Rattle.id_value.specs.List.{AllDiffer, Among}
+use Rattle.id_value.proofs.AmongLemmas.{Among-from_at, at-from_Among}
+use Rattle.id_value.proofs.DifferLemmas.{AllDiffer-from_map}
+use Rattle.id_value.proofs.PlacesLemmas.{Among-from_remove, taken-or-left}
 use Rattle.id_source.specs.declared.Ask.{Ask}
 use Rattle.id_source.specs.declared.NameValue.{NameValue}
 use Rattle.id_source.specs.declared.Put.{Put}

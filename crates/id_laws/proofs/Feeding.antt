@@ -7,13 +7,13 @@ use Rattle.id_table.specs.declared.row.Node.TheVariants.{Head, Literal, Unary, B
 use Rattle.id_table.specs.declared.row.Node.TheVariants.{Start, LoopHead, Entries, Switches, Turn, Next, Reset}
 use Rattle.id_table.specs.declared.row.Node.TheVariants.{Array, Fetch, Address, Store, Bounds, Count}
 use Rattle.id_table.specs.Loops.{bounds_row, index_row, upper_at, upper_of}
-use Rattle.id_list.specs.List.{Among}
+use Rattle.id_value.specs.List.{Among}
 use Rattle.id_tag.specs.declared.Value.TheVariants as value
 use Rattle.id_source.specs.declared.Path.{Path}
 use Rattle.id_source.specs.declared.SourceValue.{SourceValue}
 use Rattle.id_source.specs.declared.SourceValue.TheVariants as source
 use Rattle.id_scope.specs.Scopes.{loops_between}
-use Rattle.id_arcs.proofs.NamesSeen.{Sees}
+use Rattle.id_build.proofs.NamesSeen.{Sees}
 use Rattle.id_table.specs.Rows.{arm_at, top}
 use Rattle.id_table.specs.Tables.{HasNear, HasPart, HasOperand, begins_block, is_binder, is_expression, is_top, is_within}
 use Rattle.id_check.specs.declared.checked.Checked.{Checked}
@@ -45,7 +45,7 @@ use Rattle.id_laws.proofs.Loops.{loop_of_head, loop_of_row, loop_of_start, next_
 use Rattle.id_laws.proofs.Loops.{bounds_region, carried_loop, carried_stands, count_at, count_loop, count_region, counted_of, counts_stands, own_switches}
 use Rattle.id_laws.proofs.Loops.{switches_node, switches_region, switches_same, test_row, turn_at, turn_is, turn_region_at, within_counted}
 use Rattle.id_pieces.proofs.LoopsLemmas.{next_is}
-use Rattle.id_arcs.proofs.NamesSeen.{listed}
+use Rattle.id_build.proofs.NamesSeen.{listed}
 use Rattle.id_laws.proofs.Arcs.{Arc, to_back, to_literal, to_unary, to_left, to_right, to_test, to_trigger, to_import_test, to_import, to_then, to_else}
 use Rattle.id_laws.proofs.Arcs.{to_enter, to_context, to_argument, to_label, to_loop_context, to_entering, to_head, to_loop_back, fed}
 use Rattle.id_laws.proofs.Arcs.{to_variable, to_entry, to_turn, to_turn_name, to_next, to_reset}

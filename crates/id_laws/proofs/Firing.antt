@@ -55,7 +55,7 @@ use Rattle.id_laws.proofs.Loops.{carried_loop, count_loop, counted_of as counted
 use Rattle.id_laws.proofs.Loops.{switches_node, switches_region, switches_within, turn_region_at}
 use Rattle.id_laws.proofs.Opened.{InLoop, live_loop, loop_path, next_path}
 use Rattle.id_laws.proofs.Regions.{no_depth, region_of, same_depth}
-use Rattle.id_arcs.proofs.NamesSeen.{listed}
+use Rattle.id_build.proofs.NamesSeen.{listed}
 use Rattle.id_scope.specs.Scopes.{loops_between}
 use Rattle.id_laws.proofs.Sources.{tests_other}
 use Rattle.id_laws.proofs.Arcs.{Does, starts, returns, enters, constant, unary, binary, turns_on, hands, joins, opens, passes, gets, names, answers}

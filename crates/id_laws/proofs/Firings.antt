@@ -1,6 +1,6 @@
 -- In a quiet run each part fires whose tokens came, and what it says comes to all that it feeds.
 use Rattle.std.proofs.Common.{◌≡◌, inl, inr, ℕ, ◌<◌, Bool as Truth, true, false, List, [], length, refl, sym, ◌∙◌, ap, subst}
-use Rattle.id_list.specs.List.{Among}
+use Rattle.id_value.specs.List.{Among}
 use Rattle.id_check.specs.Programs.{rows}
 use Rattle.id_instr.specs.declared.dests.Port.{Port}
 use Rattle.id_instr.specs.declared.dests.Port.TheVariants.{Zero, One}

@@ -17,7 +17,7 @@ use Rattle.id_value.specs.declared.Outcome.TheVariants.{Gives, Lacks}
 use Rattle.id_value.specs.Kinds.{array_kind, element_kind}
 use Rattle.id_value.specs.Results.{result_of_unary, result_of_binary}
 use Rattle.id_value.proofs.ResultsLemmas.{IsNumberOrFault, whole-number, calculated-number}
-use Rattle.id_list.proofs.AmongLemmas.{Among-from_at}
+use Rattle.id_value.proofs.AmongLemmas.{Among-from_at}
 use Rattle.id_table.specs.declared.row.Node.{Node}
 use Rattle.id_table.specs.declared.row.Node.TheVariants.{Head, Param, Split, If, Binding, Program, Enter, Arg, Def, Fetch, Address}
 use Rattle.id_table.specs.declared.row.Node.TheVariants.{Start, LoopHead, Variable, Entries, Switches, Turn, NextUse, Next, Body, Reset}

@@ -22,18 +22,18 @@ use Rattle.id_pieces.specs.Rows.{block, called, entering, first_binder, node, ou
 use Rattle.id_pieces.specs.Rows as build
 use Rattle.id_value.specs.declared.Kind.TheVariants as kinds
 use Rattle.id_value.specs.Kinds.{array_kind}
-use Rattle.id_list.specs.List.{Among}
+use Rattle.id_value.specs.List.{Among}
 use Rattle.id_desugar.specs.Regions.{imports_of, nexts_of}
 use Rattle.id_laws.specs.Activations.{main_head, Tests, of_arms, of_turns}
 use Rattle.id_laws.specs.Topics.{Addresses, of_fetch, of_store}
 use Rattle.id_laws.proofs.Assumed.{IsKnown, is_handed}
 use Rattle.id_pieces.proofs.EndsLemmas.{call_is}
-use Rattle.id_arcs.proofs.ImportsLemmas.{name_seen, split_seen, switches_seen, first_seen, loop_seen, turn_seen}
+use Rattle.id_build.proofs.ImportsLemmas.{name_seen, split_seen, switches_seen, first_seen, loop_seen, turn_seen}
 use Rattle.id_pieces.proofs.LoopsLemmas.{start_head}
 use Rattle.id_laws.proofs.LoopRows.{entering_binds, handed_at, import_binds, name_binds}
-use Rattle.id_list.proofs.AmongLemmas.{Among-either, Among-from_map}
+use Rattle.id_value.proofs.AmongLemmas.{Among-either, Among-from_map}
 use Rattle.id_table.proofs.DepthLemmas.{depth-head}
-use Rattle.id_arcs.proofs.NamesSeen.{Sees}
+use Rattle.id_build.proofs.NamesSeen.{Sees}
 
 some_is : {A : Type 0} {x y : A} → Some x ≡ Some y → x ≡ y
 some_is h = cc

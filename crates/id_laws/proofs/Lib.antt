@@ -83,3 +83,15 @@ pub mod InputsFit
 pub mod LabelsOnce
 pub mod EveryRun
 pub mod DeterminateLemmas
+pub mod DifferCounts
+pub mod Told
+pub mod Paid
+pub mod Keys
+pub mod Bounds
+pub mod Ending
+pub mod BlockRows
+pub mod BlockKeys
+pub mod ByBlocks
+pub mod EndedLemmas
+pub mod StampsLemmas
+pub mod RestLemmas

@@ -1,8 +1,8 @@
 -- What the rows of a loop are, by number: its variables and their `next` statements, its entries, and what feeds them.
 use Rattle.std.proofs.Common.{◌≡◌, inl, inr, ℕ, zero, suc, ◌+◌, ◌-◌, ◌<◌, ◌≤◌, Bool as Truth, true, false, cond, Some, None, List, [], ◌∷◌, ◌++◌, map, length}
 use Rattle.std.proofs.Common.{slice_get, get_or, refl, sym, ◌∙◌, ap, subst, arith}
-use Rattle.id_list.specs.List.{Among}
-use Rattle.id_list.proofs.AmongLemmas.{Among-right}
+use Rattle.id_value.specs.List.{Among}
+use Rattle.id_value.proofs.AmongLemmas.{Among-right}
 use Rattle.id_table.specs.declared.row.Region.{Region}
 use Rattle.id_value.specs.declared.Kind.{Kind}
 use Rattle.id_table.specs.declared.row.Node.TheVariants.{Start, LoopHead, Variable, Entries, Switches, Turn, Next, Loop, Carried, Span}
@@ -27,7 +27,7 @@ use Rattle.id_pieces.specs.Rows.{node, output, port_at, trigger_of, turn_feeds, 
 use Rattle.id_pieces.specs.Schemas.{Feeds}
 use Rattle.id_pieces.proofs.EndsLemmas.{loop_same}
 use Rattle.id_pieces.proofs.LoopsLemmas.{entries_are, entries_node, entries_stand, entries_within, next_is, loop_rows, the_loop}
-use Rattle.id_arcs.proofs.NamesSeen.{Sees, handed as by_switches, entered, of_turns as turns}
+use Rattle.id_build.proofs.NamesSeen.{Sees, handed as by_switches, entered, of_turns as turns}
 use Rattle.id_laws.proofs.Assumed.{IsKnown}
 use Rattle.id_laws.proofs.Arcs.{Does, moves_on, moves_name, takes_in, turned, carries_on, behind_turned}
 use Rattle.id_laws.proofs.Arcs.{three_carried, none_carried}

@@ -1,6 +1,6 @@
 -- In a quiet run what a loop hands on comes to its next iteration, and what its `Start` takes in to its first.
 use Rattle.std.proofs.Common.{◌≡◌, inl, ℕ, suc, ◌+◌, ◌<◌, true, cond, Some, List, length, get_or, slice_get, refl, sym, ◌∙◌, ap, subst, arith}
-use Rattle.id_list.specs.List.{Among}
+use Rattle.id_value.specs.List.{Among}
 use Rattle.id_table.specs.declared.row.Node.TheVariants.{Start}
 use Rattle.id_table.specs.Rows.{arm_at, top}
 use Rattle.id_table.specs.Tables.{begins_block}

@@ -22,7 +22,7 @@ use Rattle.id_desugar.specs.Ends.{end_of, next_of}
 use Rattle.id_desugar.specs.Regions.{has_index, imports_of, nexts_of}
 use Rattle.id_pieces.specs.Rows.{Entry, block, entering, entries_row, first_binder, node, param_entry}
 use Rattle.id_pieces.proofs.LoopsLemmas.{entries_node, entries_stand, entries_within, next_is}
-use Rattle.id_arcs.proofs.NamesSeen.{Sees, listed}
+use Rattle.id_build.proofs.NamesSeen.{Sees, listed}
 use Rattle.id_runs.specs.Activations.{Activation, at_iteration, tag_in}
 use Rattle.id_runs.specs.Events.{Event}
 use Rattle.id_laws.specs.Activations.{of_loop, Opens, Live, entered, PathOf, Goes, by_index, at_first}

@@ -16,7 +16,7 @@ use Rattle.id_desugar.specs.Ends.{end_of, next_of}
 use Rattle.id_desugar.specs.Regions.{has_index}
 use Rattle.id_pieces.specs.Rows.{block, node, switches_at, turn_row}
 use Rattle.id_pieces.proofs.EndsLemmas.{loop_is, loop_same}
-use Rattle.id_arcs.proofs.RegionsLemmas.{index_loop as arcs_loop, index_region as arcs_region}
+use Rattle.id_build.proofs.RegionsLemmas.{index_loop as arcs_loop, index_region as arcs_region}
 use Rattle.id_pieces.proofs.LoopsLemmas.{next_is}
 use Rattle.id_source.specs.Facts.{ForStands, LoopStands, NextStands}
 use Rattle.id_laws.specs.Activations.{switches_of}

@@ -21,7 +21,7 @@ use Rattle.id_source.specs.Sources.{Source}
 use Rattle.id_source.specs.Rounds.{Holds}
 use Rattle.id_pieces.specs.Rows.{node}
 use Rattle.id_pieces.specs.Schemas.{Numbered}
-use Rattle.id_paths.specs.Paths.{name_by, site_at}
+use Rattle.id_observe.specs.Paths.{name_by, site_at}
 use Rattle.id_runs.specs.Activations.{Activation, tag_in}
 use Rattle.id_runs.specs.Events.{Event}
 use Rattle.id_runs.specs.Runs.{Reach}

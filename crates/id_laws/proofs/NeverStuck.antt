@@ -1,14 +1,14 @@
 -- No event of a schemas' graph is `Stuck`, no port gets two tokens under one tag, and no fetch asks and no store stores twice.
 use Rattle.std.proofs.Common.{◌≡◌, ◌≢◌, ℕ, ◌+◌, ◌≤◌, Bool, cond, List, [], ◌∷◌, map, refl, sym, ◌∙◌, subst, count_by, arith}
 use Rattle.std.proofs.lemmas.List.Sums.{sum_by-cons}
-use Rattle.id_list.specs.List.{Among}
+use Rattle.id_value.specs.List.{Among}
 use Rattle.id_instr.specs.declared.dests.Port.{Port}
 use Rattle.id_instr.specs.Graph.{Parts}
 use Rattle.id_tag.specs.declared.Tag.{Tag}
 use Rattle.id_tag.specs.declared.Payload.{Payload}
 use Rattle.id_tag.specs.declared.Payload.TheVariants.{Token, Read, Write}
-use Rattle.id_slot.specs.declared.WriteAnswer.TheVariants.{Second}
-use Rattle.id_line.specs.declared.step.Step.TheVariants.{Stuck}
+use Rattle.id_bank.specs.declared.cell.WriteAnswer.TheVariants.{Second}
+use Rattle.id_record.specs.declared.step.Step.TheVariants.{Stuck}
 use Rattle.id_core.specs.Events.{EventView}
 use Rattle.id_core.specs.Machines.{World}
 use Rattle.id_source.specs.Sources.{Source}

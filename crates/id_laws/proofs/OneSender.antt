@@ -2,7 +2,7 @@
 use Rattle.std.proofs.Common.{◌≡◌, ℕ, ℤ, Bool as Truth, true, false, Option, Some, None, List, [], slice_get, refl, sym}
 use Rattle.std.proofs.Common.{◌∙◌, ap, subst}
 use Rattle.std.specs.Option.{option_map_or}
-use Rattle.id_list.specs.List.{Among, AllDiffer}
+use Rattle.id_value.specs.List.{Among, AllDiffer}
 use Rattle.id_table.specs.declared.row.Region.{Region}
 use Rattle.id_table.specs.declared.row.Node.{Node}
 use Rattle.id_table.specs.declared.row.Node.TheVariants.{Head, LoopHead}
@@ -64,7 +64,7 @@ use Rattle.id_laws.proofs.AllTell.{fired_part}
 use Rattle.id_runs.proofs.Serials.{contexts_apart}
 use Rattle.id_runs.proofs.SentOnce.{sent_once}
 use Rattle.id_runs.proofs.Waiting.{has_fired}
-use Rattle.id_line.specs.Events.{tag_of}
+use Rattle.id_record.specs.Events.{tag_of}
 use Rattle.id_laws.proofs.OneWay.{not_started, one_way}
 
 same_port : {t u : Tag} {p q : Port} {v w : Value} → Token t p v ≡ Token u q w → p ≡ q

@@ -1,7 +1,7 @@
 -- Two ways to one port under one tag are of one event, and none leads to what the start sends to.
 use Rattle.std.proofs.Common.{◌≡◌, ◌⊎◌, inl, inr, ℕ, Bool as Truth, true, false, Some, List, length, slice_get, refl, sym}
 use Rattle.std.proofs.Common.{◌∙◌, ap, subst, zero, suc, ◌+◌, ◌-◌, ◌<◌, arith}
-use Rattle.id_list.proofs.AmongLemmas.{Among-from_at}
+use Rattle.id_value.proofs.AmongLemmas.{Among-from_at}
 use Rattle.id_table.specs.declared.row.Node.{Node}
 use Rattle.id_table.specs.declared.row.Node.TheVariants.{Carried, Head, If, Program, Enter, Arg, Call, Start, LoopHead}
 use Rattle.id_table.specs.declared.row.Node.TheVariants.{Variable, Entries, Turn, Next, Reset, Loop, Fetch}

@@ -29,7 +29,7 @@ use Rattle.id_laws.proofs.Loops.{switches_node, switches_same}
 use Rattle.id_laws.proofs.LoopRows.{variable_of_next}
 use Rattle.id_pieces.proofs.LoopsLemmas.{entries_node, entries_stand}
 use Rattle.id_laws.proofs.Regions.{as_tests, index_loop, region_of, same_depth}
-use Rattle.id_arcs.proofs.NamesSeen.{Sees, Comes, from_label, from_switch, from_entry, comes}
+use Rattle.id_build.proofs.NamesSeen.{Sees, Comes, from_label, from_switch, from_entry, comes}
 use Rattle.id_laws.proofs.Seats.{OneSeat}
 use Rattle.id_laws.proofs.TurnedOn.{holds_by, without_none, turned_on}
 

@@ -1,7 +1,7 @@
 -- What was handled or is in flight has one path only under one context at one iteration.
 use Rattle.std.proofs.Common.{◌≡◌, ◌⊎◌, inl, inr, ℕ, List, map, refl, sym, ◌∙◌, ap, subst}
-use Rattle.id_list.specs.List.{Among}
-use Rattle.id_list.proofs.AmongLemmas.{Among-either, Among-from_map, Among-map}
+use Rattle.id_value.specs.List.{Among}
+use Rattle.id_value.proofs.AmongLemmas.{Among-either, Among-from_map, Among-map}
 use Rattle.id_table.specs.declared.row.Region.{Region}
 use Rattle.id_table.specs.Rows.{top}
 use Rattle.id_instr.specs.Graph.{Parts}

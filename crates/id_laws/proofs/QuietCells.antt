@@ -2,8 +2,8 @@
 use Rattle.std.proofs.Common.{◌≡◌, inl, inr, ℕ, ℤ, Bool, true, false, cond, Option, Some, List, [], ◌∷◌, refl, sym, ◌∙◌, ap, subst, arith}
 use Rattle.std.specs.Prelude.{option_map}
 use Rattle.std.specs.List.{filter_map}
-use Rattle.id_list.specs.List.{Among}
-use Rattle.id_list.proofs.AmongLemmas.{Among-map, Among-from_map}
+use Rattle.id_value.specs.List.{Among}
+use Rattle.id_value.proofs.AmongLemmas.{Among-map, Among-from_map}
 use Rattle.id_table.specs.Tables.{is_next}
 use Rattle.id_check.specs.declared.checked.Checked.{Checked}
 use Rattle.id_check.specs.Programs.{place, region}
@@ -14,12 +14,12 @@ use Rattle.id_tag.specs.declared.Tag.{Tag}
 use Rattle.id_tag.specs.declared.Value.{Value}
 use Rattle.id_tag.specs.declared.Payload.TheVariants.{Write}
 use Rattle.id_tag.specs.Tags.{same_tag}
-use Rattle.id_slot.specs.declared.WriteAnswer.TheVariants.{Readers, Second}
-use Rattle.id_slot.specs.Cells.{CellState}
-use Rattle.id_slot.specs.declared.Reader.{Reader}
-use Rattle.id_line.specs.declared.step.Step.TheVariants.{Went}
-use Rattle.id_line.specs.declared.step.Verdict.TheVariants as verdict
-use Rattle.id_line.specs.Events.{full_step}
+use Rattle.id_bank.specs.declared.cell.WriteAnswer.TheVariants.{Readers, Second}
+use Rattle.id_bank.specs.Cells.{CellState}
+use Rattle.id_bank.specs.declared.cell.Reader.{Reader}
+use Rattle.id_record.specs.declared.step.Step.TheVariants.{Went}
+use Rattle.id_record.specs.declared.step.Verdict.TheVariants as verdict
+use Rattle.id_record.specs.Events.{full_step}
 use Rattle.id_core.specs.Events.{EventView, tag_of}
 use Rattle.id_core.specs.Machines.{World, IsQuiet}
 use Rattle.id_core.specs.Observed as shown
@@ -39,7 +39,7 @@ use Rattle.id_source.specs.Sources.{Source, AreInputs}
 use Rattle.id_source.specs.Rounds.{Holds, IsWaiting}
 use Rattle.id_pieces.specs.Rows.{node}
 use Rattle.id_pieces.specs.Schemas.{Numbered}
-use Rattle.id_paths.specs.Paths.{name_by}
+use Rattle.id_observe.specs.Paths.{name_by}
 use Rattle.id_runs.specs.Activations.{tag_in}
 use Rattle.id_runs.specs.Cells.{WrittenBy, cell_at}
 use Rattle.id_runs.specs.Events.{Event, Looked, Wrote}

@@ -8,8 +8,8 @@ use Rattle.id_value.specs.Bounds.{is_inside}
 use Rattle.id_value.specs.declared.Constant.TheVariants as constants
 use Rattle.id_value.specs.declared.FaultKind.{FaultKind}
 use Rattle.id_value.specs.declared.FaultKind.TheVariants.{BadBounds, OutOfBounds}
-use Rattle.id_list.specs.List.{Among}
-use Rattle.id_list.proofs.AmongLemmas.{Among-from_at}
+use Rattle.id_value.specs.List.{Among}
+use Rattle.id_value.proofs.AmongLemmas.{Among-from_at}
 use Rattle.id_table.specs.declared.row.Node.TheVariants.{Head, Unary, Binary, Array, Fetch, Address}
 use Rattle.id_table.specs.Rows.{top}
 use Rattle.id_table.specs.Tables.{HasOperand, is_binder}
@@ -24,7 +24,7 @@ use Rattle.id_instr.specs.declared.instr.Instr.{Instr}
 use Rattle.id_instr.specs.Ports.{two_ports}
 use Rattle.id_instr.specs.Graph.{Parts}
 use Rattle.id_tag.specs.Kinds.{kind_of, same_kind}
-use Rattle.id_slot.specs.declared.WriteAnswer.TheVariants.{Second}
+use Rattle.id_bank.specs.declared.cell.WriteAnswer.TheVariants.{Second}
 use Rattle.id_tag.specs.declared.Cell.{Cell}
 use Rattle.id_tag.specs.declared.Structure.{Structure}
 use Rattle.id_tag.specs.declared.Tag.{Tag}
@@ -40,8 +40,8 @@ use Rattle.id_ops.specs.declared.Fired.{Fired}
 use Rattle.id_ops.specs.declared.Fired.TheVariants.{Out, Side, Sent, Moved, Asked, Stored, Failed, Nothing, Entered}
 use Rattle.id_ops.specs.Operators.{constant_value, fired, fired_by, fired_merge}
 use Rattle.id_valid.specs.Validator.{is_value}
-use Rattle.id_line.specs.declared.step.Step.TheVariants.{Went, Fault}
-use Rattle.id_line.specs.declared.step.Fault.TheVariants.{Operator}
+use Rattle.id_record.specs.declared.step.Step.TheVariants.{Went, Fault}
+use Rattle.id_record.specs.declared.step.Fault.TheVariants.{Operator}
 use Rattle.id_core.specs.Events.{EventView}
 use Rattle.id_core.specs.Machines.{World, IsQuiet, main_tag}
 use Rattle.id_core.specs.Observed as shown

@@ -16,8 +16,8 @@ use Rattle.id_scope.specs.Scopes.{loops_between}
 use Rattle.id_check.specs.Programs.{region, rows}
 use Rattle.id_pieces.specs.Rows.{block, home, home_by, label, label_by, node}
 use Rattle.id_pieces.proofs.EndsLemmas.{not_last}
-use Rattle.id_arcs.proofs.NamesSeen.{HasSwitches}
-use Rattle.id_arcs.proofs.NamesSeen as seen
+use Rattle.id_build.proofs.NamesSeen.{HasSwitches}
+use Rattle.id_build.proofs.NamesSeen as seen
 use Rattle.id_laws.specs.Activations.{Tests, of_arms, of_turns}
 use Rattle.id_laws.proofs.Assumed.{IsKnown}
 use Rattle.id_laws.proofs.Loops.{IsCounted, LoopOf, carried_stands, counted_of, has_three, loop_of_row}

@@ -9,8 +9,8 @@ use Rattle.id_value.specs.declared.Outcome.TheVariants.{Gives, Fails, Lacks}
 use Rattle.id_value.specs.declared.Constant.TheVariants as constants
 use Rattle.id_value.specs.Results.{result_of_unary, calculated}
 use Rattle.std.specs.Prelude.{option_map}
-use Rattle.id_list.specs.List.{Among}
-use Rattle.id_list.proofs.AmongLemmas.{Among-map}
+use Rattle.id_value.specs.List.{Among}
+use Rattle.id_value.proofs.AmongLemmas.{Among-map}
 use Rattle.id_table.specs.declared.row.Node.TheVariants.{Fetch, Store}
 use Rattle.id_table.specs.Tables.{begins_block}
 use Rattle.id_check.specs.Programs.{region, rows}

@@ -1,6 +1,6 @@
 -- What sends to a tag of its own, and into a context: the way back of a block, arguments, and the first values and imports of a loop.
 use Rattle.std.proofs.Common.{◌≡◌, ℕ, suc, ◌<◌, Bool, true, length, refl, sym, ◌∙◌, ap}
-use Rattle.id_list.proofs.AmongLemmas.{Among-from_at}
+use Rattle.id_value.proofs.AmongLemmas.{Among-from_at}
 use Rattle.id_table.specs.declared.row.Region.{Region}
 use Rattle.id_table.specs.declared.row.Node.{Node}
 use Rattle.id_table.specs.declared.row.Node.TheVariants.{Head, LoopHead, Array, Fetch, Store}

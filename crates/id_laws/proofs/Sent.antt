@@ -1,7 +1,7 @@
 -- What an instruction sends on a side.
 use Rattle.std.proofs.Common.{◌≡◌, ℕ, Bool as Truth, Option, Some, None, [], slice_get, ap}
 use Rattle.std.specs.Option.{option_map_or}
-use Rattle.id_list.specs.List.{Among}
+use Rattle.id_value.specs.List.{Among}
 use Rattle.id_instr.specs.declared.dests.Dest.{Dest}
 use Rattle.id_instr.specs.declared.instr.Instr.{Instr}
 use Rattle.id_instr.specs.Graph.{Parts, arcs_on}

@@ -1,6 +1,6 @@
 -- What stands at one path and place in a run is one thing under one activation; where fetches and stores stand.
 use Rattle.std.proofs.Common.{◌≡◌, inr, ℕ, ◌<◌, true, List, length, refl, sym, ◌∙◌, ap, subst}
-use Rattle.id_list.proofs.AmongLemmas.{Among-map}
+use Rattle.id_value.proofs.AmongLemmas.{Among-map}
 use Rattle.id_table.specs.declared.row.Region.{Region}
 use Rattle.id_table.specs.Tables.{is_thing}
 use Rattle.id_check.specs.declared.checked.Checked.{Checked}
@@ -13,8 +13,8 @@ use Rattle.id_tag.specs.declared.Value.{Value}
 use Rattle.id_tag.specs.declared.Value.TheVariants as value
 use Rattle.id_tag.specs.declared.Payload.TheVariants.{Read, Write}
 use Rattle.id_ops.specs.declared.Fired.TheVariants.{Out}
-use Rattle.id_slot.specs.declared.ReadAnswer.{ReadAnswer}
-use Rattle.id_slot.specs.declared.WriteAnswer.{WriteAnswer}
+use Rattle.id_bank.specs.declared.cell.ReadAnswer.{ReadAnswer}
+use Rattle.id_bank.specs.declared.cell.WriteAnswer.{WriteAnswer}
 use Rattle.id_core.specs.Machines.{World}
 use Rattle.id_core.specs.Observed as shown
 use Rattle.id_source.specs.declared.Path.{Path}

@@ -2,8 +2,8 @@
 use Rattle.std.proofs.Common.{◌≡◌, inl, inr, ℕ, ℤ, true, Option, Some, None, List, [], ◌∷◌, map, refl, sym, ◌∙◌, ap, subst}
 use Rattle.std.specs.Prelude.{option_map}
 use Rattle.std.specs.List.{filter_map, cons_option}
-use Rattle.id_list.specs.List.{Among, AllDiffer}
-use Rattle.id_list.proofs.AmongLemmas.{Among-map, Among-from_map}
+use Rattle.id_value.specs.List.{Among, AllDiffer}
+use Rattle.id_value.proofs.AmongLemmas.{Among-map, Among-from_map}
 use Rattle.id_table.specs.declared.row.Node.TheVariants.{Array, Program}
 use Rattle.id_check.specs.declared.checked.Checked.{Checked}
 use Rattle.id_check.specs.Programs.{region}
@@ -18,8 +18,8 @@ use Rattle.id_tag.specs.declared.Value.TheVariants as value
 use Rattle.id_tag.specs.declared.Payload.{Payload}
 use Rattle.id_tag.specs.declared.Payload.TheVariants.{Token, Read, Write}
 use Rattle.id_ops.specs.declared.Fired.TheVariants.{Out}
-use Rattle.id_slot.specs.declared.Filled.{Filled}
-use Rattle.id_slot.specs.declared.Reader.{Reader}
+use Rattle.id_bank.specs.declared.cell.Filled.{Filled}
+use Rattle.id_bank.specs.declared.cell.Reader.{Reader}
 use Rattle.id_core.specs.Events.{EventView, tag_of}
 use Rattle.id_core.specs.Machines.{World}
 use Rattle.id_core.specs.Observed as shown
@@ -35,8 +35,8 @@ use Rattle.id_source.specs.Sources.{Source}
 use Rattle.id_source.specs.Rounds.{Holds}
 use Rattle.id_pieces.specs.Rows.{op_by}
 use Rattle.id_pieces.specs.Schemas.{Numbered}
-use Rattle.id_paths.specs.Paths.{made}
-use Rattle.id_paths.specs.Paths.{name_by}
+use Rattle.id_observe.specs.Paths.{made}
+use Rattle.id_observe.specs.Paths.{name_by}
 use Rattle.id_runs.specs.Activations.{activation_of}
 use Rattle.id_runs.specs.Cells.{cell_at}
 use Rattle.id_runs.specs.Events.{Event, FiresAs, fired_event, payload_of}

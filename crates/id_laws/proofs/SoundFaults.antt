@@ -5,7 +5,7 @@ use Rattle.std.specs.Ordering.{nat_cmp, ordering_reverse, ordering_then}
 use Rattle.std.specs.Cmp.Lexicographic.{slice_cmp, lists_total}
 use Rattle.std.proofs.lemmas.Cmp.{nat_cmp_total}
 use Rattle.id_value.specs.declared.FaultKind.{FaultKind}
-use Rattle.id_list.specs.List.{Among}
+use Rattle.id_value.specs.List.{Among}
 use Rattle.id_check.specs.declared.checked.Checked.{Checked}
 use Rattle.id_check.specs.Programs.{place}
 use Rattle.id_instr.specs.Graph.{Parts}
@@ -18,19 +18,19 @@ use Rattle.id_tag.specs.Tags.{same_tag}
 use Rattle.id_tag.proofs.TagsLemmas.{same_tag_laws}
 use Rattle.id_ops.specs.declared.Fired.{Fired}
 use Rattle.id_ops.specs.declared.Fired.TheVariants.{Out, Side, Sent, Moved, Asked, Stored, Failed, Nothing, Entered}
-use Rattle.id_slot.specs.declared.WriteAnswer.{WriteAnswer}
-use Rattle.id_slot.specs.declared.WriteAnswer.TheVariants.{Readers, Second}
-use Rattle.id_line.specs.declared.step.Step.{Step}
-use Rattle.id_line.specs.declared.step.Step.TheVariants.{Went, Stuck, Fault}
-use Rattle.id_line.specs.declared.step.Fault.TheVariants.{Operator, SecondStore}
-use Rattle.id_line.specs.declared.step.Verdict.TheVariants as verdict
-use Rattle.id_line.specs.Events.{full_step}
-use Rattle.id_firing.specs.Steps.{fill_verdict}
+use Rattle.id_bank.specs.declared.cell.WriteAnswer.{WriteAnswer}
+use Rattle.id_bank.specs.declared.cell.WriteAnswer.TheVariants.{Readers, Second}
+use Rattle.id_record.specs.declared.step.Step.{Step}
+use Rattle.id_record.specs.declared.step.Step.TheVariants.{Went, Stuck, Fault}
+use Rattle.id_record.specs.declared.step.Fault.TheVariants.{Operator, SecondStore}
+use Rattle.id_record.specs.declared.step.Verdict.TheVariants as verdict
+use Rattle.id_record.specs.Events.{full_step}
+use Rattle.id_element.specs.Steps.{fill_verdict}
 use Rattle.id_core.specs.Events.{EventView}
 use Rattle.id_core.specs.Steps.{fired_step}
 use Rattle.id_core.specs.Machines.{World}
 use Rattle.id_core.specs.Observed as shown
-use Rattle.id_paths.specs.Sourced.{stores_as}
+use Rattle.id_observe.specs.Sourced.{stores_as}
 use Rattle.id_source.specs.declared.Path.{Path}
 use Rattle.id_source.specs.declared.PathStep.{PathStep}
 use Rattle.id_source.specs.declared.Site.{Site}

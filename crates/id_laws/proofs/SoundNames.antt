@@ -3,8 +3,8 @@ use Rattle.std.proofs.Common.{◌≡◌, inl, inr, ℕ, ◌≤◌, ◌<◌, Bool
 use Rattle.std.proofs.Common.{[], ◌∷◌, length, map, option_map, refl, sym, ◌∙◌, ap}
 use Rattle.std.proofs.Common.{◌+◌, ◌-◌, subst, arith}
 use Rattle.std.specs.List.{filter_map, cons_option}
-use Rattle.id_list.specs.List.{Among, AllDiffer}
-use Rattle.id_list.proofs.AmongLemmas.{Among-map}
+use Rattle.id_value.specs.List.{Among, AllDiffer}
+use Rattle.id_value.proofs.AmongLemmas.{Among-map}
 use Rattle.id_table.specs.declared.row.Node.{Node}
 use Rattle.id_table.specs.declared.row.Node.TheVariants.{Param, Binding, Next, Variable, Carried, Index}
 use Rattle.id_value.specs.declared.Kind.TheVariants as kinds

@@ -1,7 +1,7 @@
 -- What the instruction of an expression has sent under a tag brings a value that the expression Has at the tag's path.
 use Rattle.std.proofs.Common.{◌≡◌, inr, ℕ, zero, suc, Bool as Truth, true, false, List, refl, sym, ◌∙◌, ap, subst, inl}
-use Rattle.id_list.specs.List.{Among}
-use Rattle.id_list.proofs.AmongLemmas.{Among-map, Among-from_map}
+use Rattle.id_value.specs.List.{Among}
+use Rattle.id_value.proofs.AmongLemmas.{Among-map, Among-from_map}
 use Rattle.id_table.specs.declared.row.Node.{Node}
 use Rattle.id_table.specs.declared.row.Node.TheVariants.{Literal, Unary, Binary, If, Program, Call, Head, LoopHead, Turn, Next, Reset, Loop, Array, Fetch}
 use Rattle.id_table.specs.Tables.{begins_block, is_expression}

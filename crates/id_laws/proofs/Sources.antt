@@ -42,7 +42,7 @@ use Rattle.id_laws.proofs.Calls.{arg_at}
 use Rattle.id_laws.proofs.Stores.{address_at}
 use Rattle.id_laws.proofs.Conditionals.{arm_of, arms_test, conditional, no_within, test_at}
 use Rattle.id_pieces.proofs.EndsLemmas.{end_is}
-use Rattle.id_arcs.proofs.NamesSeen.{Sees, Comes, from_label, from_switch, from_entry, comes, listed}
+use Rattle.id_build.proofs.NamesSeen.{Sees, Comes, from_label, from_switch, from_entry, comes, listed}
 use Rattle.id_laws.specs.Activations.{Begins, Tests, of_arms, of_turns, of_call, of_loop}
 use Rattle.id_laws.proofs.Regions.{as_tests, index_loop, label_row, HeadOf, of_block, of_tests, region_of}
 

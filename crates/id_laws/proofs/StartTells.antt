@@ -1,8 +1,8 @@
 -- What is there at the start tells what its port wants.
 use Rattle.std.proofs.Common.{◌≡◌, ℕ, zero, suc, ◌-◌, List, [], length, refl, sym, ◌∙◌, ap, subst, inr, ◌<◌}
 use Rattle.std.specs.Prelude.{take}
-use Rattle.id_list.specs.List.{Among}
-use Rattle.id_list.proofs.AmongLemmas.{Among-from_at}
+use Rattle.id_value.specs.List.{Among}
+use Rattle.id_value.proofs.AmongLemmas.{Among-from_at}
 use Rattle.id_table.specs.Rows.{top}
 use Rattle.id_table.specs.Turns.{params_at}
 use Rattle.id_check.specs.declared.checked.Checked.{Checked}

@@ -1,7 +1,7 @@
 -- What starts a block: a signal for its first instruction, and the way back for its second.
 use Rattle.std.proofs.Common.{◌≡◌, inl, inr, ℕ, ◌+◌, Option, Some, None, true, map, refl, sym, subst}
-use Rattle.id_list.specs.List.{Among}
-use Rattle.id_list.proofs.AmongLemmas.{Among-right}
+use Rattle.id_value.specs.List.{Among}
+use Rattle.id_value.proofs.AmongLemmas.{Among-right}
 use Rattle.id_instr.specs.declared.dests.Port.TheVariants.{Zero}
 use Rattle.id_instr.specs.declared.instr.Op.{Op}
 use Rattle.id_instr.specs.declared.instr.Op.TheVariants as op

@@ -2,7 +2,7 @@
 use Rattle.std.proofs.Common.{◌≡◌, inl, inr, ℕ, suc, ◌≤◌, ◌<◌, Bool as Truth, true, false, cond, Option, Some, List, [], ◌∷◌, ◌++◌, length}
 use Rattle.std.proofs.Common.{◌+◌, ◌-◌, refl, sym, ◌∙◌, ap, subst, arith}
 use Rattle.std.proofs.lemmas.Bool.{eq-eqb}
-use Rattle.id_list.specs.List.{Among, AllDiffer}
+use Rattle.id_value.specs.List.{Among, AllDiffer}
 use Rattle.id_table.specs.declared.row.Region.{Region}
 use Rattle.id_table.specs.declared.row.Node.TheVariants.{Enter}
 use Rattle.std.specs.Prelude.{option_map}
@@ -16,8 +16,8 @@ use Rattle.id_tag.specs.declared.Context.{Context}
 use Rattle.id_tag.specs.declared.Tag.{Tag}
 use Rattle.id_core.specs.Machines.{World}
 use Rattle.id_core.specs.Observed as shown
-use Rattle.id_paths.specs.Paths.{enter_in, enters_loop, step_of}
-use Rattle.id_paths.proofs.PathsLemmas.{Leads, under_main, under_enter, path_of-leads}
+use Rattle.id_observe.specs.Paths.{enter_in, enters_loop, step_of}
+use Rattle.id_observe.proofs.PathsLemmas.{Leads, under_main, under_enter, path_of-leads}
 use Rattle.id_source.specs.declared.Path.{Path}
 use Rattle.id_source.specs.declared.PathStep.{PathStep}
 use Rattle.id_source.specs.Sources.{Source}

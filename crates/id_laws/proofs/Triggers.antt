@@ -40,7 +40,7 @@ use Rattle.id_laws.proofs.LoopFacts.{entering_long, entry_does, entry_within, im
 use Rattle.id_laws.proofs.LoopFirings.{entered_in, merge_out, name_again, turned_again}
 use Rattle.id_laws.proofs.Iterations.{loop_between, seen_depth, without_below, without_moved}
 use Rattle.id_laws.proofs.Firings.{IsSettled, alone_fired, both_fired, came, spoken, spoken_on, start_handled, sent_handled}
-use Rattle.id_arcs.proofs.NamesSeen.{Sees, Comes, from_label, from_switch, from_entry, comes, listed}
+use Rattle.id_build.proofs.NamesSeen.{Sees, Comes, from_label, from_switch, from_entry, comes, listed}
 use Rattle.id_laws.proofs.Speakers.{fed_as}
 use Rattle.id_laws.proofs.TurnedOn.{without_none}
 use Rattle.std.specs.Prelude.{option_map}
@@ -59,7 +59,7 @@ use Rattle.id_runs.proofs.Serials.{contexts_apart}
 use Rattle.id_laws.proofs.StartTells.{opening_live}
 use Rattle.id_laws.proofs.FiringMeans.{IsBacked}
 use Rattle.id_runs.proofs.OneMessage.{fired_once}
-use Rattle.id_list.specs.List.{Among}
+use Rattle.id_value.specs.List.{Among}
 use Rattle.id_laws.proofs.Started.{first_sent, second_sent}
 
 module _ (S : Source) (g : Parts) (number : ℕ → ℕ → ℕ) (numbered : Numbered S.checked g number) (known : IsKnown S.checked) (count : ℕ)

@@ -8,8 +8,8 @@ use Rattle.std.specs.List.{count_by}
 use Rattle.std.proofs.lemmas.List.Sums.{sum_by-append}
 use Rattle.std.proofs.lemmas.Bool.{cases_lt}
 use Rattle.id_value.specs.declared.Kind.{Kind}
-use Rattle.id_list.specs.List.{Among}
-use Rattle.id_list.proofs.AmongLemmas.{Among-map, Among-left, Among-right, Among-either, Among-from_at}
+use Rattle.id_value.specs.List.{Among}
+use Rattle.id_value.proofs.AmongLemmas.{Among-map, Among-left, Among-right, Among-either, Among-from_at}
 use Rattle.id_table.specs.declared.row.Row.{Row}
 use Rattle.id_table.specs.declared.row.Node.{Node}
 use Rattle.id_table.specs.declared.row.Node.TheVariants.{Head, Param, Literal, Unary as UnaryNode, Binary as BinaryNode}

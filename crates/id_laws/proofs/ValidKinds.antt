@@ -1,7 +1,7 @@
 -- What an arc brings is of the kind that its port takes.
 use Rattle.std.proofs.Common.{◌≡◌, inl, inr, ℕ, zero, suc, ◌<◌, ◌≤◌, ◌+◌, ◌-◌, true, Some, List, ◌∷◌, ◌++◌, [], map, length, get_or, refl, sym, ◌∙◌, ap, subst, arith}
-use Rattle.id_list.specs.List.{Among}
-use Rattle.id_list.proofs.AmongLemmas.{Among-either, Among-from_map}
+use Rattle.id_value.specs.List.{Among}
+use Rattle.id_value.proofs.AmongLemmas.{Among-either, Among-from_map}
 use Rattle.id_value.specs.declared.Kind.{Kind}
 use Rattle.id_value.specs.declared.Kind.TheVariants as kinds
 use Rattle.id_table.specs.declared.row.Row.{Row}
@@ -48,12 +48,12 @@ use Rattle.id_pieces.proofs.EndsLemmas.{end_is, HeadOf, of_procedure, of_arm, re
 use Rattle.std.proofs.lemmas.Bool.{cases_lt}
 use Rattle.id_pieces.proofs.EndsLemmas as ends
 use Rattle.id_pieces.proofs.LoopsLemmas.{carried_nodes, switches_high, switches_low, turn_nodes, the_loop, next_is, reset_is, start_head, turn_block, turn_is}
-use Rattle.id_arcs.proofs.ImportsLemmas.{split_seen, switches_seen, first_seen, loop_seen, turn_seen, upper_seen}
-use Rattle.id_arcs.proofs.RowLemmas.{IsSeen}
+use Rattle.id_build.proofs.ImportsLemmas.{split_seen, switches_seen, first_seen, loop_seen, turn_seen, upper_seen}
+use Rattle.id_build.proofs.RowLemmas.{IsSeen}
 use Rattle.id_laws.proofs.Assumed.{IsKnown}
 use Rattle.id_laws.proofs.Loops.{LoopKind, plain as by_predicate, counted as with_index, counted_of, has_three, kind_of}
 use Rattle.id_laws.proofs.Speakers.{within_origin}
-use Rattle.id_arcs.proofs.NamesSeen.{listed}
+use Rattle.id_build.proofs.NamesSeen.{listed}
 use Rattle.id_laws.proofs.LoopRows.{carried_row, carried_rows, entered_as, entering_binds, handed_at, handed_binder}
 use Rattle.id_laws.proofs.LoopRows.{handed_carried, import_binds}
 use Rattle.id_laws.proofs.WantedKinds.{operands_of}

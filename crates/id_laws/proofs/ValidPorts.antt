@@ -36,11 +36,11 @@ use Rattle.id_laws.specs.Topics.{Addresses}
 use Rattle.id_laws.proofs.Arcs.{Does, constant, unary, binary, hands, joins, takes_in, gets_last, allocates, gets_reply}
 use Rattle.id_laws.proofs.Arcs.{gets}
 use Rattle.id_pieces.proofs.LoopsLemmas.{entries_node, entries_stand, entries_within}
-use Rattle.id_arcs.proofs.ImportsLemmas.{name_seen}
-use Rattle.id_arcs.proofs.RowLemmas.{IsSeen}
+use Rattle.id_build.proofs.ImportsLemmas.{name_seen}
+use Rattle.id_build.proofs.RowLemmas.{IsSeen}
 use Rattle.id_laws.proofs.Assumed.{IsKnown, is_handed}
-use Rattle.id_arcs.proofs.NamesSeen.{Comes, HasSwitches, from_entry, from_label, from_switch, comes}
-use Rattle.id_arcs.proofs.NamesSeen as seen
+use Rattle.id_build.proofs.NamesSeen.{Comes, HasSwitches, from_entry, from_label, from_switch, comes}
+use Rattle.id_build.proofs.NamesSeen as seen
 use Rattle.id_laws.proofs.LoopRows.{BinderAt, HandedAt, carried_row, handed_binder, label_at}
 use Rattle.id_laws.proofs.WantedKinds.{operands_of}
 use Rattle.id_pieces.specs.declared.arc.Form.{Form}

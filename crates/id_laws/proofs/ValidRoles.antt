@@ -4,8 +4,8 @@ use Rattle.std.proofs.Common.{map, slice_get, option_map, refl, sym, ◌∙◌, 
 use Rattle.std.specs.Bool.{IsTrue}
 use Rattle.std.specs.Option.{IsSome, option_and_then}
 use Rattle.std.specs.List.{list_any}
-use Rattle.id_list.specs.List.{Among}
-use Rattle.id_list.proofs.AmongLemmas.{Among-map, Among-from_map}
+use Rattle.id_value.specs.List.{Among}
+use Rattle.id_value.proofs.AmongLemmas.{Among-map, Among-from_map}
 use Rattle.id_table.specs.declared.row.Row.{Row}
 use Rattle.id_table.specs.declared.row.Node.{Node}
 use Rattle.id_table.specs.declared.row.Node.TheVariants.{Head, LoopHead}

@@ -5,8 +5,8 @@ use Rattle.id_table.specs.declared.row.Node.TheVariants.{Param, Binding, Next, I
 use Rattle.id_table.specs.Tables.{is_thing}
 use Rattle.id_check.specs.declared.checked.Checked.{Checked}
 use Rattle.id_check.specs.Programs.{place, region, rows}
-use Rattle.id_slot.specs.declared.ReadAnswer.{ReadAnswer}
-use Rattle.id_slot.specs.declared.WriteAnswer.{WriteAnswer}
+use Rattle.id_bank.specs.declared.cell.ReadAnswer.{ReadAnswer}
+use Rattle.id_bank.specs.declared.cell.WriteAnswer.{WriteAnswer}
 use Rattle.id_tag.specs.declared.Structure.{Structure}
 use Rattle.id_tag.specs.declared.Value.{Value}
 use Rattle.id_source.specs.declared.Path.{Path}

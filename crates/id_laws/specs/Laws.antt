@@ -11,8 +11,8 @@ use Rattle.id_tag.specs.declared.Payload.TheVariants.{Token, Read, Write}
 use Rattle.id_tag.specs.declared.Structure.{Structure}
 use Rattle.id_tag.specs.declared.Message.{Message}
 use Rattle.id_tag.specs.Tags.{same_tag}
-use Rattle.id_front.specs.Ports.{same_port}
-use Rattle.id_line.specs.declared.step.Step.TheVariants.{Stuck}
+use Rattle.id_match.specs.Ports.{same_port}
+use Rattle.id_record.specs.declared.step.Step.TheVariants.{Stuck}
 use Rattle.id_core.specs.Events.{EventView, tag_of}
 use Rattle.id_core.specs.Machines.{World, IsQuiet, TakesInputs, start, run}
 use Rattle.id_core.specs.Observed as shown
@@ -27,7 +27,7 @@ use Rattle.id_source.specs.declared.Fact.TheVariants.{Has}
 use Rattle.id_source.specs.declared.Fact.TheVariants as fact
 use Rattle.id_source.specs.declared.NameValue.{NameValue}
 use Rattle.id_source.specs.declared.Path.{Path}
-use Rattle.id_list.specs.List.{Among, AllDiffer}
+use Rattle.id_value.specs.List.{Among, AllDiffer}
 use Rattle.id_table.specs.declared.row.Node.{Node}
 use Rattle.id_table.specs.declared.row.Node.TheVariants.{Fetch}
 use Rattle.id_table.specs.Rows.{at}

@@ -1,8 +1,8 @@
-//! The laws that join what a program means to what its graph does.
+//! The laws that join what a program means to what its graph does, and those that say how much a run does.
 //!
 //! Keeps: nothing; each function is a law, and has no code.
 //! Errors: none.
-//! Read first: `specs/Laws.antt`.
+//! Read first: `specs/Laws.antt`; then `specs/Bounded.antt`, `specs/ByBlock.antt` and `specs/Rest.antt`.
 //! Not here: the facts of a source (`id_meaning`), the graphs of the schemas (`id_build`), runs (`id_runs`).
 #![tactic(auto)]
 
@@ -11,6 +11,9 @@ ghost use Rattle.id_laws.specs.Laws.{Coherence, InputsFit, Kinded, Labels, Never
 ghost use Rattle.id_laws.specs.Laws.{Serials, Suited, Validity};
 ghost use Rattle.id_runs.specs.Legal.{LegalLists};
 
+mod bounds;
+
+pub use bounds::bounded;
 /// *Sound*: what any run of a schemas' graph shows is of the source. The answer is the source's, each
 /// fault is one of the source at its path, what a binder is shown to have at a path it Has there, and
 /// each value that the instruction of an expression sends under a tag is one that the expression Has at

@@ -12,20 +12,20 @@ use Rattle.id_tag.specs.declared.plain.Plain.{Plain as PlainValue}
 use Rattle.id_tag.specs.Plains.{whole}
 use Rattle.id_tag.specs.Tags.{same_tag, tag_cmp}
 use Rattle.id_tag.proofs.TagsLemmas.{exact_tags, one_from_same_tag, tags_total}
-use Rattle.id_front.specs.declared.Half.{Half}
-use Rattle.id_front.specs.declared.Offered.{Offered}
-use Rattle.id_front.specs.declared.Offered.TheVariants as offered
+use Rattle.id_match.specs.declared.meeting.Half.{Half}
+use Rattle.id_match.specs.declared.meeting.Offered.{Offered}
+use Rattle.id_match.specs.declared.meeting.Offered.TheVariants as offered
 use Rattle.id_match.specs.declared.rear.Came.{Came}
 use Rattle.id_match.specs.declared.rear.Came.TheVariants.{Kept, Plain, Partner, Apart}
 use Rattle.id_match.specs.declared.rear.Frame.{Frame}
 use Rattle.id_match.specs.declared.rear.Name.{Name}
-use Rattle.id_front.specs.Halves.{answer_at, half_after}
-use Rattle.id_front.specs.Ports.{same_port}
+use Rattle.id_match.specs.Halves.{answer_at, half_after}
+use Rattle.id_match.specs.Ports.{same_port}
 use Rattle.id_match.specs.Rear.{IsFramed, rear_entries, rear_half, said}
-use Rattle.id_front.specs.Waiting.{Store, offer_after, offer_answer, pair_of, store_after}
+use Rattle.id_match.specs.Waiting.{Store, offer_after, offer_answer, pair_of, store_after}
 use Rattle.id_match.proofs.FramedLemmas.{lookup-rear}
 use Rattle.id_match.proofs.RearLemmas.{partner_left_of}
-use Rattle.id_front.proofs.WaitingLemmas.{answer_of-at_port, get_half, offer_after-from_get}
+use Rattle.id_match.proofs.WaitingLemmas.{answer_of-at_port, get_half, offer_after-from_get}
 
 -- what a store has under a tag is what its frames have
 pub get_framed : (keys : List (Name × ℕ)) (frames : Slab Frame) (s : Store) → from_entries {R = tag_cmp} (rear_entries keys frames) ≡ s

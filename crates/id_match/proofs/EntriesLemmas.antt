@@ -22,11 +22,11 @@ use Rattle.id_tag.specs.declared.Value.{Value}
 use Rattle.id_tag.specs.Tags.{tag_cmp, same_tag}
 use Rattle.id_tag.proofs.SortedLemmas.{entries-from_sort}
 use Rattle.id_tag.proofs.TagsLemmas.{tags_total, exact_tags, ties-same_tag, same_tag_laws, one_from_same_tag}
-use Rattle.id_front.specs.declared.Half.{Half}
-use Rattle.id_front.specs.declared.Entry.{Entry}
-use Rattle.id_front.specs.Waiting.{Store, at_port, waits, entry_at, entries_of}
-use Rattle.id_front.specs.Ports.{same_port}
-use Rattle.id_front.proofs.WaitingLemmas.{get_half, find_half}
+use Rattle.id_match.specs.declared.meeting.Half.{Half}
+use Rattle.id_match.specs.declared.meeting.Entry.{Entry}
+use Rattle.id_match.specs.Waiting.{Store, at_port, waits, entry_at, entries_of}
+use Rattle.id_match.specs.Ports.{same_port}
+use Rattle.id_match.proofs.WaitingLemmas.{get_half, find_half}
 
 -- ---- how many
 

@@ -21,16 +21,16 @@ use Rattle.slab.specs.Slab.{Slab, get, ContainsKey, Updates}
 use Rattle.id_tag.specs.declared.Tag.{Tag}
 use Rattle.id_tag.specs.Tags.{same_tag, same_context}
 use Rattle.id_tag.proofs.TagsLemmas.{same_tag_laws, one_from_same_tag}
-use Rattle.id_front.specs.declared.Half.{Half}
-use Rattle.id_front.specs.declared.Offered.{Offered}
+use Rattle.id_match.specs.declared.meeting.Half.{Half}
+use Rattle.id_match.specs.declared.meeting.Offered.{Offered}
 use Rattle.id_match.specs.declared.rear.Came.{Came}
 use Rattle.id_match.specs.declared.rear.Frame.{Frame}
 use Rattle.id_match.specs.declared.rear.Name.{Name}
 use Rattle.id_match.specs.declared.rear.Came.TheVariants.{Kept}
-use Rattle.id_front.specs.Halves.{answer_at, half_after}
+use Rattle.id_match.specs.Halves.{answer_at, half_after}
 use Rattle.id_match.specs.Rear.{name_of, same_name, tag_at, halves_in, halves_by, halves_of, rear_half, frame_entries, rear_entries}
 use Rattle.id_match.specs.Rear.{IsFramed, IsOffered, IsOfferedAt, Sets, Holds, MakesFrame, Tells, TellsOf, WritesFrame, after_came, after_said}
-use Rattle.id_front.proofs.FrontLemmas.{lookup-append, not_passed, numbers_one, numbers_apart}
+use Rattle.id_match.proofs.FrontLemmas.{lookup-append, not_passed, numbers_one, numbers_apart}
 
 -- ---- names
 

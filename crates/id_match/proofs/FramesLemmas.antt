@@ -15,14 +15,14 @@ use Rattle.std.proofs.lemmas.Map.Made.{is_some-lookup, length-from_keys}
 use Rattle.id_tag.specs.declared.Tag.{Tag}
 use Rattle.id_tag.specs.Tags.{same_tag, same_context, tag_cmp}
 use Rattle.id_tag.proofs.TagsLemmas.{same_tag_laws, one_from_same_tag, ties-same_tag}
-use Rattle.id_front.specs.declared.Half.{Half}
-use Rattle.id_front.specs.declared.front.Pair.{Pair}
-use Rattle.id_front.specs.Front.{front_half, front_entries, IsKept, all_entries}
+use Rattle.id_match.specs.declared.meeting.Half.{Half}
+use Rattle.id_match.specs.declared.front.Pair.{Pair}
+use Rattle.id_match.specs.Front.{front_half, front_entries, IsKept, all_entries}
 use Rattle.id_match.specs.Frames.{waits_below, is_first}
-use Rattle.id_front.specs.Waiting.{Store, entry_at, entries_of, same_frame, frames_of}
-use Rattle.id_front.proofs.FrontLemmas.{lookup_all, distinct_all, numbers_one, numbers_apart}
+use Rattle.id_match.specs.Waiting.{Store, entry_at, entries_of, same_frame, frames_of}
+use Rattle.id_match.proofs.FrontLemmas.{lookup_all, distinct_all, numbers_one, numbers_apart}
 use Rattle.id_match.proofs.RearLemmas.{kept_as, lookup-entries, made_as}
-use Rattle.id_front.proofs.WaitingLemmas.{get_half}
+use Rattle.id_match.proofs.WaitingLemmas.{get_half}
 
 -- ---- a look-up
 

@@ -7,14 +7,14 @@ use Rattle.id_instr.specs.declared.dests.Port.TheVariants.{Zero, One}
 use Rattle.id_tag.specs.declared.Tag.{Tag}
 use Rattle.id_tag.specs.declared.Value.{Value}
 use Rattle.id_tag.specs.Tags.{tag_cmp, same_tag}
-use Rattle.id_front.specs.declared.Half.{Half}
-use Rattle.id_front.specs.declared.Offered.{Offered}
-use Rattle.id_front.specs.declared.Offered.TheVariants.{Kept, Pair, Taken}
-use Rattle.id_front.specs.Ports.{other_port, same_port}
-use Rattle.id_front.specs.Halves.{answer_at, half_after}
+use Rattle.id_match.specs.declared.meeting.Half.{Half}
+use Rattle.id_match.specs.declared.meeting.Offered.{Offered}
+use Rattle.id_match.specs.declared.meeting.Offered.TheVariants.{Kept, Pair, Taken}
+use Rattle.id_match.specs.Ports.{other_port, same_port}
+use Rattle.id_match.specs.Halves.{answer_at, half_after}
 use Rattle.id_match.specs.Keyed.{Keyed, keyed_by_answer, keyed_after}
-use Rattle.id_front.specs.Waiting.{Store, at_port, waits, pair_of, offer_after}
-use Rattle.id_front.proofs.WaitingLemmas.{answer_of-at_port, still, get-offer_after}
+use Rattle.id_match.specs.Waiting.{Store, at_port, waits, pair_of, offer_after}
+use Rattle.id_match.proofs.WaitingLemmas.{answer_of-at_port, still, get-offer_after}
 
 -- nothing waits at any port of an empty store
 pub waits-empty : (t : Tag) (p : Port) → waits empty t p ≡ None

@@ -1,3 +1,7 @@
+pub mod BehindLemmas
+pub mod CallLemmas
+pub mod FrontLemmas
+pub mod WaitingLemmas
 pub mod KeyedLemmas
 pub mod EntriesLemmas
 pub mod FramesLemmas

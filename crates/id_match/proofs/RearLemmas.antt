@@ -9,17 +9,17 @@ use Rattle.id_tag.specs.declared.Tag.{Tag}
 use Rattle.id_tag.specs.declared.Value.{Value}
 use Rattle.id_tag.specs.Tags.{same_tag, tag_cmp}
 use Rattle.id_tag.proofs.TagsLemmas.{same_tag_laws, tags_total, exact_tags}
-use Rattle.id_front.specs.declared.Half.{Half}
-use Rattle.id_front.specs.declared.Offered.TheVariants.{Pair, Taken}
-use Rattle.id_front.specs.declared.front.Pair as front
-use Rattle.id_front.specs.Front.{IsKept, OthersSame, all_entries, front_half}
-use Rattle.id_front.specs.Halves.{answer_at, half_after}
-use Rattle.id_front.specs.Ports.{same_port}
-use Rattle.id_front.specs.Waiting.{Store, offer_after, offer_answer, pair_of, store_after}
-use Rattle.id_front.proofs.BehindLemmas.{halves_kept}
+use Rattle.id_match.specs.declared.meeting.Half.{Half}
+use Rattle.id_match.specs.declared.meeting.Offered.TheVariants.{Pair, Taken}
+use Rattle.id_match.specs.declared.front.Pair as front
+use Rattle.id_match.specs.Front.{IsKept, OthersSame, all_entries, front_half}
+use Rattle.id_match.specs.Halves.{answer_at, half_after}
+use Rattle.id_match.specs.Ports.{same_port}
+use Rattle.id_match.specs.Waiting.{Store, offer_after, offer_answer, pair_of, store_after}
+use Rattle.id_match.proofs.BehindLemmas.{halves_kept}
 use Rattle.id_match.proofs.EntriesLemmas.{get-lookup}
-use Rattle.id_front.proofs.FrontLemmas.{lookup_all}
-use Rattle.id_front.proofs.WaitingLemmas.{answer_of-at_port, get_half, get-offer_after}
+use Rattle.id_match.proofs.FrontLemmas.{lookup_all}
+use Rattle.id_match.proofs.WaitingLemmas.{answer_of-at_port, get_half, get-offer_after}
 
 -- what a store has under a tag is what it was made of
 pub lookup-entries : (es : List (Tag × Half)) (s : Store) → from_entries {R = tag_cmp} es ≡ s → (t : Tag)

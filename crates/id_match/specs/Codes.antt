@@ -6,7 +6,7 @@ use Rattle.id_instr.specs.declared.dests.Port.{Port}
 use Rattle.id_tag.specs.declared.Value.{Value}
 use Rattle.id_tag.specs.Tags.{tag_cmp}
 use Rattle.id_tag.specs.Codes.{coded_tag, coded_port, coded_value}
-use Rattle.id_front.specs.declared.Half.{Half}
+use Rattle.id_match.specs.declared.meeting.Half.{Half}
 
 -- what waits as the pair of its port and its value
 abbrev pub coded_half : Coded Half

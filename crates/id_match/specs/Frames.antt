@@ -2,9 +2,9 @@
 use Rattle.std.specs.Prelude.{ℕ, zero, suc, Bool, false, not, ◌&&◌, ◌||◌, is_some}
 use Rattle.std.specs.FinMap.{contains_key}
 use Rattle.id_tag.specs.declared.Tag.{Tag}
-use Rattle.id_front.specs.declared.front.Slot.{Slot}
-use Rattle.id_front.specs.Front.{slot_half, slot_tag}
-use Rattle.id_front.specs.Waiting.{Store}
+use Rattle.id_match.specs.declared.front.Slot.{Slot}
+use Rattle.id_match.specs.Front.{slot_half, slot_tag}
+use Rattle.id_match.specs.Waiting.{Store}
 
 -- whether something waits in the frame of t at an instruction below n
 abbrev pub waits_below : Store → Tag → ℕ → Bool

@@ -4,10 +4,10 @@ use Rattle.id_instr.specs.declared.dests.Port.{Port}
 use Rattle.id_tag.specs.declared.Tag.{Tag}
 use Rattle.id_tag.specs.declared.Value.{Value}
 use Rattle.id_tag.specs.Tags.{same_tag}
-use Rattle.id_front.specs.declared.Offered.{Offered}
-use Rattle.id_front.specs.declared.Offered.TheVariants.{Kept, Pair, Taken}
-use Rattle.id_front.specs.Ports.{other_port, same_port}
-use Rattle.id_front.specs.Waiting.{answer_of}
+use Rattle.id_match.specs.declared.meeting.Offered.{Offered}
+use Rattle.id_match.specs.declared.meeting.Offered.TheVariants.{Kept, Pair, Taken}
+use Rattle.id_match.specs.Ports.{other_port, same_port}
+use Rattle.id_match.specs.Waiting.{answer_of}
 
 -- a map from the ports of tags to values
 abbrev pub Keyed : Type 0

@@ -1,6 +1,11 @@
+-- What public clauses cite.
+pub mod Front
+pub mod Halves
+pub mod Meetings
+pub mod Ports
+pub mod Waiting
 pub mod Keyed
--- for models that hold a store
 pub mod Codes
--- for use inside
+-- For use inside.
 pub mod Rear
 pub mod Frames

@@ -10,15 +10,15 @@ use Rattle.id_tag.specs.declared.Tag.{Tag}
 use Rattle.id_tag.specs.Plains.{whole}
 use Rattle.id_tag.specs.declared.Value.{Value}
 use Rattle.id_tag.specs.Tags.{same_context, same_tag}
-use Rattle.id_front.specs.declared.Half.{Half}
-use Rattle.id_front.specs.declared.Offered.{Offered}
-use Rattle.id_front.specs.declared.Offered.TheVariants as offered
+use Rattle.id_match.specs.declared.meeting.Half.{Half}
+use Rattle.id_match.specs.declared.meeting.Offered.{Offered}
+use Rattle.id_match.specs.declared.meeting.Offered.TheVariants as offered
 use Rattle.id_match.specs.declared.rear.Came.{Came}
 use Rattle.id_match.specs.declared.rear.Came.TheVariants.{Kept, Plain, Partner, Apart}
 use Rattle.id_match.specs.declared.rear.Frame.{Frame}
 use Rattle.id_match.specs.declared.rear.Name.{Name}
-use Rattle.id_front.specs.Halves.{answer_at, half_after}
-use Rattle.id_front.specs.Waiting.{pair_of}
+use Rattle.id_match.specs.Halves.{answer_at, half_after}
+use Rattle.id_match.specs.Waiting.{pair_of}
 
 -- the name of a tag's frame
 abbrev pub name_of : Tag → Name

@@ -6,14 +6,14 @@ ghost use Rattle.std.specs.Prelude.{◌≡◌, ◌≤◌, ◌<◌, ◌*◌, ◌^
 ghost use Rattle.std.specs.FinMap.{contains_key};
 ghost use Rattle.std.specs.List.{count_by};
 ghost use Rattle.std.specs.Map.{keys_of};
-ghost use Rattle.id_front.specs.Front.{front_entries};
+ghost use Rattle.id_match.specs.Front.{front_entries};
 ghost use Rattle.id_match.specs.Frames.{is_first, is_first_in};
 ghost use Rattle.id_match.specs.Rear.{frame_entries, rear_entries};
-ghost use Rattle.id_front.specs.Waiting.{frames_of};
+ghost use Rattle.id_match.specs.Waiting.{frames_of};
 
 use crate::Waiting;
+use crate::front::{Pair, Slot, has};
 use crate::rear::{Frame, Name};
-use id_front::{Pair, Slot, has};
 use id_tag::{NearHasher, Tag};
 use slab::Slab;
 use std::collections::HashMap;

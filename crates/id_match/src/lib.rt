@@ -4,7 +4,7 @@
 //! slots of the front that its tag's numbers tell, where it fits and one is free, and else in the rear: in the frame of
 //! its context and iteration, one of those in a slab.
 //! Errors: want of memory alone, and then nothing has changed.
-//! Read first: `specs/Waiting.antt`, then `offer`.
+//! Read first: `specs/Waiting.antt`, `specs/Front.antt`, then `offer`.
 //! Not here: which operators have two ports (`id_graph`), firing (`id_ops`).
 #![tactic(auto)]
 
@@ -16,25 +16,28 @@ ghost use Rattle.id_tag.specs.declared.Tag.{Tag};
 ghost use Rattle.id_tag.specs.declared.Value.{Value};
 ghost use Rattle.id_instr.specs.declared.dests.Port.{Port};
 ghost use Rattle.id_tag.specs.declared.plain.Plain.{Plain};
-ghost use Rattle.id_front.specs.declared.Met.TheVariants as meeting;
-ghost use Rattle.id_front.specs.declared.Offered.TheVariants.{Kept, Taken, Pair as Both};
-ghost use Rattle.id_front.specs.Halves.{answer_at, half_after};
-ghost use Rattle.id_front.specs.Meetings.{told};
+ghost use Rattle.id_match.specs.declared.meeting.Met.TheVariants as meeting;
+ghost use Rattle.id_match.specs.declared.meeting.Offered.TheVariants.{Kept, Taken, Pair as Both};
+ghost use Rattle.id_match.specs.Halves.{answer_at, half_after};
+ghost use Rattle.id_match.specs.Meetings.{told};
 ghost use Rattle.id_tag.specs.Plains.{tag_in, whole};
 ghost use Rattle.std.specs.Map.{lookup};
-ghost use Rattle.id_front.specs.Front.{HoldsSame, IsMarked, IsPlaced, MarksSame, OthersSame, Puts};
-ghost use Rattle.id_front.specs.Front.{front_entries, front_half, slot_half, slot_tag};
+ghost use Rattle.id_match.specs.Front.{HoldsSame, IsMarked, IsPlaced, MarksSame, OthersSame, Puts};
+ghost use Rattle.id_match.specs.Front.{front_entries, front_half, slot_half, slot_tag};
 
 mod frames;
+mod front;
+mod meeting;
 mod rear;
 
-use id_front::{
-    Behind, Pair, Slot, count, has, has_room, in_front, larger, leave_behind, mark, meet, pair,
-    put, slot_for, slot_in, stands_behind, step_behind, take,
+use crate::front::{
+    Behind, Pair, Slot, count, has, has_room, in_front, larger, leave_behind, mark, meet, put,
+    slot_for, slot_in, stands_behind, step_behind, take,
 };
-pub use id_front::{Entry, Half, Met, Offered};
+use crate::meeting::pair;
 use id_instr::Port;
 use id_tag::{Plain, PlainToken, Tag, Value};
+pub use meeting::{Entry, Half, Met, Offered};
 use rear::{Rear, sort_by_tag};
 use std::alloc::{AllocError, Global};
 use std::marker::Model;
@@ -56,9 +59,9 @@ pub struct Waiting {
 impl Model for Waiting {
     ghost use Rattle.std.specs.FinMap as map;
     ghost use Rattle.id_tag.specs.Tags.{tag_cmp};
-    ghost use Rattle.id_front.specs.declared.Half.{Half};
+    ghost use Rattle.id_match.specs.declared.meeting.Half.{Half};
     ghost use Rattle.id_match.specs.Codes.{coded_store};
-    ghost use Rattle.id_front.specs.Front.{IsKept, all_entries};
+    ghost use Rattle.id_match.specs.Front.{IsKept, all_entries};
 
     ghost Value = { map.FinMap tag_cmp Half };
 
@@ -72,8 +75,8 @@ impl Model for Waiting {
 impl Waiting {
     ghost use Rattle.std.specs.Prelude.{◌↔◌, length};
     ghost use Rattle.std.specs.List.{Contains};
-    ghost use Rattle.id_front.specs.declared.Entry.{Entry};
-    ghost use Rattle.id_front.specs.Waiting.{waits, offer_answer, offer_after, entries_of};
+    ghost use Rattle.id_match.specs.declared.meeting.Entry.{Entry};
+    ghost use Rattle.id_match.specs.Waiting.{waits, offer_answer, offer_after, entries_of};
     ghost use Rattle.id_match.specs.Keyed.{keyed_after};
 
     /// The store in which nothing waits. Takes no memory.

@@ -16,18 +16,18 @@ ghost use Rattle.id_tag.specs.Tags.{same_tag, tag_cmp};
 ghost use Rattle.id_tag.specs.declared.Tag.{Tag};
 ghost use Rattle.id_tag.specs.declared.Value.{Value};
 ghost use Rattle.id_tag.specs.declared.plain.Plain.{Plain};
-ghost use Rattle.id_front.specs.declared.Half.{Half};
-ghost use Rattle.id_front.specs.declared.Offered.TheVariants.{Kept, Taken};
+ghost use Rattle.id_match.specs.declared.meeting.Half.{Half};
+ghost use Rattle.id_match.specs.declared.meeting.Offered.TheVariants.{Kept, Taken};
 ghost use Rattle.id_match.specs.declared.rear.Came.TheVariants as coming;
-ghost use Rattle.id_front.specs.Front.{half_entry};
-ghost use Rattle.id_front.specs.Waiting.{entry_at, pair_of};
-ghost use Rattle.id_front.specs.Meetings.{told};
+ghost use Rattle.id_match.specs.Front.{half_entry};
+ghost use Rattle.id_match.specs.Waiting.{entry_at, pair_of};
+ghost use Rattle.id_match.specs.Meetings.{told};
 ghost use Rattle.id_match.specs.Rear.{IsFramed, IsOffered, IsOfferedAt, Sets, after_came, frame_entries, halves_in};
 ghost use Rattle.id_match.specs.Rear.{TellsOf, WritesFrame, name_of, rear_entries, rear_half, said, same_name, tag_at};
 ghost use Rattle.slab.specs.Slab.{ContainsKey, HasRoomFor, Updates, get};
 ghost use Rattle.id_tag.specs.Plains.{tag_in, whole};
 
-use id_front::{Entry, Half, Met, Offered, pair};
+use crate::meeting::{Entry, Half, Met, Offered, pair};
 use id_instr::Port;
 use id_tag::{Context, NearHasher, Plain, PlainToken, Tag, Value, plain_of};
 use slab::Slab;
@@ -79,7 +79,7 @@ impl Model for Rear {
     ghost use Rattle.std.specs.Prelude.{◌≡◌, ◌≤◌, ◌^◌};
     ghost use Rattle.std.specs.FinMap as map;
     ghost use Rattle.id_tag.specs.Tags.{tag_cmp};
-    ghost use Rattle.id_front.specs.declared.Half.{Half};
+    ghost use Rattle.id_match.specs.declared.meeting.Half.{Half};
     ghost use Rattle.id_match.specs.Codes.{coded_store};
     ghost use Rattle.id_match.specs.Rear.{IsFramed, rear_entries};
 
@@ -332,7 +332,7 @@ fn offer_to(
 
 impl Rear {
     ghost use Rattle.std.specs.Prelude.{length, is_some};
-    ghost use Rattle.id_front.specs.Waiting.{offer_answer, offer_after, entries_of};
+    ghost use Rattle.id_match.specs.Waiting.{offer_answer, offer_after, entries_of};
 
     /// The store in which nothing waits. Takes no memory.
     pub(crate) fn new(alloc: Global) -> Rear

@@ -1,20 +1,20 @@
 -- What follows by a rule from facts of rows is among the effects of each of them.
 use Rattle.std.proofs.Common.{ℕ, ◌<◌, List}
-use Rattle.id_list.specs.List.{Among}
+use Rattle.id_value.specs.List.{Among}
 use Rattle.id_check.specs.Programs.{rows}
-use Rattle.id_cells.specs.declared.cells.Cells.{Cells}
+use Rattle.id_facts.specs.declared.cells.Cells.{Cells}
 use Rattle.id_facts.specs.declared.facts.RowFact.{RowFact}
 use Rattle.id_facts.specs.declared.facts.RowFact.TheVariants.{Has}
 use Rattle.id_facts.specs.declared.facts.RowValue.{RowValue}
 use Rattle.id_facts.specs.declared.facts.Trail.TheVariants.{Below}
-use Rattle.id_links.specs.declared.links.Links.{Links}
-use Rattle.id_cells.specs.declared.queues.Queues.{Queues}
+use Rattle.id_source.specs.declared.links.Links.{Links}
+use Rattle.id_facts.specs.declared.queues.Queues.{Queues}
 use Rattle.id_source.specs.Sources.{Source}
-use Rattle.id_listing.specs.Listed.{AreFound}
-use Rattle.id_links.specs.Links.{AreArgs, AreReads, AreTurns}
-use Rattle.id_cells.specs.Cells.{AreChained, items}
-use Rattle.id_effects.specs.Effects.{all_effects, effects}
-use Rattle.id_cells.specs.Waits.{AreWaits}
+use Rattle.id_facts.specs.Listed.{AreFound}
+use Rattle.id_source.specs.Links.{AreArgs, AreReads, AreTurns}
+use Rattle.id_facts.specs.Cells.{AreChained, items}
+use Rattle.id_meaning.specs.Effects.{all_effects, effects}
+use Rattle.id_facts.specs.Waits.{AreWaits}
 use Rattle.id_meaning.proofs.CallsFollowLemmas.{asks_argument-follows, begins-follows, ends-follows, name-follows, passes-follows}
 use Rattle.id_meaning.proofs.ComesLemmas.{all-effects-in}
 use Rattle.id_meaning.proofs.LoopsFollowLemmas.{again-follows, counts_first-follows, counts_on-follows, enters-follows, hands-follows, leads_out-follows, leaves-follows, runs-follows, starts-follows}

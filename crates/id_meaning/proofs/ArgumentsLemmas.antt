@@ -4,8 +4,8 @@ use Rattle.std.proofs.Common.{ap, sym, ◌∙◌, arith}
 use Rattle.std.specs.Prelude.{slice_get, nat_lt, ◌&&◌}
 use Rattle.std.proofs.lemmas.Bool.{cases_lt, false≢true, lt-ltb}
 use Rattle.std.proofs.lemmas.Option.{slice_get_within}
-use Rattle.id_list.proofs.AmongLemmas.{Among-from_at}
-use Rattle.id_list.proofs.PlacesLemmas.{slice_get-last}
+use Rattle.id_value.proofs.AmongLemmas.{Among-from_at}
+use Rattle.id_value.proofs.PlacesLemmas.{slice_get-last}
 use Rattle.id_table.specs.declared.row.Row.{Row}
 use Rattle.id_table.specs.declared.row.Node.{Node}
 use Rattle.id_table.specs.declared.row.Node.TheVariants.{Arg}
@@ -16,7 +16,7 @@ use Rattle.id_check.specs.declared.checked.Checked.{Checked}
 use Rattle.id_check.specs.Programs.{Calls, Stands, rows}
 use Rattle.id_check.proofs.ProgramsLemmas.{table_of}
 use Rattle.id_check.proofs.WantedLemmas.{argument_call, call_row}
-use Rattle.id_effects.specs.Effects.{param_row}
+use Rattle.id_meaning.specs.Effects.{param_row}
 use Rattle.id_source.proofs.ParamsLemmas.{params-among}
 
 -- at a row past the last nothing comes

@@ -3,8 +3,8 @@ use Rattle.std.proofs.Common.{◌≡◌, inl, inr, ℕ, ◌<◌, Bool as Truth, 
 use Rattle.std.proofs.Common.{if◌then◌else◌, refl, ap, sym, ◌∙◌, subst}
 use Rattle.std.specs.Prelude.{slice_get}
 use Rattle.std.proofs.lemmas.Bool.{eq-eqb}
-use Rattle.id_list.specs.List.{Among}
-use Rattle.id_list.proofs.AmongLemmas.{Among-left, Among-right}
+use Rattle.id_value.specs.List.{Among}
+use Rattle.id_value.proofs.AmongLemmas.{Among-left, Among-right}
 use Rattle.id_value.specs.declared.Kind.{Kind}
 use Rattle.id_table.specs.declared.row.Node.{Node}
 use Rattle.id_table.specs.declared.row.Node.TheVariants as node
@@ -12,29 +12,29 @@ use Rattle.id_table.specs.Rows.{at}
 use Rattle.id_table.specs.Turns.{params_at}
 use Rattle.id_check.specs.Programs.{Stands, binder, rows}
 use Rattle.id_check.proofs.ProgramsLemmas.{callee_row}
-use Rattle.id_effects.specs.declared.calls.OnCall.{OnCall}
-use Rattle.id_cells.specs.declared.cells.Cells.{Cells}
+use Rattle.id_meaning.specs.declared.calls.OnCall.{OnCall}
+use Rattle.id_facts.specs.declared.cells.Cells.{Cells}
 use Rattle.id_facts.specs.declared.facts.RowFact.{RowFact}
 use Rattle.id_facts.specs.declared.facts.RowFact.TheVariants.{On, Has}
 use Rattle.id_facts.specs.declared.facts.RowValue.{RowValue}
 use Rattle.id_facts.specs.declared.facts.Trail.{Trail}
 use Rattle.id_facts.specs.declared.facts.Trail.TheVariants.{Below}
-use Rattle.id_links.specs.declared.links.Links.{Links}
-use Rattle.id_cells.specs.declared.queues.Queues.{Queues}
-use Rattle.id_cells.specs.declared.queues.Wait.{Wait}
+use Rattle.id_source.specs.declared.links.Links.{Links}
+use Rattle.id_facts.specs.declared.queues.Queues.{Queues}
+use Rattle.id_facts.specs.declared.queues.Wait.{Wait}
 use Rattle.id_source.specs.Sources.{Source}
-use Rattle.id_links.specs.Links.{AreArgs, AreReads, AreTurns, Leads, awaited, awaited_of, far_from, targets, users_of}
-use Rattle.id_cells.specs.Cells.{AreChained, find, items, out_of, values}
+use Rattle.id_source.specs.Links.{AreArgs, AreReads, AreTurns, Leads, awaited, awaited_of, far_from, targets, users_of}
+use Rattle.id_facts.specs.Cells.{AreChained, find, items, out_of, values}
 use Rattle.id_facts.specs.RowFacts.{same_trail}
-use Rattle.id_effects.specs.Effects.{all_passed, all_passes, call_by, callee_by, callee_of, effects, entered, entered_by, entered_of, exit_by}
-use Rattle.id_given.specs.Given.{from_found}
-use Rattle.id_effects.specs.Effects.{body_in, index_woken, is_awaited_by, is_end, is_row, param_haves, param_row, pass_by, passed_of, woken_by}
-use Rattle.id_given.specs.Given.{given_of, seen}
+use Rattle.id_meaning.specs.Effects.{all_passed, all_passes, call_by, callee_by, callee_of, effects, entered, entered_by, entered_of, exit_by}
+use Rattle.id_meaning.specs.Given.{from_found}
+use Rattle.id_meaning.specs.Effects.{body_in, index_woken, is_awaited_by, is_end, is_row, param_haves, param_row, pass_by, passed_of, woken_by}
+use Rattle.id_meaning.specs.Given.{given_of, seen}
 use Rattle.id_facts.specs.Firsts.{haves}
-use Rattle.id_listing.specs.Listed.{AreFound}
-use Rattle.id_cells.specs.Waits.{AreWaits, by_on}
+use Rattle.id_facts.specs.Listed.{AreFound}
+use Rattle.id_facts.specs.Waits.{AreWaits, by_on}
 use Rattle.id_meaning.proofs.ArgumentsLemmas.{get-param_row}
-use Rattle.id_cells.proofs.LookupLemmas.{find-all, find-true, values-all}
+use Rattle.id_facts.proofs.LookupLemmas.{find-all, find-true, values-all}
 use Rattle.id_facts.proofs.OneLemmas.{trail-itself}
 use Rattle.id_meaning.proofs.PartsFollowLemmas.{asker, found-by, from-call, from-exit, from-given, from-pass, from-woken, haves-all, reader, when-same}
 use Rattle.id_meaning.proofs.RulesLemmas.{AllAmong, part-within}

@@ -5,35 +5,35 @@ use Rattle.std.specs.Prelude.{pos, ◌||◌}
 use Rattle.std.specs.Ordering.{int_eq}
 use Rattle.std.proofs.lemmas.Cmp.{int_eq_equiv}
 use Rattle.std.proofs.lemmas.Bool.{eq-eqb, eqb-true}
-use Rattle.id_list.specs.List.{Among}
-use Rattle.id_list.proofs.AmongLemmas.{Among-left, Among-right}
+use Rattle.id_value.specs.List.{Among}
+use Rattle.id_value.proofs.AmongLemmas.{Among-left, Among-right}
 use Rattle.id_value.specs.Bounds.{is_inside}
 use Rattle.id_table.specs.declared.row.Node.{Node}
 use Rattle.id_table.specs.Rows.{at}
 use Rattle.id_check.specs.Programs.{rows}
-use Rattle.id_cells.specs.declared.cells.Bounds.{Bounds}
-use Rattle.id_cells.specs.declared.cells.Cells.{Cells}
-use Rattle.id_cells.specs.declared.cells.Point.{Point}
+use Rattle.id_facts.specs.declared.cells.Bounds.{Bounds}
+use Rattle.id_facts.specs.declared.cells.Cells.{Cells}
+use Rattle.id_facts.specs.declared.cells.Point.{Point}
 use Rattle.id_facts.specs.declared.facts.RowFact.{RowFact}
 use Rattle.id_facts.specs.declared.facts.RowFact.TheVariants.{On, Has, Shape, Put, Ask}
 use Rattle.id_facts.specs.declared.facts.RowValue.{RowValue}
 use Rattle.id_facts.specs.declared.facts.RowValue.TheVariants.{Name}
 use Rattle.id_facts.specs.declared.facts.Sort.TheVariants.{Shapes, Named, Puts, Asks}
 use Rattle.id_facts.specs.declared.facts.Trail.{Trail}
-use Rattle.id_links.specs.declared.links.Links.{Links}
-use Rattle.id_cells.specs.declared.queues.Queues.{Queues}
+use Rattle.id_source.specs.declared.links.Links.{Links}
+use Rattle.id_facts.specs.declared.queues.Queues.{Queues}
 use Rattle.id_source.specs.Sources.{Source}
-use Rattle.id_links.specs.Links.{Leads, targets}
-use Rattle.id_cells.specs.Cells.{AreChained, ask_by, asks, bounds_by, find, items, name_of, named, named_by, put_by, puts}
+use Rattle.id_source.specs.Links.{Leads, targets}
+use Rattle.id_facts.specs.Cells.{AreChained, ask_by, asks, bounds_by, find, items, name_of, named, named_by, put_by, puts}
 use Rattle.id_facts.specs.RowFacts.{chain_by, chain_of, fact_at}
 use Rattle.id_facts.specs.RowFacts.{same_trail}
-use Rattle.id_cells.specs.Cells.{shapes, value_by}
-use Rattle.id_effects.specs.Effects.{all_effects, begin_at, call_at, effects, gain, gains}
-use Rattle.id_given.specs.Given.{from_found, from_on, given, given_of, is_in_some}
-use Rattle.id_effects.specs.Effects.{loop_by, pass_of, reached, start_at}
+use Rattle.id_facts.specs.Cells.{shapes, value_by}
+use Rattle.id_meaning.specs.Effects.{all_effects, begin_at, call_at, effects, gain, gains}
+use Rattle.id_meaning.specs.Given.{from_found, from_on, given, given_of, is_in_some}
+use Rattle.id_meaning.specs.Effects.{loop_by, pass_of, reached, start_at}
 use Rattle.id_facts.specs.Firsts.{ons}
 use Rattle.id_facts.proofs.FactsLemmas.{index-of}
-use Rattle.id_cells.proofs.LookupLemmas.{told-all}
+use Rattle.id_facts.proofs.LookupLemmas.{told-all}
 use Rattle.id_meaning.proofs.PartsFollowLemmas.{from-gain, gains-all, ons-all}
 
 -- ---- lists of facts

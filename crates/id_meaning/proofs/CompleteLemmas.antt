@@ -2,7 +2,7 @@
 use Rattle.std.proofs.Common.{◌≡◌, ◌⊎◌, inl, inr, ℕ, zero, suc, ◌+◌, ◌<◌, ℤ, Bool as Truth, true, false, Some}
 use Rattle.std.proofs.Common.{List, [], ◌∷◌, length, refl, ap, sym, ◌∙◌, subst, arith}
 use Rattle.std.specs.Prelude.{pos, ◌+ℤ◌}
-use Rattle.id_list.specs.List.{Among}
+use Rattle.id_value.specs.List.{Among}
 use Rattle.id_value.specs.declared.Constant.TheVariants as constant
 use Rattle.id_table.specs.declared.row.Node.{Node}
 use Rattle.id_table.specs.declared.row.Node.TheVariants as node
@@ -28,15 +28,15 @@ use Rattle.id_source.specs.Sources.{Source, main_body, value_of}
 use Rattle.id_source.specs.Facts.{ForStands, GoesOn, StoreStands, Rule, ask, below, between, put, shape, site, without}
 use Rattle.id_source.specs.Facts as rule
 use Rattle.id_source.specs.Rounds.{Every, Rounds}
-use Rattle.id_links.specs.Links.{BodyTurns, arm_of, far_from, of_binding, of_next, of_store}
+use Rattle.id_source.specs.Links.{BodyTurns, arm_of, far_from, of_binding, of_next, of_store}
 use Rattle.id_facts.specs.RowFacts.{fact_at, path_of, row_of}
-use Rattle.id_cells.specs.Cells.{out_of}
+use Rattle.id_facts.specs.Cells.{out_of}
 use Rattle.id_facts.specs.Firsts.{row_value}
-use Rattle.id_listing.specs.Listed.{IsOfThing, IsRound, fact_of, name_at, path_at, value_at}
+use Rattle.id_facts.specs.Listed.{IsOfThing, IsRound, fact_of, name_at, path_at, value_at}
 use Rattle.id_source.specs.Things.{IsThing}
 use Rattle.id_source.proofs.CheckedLemmas.{binder_of, far-between, next-region, thing-binder, use_binder}
 use Rattle.id_source.proofs.HasLemmas.{choice}
-use Rattle.id_listing.proofs.PathsLemmas.{path-below, path-out}
+use Rattle.id_facts.proofs.PathsLemmas.{path-below, path-out}
 use Rattle.id_meaning.proofs.RulesLemmas.{AllAmong, RowGoesOn, RowRule, value-row}
 use Rattle.id_facts.proofs.FactsLemmas.{IsOnBy}
 use Rattle.id_meaning.proofs.RulesLemmas as row

@@ -4,8 +4,8 @@ use Rattle.std.proofs.Common.{None, Some, List, [], ◌∷◌, length, if◌then
 use Rattle.std.proofs.Common.{refl, ap, sym, ◌∙◌, subst, arith}
 use Rattle.std.specs.Prelude.{pos}
 use Rattle.std.proofs.lemmas.Bool.{false≢true}
-use Rattle.id_list.specs.List.{Among}
-use Rattle.id_list.proofs.AmongLemmas.{Among-either}
+use Rattle.id_value.specs.List.{Among}
+use Rattle.id_value.proofs.AmongLemmas.{Among-either}
 use Rattle.id_value.specs.declared.Constant.{Constant}
 use Rattle.id_value.specs.declared.Constant.TheVariants as constant
 use Rattle.id_value.specs.declared.UnaryOp.{UnaryOp}
@@ -19,8 +19,8 @@ use Rattle.id_table.specs.declared.row.Node.TheVariants as node
 use Rattle.id_table.specs.Rows.{at}
 use Rattle.id_table.specs.Tables.{is_thing}
 use Rattle.id_check.specs.Programs.{Stands, binder, rows}
-use Rattle.id_cells.specs.declared.cells.Bounds.{Bounds}
-use Rattle.id_cells.specs.declared.cells.Cells.{Cells}
+use Rattle.id_facts.specs.declared.cells.Bounds.{Bounds}
+use Rattle.id_facts.specs.declared.cells.Cells.{Cells}
 use Rattle.id_facts.specs.declared.facts.RowFact.{RowFact}
 use Rattle.id_facts.specs.declared.facts.RowFact.TheVariants.{On, Has, Shape, Put, Ask}
 use Rattle.id_facts.specs.declared.facts.RowValue.{RowValue}
@@ -29,15 +29,15 @@ use Rattle.id_facts.specs.declared.facts.Sort.TheVariants.{Shapes}
 use Rattle.id_facts.specs.declared.facts.Trail.{Trail}
 use Rattle.id_source.specs.Sources.{Source}
 use Rattle.id_source.specs.Facts.{StoreStands}
-use Rattle.id_links.specs.Links.{arm_of, far_from, test_of}
-use Rattle.id_cells.specs.Cells.{AreChained, bounds_by, chain, find, items, out_of, shapes, values}
+use Rattle.id_source.specs.Links.{arm_of, far_from, test_of}
+use Rattle.id_facts.specs.Cells.{AreChained, bounds_by, chain, find, items, out_of, shapes, values}
 use Rattle.id_facts.specs.RowFacts.{chain_by, fact_at}
-use Rattle.id_given.specs.Given.{arm_by, arms, array_by, arrays, asked, asked_by, binaries, binary_by, constant_of, fetch_by, fetches, from_found}
-use Rattle.id_given.specs.Given.{from_on, given, given_of, gives, is_in_some, made, made_by, put_in, rights_of, seen}
+use Rattle.id_meaning.specs.Given.{arm_by, arms, array_by, arrays, asked, asked_by, binaries, binary_by, constant_of, fetch_by, fetches, from_found}
+use Rattle.id_meaning.specs.Given.{from_on, given, given_of, gives, is_in_some, made, made_by, put_in, rights_of, seen}
 use Rattle.id_facts.specs.Firsts.{haves, ons, row_value}
-use Rattle.id_given.specs.Given.{all_rights, store_at, store_by, stored, stored_by, stores, unaries, unary_by}
+use Rattle.id_meaning.specs.Given.{all_rights, store_at, store_by, stored, stored_by, stores, unaries, unary_by}
 use Rattle.id_meaning.proofs.ArgumentsLemmas.{row-within}
-use Rattle.id_cells.proofs.LookupLemmas.{bounds-true, fact-there, find-true, told-among, values-true}
+use Rattle.id_facts.proofs.LookupLemmas.{bounds-true, fact-there, find-true, told-among, values-true}
 use Rattle.id_meaning.proofs.RulesLemmas.{AllAmong, RowRule, part-within}
 use Rattle.id_facts.proofs.FactsLemmas.{IsOnBy}
 use Rattle.id_meaning.proofs.RulesLemmas as row

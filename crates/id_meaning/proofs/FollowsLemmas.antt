@@ -4,8 +4,8 @@ use Rattle.std.proofs.Common.{nat_eq, nat_lt, Option, None, Some, List, [], ◌�
 use Rattle.std.proofs.Common.{refl, ap, sym, ◌∙◌, subst, arith}
 use Rattle.std.specs.Prelude.{slice_get}
 use Rattle.std.proofs.lemmas.Bool.{eqb-true, false≢true}
-use Rattle.id_list.specs.List.{Among}
-use Rattle.id_list.proofs.AmongLemmas.{Among-either}
+use Rattle.id_value.specs.List.{Among}
+use Rattle.id_value.proofs.AmongLemmas.{Among-either}
 use Rattle.id_value.specs.declared.Kind.{Kind}
 use Rattle.id_table.specs.declared.row.Node.{Node}
 use Rattle.id_table.specs.declared.row.Node.TheVariants as node
@@ -15,33 +15,33 @@ use Rattle.id_table.specs.Turns.{Turns, params_at}
 use Rattle.id_table.specs.Turns as turn
 use Rattle.id_check.specs.Programs.{Calls, Stands, binder, rows}
 use Rattle.id_check.proofs.ProgramsLemmas.{callee_row}
-use Rattle.id_effects.specs.declared.calls.OnCall.{OnCall}
-use Rattle.id_cells.specs.declared.cells.Cells.{Cells}
-use Rattle.id_cells.specs.declared.cells.Point.{Point}
+use Rattle.id_meaning.specs.declared.calls.OnCall.{OnCall}
+use Rattle.id_facts.specs.declared.cells.Cells.{Cells}
+use Rattle.id_facts.specs.declared.cells.Point.{Point}
 use Rattle.id_facts.specs.declared.facts.RowFact.{RowFact}
 use Rattle.id_facts.specs.declared.facts.RowFact.TheVariants.{On, Has, Put, Ask}
 use Rattle.id_facts.specs.declared.facts.RowValue.{RowValue}
 use Rattle.id_facts.specs.declared.facts.RowValue.TheVariants.{Int, Bool, Name}
 use Rattle.id_facts.specs.declared.facts.Trail.{Trail}
 use Rattle.id_facts.specs.declared.facts.Trail.TheVariants.{Outermost, Below}
-use Rattle.id_links.specs.declared.links.Links.{Links}
-use Rattle.id_effects.specs.declared.loops.Iteration.{Iteration}
+use Rattle.id_source.specs.declared.links.Links.{Links}
+use Rattle.id_meaning.specs.declared.loops.Iteration.{Iteration}
 use Rattle.id_source.specs.Sources.{Source}
 use Rattle.id_source.specs.Facts.{LoopStands, NextStands}
-use Rattle.id_links.specs.Links.{AreTurns, BodyTurns, TurnsOn, far_from, some_row, targets, test_of_loop}
-use Rattle.id_cells.specs.Cells.{AreChained, find, items, next_of, out_of}
+use Rattle.id_source.specs.Links.{AreTurns, BodyTurns, TurnsOn, far_from, some_row, targets, test_of_loop}
+use Rattle.id_facts.specs.Cells.{AreChained, find, items, next_of, out_of}
 use Rattle.id_facts.specs.RowFacts.{fact_at}
-use Rattle.id_cells.specs.Cells.{values}
-use Rattle.id_effects.specs.Effects.{all_passed, all_passes, call_at, call_by, callee_by, callee_of, entered, entered_by, entered_of}
-use Rattle.id_given.specs.Given.{answered}
+use Rattle.id_facts.specs.Cells.{values}
+use Rattle.id_meaning.specs.Effects.{all_passed, all_passes, call_at, call_by, callee_by, callee_of, entered, entered_by, entered_of}
+use Rattle.id_meaning.specs.Given.{answered}
 use Rattle.id_facts.specs.Firsts.{haves, ons}
-use Rattle.id_effects.specs.Effects.{first_of, firsts, has_at, iteration_by, iteration_in, iteration_of, loop_by, next_by, on_at, start_at, start_by}
-use Rattle.id_given.specs.Given.{seen}
-use Rattle.id_effects.specs.Effects.{body_in, exit_at, exit_by, is_end, is_row, switches_by, turn_by}
-use Rattle.id_effects.specs.Effects.{param_haves, param_row, pass_by, pass_of, passed_of}
+use Rattle.id_meaning.specs.Effects.{first_of, firsts, has_at, iteration_by, iteration_in, iteration_of, loop_by, next_by, on_at, start_at, start_by}
+use Rattle.id_meaning.specs.Given.{seen}
+use Rattle.id_meaning.specs.Effects.{body_in, exit_at, exit_by, is_end, is_row, switches_by, turn_by}
+use Rattle.id_meaning.specs.Effects.{param_haves, param_row, pass_by, pass_of, passed_of}
 use Rattle.id_meaning.proofs.ArgumentsLemmas.{argument-get, param_row-some, row-within}
 use Rattle.id_meaning.proofs.EffectsLemmas.{Given, haves-among, ons-among}
-use Rattle.id_cells.proofs.LookupLemmas.{find-true, values-true}
+use Rattle.id_facts.proofs.LookupLemmas.{find-true, values-true}
 use Rattle.id_facts.proofs.FactsLemmas.{IsOnBy}
 use Rattle.id_meaning.proofs.RulesLemmas as row
 

@@ -17,8 +17,8 @@ use Rattle.id_facts.specs.declared.facts.Trail.{Trail}
 use Rattle.id_facts.specs.declared.facts.Trail.TheVariants.{Below}
 use Rattle.id_facts.specs.RowFacts.{path_of}
 use Rattle.id_facts.proofs.FactsLemmas.{IsOnBy}
-use Rattle.id_links.specs.Links.{awaited, awaited_of, far_from}
-use Rattle.id_cells.specs.Cells.{out_of}
+use Rattle.id_source.specs.Links.{awaited, awaited_of, far_from}
+use Rattle.id_facts.specs.Cells.{out_of}
 use Rattle.id_source.specs.Sources.{Source}
 use Rattle.id_source.specs.Facts.{ForStands}
 use Rattle.id_source.proofs.CheckedLemmas.{far-between, loop-of, loop-rows, within-there}

@@ -3,15 +3,15 @@ use Rattle.std.proofs.Common.{◌≡◌, inl, inr, ℕ, ℤ, true, List, [], ◌
 use Rattle.std.proofs.Common.{refl, sym, subst}
 use Rattle.std.specs.Prelude.{pos}
 use Rattle.std.proofs.lemmas.Bool.{false≢true}
-use Rattle.id_list.specs.List.{Among}
-use Rattle.id_list.proofs.AmongLemmas.{Among-either}
+use Rattle.id_value.specs.List.{Among}
+use Rattle.id_value.proofs.AmongLemmas.{Among-either}
 use Rattle.id_table.specs.declared.row.Node.{Node}
 use Rattle.id_table.specs.declared.row.Node.TheVariants as node
 use Rattle.id_table.specs.Rows.{at}
 use Rattle.id_table.specs.Tables.{is_switches, is_thing}
 use Rattle.id_check.specs.Programs.{rows}
-use Rattle.id_cells.specs.declared.cells.Cells.{Cells}
-use Rattle.id_cells.specs.declared.cells.Point.{Point}
+use Rattle.id_facts.specs.declared.cells.Cells.{Cells}
+use Rattle.id_facts.specs.declared.cells.Point.{Point}
 use Rattle.id_facts.specs.declared.facts.RowFact.{RowFact}
 use Rattle.id_facts.specs.declared.facts.RowFact.TheVariants.{On, Has, Shape, Put, Ask}
 use Rattle.id_facts.specs.declared.facts.RowValue.{RowValue}
@@ -19,20 +19,20 @@ use Rattle.id_facts.specs.declared.facts.RowValue.TheVariants.{Name}
 use Rattle.id_facts.specs.declared.facts.Sort.TheVariants.{Named, Puts, Asks}
 use Rattle.id_facts.specs.declared.facts.Trail.{Trail}
 use Rattle.id_facts.specs.declared.facts.Trail.TheVariants.{Outermost, Below}
-use Rattle.id_links.specs.declared.links.Links.{Links}
-use Rattle.id_cells.specs.declared.queues.Queues.{Queues}
+use Rattle.id_source.specs.declared.links.Links.{Links}
+use Rattle.id_facts.specs.declared.queues.Queues.{Queues}
 use Rattle.id_source.specs.Sources.{Source}
-use Rattle.id_links.specs.Links.{AreTurns, TurnsOn, targets}
-use Rattle.id_cells.specs.Cells.{AreChained, ask_by, asks, chain, items, named, named_by, put_by, puts, queue_of}
+use Rattle.id_source.specs.Links.{AreTurns, TurnsOn, targets}
+use Rattle.id_facts.specs.Cells.{AreChained, ask_by, asks, chain, items, named, named_by, put_by, puts, queue_of}
 use Rattle.id_facts.specs.RowFacts.{chain_by, fact_at}
-use Rattle.id_effects.specs.Effects.{all_effects, all_woken, begin_at, call_at, effects, exit_at, gain, gains, index_at, loop_by, pass_of, reached, start_at}
-use Rattle.id_cells.specs.Queues.{queue}
-use Rattle.id_given.specs.Given.{given}
+use Rattle.id_meaning.specs.Effects.{all_effects, all_woken, begin_at, call_at, effects, exit_at, gain, gains, index_at, loop_by, pass_of, reached, start_at}
+use Rattle.id_facts.specs.Queues.{queue}
+use Rattle.id_meaning.specs.Given.{given}
 use Rattle.id_facts.specs.Firsts.{ons}
-use Rattle.id_listing.specs.Listed.{AreFound}
+use Rattle.id_facts.specs.Listed.{AreFound}
 use Rattle.id_source.specs.Things.{IsThing}
 use Rattle.id_meaning.proofs.KnownLemmas.{among-inside}
-use Rattle.id_cells.proofs.LookupLemmas.{ask-true, fact-there, named-true, put-true, told-among}
+use Rattle.id_facts.proofs.LookupLemmas.{ask-true, fact-there, named-true, put-true, told-among}
 use Rattle.id_meaning.proofs.EffectsLemmas.{Given, given-only, haves-among, ons-among}
 use Rattle.id_meaning.proofs.FollowsLemmas.{BeginsIn, answered-only, call-only, exit-only, loop-only, pass-only, start-only}
 use Rattle.id_meaning.proofs.WokenLemmas.{all-woken-only, begin-only, index-only}

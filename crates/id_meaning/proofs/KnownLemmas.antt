@@ -1,7 +1,7 @@
 -- What is true of the facts of a round: each that the source has by then is that of one of its rows.
 use Rattle.std.proofs.Common.{◌≡◌, ℕ, zero, suc, ◌≤◌, ◌<◌, ℤ, List, length, refl, ap, sym}
 use Rattle.std.proofs.Common.{◌∙◌, subst, arith}
-use Rattle.id_list.specs.List.{Among}
+use Rattle.id_value.specs.List.{Among}
 use Rattle.id_value.specs.declared.Constant.{Constant}
 use Rattle.id_value.specs.declared.Constant.TheVariants as constant
 use Rattle.id_check.specs.Programs.{place}
@@ -24,12 +24,12 @@ use Rattle.id_source.specs.Facts.{ask, put, shape}
 use Rattle.id_source.specs.Rounds.{Rounds}
 use Rattle.id_facts.specs.RowFacts.{AreBefore, fact_at, path_of, row_of}
 use Rattle.id_facts.specs.Firsts.{row_value}
-use Rattle.id_listing.specs.Listed.{AreFound, BeginsOn, IsArrayOn, IsOfThing, IsRound, fact_of, name_at, path_at}
-use Rattle.id_listing.specs.Listed.{site_at, step_at, steps_in_all, steps_of, value_at}
+use Rattle.id_facts.specs.Listed.{AreFound, BeginsOn, IsArrayOn, IsOfThing, IsRound, fact_of, name_at, path_at}
+use Rattle.id_facts.specs.Listed.{site_at, step_at, steps_in_all, steps_of, value_at}
 use Rattle.id_source.specs.Things.{IsThing}
 use Rattle.id_source.proofs.CheckedLemmas.{apart_of}
 use Rattle.id_facts.proofs.FactsLemmas.{Inside, fact-before, inside-more, among-at, index-of}
-use Rattle.id_listing.proofs.PathsLemmas.{all_steps, steps-suc}
+use Rattle.id_facts.proofs.PathsLemmas.{all_steps, steps-suc}
 use Rattle.id_source.proofs.StepsLemmas.{last-same, none-last}
 
 pub among-inside : (fs : List RowFact) → AreBefore fs → (f : RowFact) → Among f fs → Inside (length fs) (path_of f)

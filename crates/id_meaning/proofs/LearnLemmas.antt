@@ -5,45 +5,45 @@ use Rattle.std.specs.Prelude.{slice_get}
 use Rattle.std.proofs.lemmas.Bool.{and_from, lt-ltb, ltb-true}
 use Rattle.std.proofs.lemmas.List.{append-nil, append_assoc, length-append, take-append-drop}
 use Rattle.std.proofs.Math.Seq.{take-suc}
-use Rattle.id_list.specs.List.{Among}
-use Rattle.id_list.proofs.AmongLemmas.{Among-either, Among-left, Among-right}
+use Rattle.id_value.specs.List.{Among}
+use Rattle.id_value.proofs.AmongLemmas.{Among-either, Among-left, Among-right}
 use Rattle.id_value.specs.declared.Constant.{Constant}
 use Rattle.id_check.specs.declared.checked.Checked.{Checked}
 use Rattle.id_check.specs.Programs.{place}
 use Rattle.id_source.specs.declared.Fact.{Fact}
 use Rattle.id_source.specs.declared.Fact.TheVariants as fact
 use Rattle.id_source.specs.declared.SourceValue.TheVariants as value
-use Rattle.id_cells.specs.declared.cells.Cells.{Cells}
+use Rattle.id_facts.specs.declared.cells.Cells.{Cells}
 use Rattle.id_facts.specs.declared.facts.RowFact.{RowFact}
 use Rattle.id_facts.specs.declared.facts.RowFact.TheVariants.{On, Has, Shape, Put, Ask}
 use Rattle.id_facts.specs.declared.facts.RowValue.{RowValue}
 use Rattle.id_facts.specs.declared.facts.RowValue.TheVariants.{Int, Bool, Name}
 use Rattle.id_facts.specs.declared.facts.Trail.{Trail}
 use Rattle.id_facts.specs.declared.facts.Trail.TheVariants.{Outermost, Below}
-use Rattle.id_links.specs.declared.links.Links.{Links}
-use Rattle.id_cells.specs.declared.queues.Queues.{Queues}
+use Rattle.id_source.specs.declared.links.Links.{Links}
+use Rattle.id_facts.specs.declared.queues.Queues.{Queues}
 use Rattle.id_source.specs.Sources.{IsInput, Source, main_params}
 use Rattle.id_source.specs.Facts.{ask, put, shape, site}
 use Rattle.id_source.specs.Rounds.{Rounds}
-use Rattle.id_links.specs.Links.{far_from}
+use Rattle.id_source.specs.Links.{far_from}
 use Rattle.id_facts.specs.RowFacts.{AreBefore, all_learnt, fact_at, is_inside}
 use Rattle.id_facts.specs.RowFacts.{is_path_inside, is_value_inside, path_of, row_of}
-use Rattle.id_cells.specs.Cells.{out_of}
-use Rattle.id_effects.specs.Effects.{all_effects, effects}
+use Rattle.id_facts.specs.Cells.{out_of}
+use Rattle.id_meaning.specs.Effects.{all_effects, effects}
 use Rattle.id_facts.specs.Firsts.{first_facts, input_fact, input_facts, row_value}
-use Rattle.id_listing.specs.Listed.{AreFound, BeginsOn, IsArrayOn, IsOfThing, IsPart, IsRound, NamesArray, NamesArrays, fact_of, name_at, path_at}
-use Rattle.id_listing.specs.Listed.{site_at, value_at}
+use Rattle.id_facts.specs.Listed.{AreFound, BeginsOn, IsArrayOn, IsOfThing, IsPart, IsRound, NamesArray, NamesArrays, fact_of, name_at, path_at}
+use Rattle.id_facts.specs.Listed.{site_at, value_at}
 use Rattle.id_meaning.specs.Following.{Goes}
 use Rattle.id_facts.proofs.FactsLemmas.{among-at, index-of}
 use Rattle.id_meaning.proofs.CompleteLemmas.{complete}
 use Rattle.id_meaning.proofs.KnownLemmas.{among-inside}
 use Rattle.id_facts.proofs.FactsLemmas.{Inside, at-front, fact-before, inside-more}
-use Rattle.id_listing.proofs.PathsLemmas.{path-grown}
+use Rattle.id_facts.proofs.PathsLemmas.{path-grown}
 use Rattle.id_source.proofs.RoundsLemmas.{Rounds-follow}
 use Rattle.id_meaning.proofs.RulesLemmas.{AllAmong, RowGoesOn, RowRule, sound}
 use Rattle.id_facts.proofs.FactsLemmas.{IsOnBy}
 use Rattle.id_meaning.proofs.RulesLemmas as row
-use Rattle.id_cells.proofs.WaitsLemmas.{out-grown}
+use Rattle.id_facts.proofs.WaitsLemmas.{out-grown}
 use Rattle.id_facts.proofs.LearntLemmas.{both, path-there, there-path, inside-path, among-within, AreApart, Learns, wide, kept, learns-so, all_learnt-append}
 
 pub all_effects-append : (P : Checked) (l : Links) (W : Queues) (c : Cells) (fs gs : List RowFact)

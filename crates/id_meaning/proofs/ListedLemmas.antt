@@ -6,7 +6,7 @@ use Rattle.std.specs.List.{IsDistinct}
 use Rattle.std.proofs.lemmas.List.Sorted.{Contains-permutation, IsPermutation-sym, length_permutation}
 use Rattle.std.proofs.lemmas.Map.Keys.{IsDistinct-IsPermutation, IsDistinct-from_apart}
 use Rattle.std.proofs.lemmas.Map.Made.{AllPairs-from_IsDistinct}
-use Rattle.id_list.specs.List.{Among}
+use Rattle.id_value.specs.List.{Among}
 use Rattle.id_check.specs.declared.checked.Checked.{Checked}
 use Rattle.id_check.specs.Programs.{place}
 use Rattle.id_source.specs.declared.Shape.{Shape as Shaped}
@@ -23,12 +23,12 @@ use Rattle.id_source.specs.Sources.{Source}
 use Rattle.id_source.specs.Rounds.{Rounds}
 use Rattle.id_source.specs.Computed.{AreFacts, HasMoreFacts}
 use Rattle.id_facts.specs.RowFacts.{fact_at}
-use Rattle.id_listing.specs.Listed.{AreFound, AreShown, IsPart, IsRound, NamesArray, fact_of, facts_in, name_at, path_at, value_at}
+use Rattle.id_facts.specs.Listed.{AreFound, AreShown, IsPart, IsRound, NamesArray, fact_of, facts_in, name_at, path_at, value_at}
 use Rattle.id_source.specs.Things.{IsThing}
 use Rattle.id_source.proofs.CheckedLemmas.{apart_of}
 use Rattle.id_meaning.proofs.KnownLemmas.{IsThere, name-once, path-once, there-of}
 use Rattle.id_facts.proofs.FactsLemmas.{among-at}
-use Rattle.id_listing.proofs.OrdersLemmas.{FactsRise-up, is_same, is_same-flips, is_same-itself, is_same-one}
+use Rattle.id_facts.proofs.OrdersLemmas.{FactsRise-up, is_same, is_same-flips, is_same-itself, is_same-one}
 
 -- ---- lists in another order
 

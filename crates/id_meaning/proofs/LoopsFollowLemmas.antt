@@ -3,45 +3,45 @@ use Rattle.std.proofs.Common.{◌≡◌, inl, inr, ℕ, ◌+◌, ◌<◌, Bool a
 use Rattle.std.specs.Prelude.{ℤ, pos, ◌+ℤ◌, int_le, int_lt}
 use Rattle.std.proofs.Common.{if◌then◌else◌, refl, ap, sym, ◌∙◌, subst, arith}
 use Rattle.std.proofs.lemmas.Bool.{eq-eqb, lt-ltb}
-use Rattle.id_list.specs.List.{Among}
-use Rattle.id_list.proofs.AmongLemmas.{Among-left, Among-right}
+use Rattle.id_value.specs.List.{Among}
+use Rattle.id_value.proofs.AmongLemmas.{Among-left, Among-right}
 use Rattle.id_table.specs.declared.row.Node.{Node}
 use Rattle.id_table.specs.declared.row.Node.TheVariants as node
 use Rattle.id_table.specs.Rows.{at}
 use Rattle.id_table.specs.Tables.{is_switches, is_within}
 use Rattle.id_table.specs.Loops.{bounds_row, index_row, lower_of, upper_of}
 use Rattle.id_check.specs.Programs.{Stands, binder, rows}
-use Rattle.id_cells.specs.declared.cells.Cells.{Cells}
+use Rattle.id_facts.specs.declared.cells.Cells.{Cells}
 use Rattle.id_facts.specs.declared.facts.RowFact.{RowFact}
 use Rattle.id_facts.specs.declared.facts.RowFact.TheVariants.{On, Has}
 use Rattle.id_facts.specs.declared.facts.RowValue.{RowValue}
 use Rattle.id_facts.specs.declared.facts.RowValue.TheVariants.{Bool, Int}
 use Rattle.id_facts.specs.declared.facts.Trail.{Trail}
 use Rattle.id_facts.specs.declared.facts.Trail.TheVariants.{Below}
-use Rattle.id_links.specs.declared.links.Links.{Links}
-use Rattle.id_effects.specs.declared.counts.Counting.{Counting}
-use Rattle.id_effects.specs.declared.loops.Iteration.{Iteration}
-use Rattle.id_cells.specs.declared.queues.Queues.{Queues}
-use Rattle.id_cells.specs.declared.queues.Wait.{Wait}
+use Rattle.id_source.specs.declared.links.Links.{Links}
+use Rattle.id_meaning.specs.declared.counts.Counting.{Counting}
+use Rattle.id_meaning.specs.declared.loops.Iteration.{Iteration}
+use Rattle.id_facts.specs.declared.queues.Queues.{Queues}
+use Rattle.id_facts.specs.declared.queues.Wait.{Wait}
 use Rattle.id_source.specs.Sources.{Source}
 use Rattle.id_source.specs.Facts.{ForStands, LoopStands, NextStands}
-use Rattle.id_links.specs.Links.{AreArgs, AreReads, AreTurns, BodyTurns, Leads, awaited, awaited_of, far_from, of_binding, of_next, of_store, some_row}
-use Rattle.id_links.specs.Links.{targets, test_of_loop, turned_by, users_of}
-use Rattle.id_cells.specs.Cells.{AreChained, find, items, next_of, out_of, values}
-use Rattle.id_effects.specs.Effects.{effects, exit_by, first_of, firsts, has_at, is_awaited_by, is_end, iteration_by, iteration_in, iteration_of}
+use Rattle.id_source.specs.Links.{AreArgs, AreReads, AreTurns, BodyTurns, Leads, awaited, awaited_of, far_from, of_binding, of_next, of_store, some_row}
+use Rattle.id_source.specs.Links.{targets, test_of_loop, turned_by, users_of}
+use Rattle.id_facts.specs.Cells.{AreChained, find, items, next_of, out_of, values}
+use Rattle.id_meaning.specs.Effects.{effects, exit_by, first_of, firsts, has_at, is_awaited_by, is_end, iteration_by, iteration_in, iteration_of}
 use Rattle.id_facts.specs.Firsts.{haves}
-use Rattle.id_effects.specs.Effects.{begin_at, begin_by, counted, counted_by, counted_on, counted_with, counting_by, counting_of, goes_on, index_by, index_woken, is_row}
-use Rattle.id_effects.specs.Effects.{next_by, on_at, start_by, switches_by, turn_by, woken_by}
-use Rattle.id_given.specs.Given.{seen}
+use Rattle.id_meaning.specs.Effects.{begin_at, begin_by, counted, counted_by, counted_on, counted_with, counting_by, counting_of, goes_on, index_by, index_woken, is_row}
+use Rattle.id_meaning.specs.Effects.{next_by, on_at, start_by, switches_by, turn_by, woken_by}
+use Rattle.id_meaning.specs.Given.{seen}
 use Rattle.id_facts.specs.Firsts.{ons}
-use Rattle.id_listing.specs.Listed.{AreFound}
-use Rattle.id_cells.specs.Waits.{AreWaits, by_on, by_value, counts_of}
-use Rattle.id_cells.specs.Cells.{queue_of}
-use Rattle.id_cells.specs.Queues.{queue}
+use Rattle.id_facts.specs.Listed.{AreFound}
+use Rattle.id_facts.specs.Waits.{AreWaits, by_on, by_value, counts_of}
+use Rattle.id_facts.specs.Cells.{queue_of}
+use Rattle.id_facts.specs.Queues.{queue}
 use Rattle.id_facts.specs.RowFacts.{same_trail}
 use Rattle.id_source.proofs.CheckedLemmas.{loop-rows}
 use Rattle.id_meaning.proofs.CallsFollowLemmas.{awaited-is}
-use Rattle.id_cells.proofs.LookupLemmas.{values-all, values-self}
+use Rattle.id_facts.proofs.LookupLemmas.{values-all, values-self}
 use Rattle.id_meaning.proofs.ComesLemmas.{rows-differ}
 use Rattle.id_meaning.proofs.ForLemmas.{index-awaits, index-block, upper-differs, upper-path}
 use Rattle.id_meaning.proofs.TwoPartsLemmas.{bounds-order}

@@ -2,29 +2,29 @@
 use Rattle.std.proofs.Common.{◌≡◌, inl, inr, ℕ, ◌<◌, Bool as Truth, nat_eq, Some, List, [], ◌∷◌, ◌++◌, length}
 use Rattle.std.proofs.Common.{if◌then◌else◌, refl, ap, sym, ◌∙◌, subst}
 use Rattle.std.proofs.lemmas.Bool.{eq-eqb}
-use Rattle.id_list.specs.List.{Among}
-use Rattle.id_list.proofs.AmongLemmas.{Among-left, Among-right}
+use Rattle.id_value.specs.List.{Among}
+use Rattle.id_value.proofs.AmongLemmas.{Among-left, Among-right}
 use Rattle.id_table.specs.declared.row.Node.{Node}
 use Rattle.id_table.specs.Rows.{at}
 use Rattle.id_check.specs.Programs.{Stands, rows}
-use Rattle.id_cells.specs.declared.cells.Cells.{Cells}
+use Rattle.id_facts.specs.declared.cells.Cells.{Cells}
 use Rattle.id_facts.specs.declared.facts.RowFact.{RowFact}
 use Rattle.id_facts.specs.declared.facts.RowFact.TheVariants.{On, Has}
 use Rattle.id_facts.specs.declared.facts.RowValue.{RowValue}
 use Rattle.id_facts.specs.declared.facts.Trail.{Trail}
-use Rattle.id_links.specs.declared.links.Links.{Links}
-use Rattle.id_cells.specs.declared.queues.Queues.{Queues}
-use Rattle.id_cells.specs.declared.queues.Wait.{Wait}
+use Rattle.id_source.specs.declared.links.Links.{Links}
+use Rattle.id_facts.specs.declared.queues.Queues.{Queues}
+use Rattle.id_facts.specs.declared.queues.Wait.{Wait}
 use Rattle.id_source.specs.Sources.{Source}
-use Rattle.id_links.specs.Links.{AreArgs, AreReads, Leads, asker_of, beyond, linked_of, targets}
-use Rattle.id_cells.specs.Cells.{AreChained, find, items, queue_of}
-use Rattle.id_effects.specs.Effects.{all_woken, begin_at, call_at, effects, exit_at, gain, gains, index_at, loop_by, pass_of, start_at, woken}
-use Rattle.id_cells.specs.Queues.{queue}
-use Rattle.id_given.specs.Given.{given}
+use Rattle.id_source.specs.Links.{AreArgs, AreReads, Leads, asker_of, beyond, linked_of, targets}
+use Rattle.id_facts.specs.Cells.{AreChained, find, items, queue_of}
+use Rattle.id_meaning.specs.Effects.{all_woken, begin_at, call_at, effects, exit_at, gain, gains, index_at, loop_by, pass_of, start_at, woken}
+use Rattle.id_facts.specs.Queues.{queue}
+use Rattle.id_meaning.specs.Given.{given}
 use Rattle.id_facts.specs.Firsts.{haves, ons}
-use Rattle.id_listing.specs.Listed.{AreFound}
+use Rattle.id_facts.specs.Listed.{AreFound}
 use Rattle.id_facts.proofs.FactsLemmas.{among-at}
-use Rattle.id_cells.proofs.LookupLemmas.{find-all, find-true}
+use Rattle.id_facts.proofs.LookupLemmas.{find-all, find-true}
 use Rattle.id_facts.proofs.FactsLemmas.{IsOnBy}
 
 -- ---- lists of facts

@@ -1,8 +1,8 @@
 -- Each rule by rows gives its fact among what follows from each of its premises.
 use Rattle.std.proofs.Common.{◌≡◌, ◌⊎◌, inl, inr, ℕ, ◌<◌, ℤ, Bool as Truth, true, false, Option, Some, List, [], ◌∷◌, ◌++◌, length}
 use Rattle.std.proofs.Common.{if◌then◌else◌, refl, ap, sym, ◌∙◌, subst, arith}
-use Rattle.id_list.specs.List.{Among}
-use Rattle.id_list.proofs.AmongLemmas.{Among-left, Among-right}
+use Rattle.id_value.specs.List.{Among}
+use Rattle.id_value.proofs.AmongLemmas.{Among-left, Among-right}
 use Rattle.id_value.specs.declared.Constant.{Constant}
 use Rattle.id_value.specs.declared.Constant.TheVariants as constant
 use Rattle.id_value.specs.declared.UnaryOp.{UnaryOp}
@@ -15,28 +15,28 @@ use Rattle.id_table.specs.declared.row.Node.{Node}
 use Rattle.id_table.specs.declared.row.Node.TheVariants as node
 use Rattle.id_table.specs.Tables.{HasPart}
 use Rattle.id_check.specs.Programs.{Stands, rows}
-use Rattle.id_cells.specs.declared.cells.Bounds.{Bounds}
-use Rattle.id_cells.specs.declared.cells.Cells.{Cells}
-use Rattle.id_cells.specs.declared.cells.Point.{Point}
+use Rattle.id_facts.specs.declared.cells.Bounds.{Bounds}
+use Rattle.id_facts.specs.declared.cells.Cells.{Cells}
+use Rattle.id_facts.specs.declared.cells.Point.{Point}
 use Rattle.id_facts.specs.declared.facts.RowFact.{RowFact}
 use Rattle.id_facts.specs.declared.facts.RowFact.TheVariants.{On, Has, Shape, Put, Ask}
 use Rattle.id_facts.specs.declared.facts.RowValue.{RowValue}
 use Rattle.id_facts.specs.declared.facts.RowValue.TheVariants.{Int, Bool, Name}
 use Rattle.id_facts.specs.declared.facts.Trail.{Trail}
-use Rattle.id_links.specs.declared.links.Links.{Links}
-use Rattle.id_cells.specs.declared.queues.Queues.{Queues}
+use Rattle.id_source.specs.declared.links.Links.{Links}
+use Rattle.id_facts.specs.declared.queues.Queues.{Queues}
 use Rattle.id_source.specs.Sources.{Source}
 use Rattle.id_source.specs.Facts.{StoreStands}
-use Rattle.id_listing.specs.Listed.{AreFound}
-use Rattle.id_links.specs.Links.{AreReads, AreTurns, Leads, PartTurns, arm_of, beyond, index_of, linked_of, reads_of, some_row, target_of, test_of}
-use Rattle.id_cells.specs.Cells.{AreChained, asks, items, puts, shapes, values}
-use Rattle.id_given.specs.Given.{all_rights, answered, arm_by, arms, array_by, arrays, asked, asked_by, binaries, binary_by, constant_of, fetch_by}
-use Rattle.id_effects.specs.Effects.{effects}
-use Rattle.id_given.specs.Given.{fetches, given, gives, is_in_some, made, made_by, put_in, rights_of, seen, store_at}
+use Rattle.id_facts.specs.Listed.{AreFound}
+use Rattle.id_source.specs.Links.{AreReads, AreTurns, Leads, PartTurns, arm_of, beyond, index_of, linked_of, reads_of, some_row, target_of, test_of}
+use Rattle.id_facts.specs.Cells.{AreChained, asks, items, puts, shapes, values}
+use Rattle.id_meaning.specs.Given.{all_rights, answered, arm_by, arms, array_by, arrays, asked, asked_by, binaries, binary_by, constant_of, fetch_by}
+use Rattle.id_meaning.specs.Effects.{effects}
+use Rattle.id_meaning.specs.Given.{fetches, given, gives, is_in_some, made, made_by, put_in, rights_of, seen, store_at}
 use Rattle.id_facts.specs.Firsts.{row_value}
-use Rattle.id_given.specs.Given.{store_by, stored, stored_by, stores, unaries, unary_by}
+use Rattle.id_meaning.specs.Given.{store_by, stored, stored_by, stores, unaries, unary_by}
 use Rattle.id_meaning.proofs.ComesLemmas.{asks-all, found-at, from-reader, from-shape, from-turns, given-at, inside-some, puts-all, rows-differ, shapes-all}
-use Rattle.id_cells.proofs.LookupLemmas.{find-all, values-all, values-self}
+use Rattle.id_facts.proofs.LookupLemmas.{find-all, values-all, values-self}
 use Rattle.id_meaning.proofs.PartsFollowLemmas.{found-by, from-given, haves-all, reader}
 use Rattle.id_meaning.proofs.RulesLemmas.{AllAmong, part-within}
 use Rattle.id_facts.proofs.FactsLemmas.{IsOnBy}

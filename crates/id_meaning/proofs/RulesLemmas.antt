@@ -2,8 +2,8 @@
 use Rattle.std.proofs.Common.{◌≡◌, inl, inr, ℕ, zero, suc, ◌+◌, ◌<◌, ℤ, Bool as Truth, true, false, Some, List, []}
 use Rattle.std.proofs.Common.{◌∷◌, length, refl, ap, sym, ◌∙◌, subst, arith}
 use Rattle.std.specs.Prelude.{slice_get, pos, ◌+ℤ◌, int_le, int_lt}
-use Rattle.id_list.specs.List.{Among}
-use Rattle.id_list.proofs.AmongLemmas.{Among-from_at}
+use Rattle.id_value.specs.List.{Among}
+use Rattle.id_value.proofs.AmongLemmas.{Among-from_at}
 use Rattle.id_value.specs.declared.Constant.{Constant}
 use Rattle.id_value.specs.declared.Constant.TheVariants as constant
 use Rattle.id_value.specs.declared.Kind.{Kind}
@@ -36,16 +36,16 @@ use Rattle.id_source.specs.Sources.{Source, IsInput, main_body, value_of}
 use Rattle.id_source.specs.Facts.{ForStands, GoesOn, LoopStands, NextStands, StoreStands, BodyBinds, BodyStores, Rule, ask, below, between, put, shape, site, without}
 use Rattle.id_source.specs.Facts as rule
 use Rattle.id_source.specs.Rounds.{Every, Rounds}
-use Rattle.id_links.specs.Links.{BodyTurns, PartTurns, arm_of, far_from, of_binding, of_next, of_store}
+use Rattle.id_source.specs.Links.{BodyTurns, PartTurns, arm_of, far_from, of_binding, of_next, of_store}
 use Rattle.id_facts.specs.RowFacts.{fact_at, path_of, row_of}
-use Rattle.id_cells.specs.Cells.{out_of}
+use Rattle.id_facts.specs.Cells.{out_of}
 use Rattle.id_facts.specs.Firsts.{row_value}
-use Rattle.id_listing.specs.Listed.{BeginsOn, IsArrayOn, IsOfThing, IsRound, NamesArray, NamesArrays, fact_of, name_at, path_at, value_at}
+use Rattle.id_facts.specs.Listed.{BeginsOn, IsArrayOn, IsOfThing, IsRound, NamesArray, NamesArrays, fact_of, name_at, path_at, value_at}
 use Rattle.id_source.specs.Things.{IsThing}
 use Rattle.id_source.proofs.CheckedLemmas.{far-between, next-loop, thing-param, use_binder}
-use Rattle.id_links.proofs.AroundLemmas.{around-within}
+use Rattle.id_source.proofs.AroundLemmas.{around-within}
 use Rattle.id_source.proofs.ParamsLemmas.{input_param, params-among}
-use Rattle.id_listing.proofs.PathsLemmas.{path-below, path-out}
+use Rattle.id_facts.proofs.PathsLemmas.{path-below, path-out}
 use Rattle.id_source.proofs.ThingsLemmas.{main-thing, node-thing, part-thing, test-thing}
 use Rattle.id_meaning.proofs.ForLemmas.{for-by-bounds}
 use Rattle.id_table.specs.Loops.{bounds_row}

@@ -3,33 +3,33 @@ use Rattle.std.proofs.Common.{◌≡◌, inl, inr, ℕ, zero, suc, ◌+◌, ◌-
 use Rattle.std.proofs.Math.Seq.{drop-append_seam}
 use Rattle.std.proofs.lemmas.List.{append-nil, length-append, length-drop, nil_from_length, take_all}
 use Rattle.std.specs.Prelude.{Result, Ok, Err, IfErr, IsErrAnd}
-use Rattle.id_list.specs.List.{Among}
-use Rattle.id_list.proofs.AmongLemmas.{Among-left, Among-right}
+use Rattle.id_value.specs.List.{Among}
+use Rattle.id_value.proofs.AmongLemmas.{Among-left, Among-right}
 use Rattle.id_check.specs.declared.checked.Checked.{Checked}
 use Rattle.id_check.specs.Programs.{place, rows}
 use Rattle.id_source.specs.declared.Fact.{Fact}
 use Rattle.id_source.specs.declared.Fact.TheVariants as fact
 use Rattle.id_source.specs.declared.Path.{Path}
-use Rattle.id_cells.specs.declared.cells.Cells.{Cells}
+use Rattle.id_facts.specs.declared.cells.Cells.{Cells}
 use Rattle.id_facts.specs.declared.facts.RowFact.{RowFact}
 use Rattle.id_facts.specs.declared.facts.RowFact.TheVariants.{Has}
 use Rattle.id_facts.specs.declared.facts.RowValue.{RowValue}
 use Rattle.id_facts.specs.declared.facts.Trail.TheVariants.{Below}
-use Rattle.id_links.specs.declared.links.Links.{Links}
-use Rattle.id_cells.specs.declared.queues.Queues.{Queues}
+use Rattle.id_source.specs.declared.links.Links.{Links}
+use Rattle.id_facts.specs.declared.queues.Queues.{Queues}
 use Rattle.id_meaning.specs.declared.round.RoundsError.{RoundsError}
 use Rattle.id_meaning.specs.declared.round.RoundsError.TheVariants.{BadRounds, TooManyFacts, Memory}
 use Rattle.id_meaning.specs.declared.run.Followed.{Followed}
 use Rattle.id_source.specs.Sources.{Source}
 use Rattle.id_source.specs.Rounds.{Every, Rounds}
 use Rattle.id_source.specs.Computed.{HasMoreFacts}
-use Rattle.id_links.specs.Links.{AreArgs, AreReads, AreTurns}
-use Rattle.id_cells.specs.Cells.{AddsFacts, AreChained, items}
+use Rattle.id_source.specs.Links.{AreArgs, AreReads, AreTurns}
+use Rattle.id_facts.specs.Cells.{AddsFacts, AreChained, items}
 use Rattle.id_facts.specs.RowFacts.{all_learnt, fact_at, path_of, row_of}
-use Rattle.id_effects.specs.Effects.{all_effects}
+use Rattle.id_meaning.specs.Effects.{all_effects}
 use Rattle.id_facts.specs.Firsts.{first_facts}
-use Rattle.id_listing.specs.Listed.{IsRound, fact_of, path_at, value_at}
-use Rattle.id_cells.specs.Waits.{AreWaits, Waits}
+use Rattle.id_facts.specs.Listed.{IsRound, fact_of, path_at, value_at}
+use Rattle.id_facts.specs.Waits.{AreWaits, Waits}
 use Rattle.id_meaning.specs.Following.{Goes}
 use Rattle.id_meaning.specs.Following.{AreFirst, FollowsNews, IsFewRound, IsFresh, IsStop, news_behind}
 use Rattle.id_meaning.proofs.AllFollowLemmas.{all-follow}
@@ -41,8 +41,8 @@ use Rattle.id_facts.proofs.LearntLemmas.{learns-so}
 use Rattle.id_meaning.proofs.LearnLemmas.{learnt-has, learnt-kept, learnt-part, learnt-round, none-round}
 use Rattle.id_meaning.proofs.ListedLemmas.{more-facts, part}
 use Rattle.id_source.proofs.NumbersLemmas.{last-number}
-use Rattle.id_listing.proofs.PathsLemmas.{path-below}
-use Rattle.id_cells.proofs.WaitsLemmas.{AreWaits-more}
+use Rattle.id_facts.proofs.PathsLemmas.{path-below}
+use Rattle.id_facts.proofs.WaitsLemmas.{AreWaits-more}
 
 -- ---- where nothing is news
 

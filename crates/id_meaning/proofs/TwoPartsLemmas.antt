@@ -1,7 +1,7 @@
 -- Two operands of one row are different rows.
 use Rattle.std.proofs.Common.{◌≡◌, inl, inr, ◌<◌, ◌+◌, ◌-◌, ℕ, zero, suc, Bool, true, false, List, [], ◌∷◌, length, refl, sym, ◌∙◌, subst, arith}
-use Rattle.id_list.specs.List.{Among}
-use Rattle.id_list.proofs.AmongLemmas.{Among-either}
+use Rattle.id_value.specs.List.{Among}
+use Rattle.id_value.proofs.AmongLemmas.{Among-either}
 use Rattle.id_value.specs.declared.BinaryOp.{BinaryOp}
 use Rattle.id_grammar.specs.Tree.{Tree, binding, define, more, next, param, store}
 use Rattle.id_table.specs.declared.row.Row.{Row}

@@ -4,8 +4,8 @@ use Rattle.std.proofs.Common.{nat_lt, Option, None, Some, List, [], ◌∷◌, i
 use Rattle.std.proofs.Common.{◌∙◌, subst}
 use Rattle.std.specs.Prelude.{pos, ◌++◌, ◌+ℤ◌, int_le, int_lt}
 use Rattle.std.proofs.lemmas.Bool.{eqb-true}
-use Rattle.id_list.specs.List.{Among}
-use Rattle.id_list.proofs.AmongLemmas.{Among-either}
+use Rattle.id_value.specs.List.{Among}
+use Rattle.id_value.proofs.AmongLemmas.{Among-either}
 use Rattle.id_table.specs.declared.row.Node.{Node}
 use Rattle.id_table.specs.declared.row.Node.TheVariants as node
 use Rattle.id_table.specs.Rows.{at}
@@ -13,29 +13,29 @@ use Rattle.id_table.specs.Tables.{is_thing}
 use Rattle.id_table.specs.Loops.{bounds_row, index_row, lower_of, upper_of}
 use Rattle.id_check.specs.Programs.{Stands, binder, rows}
 use Rattle.id_check.proofs.ProgramsLemmas.{table_of}
-use Rattle.id_cells.specs.declared.cells.Cells.{Cells}
+use Rattle.id_facts.specs.declared.cells.Cells.{Cells}
 use Rattle.id_facts.specs.declared.facts.RowFact.{RowFact}
 use Rattle.id_facts.specs.declared.facts.RowFact.TheVariants.{On, Has}
 use Rattle.id_facts.specs.declared.facts.RowValue.{RowValue}
 use Rattle.id_facts.specs.declared.facts.RowValue.TheVariants.{Int, Bool, Name}
 use Rattle.id_facts.specs.declared.facts.Trail.{Trail}
 use Rattle.id_facts.specs.declared.facts.Trail.TheVariants.{Outermost, Below}
-use Rattle.id_links.specs.declared.links.Links.{Links}
-use Rattle.id_effects.specs.declared.counts.Counting.{Counting}
-use Rattle.id_effects.specs.declared.loops.Iteration.{Iteration}
-use Rattle.id_cells.specs.declared.queues.Wait.{Wait}
+use Rattle.id_source.specs.declared.links.Links.{Links}
+use Rattle.id_meaning.specs.declared.counts.Counting.{Counting}
+use Rattle.id_meaning.specs.declared.loops.Iteration.{Iteration}
+use Rattle.id_facts.specs.declared.queues.Wait.{Wait}
 use Rattle.id_source.specs.Sources.{Source}
 use Rattle.id_source.specs.Facts.{ForStands}
-use Rattle.id_links.specs.Links.{AreTurns, awaited, awaited_of, far_from, targets}
-use Rattle.id_cells.specs.Cells.{AreChained, find, items, out_of, values}
+use Rattle.id_source.specs.Links.{AreTurns, awaited, awaited_of, far_from, targets}
+use Rattle.id_facts.specs.Cells.{AreChained, find, items, out_of, values}
 use Rattle.id_facts.specs.RowFacts.{same_trail}
-use Rattle.id_effects.specs.Effects.{begin_at, begin_by, counted, counted_by, counted_on, counted_with, counting_by}
-use Rattle.id_effects.specs.Effects.{counting_of, goes_on, index_at, index_by, index_woken, iteration_of, all_woken}
-use Rattle.id_effects.specs.Effects.{is_awaited_by, woken, woken_by}
-use Rattle.id_given.specs.Given.{seen}
+use Rattle.id_meaning.specs.Effects.{begin_at, begin_by, counted, counted_by, counted_on, counted_with, counting_by}
+use Rattle.id_meaning.specs.Effects.{counting_of, goes_on, index_at, index_by, index_woken, iteration_of, all_woken}
+use Rattle.id_meaning.specs.Effects.{is_awaited_by, woken, woken_by}
+use Rattle.id_meaning.specs.Given.{seen}
 use Rattle.id_meaning.proofs.ArgumentsLemmas.{row-within}
 use Rattle.id_meaning.proofs.EffectsLemmas.{Given, ons-among}
-use Rattle.id_cells.proofs.LookupLemmas.{find-true, values-true}
+use Rattle.id_facts.proofs.LookupLemmas.{find-true, values-true}
 use Rattle.id_facts.proofs.OneLemmas.{trail-true}
 use Rattle.id_facts.proofs.FactsLemmas.{IsOnBy}
 use Rattle.id_meaning.proofs.ForLemmas.{for-by-bounds, for-by-index, index-awaits, upper-path}

@@ -3,22 +3,22 @@ use Rattle.std.specs.Prelude.{◌≡◌, ◌≤◌, ℕ, List, [], length, drop}
 use Rattle.id_value.specs.declared.Constant.{Constant}
 use Rattle.id_check.specs.declared.checked.Checked.{Checked}
 use Rattle.id_facts.specs.declared.facts.RowFact.{RowFact}
-use Rattle.id_links.specs.declared.links.Links.{Links}
+use Rattle.id_source.specs.declared.links.Links.{Links}
 use Rattle.id_meaning.specs.declared.round.RoundsError.{RoundsError}
 use Rattle.id_meaning.specs.declared.round.RoundsError.TheVariants.{BadRounds, TooManyFacts, Memory}
 use Rattle.id_meaning.specs.declared.run.Followed.{Followed}
 use Rattle.id_source.specs.Sources.{Source}
 use Rattle.id_source.specs.Computed.{HasMoreFacts}
-use Rattle.id_cells.specs.Cells.{AddsFacts, AreChained, items}
+use Rattle.id_facts.specs.Cells.{AddsFacts, AreChained, items}
 use Rattle.id_facts.specs.RowFacts.{all_learnt}
 use Rattle.id_facts.specs.Firsts.{first_facts}
-use Rattle.id_listing.specs.Listed.{IsRound}
-use Rattle.id_cells.specs.Waits.{Waits}
-use Rattle.id_cells.specs.Queues.{width}
+use Rattle.id_facts.specs.Listed.{IsRound}
+use Rattle.id_facts.specs.Waits.{Waits}
+use Rattle.id_facts.specs.Queues.{width}
 use Rattle.std.specs.Prelude.{◌⊎◌, ◌<◌, ◌++◌}
-use Rattle.id_cells.specs.declared.cells.Cells.{Cells}
-use Rattle.id_cells.specs.declared.queues.Queues.{Queues}
-use Rattle.id_effects.specs.Effects.{all_effects}
+use Rattle.id_facts.specs.declared.cells.Cells.{Cells}
+use Rattle.id_facts.specs.declared.queues.Queues.{Queues}
+use Rattle.id_meaning.specs.Effects.{all_effects}
 
 -- what follows from the front of these facts has been learnt: from all of them, or more than 1,000,000
 pub record Goes (P : Checked) (l : Links) (W : Queues) (c : Cells) (gs fs ds : List RowFact) : Type 0 where

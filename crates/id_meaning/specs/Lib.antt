@@ -1,2 +1,5 @@
+-- What public clauses cite.
+pub mod Given
+pub mod Effects
 -- For use inside.
 pub mod Following

@@ -4,11 +4,10 @@ ghost use Rattle.std.specs.Prelude.{◌≡◌, ◌≤◌, ◌<◌, length, IfOk,
 ghost use Rattle.id_source.specs.Sources.{source};
 ghost use Rattle.id_source.specs.Computed.{AreFacts, HasMoreFacts};
 
-use crate::run::run;
+use crate::run::facts_of_round;
 use id_check::Checked;
-use id_inputs::Inputs;
-use id_listing::list;
-use id_source::Fact;
+use id_facts::list;
+use id_source::{Fact, Inputs};
 use std::alloc::{AllocError, Global};
 
 /// The most rounds that may be asked for.
@@ -52,7 +51,7 @@ pub fn rounds(
     if n > MAX_ROUNDS {
         return Err(RoundsError::BadRounds);
     }
-    let facts = run(alloc, checked, inputs.values.as_slice(), n)?;
+    let facts = facts_of_round(alloc, checked, inputs.values.as_slice(), n)?;
     let all = list(alloc, checked, &facts)?;
     Ok(all)
 }

@@ -4,18 +4,17 @@ ghost use Rattle.std.specs.Prelude.{◌≡◌, ◌≤◌, ◌<◌, [], drop, len
 ghost use Rattle.id_check.specs.Programs.{rows};
 ghost use Rattle.id_source.specs.Sources.{source};
 ghost use Rattle.id_source.specs.Computed.{HasMoreFacts};
-ghost use Rattle.id_links.specs.Links.{AreArgs, AreReads, AreTurns};
-ghost use Rattle.id_cells.specs.Cells.{items};
-ghost use Rattle.id_listing.specs.Listed.{IsRound};
+ghost use Rattle.id_source.specs.Links.{AreArgs, AreReads, AreTurns};
+ghost use Rattle.id_facts.specs.Cells.{items};
+ghost use Rattle.id_facts.specs.Listed.{IsRound};
 ghost use Rattle.id_meaning.specs.Following.{Goes};
 ghost use Rattle.id_meaning.specs.Following.{AreFirst, FollowsNews, IsFewRound, IsFresh, IsStop};
 
+use crate::effects::add_effects;
 use crate::round::{MAX_FACTS, RoundsError};
-use id_cells::{Cells, QUEUES, Queues, wait_all};
 use id_check::Checked;
-use id_effects::add_effects;
-use id_facts::{Facts, RowFact, first_facts};
-use id_links::{Links, link};
+use id_facts::{Cells, Facts, QUEUES, Queues, RowFact, first_facts, wait_all};
+use id_source::{Links, link};
 use id_value::Constant;
 use std::alloc::{AllocError, Global};
 
@@ -40,7 +39,7 @@ impl Followed {
 
 /// The facts of round n of the program with these inputs, unless some round up to it has more than `MAX_FACTS`: then
 /// no more are looked for. Each round looks only at what the news of the one before lead to.
-pub fn run(
+pub fn facts_of_round(
     alloc: Global,
     checked: &Checked,
     inputs: &[Constant],

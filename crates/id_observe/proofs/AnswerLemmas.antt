@@ -3,11 +3,11 @@ use Rattle.std.proofs.Common.{◌≡◌, ℕ, suc, ◌+◌, Option, Some, None, 
 use Rattle.std.specs.Prelude.{true, false, is_some, slice_get}
 use Rattle.std.proofs.lemmas.List.Elements.{filter_map-append}
 use Rattle.id_tag.specs.declared.Value.{Value}
-use Rattle.id_desk.specs.Replays.{ElementView}
-use Rattle.id_paths.specs.Paths.{events_of, answers}
-use Rattle.id_observed.specs.Observed.{first_value}
-use Rattle.id_paths.proofs.WalksLemmas.{events-split, events-next}
-use Rattle.id_paths.proofs.SourcedLemmas.{none_first}
+use Rattle.id_element.specs.Replays.{ElementView}
+use Rattle.id_observe.specs.Paths.{events_of, answers}
+use Rattle.id_observe.specs.Observed.{first_value}
+use Rattle.id_observe.proofs.WalksLemmas.{events-split, events-next}
+use Rattle.id_observe.proofs.SourcedLemmas.{none_first}
 
 -- what stands first in a list stands first in a longer one
 first-append : {A : Type 0} (xs ys : List A) (v : A) → slice_get xs 0 ≡ Some v → slice_get (xs ++ ys) 0 ≡ Some v

@@ -1,2 +1,13 @@
+pub mod WalksLemmas
+pub mod PathsLemmas
+pub mod SkippedLemmas
+pub mod TellingsLemmas
+pub mod SourcedLemmas
+pub mod OrderedLemmas
+pub mod MergedLemmas
+pub mod RecordsLemmas
+pub mod FirstsLemmas
+pub mod MarkedLemmas
+pub mod ObservedLemmas
 pub mod NothingLemmas
 pub mod AnswerLemmas

@@ -12,16 +12,16 @@ use Rattle.id_instr.specs.Graph.{Parts}
 use Rattle.id_valid.specs.Roles.{op_at}
 use Rattle.id_tag.specs.declared.Tag.{Tag}
 use Rattle.id_tag.specs.Tags.{cell_cmp}
-use Rattle.id_slot.specs.Cells.{Cells, CellState, cells_of, deferred_of, filled_at, readers_at}
-use Rattle.id_line.specs.Events.{EventView, tag_of}
-use Rattle.id_desk.specs.Replays.{ElementView}
+use Rattle.id_bank.specs.Cells.{Cells, CellState, cells_of, deferred_of, filled_at, readers_at}
+use Rattle.id_record.specs.Events.{EventView, tag_of}
+use Rattle.id_element.specs.Replays.{ElementView}
 use Rattle.id_source.specs.declared.Path.{Path}
-use Rattle.id_paths.specs.Paths.{is_alloc}
-use Rattle.id_observed.specs.Observed.{HaveNoCells, MakesNone, ask_of, cells_in}
-use Rattle.id_paths.specs.Paths.{events_of, path_in}
-use Rattle.id_observed.specs.Observed.{put_of, shape_of, structures_in, waiting_in}
-use Rattle.id_paths.specs.Paths.{structure_in}
-use Rattle.id_paths.proofs.SkippedLemmas.{made_by-none}
+use Rattle.id_observe.specs.Paths.{is_alloc}
+use Rattle.id_observe.specs.Observed.{HaveNoCells, MakesNone, ask_of, cells_in}
+use Rattle.id_observe.specs.Paths.{events_of, path_in}
+use Rattle.id_observe.specs.Observed.{put_of, shape_of, structures_in, waiting_in}
+use Rattle.id_observe.specs.Paths.{structure_in}
+use Rattle.id_observe.proofs.SkippedLemmas.{made_by-none}
 
 -- an event whose instruction is no `alloc` shows no structure
 pub shape_of-none : (g : Parts) (path : Tag → Path) (e : EventView) (o : Option Op) → op_at g (tag_of e.message.payload).instr ≡ o → is_alloc o ≡ false →

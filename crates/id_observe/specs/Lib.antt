@@ -1,4 +1,6 @@
--- What public clauses cite, whose definitions stand in the crates below.
-pub mod Firsts
+-- What public clauses cite.
+pub mod Paths
+pub mod Sourced
 pub mod Merged
+pub mod Firsts
 pub mod Observed

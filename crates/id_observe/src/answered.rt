@@ -3,15 +3,15 @@
 ghost use Rattle.std.specs.Prelude.{◌≡◌, ◌==◌, ◌<◌, ◌-◌, length, map};
 ghost use Rattle.std.specs.Prelude.{slice_get};
 ghost use Rattle.std.specs.Prelude.{IfOk, None, Some};
-ghost use Rattle.id_observed.specs.Observed.{answer_in};
-ghost use Rattle.id_paths.specs.Paths.{answers, brought};
-ghost use Rattle.id_observed.specs.Observed.{brought_at};
-ghost use Rattle.id_observed.specs.Observed.{first_value};
-ghost use Rattle.id_paths.specs.Sourced.{source_value};
-ghost use Rattle.id_paths.specs.Paths.{structure_in};
+ghost use Rattle.id_observe.specs.Observed.{answer_in};
+ghost use Rattle.id_observe.specs.Paths.{answers, brought};
+ghost use Rattle.id_observe.specs.Observed.{brought_at};
+ghost use Rattle.id_observe.specs.Observed.{first_value};
+ghost use Rattle.id_observe.specs.Sourced.{source_value};
+ghost use Rattle.id_observe.specs.Paths.{structure_in};
 
+use crate::paths::{Paths, brought};
 use id_element::Element;
-use id_paths::{Paths, brought};
 use id_record::Events;
 use id_source::{Site, SourceValue};
 use id_tag::{Structure, Value};

@@ -3,24 +3,25 @@
 ghost use Rattle.std.specs.Prelude.{◌≡◌, ◌++◌, ◌↔◌, [], map, option_and_then, slice_get, IfOk, OnOk};
 ghost use Rattle.std.specs.Prelude.{IsTrue};
 ghost use Rattle.std.specs.List.{cons_option, filter_map, flat_map};
-ghost use Rattle.id_slot.specs.Cells.{cells_of, deferred_of};
-ghost use Rattle.id_observed.specs.Observed.{HaveNoCells, MakesNone, IsNamed, answer_in, ask_of, cell_value_of};
-ghost use Rattle.id_observed.specs.Observed.{cell_values_in, shape_at, structures_in};
-ghost use Rattle.id_paths.specs.Sourced.{source_value};
-ghost use Rattle.id_paths.specs.Paths.{structure_by};
-ghost use Rattle.id_observed.specs.Observed.{waiting_in};
-ghost use Rattle.id_paths.specs.Paths.{path_by};
+ghost use Rattle.id_bank.specs.Cells.{cells_of, deferred_of};
+ghost use Rattle.id_observe.specs.Observed.{HaveNoCells, MakesNone, IsNamed, answer_in, ask_of, cell_value_of};
+ghost use Rattle.id_observe.specs.Observed.{cell_values_in, shape_at, structures_in};
+ghost use Rattle.id_observe.specs.Sourced.{source_value};
+ghost use Rattle.id_observe.specs.Paths.{structure_by};
+ghost use Rattle.id_observe.specs.Observed.{waiting_in};
+ghost use Rattle.id_observe.specs.Paths.{path_by};
 
 use crate::answered::answer;
+use crate::paths::{Paths, is_alloc};
+use crate::shown::{CellValue, Named, all_structures, all_waiting};
+use crate::sourced::{source_value, value_in};
 use id_bank::{Cells, Filled};
 use id_element::Element;
 use id_instr::Graph;
-use id_list::Sequence;
-use id_observed::{CellValue, Named, all_structures, all_waiting};
-use id_paths::{Paths, is_alloc, source_value, value_in};
 use id_source::{Ask, Path, Shape, Site, SourceValue};
 use id_tag::Structure;
 use id_valid::Valid;
+use id_value::Sequence;
 use std::alloc::{AllocError, Global};
 
 /// What a run shows of its answer and of structures, named by paths and places of the text alone.

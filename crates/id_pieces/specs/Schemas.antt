@@ -1,7 +1,7 @@
 -- The graphs that the schemas give a program: the numbering is free (docs/GRAPH.md, "Schemas").
 use Rattle.std.specs.Prelude.{◌≡◌, ◌<◌, ℕ, ◌+◌, Bool as Truth, true, List, ◌++◌, length, map, Some}
 use Rattle.std.specs.Prelude.{slice_get}
-use Rattle.id_list.specs.List.{Among, AllDiffer}
+use Rattle.id_value.specs.List.{Among, AllDiffer}
 use Rattle.id_table.specs.Turns.{heads_of}
 use Rattle.id_check.specs.declared.checked.Checked.{Checked}
 use Rattle.id_check.specs.Programs.{rows}

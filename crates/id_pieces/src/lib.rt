@@ -3,7 +3,7 @@
 //! Keeps: nothing beyond its values.
 //! Errors: `BuildError`, the refusal 14 or want of memory.
 //! Read first: docs/GRAPH.md ("Schemas"), `specs/Rows.antt`, then `push_pieces`.
-//! Not here: the arcs between pieces (`id_arcs`), the graph of a program (`id_build`).
+//! Not here: the arcs between pieces (`id_build`), the graph of a program (`id_build`).
 #![tactic(auto)]
 
 mod arc;

@@ -1,1 +1,5 @@
+pub mod TracesLemmas
+pub mod HeldsLemmas
+pub mod NamesLemmas
 pub mod PartlyLemmas
+pub mod RowsLemmas

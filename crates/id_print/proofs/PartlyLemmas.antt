@@ -2,7 +2,7 @@
 use Rattle.std.proofs.Common.{◌≡◌, ℕ, ◌+◌, List, [], ◌∷◌, ◌++◌}
 use Rattle.std.proofs.Common.{Option, Result, Ok, Err, IsErr, append_assoc, sym, ap, subst}
 use Rattle.std.proofs.Common.{◌∙◌}
-use Rattle.id_names.specs.declared.helds.Held.{Held}
+use Rattle.id_print.specs.declared.helds.Held.{Held}
 use Rattle.id_sink.specs.declared.sink.PrintError.{PrintError}
 use Rattle.id_sink.specs.Told.{Told, Prints}
 use Rattle.id_print.specs.Texts.{held_text, helds_text}

@@ -1,4 +1,11 @@
+-- What public clauses cite.
+pub mod Traces
+pub mod Endings
+pub mod Helds
+pub mod Names
+pub mod RunReports
+pub mod Within
 pub mod Texts
 pub mod Reports
-
 -- For use inside.
+pub mod Pens

@@ -2,9 +2,9 @@
 use Rattle.std.specs.Prelude.{ℕ, Bool, if◌then◌else◌, List, []}
 use Rattle.id_source.specs.declared.NameValue.{NameValue}
 use Rattle.id_print.specs.Texts.{quiet_text, stopped_text, fault_text}
-use Rattle.id_names.specs.declared.within.Ending.{Ending}
-use Rattle.id_names.specs.declared.within.Ending.TheVariants.{Quiet, Stopped, Fault}
-use Rattle.id_names.specs.declared.reports.Report.{Report}
+use Rattle.id_print.specs.declared.within.Ending.{Ending}
+use Rattle.id_print.specs.declared.within.Ending.TheVariants.{Quiet, Stopped, Fault}
+use Rattle.id_print.specs.declared.run_reports.Report.{Report}
 use Rattle.std.specs.Prelude.{ℕ, List}
 
 -- the names where they are asked for, and none where they are not

@@ -15,8 +15,8 @@ use Rattle.id_source.specs.declared.NameValue.{NameValue}
 use Rattle.id_source.specs.declared.Fact.{Fact}
 use Rattle.id_source.specs.declared.Fact.TheVariants.{On, Has}
 use Rattle.id_source.specs.declared.Fact.TheVariants as fact
-use Rattle.id_names.specs.declared.helds.Held.{Held}
-use Rattle.id_names.specs.declared.helds.Held.TheVariants as held
+use Rattle.id_print.specs.declared.helds.Held.{Held}
+use Rattle.id_print.specs.declared.helds.Held.TheVariants as held
 use Rattle.id_sink.specs.Texts.{point_text, site_text, value_text, point_value_text, shape_text}
 use Rattle.id_sink.specs.Texts.{cell_text, filled_text, ask_text}
 

@@ -6,10 +6,12 @@ ghost use Rattle.id_sink.specs.Texts.{point_text, point_value_text, site_text};
 ghost use Rattle.id_print.specs.Texts.{put_text, fact_text, facts_text};
 ghost use Rattle.id_sink.specs.Texts.{shape_text, ask_text};
 ghost use Rattle.id_sink.specs.Within.{PointWithin, SiteWithin, AskWithin};
-ghost use Rattle.id_names.specs.Within.{HasWithin, PutWithin, FactWithin};
-ghost use Rattle.id_names.specs.Within.{FactsWithin};
+ghost use Rattle.id_print.specs.Within.{HasWithin, PutWithin, FactWithin};
+ghost use Rattle.id_print.specs.Within.{FactsWithin};
 
-use id_names::{is_ask_within, is_point_within, is_put_within, is_site_within, is_value_within};
+use crate::within::{
+    is_ask_within, is_point_within, is_put_within, is_site_within, is_value_within,
+};
 use id_sink::{
     Cursor, PrintError, Sink, put, put_ask, put_filled, put_point, put_point_value, put_shape,
     put_site_behind,

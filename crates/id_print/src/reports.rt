@@ -7,18 +7,19 @@ ghost use Rattle.id_print.specs.Texts.{name_text, names_text, helds_text, waitin
 ghost use Rattle.id_print.specs.Texts.{shown_text, quiet_text, stopped_text, stores_text, second_text};
 ghost use Rattle.id_sink.specs.Texts.{site_text};
 ghost use Rattle.id_sink.specs.Texts.{shape_text, filled_text};
-ghost use Rattle.id_names.specs.Helds.{joined};
+ghost use Rattle.id_print.specs.Helds.{joined};
 ghost use Rattle.id_print.specs.Reports.{asked, report_text};
 ghost use Rattle.id_sink.specs.Within.{SiteWithin, FilledWithin, AskWithin};
-ghost use Rattle.id_names.specs.Within.{SecondWithin, FaultWithin, NameWithin};
-ghost use Rattle.id_names.specs.Within.{NamesWithin, HeldsWithin, AsksWithin, AnswerWithin};
-ghost use Rattle.id_names.specs.Within.{ReportWithin};
-ghost use Rattle.id_names.specs.Reports.{IsReportFrom};
+ghost use Rattle.id_print.specs.Within.{SecondWithin, FaultWithin, NameWithin};
+ghost use Rattle.id_print.specs.Within.{NamesWithin, HeldsWithin, AsksWithin, AnswerWithin};
+ghost use Rattle.id_print.specs.Within.{ReportWithin};
+ghost use Rattle.id_print.specs.RunReports.{IsReportFrom};
 
+use crate::helds::{Helds, behind_first, has_lines, is_cell_first};
+use crate::run_reports::{Report, run_report};
+use crate::within::Ending;
 use id_elements::Run;
-use id_names::{
-    CellValue, Ending, Helds, Report, behind_first, has_lines, is_cell_first, run_report,
-};
+use id_observe::CellValue;
 use id_sink::{
     Cursor, PrintError, Sink, put, put_ask, put_cell, put_content, put_point_value, put_shape,
     put_site, put_value,

@@ -16,23 +16,23 @@ use Rattle.id_tag.specs.declared.Payload.{Payload}
 use Rattle.id_tag.specs.declared.Tag.{Tag}
 use Rattle.id_tag.specs.Plains.{made_by}
 use Rattle.id_tag.specs.declared.Value.TheVariants as value
-use Rattle.id_line.specs.declared.line.Handled.{Handled}
+use Rattle.id_record.specs.declared.line.Handled.{Handled}
 use Rattle.id_tag.specs.declared.Cell.{Cell}
-use Rattle.id_line.specs.declared.line.Replies.{Replies}
-use Rattle.id_line.specs.declared.line.Line.{Line}
-use Rattle.id_line.specs.declared.line.Kind.{Kind}
-use Rattle.id_line.specs.declared.line.Kind.TheVariants as kind
-use Rattle.id_line.specs.Events.{EventView, full_step, tag_of, value_of}
+use Rattle.id_record.specs.declared.line.Replies.{Replies}
+use Rattle.id_record.specs.declared.line.Line.{Line}
+use Rattle.id_record.specs.declared.line.Kind.{Kind}
+use Rattle.id_record.specs.declared.line.Kind.TheVariants as kind
+use Rattle.id_record.specs.Events.{EventView, full_step, tag_of, value_of}
 use Rattle.id_record.specs.Sends.{numbered, replies, sent}
-use Rattle.id_line.specs.Lines.{AreThere, Beside, IsKept, IsPacked, IsPackedBeside, IsThere}
-use Rattle.id_line.specs.Lines.{IsWithin, cell_in}
-use Rattle.id_line.specs.Lines.{index_of, no_replies, own, port_at}
-use Rattle.id_line.specs.Lines.{read, saying, tag_at, told, unpacked}
-use Rattle.id_ledger.specs.Tellings.{is_telling, tells, told_at, telling_from}
-use Rattle.id_ledger.proofs.TellingsLemmas.{telling_from-push}
+use Rattle.id_record.specs.Lines.{AreThere, Beside, IsKept, IsPacked, IsPackedBeside, IsThere}
+use Rattle.id_record.specs.Lines.{IsWithin, cell_in}
+use Rattle.id_record.specs.Lines.{index_of, no_replies, own, port_at}
+use Rattle.id_record.specs.Lines.{read, saying, tag_at, told, unpacked}
+use Rattle.id_record.specs.Tellings.{is_telling, tells, told_at, telling_from}
+use Rattle.id_record.proofs.TellingsLemmas.{telling_from-push}
 use Rattle.id_record.specs.Records.{AreKept, event_of_handled, events_from, replies_in, sent_by, sent_for}
 use Rattle.id_record.proofs.EachLemmas.{each-append, each-weaker, each-get}
-use Rattle.id_line.proofs.LinesLemmas.{celled-read, celled-there}
+use Rattle.id_record.proofs.LinesLemmas.{celled-read, celled-there}
 
 -- as many events as lines
 pub length-events_from : (g : Parts) (n : ℕ) (ts : List Tag) (k : ℕ) (b : Beside) (ls : List Line) → length (events_from g n ts k b ls) ≡ length ls

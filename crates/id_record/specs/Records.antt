@@ -8,15 +8,15 @@ use Rattle.id_tag.specs.declared.Tag.{Tag}
 use Rattle.id_tag.specs.declared.Payload.{Payload}
 use Rattle.id_ops.specs.declared.Fired.{Fired}
 use Rattle.id_ops.specs.Operators.{side_of}
-use Rattle.id_line.specs.declared.line.Handled.{Handled}
-use Rattle.id_line.specs.declared.line.Replies.{Replies}
-use Rattle.id_line.specs.declared.line.Line.{Line}
-use Rattle.id_line.specs.Events.{EventView, full_step, tag_of, value_of}
-use Rattle.id_line.specs.declared.celled.Celled.{Celled}
-use Rattle.id_line.specs.Lines.{AreThere, Beside, IsKept, IsPacked, IsPackedBeside, unpacked}
+use Rattle.id_record.specs.declared.line.Handled.{Handled}
+use Rattle.id_record.specs.declared.line.Replies.{Replies}
+use Rattle.id_record.specs.declared.line.Line.{Line}
+use Rattle.id_record.specs.Events.{EventView, full_step, tag_of, value_of}
+use Rattle.id_record.specs.declared.celled.Celled.{Celled}
+use Rattle.id_record.specs.Lines.{AreThere, Beside, IsKept, IsPacked, IsPackedBeside, unpacked}
 use Rattle.id_valid.specs.Roles.{op_at}
 use Rattle.id_record.specs.Sends.{numbered, replies, sent}
-use Rattle.id_ledger.specs.Tellings.{is_telling, telling_from}
+use Rattle.id_record.specs.Tellings.{is_telling, telling_from}
 
 -- the destinations of the instruction of this number on a side
 abbrev pub dests_at : Parts → ℕ → Bool → List Dest

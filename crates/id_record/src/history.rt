@@ -1,22 +1,26 @@
 //! The record of an element: a line for each event, seen as a list of events.
 
 ghost use Rattle.std.specs.Prelude.{◌≡◌, ◌<◌, ◌≤◌, ◌+◌, OnOk, vec_len, vec_capacity};
-ghost use Rattle.id_line.specs.Events.{full_step, is_marked, second_store, tag_of, value_of};
+ghost use Rattle.id_record.specs.Events.{full_step, is_marked, second_store, tag_of, value_of};
 ghost use Rattle.id_ops.specs.Operators.{side_of};
-ghost use Rattle.id_line.specs.Lines.{AreThere};
+ghost use Rattle.id_record.specs.Lines.{AreThere};
 ghost use Rattle.id_record.specs.Records.{dests_at, replies_in};
 ghost use Rattle.id_valid.specs.Roles.{op_at};
 ghost use Rattle.id_instr.specs.Graph.{IsGraph};
 
+use crate::celled::{Celled, packed_beside};
+use crate::ledger::Ledger;
+use crate::line::{Handled, Handling, Line, NO_REPLIES, Reaction, Replies, packed, whole};
+use crate::margin::{Margin, add_beside, add_line, add_shot};
+use crate::near::{Doing, deed_beside, deed_line};
 use crate::outputs::{Envelope, Outputs, chosen};
+use crate::payload::{tag_of, value_of};
+use crate::shooting::{Shooting, shot};
+use crate::step::{Fault, Step, Verdict};
+use crate::telling::is_telling;
+use crate::visiting::{Visiting, visit_beside, visited};
 use id_instr::{Dest, Graph, Op};
-use id_ledger::{Ledger, Margin, add_beside, add_line, add_shot, is_telling};
-use id_line::{
-    Celled, Fault, Handled, Handling, Line, NO_REPLIES, Reaction, Replies, Step, Verdict, packed,
-    packed_beside, tag_of, value_of, whole,
-};
 use id_ops::Fired;
-use id_shots::{Doing, Shooting, Visiting, deed_beside, deed_line, shot, visit_beside, visited};
 use id_tag::{Message, Payload, Tag, Value};
 use id_valid::Valid;
 use std::alloc::{AllocError, Global};
@@ -73,7 +77,7 @@ pub struct Events<'a> {
 
 impl<'a> Model for Events<'a> {
     ghost use Rattle.std.specs.Prelude.{List};
-    ghost use Rattle.id_line.specs.Events.{EventView};
+    ghost use Rattle.id_record.specs.Events.{EventView};
 
     ghost Value = { List EventView };
 
@@ -83,15 +87,15 @@ impl<'a> Model for Events<'a> {
 impl<'a> Record<'a> {
     ghost use Rattle.std.specs.Prelude.{◌≡◌, ◌<◌, ◌≤◌, ◌+◌, ◌++◌, ◌∷◌, [], length};
     ghost use Rattle.std.specs.Prelude.{option_map, slice_get, Some, OnOk};
-    ghost use Rattle.id_line.specs.Events.{AreUnmarked, IsMarkedAt, tag_of, value_of};
+    ghost use Rattle.id_record.specs.Events.{AreUnmarked, IsMarkedAt, tag_of, value_of};
     ghost use Rattle.std.specs.Prelude.{IsFalse, IsTrue};
-    ghost use Rattle.id_line.specs.declared.line.Handled.{Handled};
-    ghost use Rattle.id_line.specs.Lines.{AreThere, IsPacked, IsPackedBeside, handled};
-    ghost use Rattle.id_shots.specs.Shootings.{HasLine, doing, shooting};
-    ghost use Rattle.id_shots.specs.Visits.{visiting};
+    ghost use Rattle.id_record.specs.declared.line.Handled.{Handled};
+    ghost use Rattle.id_record.specs.Lines.{AreThere, IsPacked, IsPackedBeside, handled};
+    ghost use Rattle.id_record.specs.Shootings.{HasLine, doing, shooting};
+    ghost use Rattle.id_record.specs.Visits.{visiting};
     ghost use Rattle.id_ops.specs.Shots.{IsBrief, IsOwn};
     ghost use Rattle.id_record.specs.Records.{GoesOn, HasPlace, StandsBeside, StandsIn, event_of_handled};
-    ghost use Rattle.id_ledger.specs.Tellings.{telling_from};
+    ghost use Rattle.id_record.specs.Tellings.{telling_from};
 
     /// The empty record of the element of this number, which is alone or one of several: the record of one that is
     /// alone is smaller. Takes no memory.
@@ -480,8 +484,8 @@ impl<'a> Record<'a> {
 
 impl<'a> Events<'a> {
     ghost use Rattle.std.specs.Prelude.{◌≡◌, ◌<◌, ◌≤◌, length, option_map, slice_get, Some};
-    ghost use Rattle.id_line.specs.Events.{AreUnmarked, IsMarkedAt, tag_of};
-    ghost use Rattle.id_ledger.specs.Tellings.{telling_from};
+    ghost use Rattle.id_record.specs.Events.{AreUnmarked, IsMarkedAt, tag_of};
+    ghost use Rattle.id_record.specs.Tellings.{telling_from};
 
     /// How many events there are. Takes no memory.
     pub fn len(&self) -> usize

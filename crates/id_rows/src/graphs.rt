@@ -4,8 +4,8 @@ use id_graph::{
     Arithmetic, Block, Comparison, Constant, Dest, Dests, Dyadic, Graph, Instr, Op, Others, Port,
     PortKind,
 };
-use id_list::Sequence;
 use id_valid::{Valid, validate};
+use id_value::Sequence;
 use std::alloc::{AllocError, Global};
 use std::process::Abort;
 use std::test::Fail;

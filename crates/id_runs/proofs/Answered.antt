@@ -6,13 +6,13 @@ use Rattle.id_tag.specs.declared.Tag.{Tag}
 use Rattle.id_tag.specs.declared.Cell.{Cell}
 use Rattle.id_tag.specs.declared.Value.{Value}
 use Rattle.id_tag.specs.declared.Payload.TheVariants.{Token}
-use Rattle.id_slot.specs.declared.ReadAnswer.{ReadAnswer}
-use Rattle.id_slot.specs.declared.WriteAnswer.{WriteAnswer}
-use Rattle.id_slot.specs.declared.WriteAnswer.TheVariants.{Second}
+use Rattle.id_bank.specs.declared.cell.ReadAnswer.{ReadAnswer}
+use Rattle.id_bank.specs.declared.cell.WriteAnswer.{WriteAnswer}
+use Rattle.id_bank.specs.declared.cell.WriteAnswer.TheVariants.{Second}
 use Rattle.id_core.specs.Machines.{World}
 use Rattle.id_value.specs.declared.Constant.{Constant}
-use Rattle.id_list.specs.List.{Among}
-use Rattle.id_list.proofs.AmongLemmas.{Among-map}
+use Rattle.id_value.specs.List.{Among}
+use Rattle.id_value.proofs.AmongLemmas.{Among-map}
 use Rattle.id_runs.specs.Events.{Event, sends_of}
 use Rattle.id_runs.specs.Runs.{Reach, handled}
 use Rattle.id_runs.specs.Cells.{ReadBy, WrittenBy, Replies, at_once, by_fill, cell_at}

@@ -18,15 +18,15 @@ use Rattle.id_tag.specs.declared.Value.TheVariants.{Signal}
 use Rattle.id_tag.specs.declared.Payload.TheVariants.{Token}
 use Rattle.id_tag.specs.Tags.{cell_cmp}
 use Rattle.id_tag.specs.Routes.{cell_route}
-use Rattle.id_slot.specs.declared.Filled.{Filled}
-use Rattle.id_slot.specs.declared.Reader.{Reader}
-use Rattle.id_slot.specs.Cells.{Cells, CellState, Present, Deferred, filled_at, readers_at, cells_of, deferred_of}
-use Rattle.id_firing.specs.Steps.{State}
+use Rattle.id_bank.specs.declared.cell.Filled.{Filled}
+use Rattle.id_bank.specs.declared.cell.Reader.{Reader}
+use Rattle.id_bank.specs.Cells.{Cells, CellState, Present, Deferred, filled_at, readers_at, cells_of, deferred_of}
+use Rattle.id_element.specs.Steps.{State}
 use Rattle.id_core.specs.Machines.{World}
 use Rattle.id_value.specs.declared.Constant.{Constant}
-use Rattle.id_list.specs.List.{Among, AllDiffer}
-use Rattle.id_list.proofs.AmongLemmas.{Among-either, Among-left, Among-right, Among-map, Among-from_map, Among-from_at, at-from_Among}
-use Rattle.id_list.proofs.DifferLemmas.{AllDiffer-append}
+use Rattle.id_value.specs.List.{Among, AllDiffer}
+use Rattle.id_value.proofs.AmongLemmas.{Among-either, Among-left, Among-right, Among-map, Among-from_map, Among-from_at, at-from_Among}
+use Rattle.id_value.proofs.DifferLemmas.{AllDiffer-append}
 use Rattle.id_runs.specs.Events.{Event}
 use Rattle.id_runs.specs.Keys.{AtPort}
 use Rattle.id_runs.specs.Runs.{Reach}

@@ -3,12 +3,12 @@ use Rattle.std.proofs.Common.{◌≡◌, ◌⊎◌, inl, inr, ℕ, Option, Some,
 use Rattle.id_tag.specs.declared.Tag.{Tag}
 use Rattle.id_tag.specs.declared.Cell.{Cell}
 use Rattle.id_tag.specs.declared.Value.{Value}
-use Rattle.id_slot.specs.declared.ReadAnswer.{ReadAnswer}
-use Rattle.id_slot.specs.declared.ReadAnswer.TheVariants.{Now, Deferred}
-use Rattle.id_slot.specs.declared.WriteAnswer.{WriteAnswer}
-use Rattle.id_slot.specs.declared.WriteAnswer.TheVariants.{Readers, Second}
-use Rattle.id_slot.specs.Cells.{CellState, Present, Deferred as Waiting}
-use Rattle.id_list.specs.List.{Among}
+use Rattle.id_bank.specs.declared.cell.ReadAnswer.{ReadAnswer}
+use Rattle.id_bank.specs.declared.cell.ReadAnswer.TheVariants.{Now, Deferred}
+use Rattle.id_bank.specs.declared.cell.WriteAnswer.{WriteAnswer}
+use Rattle.id_bank.specs.declared.cell.WriteAnswer.TheVariants.{Readers, Second}
+use Rattle.id_bank.specs.Cells.{CellState, Present, Deferred as Waiting}
+use Rattle.id_value.specs.List.{Among}
 use Rattle.id_runs.specs.Events.{Event, Looked, Wrote}
 use Rattle.id_runs.specs.Keys.{ByFetch, ByStore}
 use Rattle.id_runs.specs.OneMessage.{Few}

@@ -6,13 +6,13 @@ use Rattle.id_tag.specs.declared.Value.{Value}
 use Rattle.id_tag.specs.Tags.{same_cell}
 use Rattle.id_tag.specs.Routes.{route_of}
 use Rattle.id_tag.proofs.TagsLemmas.{ties-same_cell}
-use Rattle.id_slot.specs.declared.ReadAnswer.{ReadAnswer}
-use Rattle.id_slot.specs.declared.ReadAnswer.TheVariants.{Now, Deferred}
-use Rattle.id_slot.specs.declared.WriteAnswer.{WriteAnswer}
-use Rattle.id_slot.specs.declared.WriteAnswer.TheVariants.{Readers, Second}
-use Rattle.id_slot.specs.Cells.{CellState, Present, Deferred as Waiting}
-use Rattle.id_list.specs.List.{Among}
-use Rattle.id_list.proofs.AmongLemmas.{Among-left, Among-right, Among-either}
+use Rattle.id_bank.specs.declared.cell.ReadAnswer.{ReadAnswer}
+use Rattle.id_bank.specs.declared.cell.ReadAnswer.TheVariants.{Now, Deferred}
+use Rattle.id_bank.specs.declared.cell.WriteAnswer.{WriteAnswer}
+use Rattle.id_bank.specs.declared.cell.WriteAnswer.TheVariants.{Readers, Second}
+use Rattle.id_bank.specs.Cells.{CellState, Present, Deferred as Waiting}
+use Rattle.id_value.specs.List.{Among}
+use Rattle.id_value.proofs.AmongLemmas.{Among-left, Among-right, Among-either}
 use Rattle.id_runs.specs.Events.{Event, Took, Looked, Wrote}
 use Rattle.id_runs.specs.Runs.{happens, begin, deliver}
 use Rattle.id_runs.specs.Cells.{ReadBy, WrittenBy, held, put_off, Empty, Full, History, CellsExact}

@@ -31,13 +31,13 @@ use Rattle.id_core.specs.Events.{EventView, tag_of}
 use Rattle.id_core.specs.Steps.{sent}
 use Rattle.id_core.specs.Machines.{World}
 use Rattle.id_core.specs.Observed.{events_of}
-use Rattle.id_paths.specs.Paths.{last_context, entered_by, entered, if_same, enter_of, enter_in}
-use Rattle.id_paths.proofs.PathsLemmas.{enter_in-is, enter_in-nothing}
+use Rattle.id_observe.specs.Paths.{last_context, entered_by, entered, if_same, enter_of, enter_in}
+use Rattle.id_observe.proofs.PathsLemmas.{enter_in-is, enter_in-nothing}
 use Rattle.id_value.specs.declared.Constant.{Constant}
-use Rattle.id_list.specs.List.{Among, AllDiffer}
-use Rattle.id_list.proofs.AmongLemmas.{Among-map}
-use Rattle.id_list.proofs.DifferLemmas.{AllDiffer-few}
-use Rattle.id_list.proofs.PlacesLemmas.{slice_get-last}
+use Rattle.id_value.specs.List.{Among, AllDiffer}
+use Rattle.id_value.proofs.AmongLemmas.{Among-map}
+use Rattle.id_value.proofs.DifferLemmas.{AllDiffer-few}
+use Rattle.id_value.proofs.PlacesLemmas.{slice_get-last}
 use Rattle.id_runs.specs.Activations.{main_context}
 use Rattle.id_runs.specs.Events.{Waits, Blocked, Fires, Event, Took, Looked, Wrote, FiresAs, fired_event, sent_on, Enters}
 use Rattle.id_runs.specs.Runs.{Reach}

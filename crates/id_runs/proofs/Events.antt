@@ -22,26 +22,26 @@ use Rattle.id_tag.specs.declared.Cell.{Cell}
 use Rattle.id_tag.specs.Tags.{tag_cmp, same_tag}
 use Rattle.id_tag.proofs.TagsLemmas.{tags_total, exact_tags, one_from_same_tag}
 use Rattle.id_valid.specs.Roles.{op_at}
-use Rattle.id_slot.specs.declared.WriteAnswer.{WriteAnswer}
-use Rattle.id_slot.specs.declared.WriteAnswer.TheVariants.{Readers, Second}
-use Rattle.id_slot.specs.Cells.{Cells, read_after, write_after}
-use Rattle.id_front.specs.declared.Half.{Half}
-use Rattle.id_front.specs.declared.Offered.{Offered}
-use Rattle.id_front.specs.declared.Offered.TheVariants.{Kept, Pair, Taken}
-use Rattle.id_front.specs.Ports.{other_port}
-use Rattle.id_front.specs.Waiting.{Store, at_port, answer_of, store_after, offer_answer, offer_after}
+use Rattle.id_bank.specs.declared.cell.WriteAnswer.{WriteAnswer}
+use Rattle.id_bank.specs.declared.cell.WriteAnswer.TheVariants.{Readers, Second}
+use Rattle.id_bank.specs.Cells.{Cells, read_after, write_after}
+use Rattle.id_match.specs.declared.meeting.Half.{Half}
+use Rattle.id_match.specs.declared.meeting.Offered.{Offered}
+use Rattle.id_match.specs.declared.meeting.Offered.TheVariants.{Kept, Pair, Taken}
+use Rattle.id_match.specs.Ports.{other_port}
+use Rattle.id_match.specs.Waiting.{Store, at_port, answer_of, store_after, offer_answer, offer_after}
 use Rattle.id_ops.specs.declared.Fresh.{Fresh}
 use Rattle.id_ops.specs.declared.Operands.{Operands}
 use Rattle.id_ops.specs.declared.Operands.TheVariants as operands
 use Rattle.id_ops.specs.declared.Fired.{Fired}
 use Rattle.id_ops.specs.declared.Fired.TheVariants as fires
-use Rattle.id_line.specs.declared.step.Step.{Step}
-use Rattle.id_line.specs.declared.step.Step.TheVariants.{Stuck, Fault}
-use Rattle.id_line.specs.declared.step.Fault.TheVariants.{SecondStore}
-use Rattle.id_line.specs.declared.step.Verdict.TheVariants as verdict
-use Rattle.id_line.specs.Events.{full_step}
-use Rattle.id_firing.specs.Steps.{State, Outcome, arrival_of, arrival, waiting_after, fired_step, made_by}
-use Rattle.id_firing.specs.Steps.{allocated_by, next_numbers, arriving, at_instr, outcome, fill_verdict}
+use Rattle.id_record.specs.declared.step.Step.{Step}
+use Rattle.id_record.specs.declared.step.Step.TheVariants.{Stuck, Fault}
+use Rattle.id_record.specs.declared.step.Fault.TheVariants.{SecondStore}
+use Rattle.id_record.specs.declared.step.Verdict.TheVariants as verdict
+use Rattle.id_record.specs.Events.{full_step}
+use Rattle.id_element.specs.Steps.{State, Outcome, arrival_of, arrival, waiting_after, fired_step, made_by}
+use Rattle.id_element.specs.Steps.{allocated_by, next_numbers, arriving, at_instr, outcome, fill_verdict}
 use Rattle.id_runs.specs.Events.{Arrival, Waits, Blocked, Fires, Event, Took, Looked, Wrote, payload_of, sent_on}
 use Rattle.id_runs.specs.Events.{sends_of, fired_on, fired_in, step_on, came_to}
 use Rattle.id_runs.specs.Runs.{fires_on, offered_to, arrival_at, happens}

@@ -6,9 +6,9 @@ use Rattle.id_tag.specs.declared.Payload.{Payload}
 use Rattle.id_tag.specs.Routes.{route_of}
 use Rattle.id_core.specs.Machines.{World}
 use Rattle.id_value.specs.declared.Constant.{Constant}
-use Rattle.id_list.specs.List.{Among}
-use Rattle.id_list.proofs.AmongLemmas.{Among-either}
-use Rattle.id_list.proofs.PlacesLemmas.{Among-from_remove}
+use Rattle.id_value.specs.List.{Among}
+use Rattle.id_value.proofs.AmongLemmas.{Among-either}
+use Rattle.id_value.proofs.PlacesLemmas.{Among-from_remove}
 use Rattle.id_runs.specs.Events.{Event, sends_of}
 use Rattle.id_runs.specs.Runs.{happens, Reach, begin, deliver, handled, flying, starting, Moving}
 use Rattle.id_runs.proofs.Messages.{flying_after, was_flying}

@@ -16,8 +16,8 @@ use Rattle.id_ops.specs.declared.Fired.{Fired}
 use Rattle.id_ops.specs.declared.Fired.TheVariants as fires
 use Rattle.id_record.specs.Records.{dests_at, sent_by}
 use Rattle.id_core.specs.Steps.{moved_to, token_to}
-use Rattle.id_list.specs.List.{Among}
-use Rattle.id_list.proofs.AmongLemmas.{Among-either, Among-left, Among-map, Among-from_map, Among-one}
+use Rattle.id_value.specs.List.{Among}
+use Rattle.id_value.proofs.AmongLemmas.{Among-either, Among-left, Among-map, Among-from_map, Among-one}
 use Rattle.id_runs.specs.Events.{Event, FiresAs, fired_event, FiresOnce, GivesOn}
 
 -- how a firing under the tag sends the message: along an arc from the side on which it gives the value, along an arc at

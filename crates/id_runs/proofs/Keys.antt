@@ -8,9 +8,9 @@ use Rattle.id_instr.specs.declared.dests.Port.TheVariants.{Zero, One}
 use Rattle.id_tag.specs.declared.Payload.{Payload}
 use Rattle.id_tag.specs.Tags.{same_tag}
 use Rattle.id_tag.proofs.TagsLemmas.{same_tag_laws, one_from_same_tag}
-use Rattle.id_front.specs.Ports.{same_port}
-use Rattle.id_list.specs.List.{Among}
-use Rattle.id_list.proofs.AmongLemmas.{Among-map}
+use Rattle.id_match.specs.Ports.{same_port}
+use Rattle.id_value.specs.List.{Among}
+use Rattle.id_value.proofs.AmongLemmas.{Among-map}
 use Rattle.id_runs.specs.Events.{Event, payload_of}
 use Rattle.id_runs.specs.Keys.{Key, AtPort, ByFetch, ByStore, key_of, same_key}
 use Rattle.id_runs.specs.Runs.{handled}

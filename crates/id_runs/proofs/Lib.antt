@@ -21,3 +21,9 @@ pub mod Entered
 pub mod Made
 pub mod Banks
 pub mod Legal
+pub mod Weights
+pub mod Flights
+pub mod Records
+pub mod Ordered
+pub mod Orders
+pub mod Elements

@@ -15,13 +15,13 @@ use Rattle.id_tag.specs.Tags.{same_structure}
 use Rattle.id_ops.specs.declared.Fired.{Fired}
 use Rattle.id_ops.specs.declared.Fired.TheVariants as fires
 use Rattle.id_ops.specs.Operators.{fired}
-use Rattle.id_slot.specs.declared.ReadAnswer.TheVariants.{Now, Deferred}
+use Rattle.id_bank.specs.declared.cell.ReadAnswer.TheVariants.{Now, Deferred}
 use Rattle.id_core.specs.Events.{EventView, tag_of}
 use Rattle.id_core.specs.Machines.{World}
 use Rattle.id_core.specs.Observed.{events_of}
-use Rattle.id_paths.specs.Paths.{made_by, made, if_made, maker_of, maker_in}
+use Rattle.id_observe.specs.Paths.{made_by, made, if_made, maker_of, maker_in}
 use Rattle.id_value.specs.declared.Constant.{Constant}
-use Rattle.id_list.specs.List.{Among}
+use Rattle.id_value.specs.List.{Among}
 use Rattle.id_runs.specs.Events.{Waits, Blocked, Fires, Event, Took, Looked, Wrote, payload_of, FiresAs, fired_event, fired_in, Makes}
 use Rattle.id_runs.specs.Runs.{Reach}
 use Rattle.id_runs.proofs.Keys.{both_true}

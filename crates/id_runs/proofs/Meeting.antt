@@ -10,14 +10,14 @@ use Rattle.id_tag.specs.declared.Tag.{Tag}
 use Rattle.id_tag.specs.declared.Value.{Value}
 use Rattle.id_tag.specs.declared.Payload.TheVariants.{Token}
 use Rattle.id_tag.specs.Routes.{route_of}
-use Rattle.id_front.specs.declared.Half.{Half}
+use Rattle.id_match.specs.declared.meeting.Half.{Half}
 use Rattle.id_ops.specs.declared.Fresh.{Fresh}
 use Rattle.id_ops.specs.declared.Operands.TheVariants as operands
 use Rattle.id_ops.specs.Operators.{fired}
 use Rattle.id_core.specs.Steps.{State}
 use Rattle.id_core.specs.Machines.{World}
 use Rattle.id_value.specs.declared.Constant.{Constant}
-use Rattle.id_list.specs.List.{Among}
+use Rattle.id_value.specs.List.{Among}
 use Rattle.id_runs.specs.Events.{Arrival, Waits, Blocked, Fires, Event, Took, payload_of, FiresAs}
 use Rattle.id_runs.specs.Keys.{AtPort}
 use Rattle.id_runs.specs.Runs.{fires_on, Reach, begin, deliver, handled, flying}

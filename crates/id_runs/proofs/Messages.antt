@@ -7,8 +7,8 @@ use Rattle.id_instr.specs.declared.dests.Port.TheVariants.{Zero}
 use Rattle.id_tag.specs.declared.Payload.{Payload}
 use Rattle.id_tag.specs.declared.Payload.TheVariants.{Token}
 use Rattle.id_tag.specs.declared.Value.{Value}
-use Rattle.id_slot.specs.declared.ReadAnswer.TheVariants.{Now, Deferred}
-use Rattle.id_slot.specs.declared.WriteAnswer.TheVariants.{Readers, Second}
+use Rattle.id_bank.specs.declared.cell.ReadAnswer.TheVariants.{Now, Deferred}
+use Rattle.id_bank.specs.declared.cell.WriteAnswer.TheVariants.{Readers, Second}
 use Rattle.id_tag.specs.declared.Tag.{Tag}
 use Rattle.id_tag.specs.declared.Message.{Message}
 use Rattle.id_tag.specs.Routes.{route_of}
@@ -17,9 +17,9 @@ use Rattle.id_record.specs.Records.{sent_by}
 use Rattle.id_core.specs.Steps.{State, next_numbers, numbered, outputs_of, next_stamp, outcome}
 use Rattle.id_core.specs.Machines.{World, taken_from}
 use Rattle.id_value.specs.declared.Constant.{Constant}
-use Rattle.id_list.specs.List.{Among}
-use Rattle.id_list.proofs.AmongLemmas.{Among-from_at, Among-from_map, Among-left, Among-right, Among-either}
-use Rattle.id_list.proofs.PlacesLemmas.{Among-from_remove, taken-or-left, map-remove, slice_get-image}
+use Rattle.id_value.specs.List.{Among}
+use Rattle.id_value.proofs.AmongLemmas.{Among-from_at, Among-from_map, Among-left, Among-right, Among-either}
+use Rattle.id_value.proofs.PlacesLemmas.{Among-from_remove, taken-or-left, map-remove, slice_get-image}
 use Rattle.id_runs.specs.Events.{Waits, Blocked, Fires, Event, Took, Looked, Wrote, payload_of, sends_of, FiresAs, fired_event, FiresOnce}
 use Rattle.id_runs.specs.Cells.{Replies, at_once, by_fill}
 use Rattle.id_runs.specs.Runs.{happens, Reach, begin, deliver, handled, flying, Origin, Moving}

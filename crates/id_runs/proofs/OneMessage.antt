@@ -12,14 +12,14 @@ use Rattle.id_tag.specs.declared.Payload.{Payload}
 use Rattle.id_tag.specs.declared.Payload.TheVariants.{Token}
 use Rattle.id_tag.specs.declared.Message.{Message}
 use Rattle.id_tag.specs.Routes.{route_of}
-use Rattle.id_front.specs.Ports.{other_port}
+use Rattle.id_match.specs.Ports.{other_port}
 use Rattle.id_ops.specs.declared.Fired.{Fired}
 use Rattle.id_core.specs.Steps.{State}
 use Rattle.id_core.specs.Machines.{World, taken_from}
 use Rattle.id_value.specs.declared.Constant.{Constant}
-use Rattle.id_list.specs.List.{Among}
-use Rattle.id_list.proofs.AmongLemmas.{Among-map}
-use Rattle.id_list.proofs.PlacesLemmas.{slice_get-image}
+use Rattle.id_value.specs.List.{Among}
+use Rattle.id_value.proofs.AmongLemmas.{Among-map}
+use Rattle.id_value.proofs.PlacesLemmas.{slice_get-image}
 use Rattle.id_runs.specs.Events.{Waits, Event, Took, payload_of, sends_of, FiresAs, fired_event, FiresOnce}
 use Rattle.id_runs.specs.Keys.{Key, AtPort, key_of}
 use Rattle.id_runs.specs.Runs.{happens, Reach, begin, deliver, handled, flying, Moving}

@@ -8,15 +8,15 @@ use Rattle.id_instr.specs.Graph.{Parts}
 use Rattle.id_tag.specs.declared.Payload.{Payload}
 use Rattle.id_tag.specs.declared.Message.{Message}
 use Rattle.id_tag.specs.Routes.{route_of}
-use Rattle.id_line.specs.declared.step.Step.TheVariants.{Went}
+use Rattle.id_record.specs.declared.step.Step.TheVariants.{Went}
 use Rattle.id_core.specs.Events.{EventView}
 use Rattle.id_core.specs.Steps.{State, fresh, event_of, state_after}
 use Rattle.id_core.specs.Machines.{World, IsQuiet}
 use Rattle.id_core.specs.Observed.{events_of}
 use Rattle.id_value.specs.declared.Constant.{Constant}
-use Rattle.id_list.specs.List.{Among}
-use Rattle.id_list.proofs.AmongLemmas.{Among-left, Among-right, Among-either, Among-from_at, Among-from_map}
-use Rattle.id_list.proofs.PlacesLemmas.{slice_get-set, set-here, set-elsewhere}
+use Rattle.id_value.specs.List.{Among}
+use Rattle.id_value.proofs.AmongLemmas.{Among-left, Among-right, Among-either, Among-from_at, Among-from_map}
+use Rattle.id_value.proofs.PlacesLemmas.{slice_get-set, set-here, set-elsewhere}
 use Rattle.id_runs.specs.Events.{Event, payload_of, sends_of, fired_in, came_to}
 use Rattle.id_runs.specs.Keys.{Key}
 use Rattle.id_runs.specs.Runs.{happens, Reach, begin, deliver, handled}

@@ -18,16 +18,16 @@ use Rattle.id_tag.specs.declared.Payload.TheVariants.{Token, Read, Write}
 use Rattle.id_ops.specs.declared.Fired.{Fired}
 use Rattle.id_ops.specs.declared.Fired.TheVariants as fires
 use Rattle.id_ops.specs.Operators.{side_of, tag_within}
-use Rattle.id_line.specs.Events.{tag_of}
+use Rattle.id_record.specs.Events.{tag_of}
 use Rattle.id_record.specs.Sends.{beside, started}
 use Rattle.id_record.specs.Records.{dests_at}
 use Rattle.id_core.specs.Steps.{sent, moved_to, token_to}
-use Rattle.id_list.specs.List.{Among, AllDiffer}
-use Rattle.id_list.proofs.AmongLemmas.{Among-from_map, Among-one}
+use Rattle.id_value.specs.List.{Among, AllDiffer}
+use Rattle.id_value.proofs.AmongLemmas.{Among-from_map, Among-one}
 use Rattle.id_tag.specs.declared.Cell.{Cell}
 use Rattle.id_tag.specs.Tags.{same_cell}
-use Rattle.id_slot.specs.declared.ReadAnswer.TheVariants.{Now, Deferred}
-use Rattle.id_slot.specs.declared.WriteAnswer.TheVariants.{Readers, Second}
+use Rattle.id_bank.specs.declared.cell.ReadAnswer.TheVariants.{Now, Deferred}
+use Rattle.id_bank.specs.declared.cell.WriteAnswer.TheVariants.{Readers, Second}
 use Rattle.id_core.specs.Machines.{World}
 use Rattle.id_value.specs.declared.Constant.{Constant}
 use Rattle.id_runs.specs.Events.{Waits, Blocked, Fires, Event, Took, Looked, Wrote, payload_of, sends_of, Enters}

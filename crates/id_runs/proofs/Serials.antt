@@ -25,15 +25,15 @@ use Rattle.id_ops.specs.declared.Operands.{Operands}
 use Rattle.id_ops.specs.declared.Operands.TheVariants as operands
 use Rattle.id_ops.specs.declared.Fired.TheVariants as fires
 use Rattle.id_ops.specs.Operators.{fired, fired_enter, fired_alloc, structure_in}
-use Rattle.id_front.specs.Waiting.{Store, offer_answer}
-use Rattle.id_front.specs.declared.Offered.{Offered}
-use Rattle.id_front.specs.declared.Offered.TheVariants.{Kept, Pair, Taken}
+use Rattle.id_match.specs.Waiting.{Store, offer_answer}
+use Rattle.id_match.specs.declared.meeting.Offered.{Offered}
+use Rattle.id_match.specs.declared.meeting.Offered.TheVariants.{Kept, Pair, Taken}
 use Rattle.id_instr.specs.Ports.{two_ports}
-use Rattle.id_firing.specs.Steps.{State, made_by, next_numbers, state_after}
+use Rattle.id_element.specs.Steps.{State, made_by, next_numbers, state_after}
 use Rattle.id_core.specs.Machines.{World, taken_from}
 use Rattle.id_value.specs.declared.Constant.{Constant}
-use Rattle.id_list.specs.List.{Among}
-use Rattle.id_list.proofs.PlacesLemmas.{set-here, set-elsewhere}
+use Rattle.id_value.specs.List.{Among}
+use Rattle.id_value.proofs.PlacesLemmas.{set-here, set-elsewhere}
 use Rattle.id_runs.specs.Activations.{main_context}
 use Rattle.id_runs.specs.Events.{Arrival, Waits, Blocked, Fires, Event, Took, Looked, Wrote, FiresAs, fired_event, Enters, Makes}
 use Rattle.id_runs.specs.Runs.{fires_on, offered_to, arrival_at, happens, Reach, begin, deliver}

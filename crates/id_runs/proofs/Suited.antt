@@ -12,7 +12,7 @@ use Rattle.id_tag.specs.declared.Value.{Value}
 use Rattle.id_tag.specs.declared.Payload.{Payload}
 use Rattle.id_tag.specs.declared.Payload.TheVariants.{Token, Read, Write}
 use Rattle.id_tag.specs.declared.Cell.{Cell}
-use Rattle.id_slot.specs.declared.WriteAnswer.TheVariants.{Readers}
+use Rattle.id_bank.specs.declared.cell.WriteAnswer.TheVariants.{Readers}
 use Rattle.id_record.specs.Records.{sent_by}
 use Rattle.id_tag.specs.declared.Message.{Message}
 use Rattle.id_tag.specs.Kinds.{kind_of}
@@ -23,16 +23,16 @@ use Rattle.id_ops.specs.declared.Fired.{Fired}
 use Rattle.id_ops.specs.Operators.{fired, side_of}
 use Rattle.id_ops.specs.Operands.{Suits}
 use Rattle.id_ops.proofs.OperandsLemmas.{fires-from_Suits}
-use Rattle.id_firing.specs.Fits.{Fits, PayloadFits, TokenFits}
-use Rattle.id_desk.proofs.FitsLemmas.{TokenFits-later}
-use Rattle.id_desk.proofs.OutcomeLemmas.{one_port}
-use Rattle.id_desk.proofs.SentLemmas.{OperandsFit, fired_fits, kind_at_op, reply_fits, sent_fits}
+use Rattle.id_element.specs.Fits.{Fits, PayloadFits, TokenFits}
+use Rattle.id_element.proofs.FitsLemmas.{TokenFits-later}
+use Rattle.id_element.proofs.OutcomeLemmas.{one_port}
+use Rattle.id_element.proofs.SentLemmas.{OperandsFit, fired_fits, kind_at_op, reply_fits, sent_fits}
 use Rattle.id_core.specs.Steps.{sent}
 use Rattle.id_core.specs.Machines.{World, TakesInputs, block_messages, run, start}
 use Rattle.id_core.proofs.MachinesLemmas.{start_fits}
 use Rattle.id_value.specs.declared.Constant.{Constant}
-use Rattle.id_list.specs.List.{Among}
-use Rattle.id_list.proofs.AmongLemmas.{Among-from_map, Among-map}
+use Rattle.id_value.specs.List.{Among}
+use Rattle.id_value.proofs.AmongLemmas.{Among-from_map, Among-map}
 use Rattle.id_runs.specs.Events.{Event, Looked, Wrote, FiresAs, payload_of, sends_of}
 use Rattle.id_runs.specs.Cells.{Replies, cell_at}
 use Rattle.id_runs.proofs.Cells.{cells_exact}

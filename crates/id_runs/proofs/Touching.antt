@@ -17,13 +17,13 @@ use Rattle.id_tag.specs.declared.Message.{Message}
 use Rattle.id_tag.specs.Tags.{cell_cmp}
 use Rattle.id_tag.specs.Routes.{cell_route, route_of}
 use Rattle.id_tag.proofs.TagsLemmas.{cells_total, exact_cells}
-use Rattle.id_slot.specs.declared.ReadAnswer.{ReadAnswer}
-use Rattle.id_slot.specs.declared.WriteAnswer.{WriteAnswer}
-use Rattle.id_slot.specs.Cells.{CellState, Cells, read_answer, state_read, write_answer, state_written}
-use Rattle.id_firing.specs.Steps.{State, fresh, state_after}
+use Rattle.id_bank.specs.declared.cell.ReadAnswer.{ReadAnswer}
+use Rattle.id_bank.specs.declared.cell.WriteAnswer.{WriteAnswer}
+use Rattle.id_bank.specs.Cells.{CellState, Cells, read_answer, state_read, write_answer, state_written}
+use Rattle.id_element.specs.Steps.{State, fresh, state_after}
 use Rattle.id_core.specs.Machines.{World, start, taken_from}
 use Rattle.id_value.specs.declared.Constant.{Constant}
-use Rattle.id_list.proofs.PlacesLemmas.{slice_get-set, set-here, set-elsewhere}
+use Rattle.id_value.proofs.PlacesLemmas.{slice_get-set, set-here, set-elsewhere}
 use Rattle.id_runs.specs.Events.{Event, Looked, Wrote}
 use Rattle.id_runs.specs.Runs.{happens, Reach, begin, deliver}
 use Rattle.id_runs.specs.Cells.{cell_in, cell_at}

@@ -14,8 +14,8 @@ use Rattle.id_tag.specs.declared.Payload.{Payload}
 use Rattle.id_tag.specs.declared.Payload.TheVariants.{Token}
 use Rattle.id_tag.specs.Tags.{tag_cmp}
 use Rattle.id_tag.specs.Routes.{tag_route, route_of}
-use Rattle.id_front.specs.declared.Half.{Half}
-use Rattle.id_front.specs.Ports.{other_port}
+use Rattle.id_match.specs.declared.meeting.Half.{Half}
+use Rattle.id_match.specs.Ports.{other_port}
 use Rattle.id_ops.specs.declared.Fresh.{Fresh}
 use Rattle.id_ops.specs.declared.Fired.{Fired}
 use Rattle.id_ops.specs.declared.Operands.{Operands}
@@ -24,9 +24,9 @@ use Rattle.id_ops.specs.Operators.{fired}
 use Rattle.id_core.specs.Steps.{State, next_numbers, outcome, state_after}
 use Rattle.id_core.specs.Machines.{World, taken_from}
 use Rattle.id_value.specs.declared.Constant.{Constant}
-use Rattle.id_list.specs.List.{Among}
-use Rattle.id_list.proofs.AmongLemmas.{Among-map}
-use Rattle.id_list.proofs.PlacesLemmas.{slice_get-set, set-here, set-elsewhere}
+use Rattle.id_value.specs.List.{Among}
+use Rattle.id_value.proofs.AmongLemmas.{Among-map}
+use Rattle.id_value.proofs.PlacesLemmas.{slice_get-set, set-here, set-elsewhere}
 use Rattle.id_runs.specs.Events.{Arrival, Waits, Blocked, Fires, Event, Took, payload_of, FiresAs}
 use Rattle.id_runs.specs.Runs.{fires_on, happens, Reach, begin, deliver, handled}
 use Rattle.id_runs.proofs.Events.{half, operands_by, tag_cases, Effect, nowhere, alone as fires_alone, first, meets}

@@ -14,19 +14,19 @@ use Rattle.id_tag.specs.declared.Value.TheVariants as value
 use Rattle.id_valid.specs.Roles.{op_at}
 use Rattle.id_tag.specs.declared.Payload.{Payload}
 use Rattle.id_tag.specs.declared.Payload.TheVariants.{Token, Read, Write}
-use Rattle.id_slot.specs.declared.ReadAnswer.{ReadAnswer}
-use Rattle.id_slot.specs.declared.WriteAnswer.{WriteAnswer}
+use Rattle.id_bank.specs.declared.cell.ReadAnswer.{ReadAnswer}
+use Rattle.id_bank.specs.declared.cell.WriteAnswer.{WriteAnswer}
 use Rattle.id_ops.specs.declared.Operands.{Operands}
 use Rattle.id_ops.specs.declared.Fired.{Fired}
 use Rattle.id_ops.specs.declared.Fired.TheVariants.{Out, Side, Moved, Entered, Sent, Asked, Stored, Failed, Nothing}
 use Rattle.id_ops.specs.Operators.{side_of}
-use Rattle.id_line.specs.declared.step.Step.{Step}
-use Rattle.id_line.specs.declared.step.Step.TheVariants as steps
-use Rattle.id_line.specs.Events.{full_step}
+use Rattle.id_record.specs.declared.step.Step.{Step}
+use Rattle.id_record.specs.declared.step.Step.TheVariants as steps
+use Rattle.id_record.specs.Events.{full_step}
 use Rattle.id_record.specs.Records.{dests_at}
 use Rattle.id_core.specs.Steps.{sent, fired_step}
-use Rattle.id_firing.specs.Steps.{answer_fired, answer_sends, fill_sends, fill_verdict}
-use Rattle.id_list.specs.List.{Among}
+use Rattle.id_element.specs.Steps.{answer_fired, answer_sends, fill_sends, fill_verdict}
+use Rattle.id_value.specs.List.{Among}
 
 -- what came of a token: it waits for its partner, its port was filled already, or its instruction fired
 pub data Arrival : Type 0 where

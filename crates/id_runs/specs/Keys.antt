@@ -5,7 +5,7 @@ use Rattle.id_tag.specs.declared.Tag.{Tag}
 use Rattle.id_tag.specs.declared.Payload.{Payload}
 use Rattle.id_tag.specs.declared.Payload.TheVariants.{Token, Read, Write}
 use Rattle.id_tag.specs.Tags.{same_tag}
-use Rattle.id_front.specs.Ports.{same_port}
+use Rattle.id_match.specs.Ports.{same_port}
 
 -- a key: a port under a tag, a fetch by the tag of its reply, a store by its tag
 pub data Key : Type 0 where

@@ -1,3 +1,4 @@
+-- What public clauses cite.
 pub mod Events
 pub mod Activations
 pub mod Runs
@@ -7,3 +8,5 @@ pub mod Suited
 pub mod Serials
 pub mod Cells
 pub mod Legal
+pub mod Accounts
+pub mod Orders

@@ -11,7 +11,7 @@ use Rattle.id_tag.specs.declared.Payload.{Payload}
 use Rattle.id_tag.specs.declared.Payload.TheVariants.{Token}
 use Rattle.id_core.specs.Machines.{World}
 use Rattle.id_value.specs.declared.Constant.{Constant}
-use Rattle.id_list.specs.List.{Among}
+use Rattle.id_value.specs.List.{Among}
 use Rattle.id_runs.specs.Events.{Event, sends_of, FiresOnce}
 use Rattle.id_runs.specs.Keys.{Key, key_of, same_key}
 use Rattle.id_runs.specs.Runs.{Reach, handled, flying, starting, Moving}

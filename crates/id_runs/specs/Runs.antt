@@ -12,10 +12,10 @@ use Rattle.id_tag.specs.declared.Payload.{Payload}
 use Rattle.id_tag.specs.declared.Payload.TheVariants.{Token, Read, Write}
 use Rattle.id_tag.specs.declared.Message.{Message}
 use Rattle.id_tag.specs.Routes.{route_of}
-use Rattle.id_front.specs.declared.Offered.{Offered}
-use Rattle.id_front.specs.declared.Offered.TheVariants.{Kept, Pair, Taken}
-use Rattle.id_front.specs.Waiting.{Store, offer_answer}
-use Rattle.id_slot.specs.Cells.{read_answer, write_answer}
+use Rattle.id_match.specs.declared.meeting.Offered.{Offered}
+use Rattle.id_match.specs.declared.meeting.Offered.TheVariants.{Kept, Pair, Taken}
+use Rattle.id_match.specs.Waiting.{Store, offer_answer}
+use Rattle.id_bank.specs.Cells.{read_answer, write_answer}
 use Rattle.id_ops.specs.declared.Operands.{Operands}
 use Rattle.id_ops.specs.declared.Operands.TheVariants.{One, Two}
 use Rattle.id_ops.specs.declared.Fresh.{Fresh}
@@ -23,7 +23,7 @@ use Rattle.id_ops.specs.Operators.{fired}
 use Rattle.id_core.specs.Steps.{State, next_numbers}
 use Rattle.id_core.specs.Machines.{World, start, start_messages, taken_from}
 use Rattle.id_value.specs.declared.Constant.{Constant}
-use Rattle.id_list.specs.List.{Among}
+use Rattle.id_value.specs.List.{Among}
 use Rattle.id_runs.specs.Events.{Arrival, Waits, Blocked, Fires, Event, Took, Looked, Wrote, payload_of}
 use Rattle.id_runs.specs.Events.{sends_of}
 

@@ -5,7 +5,7 @@ use Rattle.id_tag.specs.declared.Context.{Context}
 use Rattle.id_tag.specs.declared.Structure.{Structure}
 use Rattle.id_core.specs.Machines.{World}
 use Rattle.id_value.specs.declared.Constant.{Constant}
-use Rattle.id_list.specs.List.{Among}
+use Rattle.id_value.specs.List.{Among}
 use Rattle.id_runs.specs.Activations.{main_context}
 use Rattle.id_runs.specs.Events.{Event, Enters, Makes}
 use Rattle.id_runs.specs.Runs.{Reach}

@@ -6,10 +6,10 @@ use Rattle.std.proofs.lemmas.List.{map-append, same_from_push, length_push, get_
 use Rattle.id_value.specs.declared.Kind.{Kind}
 use Rattle.id_value.specs.declared.Kind.TheVariants.{Int}
 use Rattle.id_scope.specs.Kinds.{Link, Fixed, To, Within, Nowhere, EndsIn, in_kind, in_nothing, further, within, kind_within}
-use Rattle.id_list.specs.List.{Among}
+use Rattle.id_value.specs.List.{Among}
 use Rattle.id_scope.specs.Chains.{IsKind, ends, endless, IsEnd, IsFilling, IsFound, IsGoing, IsPassing, IsState, IsTrail, begun, goes_on, goes_to, is_going_on, kind_of, link_of_pass, link_through, link_within, rows_of}
 use Rattle.id_scope.specs.declared.kinds.Pass.{Pass}
-use Rattle.id_list.proofs.AmongLemmas.{Among-left, Among-right, Among-either, Among-one}
+use Rattle.id_value.proofs.AmongLemmas.{Among-left, Among-right, Among-either, Among-one}
 
 to_same : (a b : ℕ) → To a ≡ To b → a ≡ b
 to_same a b e = cc

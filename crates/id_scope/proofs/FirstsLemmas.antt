@@ -2,10 +2,10 @@
 use Rattle.std.proofs.Common.{◌≡◌, ◌⊎◌, inl, inr, ◌<◌, ◌≤◌, ℕ, List, [], ◌∷◌, ◌++◌, refl, sym, subst, append_assoc, append-nil, arith}
 use Rattle.std.specs.Prelude.{Option, None, Some}
 use Rattle.id_scope.specs.declared.cause.CheckCause.{CheckCause}
-use Rattle.id_list.specs.List.{Among}
+use Rattle.id_value.specs.List.{Among}
 use Rattle.id_scope.specs.Causes.{IsBefore, IsFirst, number_of, place_of}
 use Rattle.id_scope.specs.Firsts.{IsFirstOf, Notes}
-use Rattle.id_list.proofs.AmongLemmas.{Among-left, Among-right, Among-either, Among-one}
+use Rattle.id_value.proofs.AmongLemmas.{Among-left, Among-right, Among-either, Among-one}
 
 -- what is not before another cause, but before a third, is behind it
 other_before : (p q r n m k : ℕ) → ((p < q) ⊎ ((p ≡ q) × (n ≤ m)) → ⊥) → (p < r) ⊎ ((p ≡ r) × (n ≤ k)) → (q < r) ⊎ ((q ≡ r) × (m ≤ k))

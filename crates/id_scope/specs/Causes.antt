@@ -14,7 +14,7 @@ use Rattle.id_table.specs.declared.row.Node.{Node}
 use Rattle.id_table.specs.declared.row.Node.TheVariants.{Param, Name, Unary, Binary, Split, If, Enter, Arg, Call, Def}
 use Rattle.id_table.specs.declared.row.Node.TheVariants.{Switches, NextUse, Next, Fetch, Address, Store, Bounds}
 use Rattle.id_table.specs.declared.row.Node.TheVariants as node
-use Rattle.id_list.specs.List.{Among}
+use Rattle.id_value.specs.List.{Among}
 use Rattle.id_grammar.specs.Tree.{Tree}
 use Rattle.id_tree.specs.Distinct.{HasPlace}
 use Rattle.id_table.specs.Rows.{at}

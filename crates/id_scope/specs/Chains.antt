@@ -4,7 +4,7 @@ use Rattle.std.specs.Prelude.{List, [], ◌∷◌, ◌++◌, map, length}
 use Rattle.std.specs.Prelude.{get_or, Option, None, Some}
 use Rattle.id_value.specs.declared.Kind.{Kind}
 use Rattle.id_value.specs.declared.Kind.TheVariants.{Int}
-use Rattle.id_list.specs.List.{Among}
+use Rattle.id_value.specs.List.{Among}
 use Rattle.id_scope.specs.declared.kinds.Pass.{Pass}
 use Rattle.id_scope.specs.Kinds.{Link, Fixed, To, Within, Nowhere, EndsIn, kind_within}
 

@@ -3,7 +3,7 @@
 ghost use Rattle.std.specs.Prelude.{◌≡◌, ◌<◌, ◌≤◌, ◌+◌, ◌^◌, ◌⊎◌, ℕ, [], not, get_or};
 ghost use Rattle.std.specs.Prelude.{length, IfOk};
 ghost use Rattle.std.specs.Prelude.{IfSome, OnOk, Some, None};
-ghost use Rattle.id_list.specs.List.{Among};
+ghost use Rattle.id_value.specs.List.{Among};
 ghost use Rattle.id_table.specs.Tables.{HasPart, IsFormed};
 ghost use Rattle.id_scope.specs.Kinds as kinds;
 ghost use Rattle.id_scope.specs.Kinds.{AreKinds, Nowhere};

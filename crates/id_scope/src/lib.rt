@@ -3,7 +3,7 @@
 //! Keeps: nothing beyond its values.
 //! Errors: `CheckCause`, the refusals 7 to 13 or want of memory: the first of those found stays.
 //! Read first: `specs/Scopes.antt`, `specs/Kinds.antt`, `specs/Causes.antt`, docs/LANGUAGE.md ("Names", "Kinds").
-//! Not here: the table of parts (`id_parts`), whether each row has the kind that is wanted of it (`id_check`).
+//! Not here: the table of parts (`id_table`), whether each row has the kind that is wanted of it (`id_check`).
 #![tactic(auto)]
 
 mod cause;

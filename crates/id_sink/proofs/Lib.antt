@@ -1,2 +1,4 @@
 pub mod SinkLemmas
 pub mod TextsLemmas
+pub mod ReadingLemmas
+pub mod WritingLemmas

@@ -89,7 +89,8 @@ fn put_iteration<W: Sink>(sink: &mut W, in_loop: bool, number: u64) -> Result<()
     }
 }
 
-fn put_steps<W: Sink>(
+/// The steps of a path, one after another.
+pub fn put_steps<W: Sink>(
     sink: &mut W,
     cursor: &mut Cursor<'_>,
     steps: &[PathStep],
@@ -105,7 +106,7 @@ fn put_steps<W: Sink>(
 }
 
 /// A place after `@`.
-fn put_at<W: Sink>(sink: &mut W, cursor: &mut Cursor<'_>, at: usize) -> Result<(), PrintError>
+pub fn put_at<W: Sink>(sink: &mut W, cursor: &mut Cursor<'_>, at: usize) -> Result<(), PrintError>
     requires { at ≤ length cursor.old }
     ensures prints { Prints (W.told sink.old) (W.told sink.new) (codes "@" ++ place_text cursor.old at) result }
     ensures same { cursor.new ≡ cursor.old }
@@ -212,7 +213,7 @@ pub fn put_shape<W: Sink>(
 }
 
 /// Two bounds, and the end of the line.
-fn put_bounds<W: Sink>(sink: &mut W, low: i64, high: i64) -> Result<(), PrintError>
+pub fn put_bounds<W: Sink>(sink: &mut W, low: i64, high: i64) -> Result<(), PrintError>
     ensures { Prints (W.told sink.old) (W.told sink.new) (bounds_text low high) result }
 {
     put_int(sink, low)?;

@@ -15,7 +15,7 @@ use Rattle.id_scope.specs.Scopes.{depth_at}
 use Rattle.id_check.specs.Programs.{Stands, binder, depth, place, rows, tree}
 use Rattle.id_source.specs.Sources.{Source}
 use Rattle.id_source.specs.Facts.{ForStands, LoopStands, NextStands, between}
-use Rattle.id_links.specs.Links.{far_from}
+use Rattle.id_source.specs.Links.{far_from}
 use Rattle.id_check.proofs.ProgramsLemmas.{binder_below, bound_name_row, bound_use_row, table_of}
 
 -- which nodes are things

@@ -16,7 +16,7 @@ use Rattle.id_table.specs.Tables.{is_param, is_thing}
 use Rattle.id_table.specs.Turns.{params_at}
 use Rattle.id_check.specs.Programs.{Stands, binder, place, rows}
 use Rattle.id_check.proofs.ProgramsLemmas.{table_of}
-use Rattle.id_list.proofs.AmongLemmas.{Among-from_at}
+use Rattle.id_value.proofs.AmongLemmas.{Among-from_at}
 use Rattle.id_source.specs.declared.Path.{Path}
 use Rattle.id_source.specs.declared.SourceValue.{SourceValue}
 use Rattle.id_source.specs.declared.SourceValue.TheVariants as value
@@ -30,7 +30,7 @@ use Rattle.id_source.specs.Facts.{array_has, ask, asks, fetch_has, put, puts, sh
 use Rattle.id_source.specs.Facts.{literal_has, unary_has, binary_has, name_has, conditional_has, argument_has, call_has}
 use Rattle.id_source.specs.Facts.{block_has, binding_has}
 use Rattle.id_source.specs.Rounds.{Every}
-use Rattle.id_links.specs.Links.{arm_of}
+use Rattle.id_source.specs.Links.{arm_of}
 use Rattle.id_source.proofs.CheckedLemmas.{apart_of}
 use Rattle.id_source.proofs.LiveLemmas.{IsFetch}
 use Rattle.id_source.proofs.ParamsLemmas.{input_param, params-among}

@@ -1,3 +1,7 @@
+pub mod TurnsLemmas
+pub mod AroundLemmas
+pub mod EdgesLemmas
+pub mod LinksLemmas
 pub mod ParamsLemmas
 pub mod RoundsLemmas
 pub mod StepsLemmas
@@ -10,3 +14,4 @@ pub mod Coherence
 pub mod NumbersLemmas
 pub mod ThingsLemmas
 pub mod PlacedLemmas
+pub mod InputsLemmas

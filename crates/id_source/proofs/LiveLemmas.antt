@@ -1,7 +1,7 @@
 -- What is On in an iteration of a loop is so since the predicate Has a value there, or since the loop goes on there or not.
 use Rattle.std.proofs.Common.{◌≡◌, ◌||◌, inl, inr, ℕ, zero, suc, ◌-◌, ◌+◌, ◌<◌, Bool as Truth, true, false, List, length, refl, ap, sym, ◌∙◌, subst, arith}
 use Rattle.std.proofs.lemmas.Bool.{cases_lt, false≢true}
-use Rattle.id_list.proofs.AmongLemmas.{Among-from_at}
+use Rattle.id_value.proofs.AmongLemmas.{Among-from_at}
 use Rattle.id_value.specs.declared.Kind.{Kind}
 use Rattle.id_table.specs.declared.row.Region.{Region}
 use Rattle.id_table.specs.declared.row.Node.{Node}

@@ -2,9 +2,9 @@
 use Rattle.std.proofs.Common.{◌≡◌, inl, inr, ℕ, zero, suc, ◌<◌, Bool, true, false, Some, List, [], ◌∷◌, ◌++◌, nat_eq, length, if◌then◌else◌, refl, ap, sym, ◌∙◌}
 use Rattle.std.proofs.Common.{subst, arith}
 use Rattle.std.specs.Prelude.{slice_get, ◌&&◌}
-use Rattle.id_list.specs.List.{AllDiffer, Among}
-use Rattle.id_list.proofs.AmongLemmas.{Among-either, Among-from_at}
-use Rattle.id_list.proofs.DifferLemmas.{AllDiffer-append}
+use Rattle.id_value.specs.List.{AllDiffer, Among}
+use Rattle.id_value.proofs.AmongLemmas.{Among-either, Among-from_at}
+use Rattle.id_value.proofs.DifferLemmas.{AllDiffer-append}
 use Rattle.id_table.specs.declared.row.Row.{Row}
 use Rattle.id_table.specs.Rows.{at}
 use Rattle.id_table.specs.Tables.{is_param}

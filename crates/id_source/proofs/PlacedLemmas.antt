@@ -2,7 +2,7 @@
 use Rattle.std.proofs.Common.{Bool as Truth, true, false, inl, inr, ℕ, zero, suc, List, [], ◌∷◌, ◌++◌, length, refl}
 use Rattle.std.specs.Prelude.{All}
 use Rattle.std.proofs.lemmas.List.Elements.{All-append, All-cons, All-head, All-nil, All-tail}
-use Rattle.id_list.proofs.AmongLemmas.{Among-from_at}
+use Rattle.id_value.proofs.AmongLemmas.{Among-from_at}
 use Rattle.id_tree.specs.Distinct.{HasPlace}
 use Rattle.id_table.specs.Rows.{at}
 use Rattle.id_table.specs.Turns.{params_at}

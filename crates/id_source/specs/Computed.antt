@@ -1,6 +1,6 @@
 -- Rounds as lists (docs/MEANING.md, "Rounds").
 use Rattle.std.specs.Prelude.{◌≢◌, ◌≤◌, ◌<◌, ℕ, List, length, AllPairs}
-use Rattle.id_list.specs.List.{Among}
+use Rattle.id_value.specs.List.{Among}
 use Rattle.id_source.specs.declared.Fact.{Fact}
 use Rattle.id_source.specs.Sources.{Source}
 use Rattle.id_source.specs.Rounds.{Rounds}

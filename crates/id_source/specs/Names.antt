@@ -1,7 +1,7 @@
 -- What the binders of a source have, and its structures, their cells and the fetches that wait (docs/MEANING.md,
 -- "Names", "Answer").
 use Rattle.std.specs.Prelude.{◌≡◌, ◌<◌, ℕ, true, List, length}
-use Rattle.id_list.specs.List.{Among}
+use Rattle.id_value.specs.List.{Among}
 use Rattle.id_table.specs.Rows.{at}
 use Rattle.id_table.specs.Tables.{is_binder}
 use Rattle.id_check.specs.declared.checked.Checked.{Checked}

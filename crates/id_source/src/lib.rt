@@ -1,15 +1,26 @@
-//! Sources: checked programs with inputs, and what their facts, rounds and faults are.
+//! Sources: checked programs with inputs, what their facts, rounds and faults are, and which rows' facts lead to
+//! which.
 //!
 //! Keeps: nothing beyond its values.
-//! Errors: want of memory alone.
-//! Read first: docs/MEANING.md, `specs/Sources.antt`, then `specs/Facts.antt` and `specs/Rounds.antt`.
-//! Not here: how inputs are read (`id_inputs`), how the facts of a round are found (`id_meaning`).
+//! Errors: `InputError`, the refusals 15 to 18, or want of memory.
+//! Read first: docs/MEANING.md, `specs/Sources.antt`, `specs/Facts.antt` and `specs/Rounds.antt`; `specs/Inputs.antt`,
+//! then `read_inputs`; `specs/Links.antt`, then `link`.
+//! Not here: the facts of rows (`id_facts`), how the facts of a round are found (`id_meaning`).
 #![tactic(auto)]
 
+mod edges;
+mod inputs;
+mod links;
+mod nodes;
 mod params;
 
-use id_list::Sequence;
-use id_value::FaultKind;
+pub use edges::Edges;
+use id_value::{FaultKind, Sequence};
+pub use inputs::{InputError, Inputs, param_name, read_inputs};
+pub use links::{
+    Links, awaited, beyond, binder_of, distance, far, link, lower_at, test_of_loop, upper_at,
+};
+pub use nodes::{block_of, node_of};
 pub use params::{main_body, main_params};
 
 /// One step of a path: the call (number 0) or the loop (its iteration, from 0) at a place.

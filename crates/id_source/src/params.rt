@@ -6,8 +6,8 @@ ghost use Rattle.id_table.specs.Turns.{params_at};
 ghost use Rattle.id_check.specs.Programs.{rows};
 ghost use Rattle.id_source.specs.Sources.{body_of, head_of, main_body, main_params};
 
+use crate::nodes::node_of;
 use id_check::Checked;
-use id_links::node_of;
 use id_table::{Node, Row};
 use std::alloc::{AllocError, Global};
 

@@ -5,8 +5,8 @@ use Rattle.std.proofs.lemmas.Bool.{cases_lt, false≢true, eqb-true}
 use Rattle.std.proofs.lemmas.Bool.Decides.{Decides-eqb}
 use Rattle.std.proofs.lemmas.List.{length_push}
 use Rattle.std.specs.Prelude.{nat_eq, if◌then◌else◌}
-use Rattle.id_list.specs.List.{AllDiffer, Among}
-use Rattle.id_list.proofs.AmongLemmas.{Among-either, Among-left, Among-one, Among-right}
+use Rattle.id_value.specs.List.{AllDiffer, Among}
+use Rattle.id_value.proofs.AmongLemmas.{Among-either, Among-left, Among-one, Among-right}
 use Rattle.id_table.specs.declared.row.Row.{Row}
 use Rattle.id_table.specs.declared.row.Node.{Node}
 use Rattle.id_table.specs.declared.row.Node.TheVariants.{Param, Program}

@@ -22,3 +22,5 @@ mod ParamsLemmas
 mod ProcedureLemmas
 mod RowLemmas
 mod StoreLemmas
+-- For the proofs of this crate alone.
+mod MakingLemmas

@@ -4,7 +4,7 @@ use Rattle.std.proofs.lemmas.Bool.{cases_lt, false≢true}
 use Rattle.std.proofs.lemmas.Slice.Eq.{bytes_eq-Decides}
 use Rattle.std.specs.Prelude.{if◌then◌else◌}
 use Rattle.std.specs.Str.{bytes_eq}
-use Rattle.id_list.specs.List.{AllDiffer, Among}
+use Rattle.id_value.specs.List.{AllDiffer, Among}
 use Rattle.id_grammar.specs.Tree.{Tree, literal, unary, binary, name, conditional, call, block, loop, for_loop, array, fetch, binding, next, store, param}
 use Rattle.id_grammar.specs.Tree.{define, none, more}
 use Rattle.id_table.specs.declared.row.Row.{Row}

@@ -10,3 +10,4 @@ pub mod Trees
 pub mod Turns
 pub mod Nodes
 pub mod Texts
+pub mod Making

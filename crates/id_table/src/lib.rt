@@ -1,10 +1,12 @@
-//! The table of the parts of a program: its rows, its names, and what is so of the table of each tree.
+//! The table of the parts of a program, made once from its tree: its rows, its names, and what is so of the table of
+//! each tree.
 //!
 //! Keeps: each part stands before its row, within the row's interval; the intervals nest.
-//! Errors: want of memory, as which a number of more than 32 bits is told too.
-//! Read first: `Node` (which forms have which rows), `specs/Rows.antt`, then `specs/Turns.antt`; docs/GRAPH.md
-//! ("Parts").
-//! Not here: the tree (`id_tree`), who makes the table (`id_maker`, `id_parts`), binders and kinds (`id_check`).
+//! Errors: want of memory, as which a number of more than 32 bits is told too. After one the rows and the names of a
+//! `Maker` are of no use.
+//! Read first: `Node` (which forms have which rows), `specs/Rows.antt`, then `specs/Turns.antt`; `specs/Making.antt`,
+//! then `table_of`; docs/GRAPH.md ("Parts").
+//! Not here: the tree (`id_tree`), binders and kinds (`id_check`).
 //!
 //! Rows stand in the order in which the text finishes its parts; a **marker** row stands wherever a region or a
 //! scope begins that has no row of its own, or where instructions are made between parts. A row's own parts are
@@ -29,11 +31,13 @@
 //! | program | the definitions' rows, then `Program` |
 #![tactic(auto)]
 
+mod maker;
 mod names;
 mod node;
 mod room;
 mod row;
 mod spelled;
+mod walk;
 
 pub use names::{main_alone, names_of};
 pub use node::{
@@ -42,3 +46,4 @@ pub use node::{
 pub use room::{about_names, about_rows};
 pub use row::{Node, Region, Row, Stand, Table};
 pub use spelled::Spelled;
+pub use walk::table_of;

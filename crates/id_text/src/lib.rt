@@ -3,7 +3,7 @@
 //! Keeps: nothing beyond its values.
 //! Errors: `TextError`, the refusals 1 to 3 or want of memory.
 //! Read first: `token`, then `specs/Lexes.antt`, then `lex`.
-//! Not here: lists (`id_list`), which tokens make a program (`id_tree`).
+//! Not here: lists (`id_value`), which tokens make a program (`id_tree`).
 #![tactic(auto)]
 
 mod bytes;
@@ -15,7 +15,7 @@ mod signs;
 mod token;
 mod words;
 
-pub use id_list::Sequence;
+pub use id_value::Sequence;
 pub use identifier::Identifier;
 pub use lexer::lex;
 pub use places::{Lines, line_col};

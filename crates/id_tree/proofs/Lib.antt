@@ -1,3 +1,9 @@
+pub mod ArrayLemmas
+pub mod BlockLemmas
+pub mod CallLemmas
+pub mod ForLemmas
+pub mod ReadLemmas
+pub mod WholeLemmas
 mod CompleteLemmas
 mod SoundLemmas
 mod FinishLemmas

@@ -1,3 +1,4 @@
+-- What public clauses cite.
 pub mod Accepted
 pub mod Distinct
 pub mod Starts

@@ -1,12 +1,11 @@
-//! The program that tokens are, read off them definition by definition.
+//! The program that tokens are, read off them definition by definition, a function for each production.
 //!
 //! Keeps: nothing beyond its values; that the places of a program differ, and are starts of tokens,
 //! are clauses of `parse`.
 //! Errors: `TreeError`, the refusals 5 and 6 or want of memory.
-//! Read first: docs/LANGUAGE.md ("Grammar", "Nesting", "Place"), `specs/Grammar.antt` (`id_grammar`),
-//! `specs/Accepted.antt`, then `parse`.
-//! Not here: trees and the grammar (`id_grammar`), expressions and statements (`id_parser`), names and
-//! kinds (`id_check`).
+//! Read first: docs/LANGUAGE.md ("Grammar", "Nesting", "Place"), `specs/Grammar.antt` and `specs/Readers.antt`
+//! (`id_grammar`), `specs/Accepted.antt`, then `parse`; for expressions and statements `parser::parse_enclosed`.
+//! Not here: trees and the grammar (`id_grammar`), names and kinds (`id_check`).
 #![tactic(auto)]
 
 /// What is found, unless it is an error, which is the answer then.
@@ -19,7 +18,9 @@ macro_rules! found {
     };
 }
 
+mod blocks;
 mod heads;
+mod parser;
 mod program;
 
 pub use id_grammar::{

@@ -17,11 +17,11 @@ ghost use Rattle.id_grammar.specs.Readers.{Declares, Undeclares, Heads};
 ghost use Rattle.id_grammar.specs.Readers.{Beheads};
 
 use crate::heads::{expect_end, expect_kind};
+use crate::parser::parse_enclosed;
 use id_grammar::{
     Def, Param, Part, Program, TreeError, Word, begins_with, begins_with_sign, expect_name,
     expect_word, fitted, is_sign, split, unexpected,
 };
-use id_parser::parse_enclosed;
 use id_text::{Identifier, Keyword, Sequence, Symbol, Token};
 use id_value::Kind;
 use std::alloc::Global;

@@ -1,1 +1,4 @@
+pub mod AmongLemmas
+pub mod DifferLemmas
+pub mod PlacesLemmas
 pub mod ResultsLemmas

@@ -1,3 +1,5 @@
+-- What public clauses cite.
+pub mod List
 pub mod Bounds
 pub mod Kinds
 pub mod Results

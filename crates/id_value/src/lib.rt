@@ -1,8 +1,9 @@
-//! Values, operators by class, what operators give, and bounds: told once for the meaning and the machine.
+//! Values, operators by class, what operators give, and bounds, told once for the meaning and the machine; and lists.
 //!
 //! Keeps: nothing beyond its values.
 //! Errors: none; nothing here takes memory. A fault is a result (`FaultKind`).
-//! Read first: docs/MEANING.md ("Operators"), `specs/Results.antt`, `specs/Bounds.antt`, then `calculate`.
+//! Read first: docs/MEANING.md ("Operators"), `specs/Results.antt`, `specs/Bounds.antt`, then `calculate`;
+//! `specs/List.antt`, then `Sequence`.
 //! Not here: values that are no constants, as the machine's signals (`id_tag`).
 #![tactic(auto)]
 
@@ -10,6 +11,9 @@ ghost use Rattle.std.specs.Prelude.{◌≡◌, neg_ℤ, MatchOption};
 ghost use Rattle.id_value.specs.Bounds.{are_good, is_inside};
 ghost use Rattle.id_value.specs.Results.{calculated, compared, decided, result_of_binary, result_of_unary, whole};
 
+mod list;
+
+pub use list::Sequence;
 /// The most elements that a structure may have.
 pub const MAX_ELEMENTS: i64 = 1_000_000;
 

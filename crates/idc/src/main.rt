@@ -2,7 +2,7 @@
 //!
 //! Keeps: nothing of its own.
 //! Errors: each has its line on standard error and its status (docs/LANGUAGE.md, "Output").
-//! Read first: `main`, then `drive` of `id_engine`.
+//! Read first: `main`, then `drive_settled` of `id_engine`.
 //! Not here: what words ask for (`id_args`), what is done then (`id_engine`).
 #![tactic(auto)]
 
@@ -10,29 +10,15 @@
 mod tests;
 
 use id_args::arguments;
-use id_engine::{Disk, Source, Stream, SystemFolder, Unasked, drive, drive_asked, settle};
-use id_sink::Sink;
+use id_engine::{Disk, Stream, SystemFolder, Unasked, drive_settled};
 use std::io::BufWriter;
 use std::process::ExitCode;
 use std::rt::{Env, Files};
 use std::sync::Wait;
 use std::thread::Threads;
 
-/// Does what the words of the process ask for, and answers the status.
-fn serve_words<R: Env + AllocGlobal + Threads + Wait + Sync, S: Source, O: Sink, E: Sink>(
-    rt: &R,
-    source: &mut S,
-    out: &mut O,
-    err: &mut E,
-) -> u8 {
-    match arguments(rt) {
-        Ok(words) => drive(rt, rt.alloc(), words.as_slice(), source, out, err),
-        Err(unasked) => drive_asked(rt, rt.alloc(), &Err(unasked), source, out, err),
-    }
-}
-
 /// Answers the words of the process on the streams of the host. The parts of a line gather in a buffer on their way to
-/// standard output.
+/// standard output, where there is memory for one.
 fn serve_process<R: Env + Files + AllocGlobal + Threads + Wait + Sync>(
     rt: &R,
     host: &HostRuntime,
@@ -47,15 +33,14 @@ fn serve_process<R: Env + Files + AllocGlobal + Threads + Wait + Sync>(
     match BufWriter::new(alloc, host.stdout()) {
         Ok(writer) => {
             let mut out = Stream { writer };
-            let status = serve_words(rt, &mut source, &mut out, &mut err);
-            settle(&mut out, &mut err, status)
+            drive_settled(rt, alloc, arguments(rt), &mut source, &mut out, &mut err)
         }
         Err(_) => {
             let mut out = Stream {
                 writer: host.stdout(),
             };
-            let refused = Err(Unasked::Memory);
-            drive_asked(rt, alloc, &refused, &mut source, &mut out, &mut err)
+            let words: Result<Vec<String>, Unasked> = Err(Unasked::Memory);
+            drive_settled(rt, alloc, words, &mut source, &mut out, &mut err)
         }
     }
 }

@@ -1,7 +1,7 @@
 -- the cell at the next place comes last
 use Rattle.std.proofs.Common.{◌∙◌, ◌++◌, ap, sym, map, append_assoc}
 use Rattle.std.proofs.lemmas.List.{append-nil}
-use Rattle.id_slot.specs.Slots.{held_in, cells_below, entry_at, cell_in, state_in}
+use Rattle.id_bank.specs.Slots.{held_in, cells_below, entry_at, cell_in, state_in}
 use Rattle.id_bank.proofs.SlotsLemmas.{cells_below-none, cells_below-next}
 use Rattle.id_bank.proofs.add_cells.Goals as goal
 

@@ -1,5 +1,5 @@
 use Rattle.std.proofs.Common.{◌≡◌, ◌++◌, map}
-use Rattle.id_slot.specs.Slots.{held_in, cells_below}
+use Rattle.id_bank.specs.Slots.{held_in, cells_below}
 use Rattle.id_bank.proofs.add_cells.Given as goal
 
 -- the cells at the places so far are listed

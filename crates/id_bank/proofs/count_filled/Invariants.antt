@@ -1,7 +1,7 @@
 use Rattle.std.proofs.Common.{◌≡◌, length, take}
 use Rattle.std.specs.List.{flat_map}
-use Rattle.id_slot.specs.Cells.{filled_at}
-use Rattle.id_slot.specs.Slots.{page_cells}
+use Rattle.id_bank.specs.Cells.{filled_at}
+use Rattle.id_bank.specs.Slots.{page_cells}
 use Rattle.id_bank.proofs.count_filled.Given as goal
 
 -- the cells of the pages so far are counted

@@ -2,7 +2,7 @@
 use Rattle.std.proofs.Common.{◌≡◌, ◌∙◌, ap, sym, subst, IfOk, map}
 use Rattle.std.specs.List.{flat_map}
 use Rattle.std.proofs.lemmas.List.Folds.{flat_map-map}
-use Rattle.id_slot.specs.Slots.{held_in, page_cells}
+use Rattle.id_bank.specs.Slots.{held_in, page_cells}
 use Rattle.id_bank.proofs.in_order.Goals as goal
 
 pub returns : goal.returns

@@ -1,6 +1,6 @@
 -- each page is one
 use Rattle.std.proofs.Common.{sym, subst}
-use Rattle.id_slot.specs.Slots.{IsPage}
+use Rattle.id_bank.specs.Slots.{IsPage}
 use Rattle.id_bank.proofs.spread.Goals as goal
 
 pub add_cells-requires : goal.add_cells-requires

@@ -1,6 +1,6 @@
 use Rattle.std.proofs.Common.{◌≡◌, map, take}
 use Rattle.std.specs.List.{flat_map}
-use Rattle.id_slot.specs.Slots.{held_in, page_cells}
+use Rattle.id_bank.specs.Slots.{held_in, page_cells}
 use Rattle.id_bank.proofs.spread.Given as goal
 
 -- the cells of the pages so far are listed

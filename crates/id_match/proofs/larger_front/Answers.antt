@@ -4,8 +4,8 @@ use Rattle.std.proofs.lemmas.Grind.{common_steps}
 use Rattle.std.specs.FinMap.{entries}
 use Rattle.std.specs.Map.{lookup}
 use Rattle.id_tag.specs.Tags.{same_tag}
-use Rattle.id_front.specs.Front.{half_entry}
-use Rattle.id_front.proofs.BehindLemmas.{halves_kept}
+use Rattle.id_match.specs.Front.{half_entry}
+use Rattle.id_match.proofs.BehindLemmas.{halves_kept}
 use Rattle.id_match.proofs.larger_front.Goals as goal
 
 pub returns-in-Ok-clause-marked : goal.returns-in-Ok-clause-marked

@@ -3,8 +3,8 @@ use Rattle.std.proofs.Common.{◌≡◌, ◌∙◌, sym}
 use Rattle.std.specs.FinMap.{entries}
 use Rattle.std.specs.Map.{lookup}
 use Rattle.id_tag.specs.Tags.{same_tag}
-use Rattle.id_front.specs.Halves.{answer_at}
-use Rattle.id_front.specs.declared.Offered.TheVariants.{Kept}
+use Rattle.id_match.specs.Halves.{answer_at}
+use Rattle.id_match.specs.declared.meeting.Offered.TheVariants.{Kept}
 use Rattle.id_match.proofs.RearLemmas.{answer-lookup, err_always, here_after, others_after, partner_left}
 use Rattle.id_match.proofs.offer_to.Goals as goal
 

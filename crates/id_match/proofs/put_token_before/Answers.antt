@@ -4,7 +4,7 @@ use Rattle.std.specs.FinMap.{entries}
 use Rattle.std.specs.Map.{lookup}
 use Rattle.id_tag.specs.Plains.{whole}
 use Rattle.id_tag.specs.Tags.{same_tag}
-use Rattle.id_front.specs.Front.{Puts, front_half, slot_tag}
+use Rattle.id_match.specs.Front.{Puts, front_half, slot_tag}
 use Rattle.id_match.proofs.put_token_before.Goals as goal
 
 pub returns-then-has_room-clause-apart : goal.returns-then-has_room-clause-apart

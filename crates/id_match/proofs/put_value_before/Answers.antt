@@ -3,7 +3,7 @@ use Rattle.std.proofs.Common.{◌≡◌, None, Some, subst}
 use Rattle.std.specs.FinMap.{entries}
 use Rattle.std.specs.Map.{lookup}
 use Rattle.id_tag.specs.Tags.{same_tag}
-use Rattle.id_front.specs.Front.{Puts, front_half, slot_tag}
+use Rattle.id_match.specs.Front.{Puts, front_half, slot_tag}
 use Rattle.id_match.proofs.put_value_before.Goals as goal
 
 pub returns-in-Some-clause-apart : goal.returns-in-Some-clause-apart

@@ -2,8 +2,8 @@
 use Rattle.std.proofs.Common.{◌∙◌, ap, arith, length, map, sym}
 use Rattle.std.specs.List.{flat_map}
 use Rattle.std.proofs.lemmas.List.Folds.{flat_map-map}
-use Rattle.id_slot.specs.Cells.{filled_at, cells_of}
-use Rattle.id_slot.specs.Slots.{page_cells}
+use Rattle.id_bank.specs.Cells.{filled_at, cells_of}
+use Rattle.id_bank.specs.Slots.{page_cells}
 use Rattle.id_bank.proofs.LeftLemmas.{cells_left-all}
 use Rattle.id_bank.proofs.Bank.cells.Goals as goal
 

@@ -2,8 +2,8 @@
 use Rattle.std.proofs.Common.{◌≡◌, ◌∙◌, ap, sym, subst, IfOk}
 use Rattle.std.specs.List.{flat_map}
 use Rattle.std.proofs.lemmas.List.Folds.{flat_map-map}
-use Rattle.id_slot.specs.Cells.{readers_at, deferred_of}
-use Rattle.id_slot.specs.Slots.{held_in}
+use Rattle.id_bank.specs.Cells.{readers_at, deferred_of}
+use Rattle.id_bank.specs.Slots.{held_in}
 use Rattle.id_bank.proofs.SlotsLemmas.{deferred_of-none}
 use Rattle.std.proofs.lemmas.List.Elements.{recursion_from_All}
 use Rattle.id_bank.proofs.Bank.deferred.Goals as goal

@@ -1,7 +1,7 @@
 -- what `read_at` says of the pages, said of the map that they stand for
 use Rattle.std.proofs.Common.{◌≡◌, IfOk, OnErr, sym, subst}
-use Rattle.id_slot.specs.declared.ReadAnswer.TheVariants.{Deferred as PutOff}
-use Rattle.id_slot.specs.Cells.{read_answer, state_read}
+use Rattle.id_bank.specs.declared.cell.ReadAnswer.TheVariants.{Deferred as PutOff}
+use Rattle.id_bank.specs.Cells.{read_answer, state_read}
 use Rattle.id_bank.proofs.SlotsLemmas.{at_cell, insert-from_pages, same-from_pages}
 use Rattle.id_bank.proofs.Bank.read.Goals as goal
 

@@ -1,7 +1,7 @@
 -- what the pages have at the cell, said of the map
 use Rattle.std.proofs.Common.{◌∙◌, ap, sym, refl}
-use Rattle.id_slot.specs.Cells.{count_readers}
-use Rattle.id_slot.specs.Slots.{state_in, offset_of}
+use Rattle.id_bank.specs.Cells.{count_readers}
+use Rattle.id_bank.specs.Slots.{state_in, offset_of}
 use Rattle.id_bank.proofs.SlotsLemmas.{at_cell, state_at-place, state_at-none}
 use Rattle.id_bank.proofs.Bank.readers.Goals as goal
 

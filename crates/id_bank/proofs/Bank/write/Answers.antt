@@ -1,6 +1,6 @@
 -- what `write_at` says of the pages, said of the map that they stand for
 use Rattle.std.proofs.Common.{◌≡◌, IfOk, sym, subst}
-use Rattle.id_slot.specs.Cells.{write_answer, state_written}
+use Rattle.id_bank.specs.Cells.{write_answer, state_written}
 use Rattle.id_bank.proofs.SlotsLemmas.{at_cell, insert-from_pages, same-from_pages}
 use Rattle.id_bank.proofs.Bank.write.Goals as goal
 

@@ -1,8 +1,8 @@
 -- each step takes one place of the page at hand, or goes to the next page
 use Rattle.std.proofs.Common.{◌∙◌, ◌-◌, ◌<◌, ap, arith, length, sym}
 use Rattle.std.specs.List.{flat_map}
-use Rattle.id_slot.specs.Cells.{filled_at}
-use Rattle.id_slot.specs.Slots.{cell_in, filled_by, state_in}
+use Rattle.id_bank.specs.Cells.{filled_at}
+use Rattle.id_bank.specs.Slots.{cell_in, filled_by, state_in}
 use Rattle.id_bank.proofs.LeftLemmas.{some_at, none_at, next_page, one_fewer}
 use Rattle.id_bank.proofs.Cells.next.Goals as goal
 

@@ -1,7 +1,7 @@
 use Rattle.std.proofs.Common.{◌≡◌, ◌+◌, ◌-◌, ◌*◌, ◌≤◌, All, drop, length, map}
 use Rattle.std.specs.List.{flat_map}
-use Rattle.id_slot.specs.Cells.{filled_at}
-use Rattle.id_slot.specs.Slots.{IsPage, cells_left}
+use Rattle.id_bank.specs.Cells.{filled_at}
+use Rattle.id_bank.specs.Slots.{IsPage, cells_left}
 use Rattle.id_bank.proofs.Cells.next.Given as goal
 
 -- what was to come at the start still is

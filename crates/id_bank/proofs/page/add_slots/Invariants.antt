@@ -1,5 +1,5 @@
 use Rattle.std.proofs.Common.{◌≡◌, ℕ, ◌+◌, ◌-◌}
-use Rattle.id_slot.specs.Slots.{state_in}
+use Rattle.id_bank.specs.Slots.{state_in}
 use Rattle.id_bank.proofs.page.add_slots.Given as goal
 
 -- new slots hold nothing

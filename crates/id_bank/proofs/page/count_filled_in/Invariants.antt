@@ -1,8 +1,8 @@
 use Rattle.std.proofs.Common.{◌≡◌, ◌≤◌, ℤ, length}
 use Rattle.std.specs.List.{flat_map}
 use Rattle.id_tag.specs.declared.Structure.{Structure}
-use Rattle.id_slot.specs.Cells.{filled_at}
-use Rattle.id_slot.specs.Slots.{cells_below}
+use Rattle.id_bank.specs.Cells.{filled_at}
+use Rattle.id_bank.specs.Slots.{cells_below}
 use Rattle.id_bank.proofs.page.count_filled_in.Given as goal
 
 -- those at the places so far are counted

@@ -1,5 +1,5 @@
 use Rattle.std.proofs.Common.{rules}
-use Rattle.id_slot.specs.Slots.{HasNoReaders}
+use Rattle.id_bank.specs.Slots.{HasNoReaders}
 use Rattle.id_bank.proofs.page.has_no_readers.Goals as goal
 
 pub returns-then-readers_in-gt0 : goal.returns-then-readers_in-gt0

@@ -1,6 +1,6 @@
 use Rattle.std.proofs.Common.{◌≡◌, ◌<◌, ℕ}
-use Rattle.id_slot.specs.Cells.{count_readers}
-use Rattle.id_slot.specs.Slots.{state_in}
+use Rattle.id_bank.specs.Cells.{count_readers}
+use Rattle.id_bank.specs.Slots.{state_in}
 use Rattle.id_bank.proofs.page.has_no_readers.Given as goal
 
 -- no reply waits at the cells so far

@@ -1,5 +1,5 @@
 use Rattle.std.proofs.Common.{rules}
-use Rattle.id_slot.specs.Slots.{HasNone}
+use Rattle.id_bank.specs.Slots.{HasNone}
 use Rattle.id_bank.proofs.page.has_none.Goals as goal
 
 pub returns-then-not-is_absent_in : goal.returns-then-not-is_absent_in

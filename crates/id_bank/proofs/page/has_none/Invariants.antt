@@ -1,5 +1,5 @@
 use Rattle.std.proofs.Common.{◌≡◌, ◌<◌, ℕ, None}
-use Rattle.id_slot.specs.Slots.{state_in}
+use Rattle.id_bank.specs.Slots.{state_in}
 use Rattle.id_bank.proofs.page.has_none.Given as goal
 
 -- the cells so far hold nothing

@@ -1,8 +1,8 @@
 -- what `read_in` says of the page's slots, said of the pages
 use Rattle.std.proofs.Common.{◌≡◌, ◌∙◌, sym, subst, Some, IfOk, OnOk, OnErr}
-use Rattle.id_slot.specs.declared.ReadAnswer.TheVariants.{Deferred as PutOff}
-use Rattle.id_slot.specs.Cells.{read_answer, state_read}
-use Rattle.id_slot.specs.Slots.{state_at, state_in}
+use Rattle.id_bank.specs.declared.cell.ReadAnswer.TheVariants.{Deferred as PutOff}
+use Rattle.id_bank.specs.Cells.{read_answer, state_read}
+use Rattle.id_bank.specs.Slots.{state_at, state_in}
 use Rattle.id_bank.proofs.SlotsLemmas.{state_at-entry, state_at-written, others-written, unique-written, fits-written}
 use Rattle.id_bank.proofs.page.read_at.Goals as goal
 

@@ -1,7 +1,7 @@
 -- what `write_in` says of the page's slots, said of the pages
 use Rattle.std.proofs.Common.{◌≡◌, ◌∙◌, sym, subst, Some, IfOk, OnOk, OnErr}
-use Rattle.id_slot.specs.Cells.{write_answer, state_written}
-use Rattle.id_slot.specs.Slots.{state_at, state_in}
+use Rattle.id_bank.specs.Cells.{write_answer, state_written}
+use Rattle.id_bank.specs.Slots.{state_at, state_in}
 use Rattle.id_bank.proofs.SlotsLemmas.{state_at-entry, state_at-written, others-written, unique-written, fits-written}
 use Rattle.id_bank.proofs.page.write_at.Goals as goal
 

@@ -5,10 +5,10 @@ use Rattle.id_instr.specs.declared.instr.Instr.{Instr}
 use Rattle.id_pieces.specs.declared.arc.Piece.{Piece}
 use Rattle.id_pieces.specs.Made.{instrs_from, pieces_in}
 use Rattle.id_pieces.specs.Rows.{made}
-use Rattle.id_arcs.proofs.BuildableLemmas.{is_order}
+use Rattle.id_build.proofs.BuildableLemmas.{is_order}
 use Rattle.id_build.proofs.FillLemmas.{Among-get_or, pieces_in-next}
 use Rattle.id_build.proofs.FitsLemmas.{row_fits}
-use Rattle.id_arcs.proofs.JoinedLemmas.{bare-append}
+use Rattle.id_build.proofs.JoinedLemmas.{bare-append}
 use Rattle.id_build.proofs.program.bare_instrs.Goals as goal
 
 pub add_bare-requires-clause-within : goal.add_bare-requires-clause-within

@@ -4,8 +4,8 @@ use Rattle.std.proofs.lemmas.Grind.{common_steps}
 use Rattle.std.proofs.lemmas.Result.{MatchResult-weaker}
 use Rattle.id_pieces.specs.Made.{pieces_in}
 use Rattle.id_pieces.specs.Rows.{size}
-use Rattle.id_arcs.proofs.BuildableLemmas.{is_order}
-use Rattle.id_arcs.proofs.OrderLemmas.{length-pieces_in}
+use Rattle.id_build.proofs.BuildableLemmas.{is_order}
+use Rattle.id_build.proofs.OrderLemmas.{length-pieces_in}
 use Rattle.id_build.proofs.program.build_parts.Goals as goal
 
 pub number-requires-clause-within : goal.number-requires-clause-within

@@ -5,7 +5,7 @@ use Rattle.id_instr.specs.declared.instr.Instr.{Instr}
 use Rattle.id_instr.specs.Graph.{parts}
 use Rattle.id_pieces.specs.Made.{EntriesFit, graph_by, number_by}
 use Rattle.id_pieces.specs.Schemas.{Schemas, all_heads, block_of}
-use Rattle.id_arcs.proofs.BuildableLemmas.{IsBuildable-checked, is_order}
+use Rattle.id_build.proofs.BuildableLemmas.{IsBuildable-checked, is_order}
 use Rattle.id_build.proofs.FitsLemmas.{entries_fit}
 use Rattle.id_build.proofs.SchemasLemmas.{Schemas-graph_by, length-graph_by}
 use Rattle.id_build.proofs.program.parts_by.Goals as goal

@@ -6,10 +6,10 @@ use Rattle.std.proofs.lemmas.List.Sums.{fold-append}
 use Rattle.id_instr.specs.declared.instr.Instr.{Instr}
 use Rattle.id_pieces.specs.Made.{arc_of, arcs_in, connected, IsBetween, pieces_in}
 use Rattle.id_pieces.specs.Rows.{feeds}
-use Rattle.id_arcs.proofs.BuildableLemmas.{IsBuildable-checked, is_order}
+use Rattle.id_build.proofs.BuildableLemmas.{IsBuildable-checked, is_order}
 use Rattle.id_pieces.proofs.FeedsLemmas.{arcs_in-at}
 use Rattle.id_build.proofs.FillLemmas.{Among-get_or}
-use Rattle.id_arcs.proofs.JoinedLemmas.{AreBetween-left, AreBetween-right, instrs_from-append, length-connected, length-instrs_from}
+use Rattle.id_build.proofs.JoinedLemmas.{AreBetween-left, AreBetween-right, instrs_from-append, length-connected, length-instrs_from}
 use Rattle.id_build.proofs.SchemasLemmas.{IsFrom-arcs_in}
 use Rattle.id_build.proofs.program.with_arcs.Goals as goal
 

@@ -6,7 +6,7 @@ use Rattle.id_table.specs.declared.row.Node.TheVariants.{Entries, Split, Start, 
 use Rattle.id_desugar.specs.Regions.{carried, imports_of, is_loop_head}
 use Rattle.id_pieces.specs.Rows.{made_of, node}
 use Rattle.id_pieces.proofs.LoopsLemmas.{start_head}
-use Rattle.id_arcs.proofs.BuildableLemmas.{turn_head}
+use Rattle.id_build.proofs.BuildableLemmas.{turn_head}
 use Rattle.id_build.proofs.SizeLemmas.{length-entries, length-split, length-start, length-switches, length-turn}
 use Rattle.id_build.proofs.size.made_count.Goals as goal
 

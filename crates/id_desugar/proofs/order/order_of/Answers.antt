@@ -1,6 +1,6 @@
 -- Each head of a loop stands before the last row.
 use Rattle.std.proofs.Common.{arith, subst}
-use Rattle.id_list.specs.List.{Among}
+use Rattle.id_value.specs.List.{Among}
 use Rattle.id_desugar.proofs.HeadsLemmas.{head_inner, loop_heads-is}
 use Rattle.id_desugar.proofs.order.order_of.Goals as goal
 

@@ -1,5 +1,5 @@
 use Rattle.std.proofs.Common.{◌≡◌, sym, ◌∙◌}
-use Rattle.id_line.specs.declared.step.Step.TheVariants.{Fault, Stuck, Went}
+use Rattle.id_record.specs.declared.step.Step.TheVariants.{Fault, Stuck, Went}
 use Rattle.id_elements.proofs.FinishLemmas.{failed_on, step-free}
 use Rattle.id_elements.proofs.drawn.deliver.Goals as goal
 

@@ -1,5 +1,5 @@
 use Rattle.std.proofs.Common.{◌≡◌, sym, ◌∙◌}
-use Rattle.id_line.specs.declared.step.Step.TheVariants.{Fault, Stuck, Went}
+use Rattle.id_record.specs.declared.step.Step.TheVariants.{Fault, Stuck, Went}
 use Rattle.id_elements.proofs.FinishLemmas.{failed_on, goes_on, held_on_all, step-free, within_on}
 use Rattle.id_elements.proofs.finish.deliver.Goals as goal
 

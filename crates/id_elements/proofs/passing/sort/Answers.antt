@@ -1,5 +1,5 @@
 use Rattle.std.proofs.Common.{ℕ, subst}
-use Rattle.id_firing.specs.Fits.{IsFor}
+use Rattle.id_element.specs.Fits.{IsFor}
 use Rattle.id_elements.proofs.WorkersLemmas.{All-push}
 use Rattle.id_elements.proofs.passing.sort.Goals as goal
 

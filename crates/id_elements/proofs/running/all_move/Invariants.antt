@@ -1,5 +1,5 @@
 use Rattle.std.proofs.Common.{◌≢◌, ◌<◌, ℕ, get_or}
-use Rattle.id_line.specs.declared.step.Step.TheVariants.{Stuck}
+use Rattle.id_record.specs.declared.step.Step.TheVariants.{Stuck}
 use Rattle.id_core.specs.Events.{EventView}
 use Rattle.id_elements.proofs.running.all_move.Given as goal
 

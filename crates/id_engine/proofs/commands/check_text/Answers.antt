@@ -3,7 +3,7 @@ use Rattle.std.proofs.lemmas.Result.{IfOk-from_err}
 use Rattle.id_compile.specs.declared.error.EngineError.TheVariants.{Write}
 use Rattle.id_compile.proofs.AnsweredLemmas.{err_all, err_from, err_not, err_taken}
 use Rattle.id_compile.specs.Refusals.IsRefusedText.{by_write}
-use Rattle.id_runner.proofs.ShownLemmas.{HasShown-accepted}
+use Rattle.id_engine.proofs.ShownLemmas.{HasShown-accepted}
 use Rattle.id_engine.proofs.commands.check_text.Goals as goal
 
 -- an error before the first byte shows nothing

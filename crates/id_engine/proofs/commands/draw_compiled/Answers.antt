@@ -1,7 +1,7 @@
 use Rattle.std.proofs.Common.{◌≤◌, All, length, sym, ap, subst, ◌∙◌}
 use Rattle.id_instr.specs.Graph.{Parts}
 use Rattle.id_graph.specs.Dot.{dot_text}
-use Rattle.id_runner.proofs.PlacedLemmas.{instrs_within}
+use Rattle.id_engine.proofs.PlacedLemmas.{instrs_within}
 use Rattle.id_engine.proofs.commands.draw_compiled.Goals as goal
 
 pub draw-requires-clause-places : goal.draw-requires-clause-places

@@ -1,15 +1,16 @@
 use Rattle.std.proofs.Common.{◌≤◌, length, map}
 use Rattle.id_source.specs.Computed.{AreFacts}
 use Rattle.id_source.specs.Sources.{Source, source}
-use Rattle.id_names.specs.Within.{FactsWithin}
-use Rattle.id_runner.specs.Commands.{AreFactsOf}
+use Rattle.id_print.specs.Within.{FactsWithin}
+use Rattle.id_engine.specs.Commands.{AreFactsOf}
 use Rattle.id_compile.specs.Programs.{HasInputs}
 use Rattle.id_compile.specs.Refusals.{AreRefusedFacts, AreTakenFacts}
 use Rattle.id_compile.specs.Refusals.AreRefusedFacts.{by_source}
-use Rattle.id_runner.specs.Reports.{AreRefusedRounds}
+use Rattle.id_engine.specs.Reports.{AreRefusedRounds}
 use Rattle.id_compile.proofs.AnsweredLemmas.{if_err, if_ok, on_ok, on_ok_both}
-use Rattle.id_runner.proofs.AnsweredLemmas.{late_rounds, refused_rounds}
-use Rattle.id_runner.proofs.PlacedLemmas.{facts_within}
+use Rattle.id_engine.proofs.AnsweredLemmas.{late_rounds, refused_rounds}
+use Rattle.id_engine.proofs.PlacedLemmas.{facts_within}
+use Rattle.id_engine.specs.Found.{facts_found}
 use Rattle.id_engine.proofs.commands.facts_of.Goals as goal
 
 pub returns-in-Err : goal.returns-in-Err
@@ -28,7 +29,7 @@ returns-in-Ok c = record {
   facts = (let p = c.in-Ok.prepared in
       let n = c.args.round in
       let S : Source = source p.compiled.checked p.inputs.values in
-      if_ok c.facts_once.result (λ v. AreFacts S n v.items) (λ v. AreFactsOf c.args.text.now (map (λ w. w.now) c.args.inputs.now) n v.items)
+      if_ok c.facts_once.result (λ v. AreFacts S n (facts_found v)) (λ v. AreFactsOf c.args.text.now (map (λ w. w.now) c.args.inputs.now) n (facts_found v))
       (λ v h. record {
         program = p.compiled.checked;
         is_program = c.in-Ok.ensures.program;
@@ -41,8 +42,8 @@ returns-in-Ok c = record {
   within = (let p = c.in-Ok.prepared in
       let n = c.args.round in
       let S : Source = source p.compiled.checked p.inputs.values in
-      if_ok c.facts_once.result (λ v. AreFacts S n v.items) (λ v. FactsWithin (length c.args.text.now) v.items)
-      (λ v h. facts_within S c.in-Ok.ensures.within n v.items h) c.facts_once.ensures.facts);
+      if_ok c.facts_once.result (λ v. AreFacts S n (facts_found v)) (λ v. FactsWithin (length c.args.text.now) (facts_found v))
+      (λ v h. facts_within S c.in-Ok.ensures.within n (facts_found v) h) c.facts_once.ensures.facts);
   short = on_ok c.facts_once.result (length c.args.text.now ≤ 1048576) c.in-Ok.ensures.short;
   taken = (let p = c.in-Ok.prepared in
       let n = c.args.round in
@@ -56,8 +57,8 @@ returns-in-Ok c = record {
         inputs = p.inputs.values;
         are_inputs = c.in-Ok.ensures.inputs;
       } in
-      on_ok_both c.facts_once.result (λ v. AreFacts S n v.items) (λ v. (n ≤ 10000) × (length v.items ≤ 1000000)) (AreTakenFacts c.args.text.now ws n)
-      (λ v h k. record { inputs = has; few_rounds = k.0; facts = v.items; are = h; few = k.1 }) c.facts_once.ensures.facts
+      on_ok_both c.facts_once.result (λ v. AreFacts S n (facts_found v)) (λ v. (n ≤ 10000) × (length (facts_found v) ≤ 1000000)) (AreTakenFacts c.args.text.now ws n)
+      (λ v h k. record { inputs = has; few_rounds = k.0; facts = facts_found v; are = h; few = k.1 }) c.facts_once.ensures.facts
       c.facts_once.ensures.few);
   refused = (let p = c.in-Ok.prepared in
       let n = c.args.round in

@@ -1,8 +1,10 @@
 use Rattle.id_engine.proofs.commands.facts_once.Goals as goal
 
-pub facts_of_prepared-facts-requires : goal.facts_of_prepared-facts-requires
-facts_of_prepared-facts-requires c = c.requires
+pub facts_of_prepared-requires : goal.facts_of_prepared-requires
+facts_of_prepared-requires c = c.requires
 
-pub returns : goal.returns
-returns c =
-    record { facts = c.facts_of_prepared-facts.ensures.facts; few = c.facts_of_prepared-facts.ensures.few; refused = c.facts_of_prepared-facts.ensures.refused }
+pub returns-in-Ok : goal.returns-in-Ok
+returns-in-Ok c = record { facts = c.in-Ok.ensures.facts; few = c.in-Ok.ensures.few; refused = tt }
+
+pub returns-in-Err : goal.returns-in-Err
+returns-in-Err c = record { facts = tt; few = tt; refused = c.in-Err.ensures.refused }

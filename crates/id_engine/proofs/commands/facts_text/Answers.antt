@@ -1,19 +1,17 @@
-use Rattle.std.proofs.Common.{List, map, sym, subst, refl}
+use Rattle.std.proofs.Common.{refl}
 use Rattle.std.proofs.lemmas.Result.{IfOk-from_err}
 use Rattle.id_compile.specs.declared.error.EngineError.TheVariants.{Write}
 use Rattle.id_compile.proofs.AnsweredLemmas.{err_all, err_from, err_not, err_taken}
-use Rattle.id_source.specs.declared.Fact.{Fact}
-use Rattle.id_runner.specs.Commands.{AreFactsOf}
 use Rattle.id_compile.specs.Refusals.AreRefusedFacts.{by_write}
-use Rattle.id_runner.proofs.ShownLemmas.{HasShown-facts}
+use Rattle.id_engine.proofs.ShownLemmas.{HasShown-facts}
 use Rattle.id_engine.proofs.commands.facts_text.Goals as goal
 
 -- an error before the first byte shows nothing
-pub returns-in_err-facts : goal.returns-in_err-facts
-returns-in_err-facts g c =
+pub returns-in_err-found : goal.returns-in_err-found
+returns-in_err-found g c =
     let r = c.from_residual.result in
     let is = c.from_residual.ensures in
-    let told = c.in_err-facts.ensures in
+    let told = c.in_err-found.ensures in
     record {
       shown = IfOk-from_err r _ is.0;
       cut = err_not r _ Write is.1 told.not_write;
@@ -25,23 +23,21 @@ returns-in_err-facts g c =
 
 pub returns-in-Ok : goal.returns-in-Ok
 returns-in-Ok g c = record {
-  shown = HasShown-facts _ _ _ _ _ _ _ (subst (λ (fs : List Fact). AreFactsOf c.args.text.now (map (λ w. w.now) c.args.inputs.now) c.args.round fs)
-      (sym c.as_slice.ensures.value) c.in_ok-facts.ensures.facts) c.in-Ok.ensures;
+  shown = HasShown-facts _ _ _ _ _ _ _ c.in_ok-found.ensures.facts c.in-Ok.ensures;
   cut = λ e. absurd cc;
   silent = tt;
-  taken = c.in_ok-facts.ensures.taken;
+  taken = c.in_ok-found.ensures.taken;
   refused = tt;
   inside = tt;
 }
 
-pub returns : goal.returns
-returns g c = record {
+pub returns-in-Err : goal.returns-in-Err
+returns-in-Err g c = record {
   shown = tt;
   cut = λ _. record {
     status = 0;
     error = c.in-Err.field-0;
-    shown = HasShown-facts _ _ _ _ _ _ _ (subst (λ (fs : List Fact). AreFactsOf
-        c.args.text.now (map (λ w. w.now) c.args.inputs.now) c.args.round fs) (sym c.as_slice.ensures.value) c.in_ok-facts.ensures.facts) c.in-Err.ensures;
+    shown = HasShown-facts _ _ _ _ _ _ _ c.in_ok-found.ensures.facts c.in-Err.ensures;
   };
   silent = λ h. absurd (h refl);
   taken = tt;

@@ -4,7 +4,7 @@ use Rattle.id_compile.specs.declared.error.EngineError.TheVariants.{Write}
 use Rattle.id_compile.proofs.AnsweredLemmas.{err_all, err_from, err_not, err_taken}
 use Rattle.id_sink.specs.Told.{Prints}
 use Rattle.id_compile.specs.Refusals.IsRefusedText.{by_write}
-use Rattle.id_runner.proofs.ShownLemmas.{HasShown-listed}
+use Rattle.id_engine.proofs.ShownLemmas.{HasShown-listed}
 use Rattle.id_engine.proofs.commands.graph_text.Goals as goal
 
 -- an error before the first byte shows nothing

@@ -1,7 +1,7 @@
 use Rattle.std.proofs.Common.{◌≤◌, All, length, sym, ap, subst, ◌∙◌}
 use Rattle.id_instr.specs.Graph.{Parts}
 use Rattle.id_graph.specs.Listing.{listing}
-use Rattle.id_runner.proofs.PlacedLemmas.{instrs_within}
+use Rattle.id_engine.proofs.PlacedLemmas.{instrs_within}
 use Rattle.id_engine.proofs.commands.list_compiled.Goals as goal
 
 pub list-requires-clause-places : goal.list-requires-clause-places

@@ -1,6 +1,6 @@
 use Rattle.std.proofs.Common.{◌≡◌, sym, subst, string_bytes}
 use Rattle.id_graph.specs.Dot.{dot_text}
-use Rattle.id_runner.specs.Commands.{IsPictureOf}
+use Rattle.id_engine.specs.Commands.{IsPictureOf}
 use Rattle.id_compile.specs.Programs.{HasProgram}
 use Rattle.id_compile.specs.Refusals.{IsRefusedText}
 use Rattle.id_compile.specs.Refusals.IsRefusedText.{by_text, by_memory}

@@ -1,6 +1,6 @@
 use Rattle.std.proofs.Common.{List, ℕ, refl, sym, subst, ◌∙◌}
 use Rattle.id_sink.specs.Told.{Prints}
-use Rattle.id_request.specs.declared.Unasked.{Unasked}
+use Rattle.id_args.specs.declared.request.Unasked.{Unasked}
 use Rattle.id_engine.specs.Served.{Answers}
 use Rattle.id_engine.proofs.program.answer.Goals as goal
 

@@ -1,6 +1,6 @@
 use Rattle.std.proofs.Common.{ℕ, List, sym, subst}
 use Rattle.std.specs.Prelude.{string_bytes}
-use Rattle.id_edge.specs.Reading.{IsToldText, IsUnread}
+use Rattle.id_sink.specs.Reading.{IsToldText, IsUnread}
 use Rattle.id_engine.specs.Served.{file_of, served}
 use Rattle.id_engine.proofs.ServedLemmas.{Drives-unread}
 use Rattle.id_engine.proofs.program.serve_file.Goals as goal

@@ -1,7 +1,7 @@
 -- What the inputs give so far, and what the rest do.
 use Rattle.std.proofs.Common.{arith, refl}
 use Rattle.std.proofs.lemmas.Grind.{common_steps}
-use Rattle.id_links.proofs.TurnsLemmas.{on_ok}
+use Rattle.id_source.proofs.TurnsLemmas.{on_ok}
 use Rattle.id_facts.proofs.firsts.add_inputs.Goals as goal
 
 pub loop-number-init : goal.loop-number-init

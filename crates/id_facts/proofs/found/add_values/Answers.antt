@@ -2,7 +2,7 @@
 use Rattle.std.proofs.Common.{[], ◌∷◌, refl}
 use Rattle.id_facts.specs.declared.facts.RowFact.TheVariants.{Has}
 use Rattle.id_facts.specs.Firsts.{haves}
-use Rattle.id_links.proofs.TurnsLemmas.{gathered-all, gathered-more, on_ok}
+use Rattle.id_source.proofs.TurnsLemmas.{gathered-all, gathered-more, on_ok}
 use Rattle.id_facts.proofs.found.add_values.Goals as goal
 
 pub loop-value-init : goal.loop-value-init

@@ -4,10 +4,10 @@ use Rattle.std.proofs.lemmas.Grind.{common_steps}
 use Rattle.std.proofs.lemmas.List.{map-append}
 use Rattle.std.specs.FinMap.{entries, entries_sorted}
 use Rattle.std.specs.List.{Contains}
-use Rattle.id_front.specs.Front.{front_entries, all_entries}
-use Rattle.id_front.specs.Waiting.{entries_of, entry_at}
+use Rattle.id_match.specs.Front.{front_entries, all_entries}
+use Rattle.id_match.specs.Waiting.{entries_of, entry_at}
 use Rattle.id_match.proofs.EntriesLemmas.{distinct_from_is_sorted, entries_of-from_entries, listed_iff_waits}
-use Rattle.id_front.proofs.FrontLemmas.{distinct_all}
+use Rattle.id_match.proofs.FrontLemmas.{distinct_all}
 use Rattle.id_match.proofs.Waiting.entries.Goals as goal
 
 pub returns : goal.returns

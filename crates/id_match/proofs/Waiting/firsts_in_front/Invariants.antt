@@ -1,7 +1,7 @@
 use Rattle.std.proofs.Common.{◌≡◌, ◌≤◌, ◌*◌, take}
 use Rattle.std.specs.List.{count_by}
 use Rattle.std.specs.Map.{keys_of}
-use Rattle.id_front.specs.Front.{front_entries}
+use Rattle.id_match.specs.Front.{front_entries}
 use Rattle.id_match.specs.Frames.{is_first}
 use Rattle.id_match.proofs.Waiting.firsts_in_front.Given as goal
 

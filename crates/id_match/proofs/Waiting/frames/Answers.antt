@@ -3,8 +3,8 @@ use Rattle.std.proofs.Common.{◌≡◌, ◌+◌, ◌∙◌, List, ℕ, ap, arit
 use Rattle.std.proofs.lemmas.Grind.{common_steps}
 use Rattle.std.specs.List.{count_by}
 use Rattle.std.specs.Map.{keys_of}
-use Rattle.id_front.specs.declared.front.Pair.{Pair}
-use Rattle.id_front.specs.Front.{front_entries}
+use Rattle.id_match.specs.declared.front.Pair.{Pair}
+use Rattle.id_match.specs.Front.{front_entries}
 use Rattle.id_match.specs.Frames.{is_first}
 use Rattle.id_match.specs.Rear.{rear_entries}
 use Rattle.id_match.proofs.EntriesLemmas.{len-from_entries}

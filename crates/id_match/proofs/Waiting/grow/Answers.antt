@@ -4,8 +4,8 @@ use Rattle.std.proofs.lemmas.Grind.{common_steps}
 use Rattle.std.specs.FinMap.{entries}
 use Rattle.std.specs.Map.{lookup}
 use Rattle.id_tag.specs.Tags.{same_tag}
-use Rattle.id_front.specs.Front.{front_entries}
-use Rattle.id_front.proofs.FrontLemmas.{moved_kept, moved_same}
+use Rattle.id_match.specs.Front.{front_entries}
+use Rattle.id_match.proofs.FrontLemmas.{moved_kept, moved_same}
 use Rattle.id_match.proofs.Waiting.grow.Goals as goal
 
 pub invariant_of-self : goal.invariant_of-self

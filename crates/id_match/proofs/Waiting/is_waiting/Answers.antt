@@ -2,7 +2,7 @@
 use Rattle.std.proofs.Common.{◌≡◌, ◌∙◌, sym, ap, is_some, arith}
 use Rattle.std.proofs.lemmas.Grind.{common_steps}
 use Rattle.std.specs.FinMap.{entries}
-use Rattle.id_front.specs.Front.{front_half}
+use Rattle.id_match.specs.Front.{front_half}
 use Rattle.id_match.proofs.FramesLemmas.{in_front, not_in_front}
 use Rattle.id_match.proofs.Waiting.is_waiting.Goals as goal
 

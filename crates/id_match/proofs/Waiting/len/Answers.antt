@@ -3,10 +3,10 @@ use Rattle.std.proofs.Common.{◌≡◌, ◌+◌, ◌∙◌, length, length-appe
 use Rattle.std.proofs.lemmas.Grind.{common_steps}
 use Rattle.std.specs.FinMap.{entries, entries_sorted, len}
 use Rattle.std.proofs.lemmas.List.{length-map}
-use Rattle.id_front.specs.Waiting.{entry_at}
-use Rattle.id_front.specs.Front.{front_entries, all_entries}
+use Rattle.id_match.specs.Waiting.{entry_at}
+use Rattle.id_match.specs.Front.{front_entries, all_entries}
 use Rattle.id_match.proofs.EntriesLemmas.{distinct_from_is_sorted, len-from_entries, length-entries_of}
-use Rattle.id_front.proofs.FrontLemmas.{distinct_all}
+use Rattle.id_match.proofs.FrontLemmas.{distinct_all}
 use Rattle.id_match.proofs.Waiting.len.Goals as goal
 
 pub returns : goal.returns

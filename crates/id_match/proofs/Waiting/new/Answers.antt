@@ -1,8 +1,8 @@
 -- no entry, so nothing waits
 use Rattle.std.proofs.Common.{◌∙◌, ap}
 use Rattle.std.specs.FinMap.{entries, from_entries}
-use Rattle.id_front.specs.Front.{all_entries}
-use Rattle.id_front.specs.Waiting.{waits}
+use Rattle.id_match.specs.Front.{all_entries}
+use Rattle.id_match.specs.Waiting.{waits}
 use Rattle.id_match.proofs.KeyedLemmas.{waits-empty}
 use Rattle.id_match.proofs.RearLemmas.{made_back}
 use Rattle.id_match.proofs.Waiting.new.Goals as goal

@@ -2,11 +2,11 @@
 use Rattle.std.proofs.Common.{◌≡◌, ◌∙◌, None, refl, sym, ap, subst, arith}
 use Rattle.std.proofs.lemmas.Grind.{common_steps}
 use Rattle.std.specs.FinMap.{entries, from_entries}
-use Rattle.id_front.specs.declared.Offered.TheVariants.{Kept}
-use Rattle.id_front.specs.Front.{IsKept, all_entries, front_half}
+use Rattle.id_match.specs.declared.meeting.Offered.TheVariants.{Kept}
+use Rattle.id_match.specs.Front.{IsKept, all_entries, front_half}
 use Rattle.id_match.proofs.KeyedLemmas.{keyed_from_after, waits-offer_after}
-use Rattle.id_front.specs.Waiting.{waits}
-use Rattle.id_front.proofs.FrontLemmas.{none_behind, all_of_meets, all_of_put, behind_kept, behind_answer, behind_after, others_always, if_ok, on_ok, on_err}
+use Rattle.id_match.specs.Waiting.{waits}
+use Rattle.id_match.proofs.FrontLemmas.{none_behind, all_of_meets, all_of_put, behind_kept, behind_answer, behind_after, others_always, if_ok, on_ok, on_err}
 use Rattle.id_match.proofs.Waiting.offer.Goals as goal
 
 pub invariant_of-self : goal.invariant_of-self

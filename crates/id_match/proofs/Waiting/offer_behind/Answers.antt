@@ -2,10 +2,10 @@
 use Rattle.std.proofs.Common.{◌≡◌, ◌∙◌, None, refl, sym, ap, subst}
 use Rattle.std.specs.FinMap.{entries, from_entries}
 use Rattle.id_tag.specs.Plains.{tag_in, whole}
-use Rattle.id_front.specs.Front.{IsKept, all_entries, front_half}
-use Rattle.id_front.specs.Meetings.{told}
-use Rattle.id_front.proofs.FrontLemmas.{all_of_put, behind_kept, behind_answer, behind_after, others_always, if_some, on_err}
-use Rattle.id_front.proofs.CallLemmas.{free_from_test}
+use Rattle.id_match.specs.Front.{IsKept, all_entries, front_half}
+use Rattle.id_match.specs.Meetings.{told}
+use Rattle.id_match.proofs.FrontLemmas.{all_of_put, behind_kept, behind_answer, behind_after, others_always, if_some, on_err}
+use Rattle.id_match.proofs.CallLemmas.{free_from_test}
 use Rattle.id_match.proofs.Waiting.offer_behind.Goals as goal
 
 pub invariant_of-self : goal.invariant_of-self

@@ -1,8 +1,8 @@
 -- what the front says, said of the store
 use Rattle.std.proofs.Common.{refl}
 use Rattle.id_tag.specs.Plains.{tag_in, whole}
-use Rattle.id_front.specs.Meetings.{told}
-use Rattle.id_front.proofs.FrontLemmas.{all_of_meeting}
+use Rattle.id_match.specs.Meetings.{told}
+use Rattle.id_match.proofs.FrontLemmas.{all_of_meeting}
 use Rattle.std.specs.FinMap.{entries}
 use Rattle.id_match.proofs.Waiting.offer_plain.Goals as goal
 

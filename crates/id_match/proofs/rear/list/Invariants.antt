@@ -1,6 +1,6 @@
 use Rattle.std.proofs.Common.{◌≡◌, ◌++◌, take, map}
 use Rattle.id_match.specs.Rear.{frame_entries}
-use Rattle.id_front.specs.Waiting.{entry_at}
+use Rattle.id_match.specs.Waiting.{entry_at}
 use Rattle.id_match.proofs.rear.list.Given as goal
 
 -- so much of the frame is listed

@@ -1,6 +1,6 @@
 use Rattle.std.proofs.Common.{◌≡◌, ◌++◌, map}
 use Rattle.id_match.specs.Rear.{rear_entries}
-use Rattle.id_front.specs.Waiting.{entry_at}
+use Rattle.id_match.specs.Waiting.{entry_at}
 use Rattle.id_match.proofs.rear.listed.Given as goal
 
 -- what is listed and what comes is all

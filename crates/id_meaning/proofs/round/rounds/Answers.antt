@@ -2,7 +2,7 @@
 use Rattle.std.proofs.Common.{List, subst, arith}
 use Rattle.id_value.specs.declared.Constant.{Constant}
 use Rattle.id_source.specs.Sources.{source}
-use Rattle.id_listing.specs.Listed.{IsRound}
+use Rattle.id_facts.specs.Listed.{IsRound}
 use Rattle.id_meaning.proofs.ListedLemmas.{AreFacts-from_rows, shown-count}
 use Rattle.id_meaning.proofs.round.rounds.Goals as goal
 

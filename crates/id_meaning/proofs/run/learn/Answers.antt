@@ -1,7 +1,7 @@
 -- The links are made, and nothing has been followed.
 use Rattle.id_source.specs.Sources.{source}
 use Rattle.id_meaning.proofs.RunLemmas.{stop-memory}
-use Rattle.id_links.proofs.TurnsLemmas.{on_ok}
+use Rattle.id_source.proofs.TurnsLemmas.{on_ok}
 use Rattle.id_meaning.proofs.run.learn.Goals as goal
 
 pub returns-in_err-links-clause-facts : goal.returns-in_err-links-clause-facts

@@ -4,7 +4,7 @@ use Rattle.id_source.specs.Sources.{source}
 use Rattle.id_facts.specs.RowFacts.{all_learnt}
 use Rattle.id_facts.specs.Firsts.{first_facts}
 use Rattle.id_meaning.proofs.RunLemmas.{first-more, stop-memory}
-use Rattle.id_links.proofs.TurnsLemmas.{on_ok}
+use Rattle.id_source.proofs.TurnsLemmas.{on_ok}
 use Rattle.id_meaning.proofs.run.learn_first.Goals as goal
 
 pub returns-in_err-first-clause-first : goal.returns-in_err-first-clause-first

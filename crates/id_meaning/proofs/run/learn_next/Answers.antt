@@ -2,7 +2,7 @@
 use Rattle.std.proofs.Common.{arith}
 use Rattle.std.proofs.lemmas.Result.{on_ok_weaker}
 use Rattle.id_meaning.proofs.RunLemmas.{follows-news}
-use Rattle.id_links.proofs.TurnsLemmas.{on_ok}
+use Rattle.id_source.proofs.TurnsLemmas.{on_ok}
 use Rattle.id_meaning.proofs.run.learn_next.Goals as goal
 
 pub returns-in_err-add_all : goal.returns-in_err-add_all

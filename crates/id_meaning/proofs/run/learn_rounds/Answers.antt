@@ -2,7 +2,7 @@
 use Rattle.std.proofs.Common.{arith}
 use Rattle.id_source.specs.Sources.{source}
 use Rattle.id_meaning.proofs.RunLemmas.{first-front, front-more, front-next, front-rest, front-round, front-within, stop-later, stop-memory}
-use Rattle.id_links.proofs.TurnsLemmas.{on_ok}
+use Rattle.id_source.proofs.TurnsLemmas.{on_ok}
 use Rattle.id_meaning.proofs.run.learn_rounds.Goals as goal
 
 pub returns-in-Err-clause-facts : goal.returns-in-Err-clause-facts

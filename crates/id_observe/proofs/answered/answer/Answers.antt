@@ -1,9 +1,9 @@
 -- The answer is the first value that came to it, as one of the source.
 use Rattle.std.proofs.Common.{◌≡◌, Some, None, IfOk, map, sym, ap, subst, ◌∙◌}
 use Rattle.std.specs.Prelude.{option_and_then}
-use Rattle.id_observed.specs.Observed.{first_value}
-use Rattle.id_paths.specs.Sourced.{source_value}
-use Rattle.id_paths.specs.Paths.{structure_in}
+use Rattle.id_observe.specs.Observed.{first_value}
+use Rattle.id_observe.specs.Sourced.{source_value}
+use Rattle.id_observe.specs.Paths.{structure_in}
 use Rattle.id_observe.proofs.answered.answer.Goals as goal
 
 pub returns-in-Some : goal.returns-in-Some

@@ -1,10 +1,10 @@
 -- An event of another instruction than the first brought nothing.
 use Rattle.std.proofs.Common.{sym, ap, ◌∙◌, arith}
 use Rattle.std.specs.Prelude.{option_and_then, slice_get}
-use Rattle.id_line.specs.Events.{tag_of}
-use Rattle.id_paths.specs.Paths.{brought}
-use Rattle.id_paths.proofs.WalksLemmas.{element-from_part}
-use Rattle.id_paths.proofs.SkippedLemmas.{brought-elsewhere}
+use Rattle.id_record.specs.Events.{tag_of}
+use Rattle.id_observe.specs.Paths.{brought}
+use Rattle.id_observe.proofs.WalksLemmas.{element-from_part}
+use Rattle.id_observe.proofs.SkippedLemmas.{brought-elsewhere}
 use Rattle.id_observe.proofs.answered.brought_at.Goals as goal
 
 pub returns-then-instr-eq0 : goal.returns-then-instr-eq0

@@ -3,13 +3,13 @@ use Rattle.std.proofs.Common.{◌≡◌, ◌<◌, ℕ, List, [], get_or, length,
 use Rattle.std.specs.Prelude.{All, slice_get}
 use Rattle.std.specs.List.{filter_map}
 use Rattle.std.proofs.lemmas.List.{take_all}
-use Rattle.id_line.specs.Events.{EventView}
-use Rattle.id_ledger.specs.Tellings.{telling_from}
-use Rattle.id_paths.specs.Paths.{events_at}
-use Rattle.id_paths.specs.Paths.{answers, brought}
-use Rattle.id_observed.specs.Observed.{brought_at}
-use Rattle.id_paths.proofs.WalksLemmas.{filter_map-found, filter_map-nothing}
-use Rattle.id_paths.proofs.TellingsLemmas.{answers-told, position-at, telling-within, walk-positions}
+use Rattle.id_record.specs.Events.{EventView}
+use Rattle.id_record.specs.Tellings.{telling_from}
+use Rattle.id_observe.specs.Paths.{events_at}
+use Rattle.id_observe.specs.Paths.{answers, brought}
+use Rattle.id_observe.specs.Observed.{brought_at}
+use Rattle.id_observe.proofs.WalksLemmas.{filter_map-found, filter_map-nothing}
+use Rattle.id_observe.proofs.TellingsLemmas.{answers-told, position-at, telling-within, walk-positions}
 use Rattle.id_observe.proofs.answered.first_answer.Goals as goal
 
 -- events that do not tell brought none

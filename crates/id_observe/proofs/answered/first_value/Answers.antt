@@ -2,7 +2,7 @@
 use Rattle.std.proofs.Common.{◌≡◌, Some, sym, ap, refl, ◌∙◌}
 use Rattle.std.specs.Prelude.{slice_get}
 use Rattle.std.proofs.lemmas.Option.{slice_get_read}
-use Rattle.id_paths.specs.Paths.{answers}
+use Rattle.id_observe.specs.Paths.{answers}
 use Rattle.id_observe.proofs.AnswerLemmas.{value-found, value-missed}
 use Rattle.id_observe.proofs.answered.first_value.Goals as goal
 

@@ -1,6 +1,6 @@
 -- The paths and names are those of the records.
 use Rattle.std.proofs.Common.{◌≡◌, IfOk, map, ap, subst, ◌∙◌}
-use Rattle.id_paths.specs.Paths.{structure_by, structure_in}
+use Rattle.id_observe.specs.Paths.{structure_by, structure_in}
 use Rattle.id_observe.proofs.answered.told_name.Goals as goal
 
 pub returns : goal.returns

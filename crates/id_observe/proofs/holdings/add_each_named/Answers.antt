@@ -1,8 +1,8 @@
 -- One more cell adds what it holds.
 use Rattle.std.proofs.Common.{◌∙◌, refl}
-use Rattle.id_observed.specs.Observed.{cell_value_of}
-use Rattle.id_paths.specs.Paths.{structure_by}
-use Rattle.id_paths.proofs.WalksLemmas.{filter_map-before}
+use Rattle.id_observe.specs.Observed.{cell_value_of}
+use Rattle.id_observe.specs.Paths.{structure_by}
+use Rattle.id_observe.proofs.WalksLemmas.{filter_map-before}
 use Rattle.id_observe.proofs.holdings.add_each_named.Goals as goal
 
 pub loop-cell-preserved : goal.loop-cell-preserved

@@ -4,11 +4,11 @@ use Rattle.std.proofs.lemmas.List.{take_all}
 use Rattle.std.specs.List.{filter_map, flat_map}
 use Rattle.std.specs.Prelude.{slice_get}
 use Rattle.std.proofs.lemmas.Option.{slice_get_read}
-use Rattle.id_slot.specs.Cells.{cells_of}
-use Rattle.id_observed.specs.Observed.{cell_value_of}
-use Rattle.id_paths.specs.Paths.{structure_by}
-use Rattle.id_paths.proofs.WalksLemmas.{walk-next}
-use Rattle.id_desk.proofs.ShortLemmas.{if_err}
+use Rattle.id_bank.specs.Cells.{cells_of}
+use Rattle.id_observe.specs.Observed.{cell_value_of}
+use Rattle.id_observe.specs.Paths.{structure_by}
+use Rattle.id_observe.proofs.WalksLemmas.{walk-next}
+use Rattle.id_element.proofs.ShortLemmas.{if_err}
 use Rattle.id_observe.proofs.holdings.all_cell_values.Goals as goal
 
 pub loop-element-preserved : goal.loop-element-preserved

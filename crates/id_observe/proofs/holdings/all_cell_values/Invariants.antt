@@ -1,9 +1,9 @@
 -- What the cells of the elements so far hold is there.
 use Rattle.std.proofs.Common.{◌≡◌, map, take}
 use Rattle.std.specs.List.{filter_map, flat_map}
-use Rattle.id_slot.specs.Cells.{cells_of}
-use Rattle.id_observed.specs.Observed.{cell_value_of}
-use Rattle.id_paths.specs.Paths.{structure_by}
+use Rattle.id_bank.specs.Cells.{cells_of}
+use Rattle.id_observe.specs.Observed.{cell_value_of}
+use Rattle.id_observe.specs.Paths.{structure_by}
 use Rattle.id_observe.proofs.holdings.all_cell_values.Given as goal
 
 abbrev pub invariant-loop-element : goal.invariant-loop-element

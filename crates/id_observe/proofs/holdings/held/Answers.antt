@@ -2,14 +2,14 @@
 use Rattle.std.proofs.Common.{◌≡◌, ◌∙◌, IfOk, ap, map, subst}
 use Rattle.std.specs.List.{filter_map, flat_map}
 use Rattle.std.specs.Prelude.{option_and_then, slice_get}
-use Rattle.id_slot.specs.Cells.{cells_of, deferred_of}
-use Rattle.id_observed.specs.Observed.{answer_in, ask_of, cell_value_of, cell_values_in}
-use Rattle.id_paths.specs.Sourced.{source_value}
-use Rattle.id_paths.specs.Paths.{answers, events_of, path_in, structure_by, structure_in}
-use Rattle.id_paths.specs.Paths.{path_by}
-use Rattle.id_observed.proofs.ObservedLemmas.{cell_values-from_puts}
-use Rattle.id_observed.proofs.MarkedLemmas.{structures-from_makings}
-use Rattle.id_desk.proofs.ShortLemmas.{if_err}
+use Rattle.id_bank.specs.Cells.{cells_of, deferred_of}
+use Rattle.id_observe.specs.Observed.{answer_in, ask_of, cell_value_of, cell_values_in}
+use Rattle.id_observe.specs.Sourced.{source_value}
+use Rattle.id_observe.specs.Paths.{answers, events_of, path_in, structure_by, structure_in}
+use Rattle.id_observe.specs.Paths.{path_by}
+use Rattle.id_observe.proofs.ObservedLemmas.{cell_values-from_puts}
+use Rattle.id_observe.proofs.MarkedLemmas.{structures-from_makings}
+use Rattle.id_element.proofs.ShortLemmas.{if_err}
 use Rattle.id_observe.proofs.holdings.held.Goals as goal
 
 -- the structures that were made are those of their events

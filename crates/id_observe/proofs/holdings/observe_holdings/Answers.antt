@@ -1,8 +1,8 @@
 -- Nothing makes structures, and no cell was touched.
 use Rattle.std.proofs.Common.{◌∙◌, ap, map, sym, subst}
-use Rattle.id_observed.specs.Observed.{MakesNone, cell_value}
+use Rattle.id_observe.specs.Observed.{MakesNone, cell_value}
 use Rattle.id_observe.proofs.NothingLemmas.{cells-none, structures-none, waiting-none}
-use Rattle.id_desk.proofs.ShortLemmas.{if_err}
+use Rattle.id_element.proofs.ShortLemmas.{if_err}
 use Rattle.id_observe.proofs.holdings.observe_holdings.Goals as goal
 
 pub returns-then-hold_nothing-clause-structures : goal.returns-then-hold_nothing-clause-structures

@@ -1,8 +1,8 @@
 -- What binders have by their paths and names is what they have.
 use Rattle.std.proofs.Common.{◌≡◌, IfOk, ap, map, subst, ◌∙◌}
-use Rattle.id_observed.specs.Observed.{names_of}
-use Rattle.id_paths.specs.Paths.{events_of, path_by, path_in, structure_by, structure_in}
-use Rattle.id_desk.proofs.ShortLemmas.{if_err}
+use Rattle.id_observe.specs.Observed.{names_of}
+use Rattle.id_observe.specs.Paths.{events_of, path_by, path_in, structure_by, structure_in}
+use Rattle.id_element.proofs.ShortLemmas.{if_err}
 use Rattle.id_observe.proofs.observe.observe_names.Goals as goal
 
 pub returns-in_err-paths : goal.returns-in_err-paths

@@ -2,13 +2,13 @@
 use Rattle.std.proofs.Common.{◌≡◌, IfOk, ap, map, subst, ◌∙◌}
 use Rattle.std.specs.List.{filter_map, flat_map}
 use Rattle.std.specs.Prelude.{option_and_then, slice_get}
-use Rattle.id_slot.specs.Cells.{cells_of, deferred_of}
-use Rattle.id_observed.specs.Observed.{answer_in, ask_of, asks_of, names_of, put_of}
-use Rattle.id_paths.specs.Sourced.{faults_of, source_value}
-use Rattle.id_paths.specs.Paths.{answers, events_of, path_in, structure_by, structure_in}
-use Rattle.id_paths.specs.Paths.{path_by}
-use Rattle.id_observed.proofs.MarkedLemmas.{structures-from_makings}
-use Rattle.id_desk.proofs.ShortLemmas.{if_err}
+use Rattle.id_bank.specs.Cells.{cells_of, deferred_of}
+use Rattle.id_observe.specs.Observed.{answer_in, ask_of, asks_of, names_of, put_of}
+use Rattle.id_observe.specs.Sourced.{faults_of, source_value}
+use Rattle.id_observe.specs.Paths.{answers, events_of, path_in, structure_by, structure_in}
+use Rattle.id_observe.specs.Paths.{path_by}
+use Rattle.id_observe.proofs.MarkedLemmas.{structures-from_makings}
+use Rattle.id_element.proofs.ShortLemmas.{if_err}
 use Rattle.id_observe.proofs.observe.observe_records.Goals as goal
 
 pub returns-clause-structures : goal.returns-clause-structures

@@ -1,12 +1,12 @@
 -- Each step prints the first of the lines that are left.
 use Rattle.std.proofs.Common.{◌≡◌, ◌<◌, List, [], ◌∙◌, ◌∷◌, true, ap, arith, drop, length, refl, subst, sym}
-use Rattle.id_names.specs.declared.helds.Held.TheVariants.{Array, Cell}
-use Rattle.id_names.specs.Helds.{CellValue}
+use Rattle.id_print.specs.declared.helds.Held.TheVariants.{Array, Cell}
+use Rattle.id_print.specs.Helds.{CellValue}
 use Rattle.id_source.specs.declared.Shape.{Shape}
-use Rattle.id_names.specs.Helds.{is_cell_first, joined}
+use Rattle.id_print.specs.Helds.{is_cell_first, joined}
 use Rattle.id_sink.specs.Within.{FilledWithin, SiteWithin}
 use Rattle.id_print.proofs.PartlyLemmas.{Partly-more, Partly-stop, Prints-held_at}
-use Rattle.id_names.proofs.HeldsLemmas.{first_array, first_cell, has_array, within_first}
+use Rattle.id_print.proofs.HeldsLemmas.{first_array, first_cell, has_array, within_first}
 use Rattle.id_sink.proofs.SinkLemmas.{Prints-nothing}
 use Rattle.id_print.proofs.reports.put_joined.Goals as goal
 

@@ -1,7 +1,7 @@
 -- Some lines are printed, and those of the structures and cells that are left are not.
 use Rattle.std.proofs.Common.{◌≡◌, ◌+◌, length}
-use Rattle.id_names.specs.Helds.{joined}
-use Rattle.id_names.specs.Within.{HeldsWithin}
+use Rattle.id_print.specs.Helds.{joined}
+use Rattle.id_print.specs.Within.{HeldsWithin}
 use Rattle.id_print.proofs.PartlyLemmas.{IsPartly}
 use Rattle.id_print.proofs.reports.put_joined.Given as goal
 

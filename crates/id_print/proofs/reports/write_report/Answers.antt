@@ -1,7 +1,7 @@
 use Rattle.std.proofs.Common.{ℕ, List, Bool, true, false, subst, length, arith}
 use Rattle.id_source.specs.declared.NameValue.{NameValue}
 use Rattle.id_print.specs.Reports.{asked}
-use Rattle.id_names.specs.Within.{NamesWithin}
+use Rattle.id_print.specs.Within.{NamesWithin}
 use Rattle.id_print.specs.Texts.{quiet_text, stopped_text}
 use Rattle.id_sink.specs.Told.{Prints}
 use Rattle.id_print.proofs.reports.write_report.Goals as goal

@@ -4,7 +4,7 @@ use Rattle.std.proofs.lemmas.List.{nil_from_length, length-set, get_or-set_same,
 use Rattle.id_scope.specs.Kinds.{Link, Nowhere}
 use Rattle.id_scope.specs.declared.kinds.Pass.{Pass}
 use Rattle.id_scope.specs.Chains.{IsEnd, IsFilling, link_through, link_within, rows_of}
-use Rattle.id_list.specs.List.{Among}
+use Rattle.id_value.specs.List.{Among}
 use Rattle.id_scope.proofs.ChainsLemmas.{filling_step, row_last, row_left}
 use Rattle.id_scope.proofs.kinds.fill.Goals as goal
 use Rattle.id_scope.proofs.kinds.fill.Goals.{then-pass, else-pass}

@@ -1,7 +1,7 @@
 use Rattle.std.proofs.Common.{◌≡◌, ◌⊎◌, ◌<◌, ℕ, length, get_or, vec_len}
 use Rattle.id_scope.specs.Kinds.{Link}
 use Rattle.id_scope.specs.Kinds.{Nowhere}
-use Rattle.id_list.specs.List.{Among}
+use Rattle.id_value.specs.List.{Among}
 use Rattle.id_scope.specs.Chains.{IsEnd, IsFilling, rows_of}
 use Rattle.id_scope.proofs.kinds.fill.Given as goal
 

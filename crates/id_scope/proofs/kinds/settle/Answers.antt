@@ -4,7 +4,7 @@ use Rattle.std.proofs.lemmas.Result.{IfOk-from_err}
 use Rattle.std.proofs.lemmas.Bool.{cases_eq}
 use Rattle.std.proofs.lemmas.List.{length-set, get_or_default, get_or-set_same, get_or-set_other}
 use Rattle.id_value.specs.declared.Kind.TheVariants.{Int}
-use Rattle.id_list.specs.List.{Among}
+use Rattle.id_value.specs.List.{Among}
 use Rattle.id_scope.specs.Kinds.{Link, Fixed, To, Within, Nowhere}
 use Rattle.id_scope.specs.Chains.{IsEnd, IsFilling, IsPassing, goes_to, link_of_pass, rows_of}
 use Rattle.id_scope.specs.declared.kinds.Pass.{Pass}

@@ -2,7 +2,7 @@ use Rattle.std.proofs.Common.{◌≡◌, ◌<◌, ℕ, length, get_or}
 use Rattle.std.specs.Prelude.{Some, count_by}
 use Rattle.id_scope.specs.Kinds.{Link}
 use Rattle.id_scope.specs.Kinds.{Nowhere}
-use Rattle.id_list.specs.List.{Among}
+use Rattle.id_value.specs.List.{Among}
 use Rattle.id_scope.specs.Chains.{IsGoing, IsPassing, goes_to, is_going_on, rows_of}
 use Rattle.id_scope.proofs.kinds.settle.Given as goal
 

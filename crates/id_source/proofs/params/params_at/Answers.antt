@@ -1,5 +1,5 @@
 -- What an error says nothing of.
-use Rattle.id_links.proofs.TurnsLemmas.{if_err}
+use Rattle.id_source.proofs.TurnsLemmas.{if_err}
 use Rattle.id_source.proofs.params.params_at.Goals as goal
 
 pub returns-in_err-push : goal.returns-in_err-push

@@ -1,5 +1,5 @@
 -- The list begins with the parameter's name, and the run takes the rest of it.
-use Rattle.id_parser.proofs.ReadLemmas.{IsBehind-then}
+use Rattle.id_tree.proofs.ReadLemmas.{IsBehind-then}
 use Rattle.id_grammar.proofs.ParamLemmas.{Declares-done, Undeclares-name, Undeclares-kind}
 use Rattle.id_tree.proofs.program.add_param.Goals as goal
 

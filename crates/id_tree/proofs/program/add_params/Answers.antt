@@ -3,7 +3,7 @@ use Rattle.std.proofs.Common.{◌≡◌, rules}
 use Rattle.id_text.specs.declared.token.TokenKind.TheVariants.{Sign}
 use Rattle.id_text.specs.declared.token.Symbol.TheVariants.{RightParen, Comma}
 use Rattle.id_grammar.specs.Readers.{first_kind}
-use Rattle.id_parser.proofs.ReadLemmas.{IsBehind-token, IsBehind-then}
+use Rattle.id_tree.proofs.ReadLemmas.{IsBehind-token, IsBehind-then}
 use Rattle.id_grammar.proofs.ReaderLemmas.{first_of}
 use Rattle.id_grammar.proofs.ParamLemmas.{IsBehind-more, Leads-none, Counts-first, Counts-add, Leads-listed, Fails-listed, Fails-next, Fails-first}
 use Rattle.id_tree.proofs.program.add_params.Goals as goal

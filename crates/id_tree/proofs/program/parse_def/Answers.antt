@@ -1,7 +1,7 @@
 -- The run has come through the definition as far as the code has, and ends or goes on as the part there does.
 use Rattle.std.proofs.Common.{arith}
 use Rattle.id_grammar.specs.Grammar.{body_of}
-use Rattle.id_parser.proofs.ReadLemmas.{IsBehind-next, IsBehind-then}
+use Rattle.id_tree.proofs.ReadLemmas.{IsBehind-next, IsBehind-then}
 use Rattle.id_grammar.proofs.ReaderLemmas.{opens_definition, At-opens, At-name, At-enclosed, Leads-done, Fails-name, Fails-enclosed}
 use Rattle.id_grammar.proofs.ParamLemmas.{At-heading, Fails-heading}
 use Rattle.id_tree.proofs.program.parse_def.Goals as goal

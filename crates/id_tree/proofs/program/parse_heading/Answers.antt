@@ -1,5 +1,5 @@
 -- The parts of the heading that were there are taken, and the run ends at the one that is not.
-use Rattle.id_parser.proofs.ReadLemmas.{IsBehind-then}
+use Rattle.id_tree.proofs.ReadLemmas.{IsBehind-then}
 use Rattle.id_grammar.proofs.ParamLemmas.{Beheads-paren, Beheads-params, Beheads-kind, Beheads-sign, Heads-done}
 use Rattle.id_tree.proofs.program.parse_heading.Goals as goal
 

@@ -4,8 +4,8 @@ use Rattle.std.specs.Prelude.{⊤}
 use Rattle.std.proofs.lemmas.Option.{slice_get_read}
 use Rattle.std.proofs.lemmas.Result.{IfOk-weaker}
 use Rattle.id_tag.specs.Routes.{route_of}
-use Rattle.id_line.specs.declared.step.Step.{Step}
-use Rattle.id_firing.specs.Steps.{step_of}
+use Rattle.id_record.specs.declared.step.Step.{Step}
+use Rattle.id_element.specs.Steps.{step_of}
 use Rattle.id_core.proofs.MachinesLemmas.{IsGiven, IsGiving, IsMachine-given, always, giving_any, is_for, told-given}
 use Rattle.id_core.proofs.machine.Machine.deliver.Goals as goal
 use Rattle.id_core.proofs.machine.Machine.deliver.Goals.{After-index_mut}

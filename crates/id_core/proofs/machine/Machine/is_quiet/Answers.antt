@@ -2,7 +2,7 @@
 use Rattle.std.proofs.Common.{◌≡◌, [], ap, arith}
 use Rattle.std.proofs.lemmas.Grind.{common_steps}
 use Rattle.std.proofs.lemmas.List.Elements.{All-map}
-use Rattle.id_line.specs.Events.{AllWent}
+use Rattle.id_record.specs.Events.{AllWent}
 use Rattle.id_core.proofs.MachinesLemmas.{All-from_map}
 use Rattle.id_core.proofs.machine.Machine.is_quiet.Goals as goal
 

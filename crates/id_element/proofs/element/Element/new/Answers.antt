@@ -1,5 +1,5 @@
 -- Nothing was handled, so the empty record replays.
-use Rattle.id_desk.proofs.ReplaysLemmas.{IsKept-fresh}
+use Rattle.id_element.proofs.ReplaysLemmas.{IsKept-fresh}
 use Rattle.id_element.proofs.element.Element.new.Goals as goal
 
 pub invariant_of-result : goal.invariant_of-result

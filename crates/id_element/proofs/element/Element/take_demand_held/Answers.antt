@@ -3,12 +3,12 @@
 use Rattle.std.proofs.Common.{◌≡◌, ◌++◌, ap, arith, refl, subst, sym, ◌∙◌}
 use Rattle.std.proofs.lemmas.Grind.{common_steps}
 use Rattle.id_flight.specs.Demands.{demanded}
-use Rattle.id_firing.specs.Fits.{IsFor}
-use Rattle.id_desk.specs.Desks.{state_of}
-use Rattle.id_firing.specs.Steps.{outputs_of, state_after, step_of}
-use Rattle.id_desk.specs.Replays.{ElementView}
-use Rattle.id_desk.proofs.ShortLemmas.{IsKept-demand, on_ok, not_ok, on_err}
-use Rattle.id_desk.proofs.OutcomeLemmas.{demand_outputs_fit}
+use Rattle.id_element.specs.Fits.{IsFor}
+use Rattle.id_element.specs.Desks.{state_of}
+use Rattle.id_element.specs.Steps.{outputs_of, state_after, step_of}
+use Rattle.id_element.specs.Replays.{ElementView}
+use Rattle.id_element.proofs.ShortLemmas.{IsKept-demand, on_ok, not_ok, on_err}
+use Rattle.id_element.proofs.OutcomeLemmas.{demand_outputs_fit}
 use Rattle.id_element.proofs.element.Element.take_demand_held.Goals as goal
 
 pub invariant_of-self-2 : goal.invariant_of-self-2

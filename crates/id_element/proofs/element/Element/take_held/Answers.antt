@@ -3,14 +3,14 @@ use Rattle.std.proofs.Common.{◌≡◌, ◌++◌, ap, refl, subst, ◌∙◌, a
 use Rattle.std.proofs.lemmas.Grind.{common_steps}
 use Rattle.id_valid.specs.Validator.{IsValid}
 use Rattle.std.specs.Prelude.{◌↔◌, IsTrue}
-use Rattle.id_line.specs.declared.step.Step.TheVariants.{Went}
-use Rattle.id_firing.specs.Fits.{IsFor}
-use Rattle.id_firing.specs.Steps.{outputs_of, state_after, step_of}
-use Rattle.id_desk.specs.Desks.{state_of}
-use Rattle.id_desk.specs.Replays.{ElementView}
-use Rattle.id_desk.proofs.ReplaysLemmas.{IsKept-take}
-use Rattle.id_desk.proofs.OutcomeLemmas.{outputs_fit}
-use Rattle.id_desk.proofs.ShortLemmas.{on_err}
+use Rattle.id_record.specs.declared.step.Step.TheVariants.{Went}
+use Rattle.id_element.specs.Fits.{IsFor}
+use Rattle.id_element.specs.Steps.{outputs_of, state_after, step_of}
+use Rattle.id_element.specs.Desks.{state_of}
+use Rattle.id_element.specs.Replays.{ElementView}
+use Rattle.id_element.proofs.ReplaysLemmas.{IsKept-take}
+use Rattle.id_element.proofs.OutcomeLemmas.{outputs_fit}
+use Rattle.id_element.proofs.ShortLemmas.{on_err}
 use Rattle.id_element.proofs.element.Element.take_held.Goals as goal
 
 pub invariant_of-self-2 : goal.invariant_of-self-2

@@ -4,14 +4,14 @@ use Rattle.std.proofs.Common.{◌≡◌, ◌++◌, ap, arith, refl, subst, ◌�
 use Rattle.std.proofs.lemmas.Grind.{common_steps}
 use Rattle.id_valid.specs.Validator.{IsValid}
 use Rattle.id_tag.specs.Plains.{message_of, tag_in}
-use Rattle.id_firing.specs.declared.step.Short.TheVariants.{Apart}
-use Rattle.id_firing.specs.Fits.{IsFor}
-use Rattle.id_firing.specs.Shorts.{IsHandled, step_in}
-use Rattle.id_firing.specs.Steps.{outputs_of, state_after, step_of}
-use Rattle.id_desk.specs.Desks.{state_of}
-use Rattle.id_desk.specs.Replays.{ElementView}
-use Rattle.id_desk.proofs.ShortLemmas.{IsKept-short, if_err, on_ok, not_ok, on_err}
-use Rattle.id_desk.proofs.OutcomeLemmas.{outputs_fit}
+use Rattle.id_element.specs.declared.step.Short.TheVariants.{Apart}
+use Rattle.id_element.specs.Fits.{IsFor}
+use Rattle.id_element.specs.Shorts.{IsHandled, step_in}
+use Rattle.id_element.specs.Steps.{outputs_of, state_after, step_of}
+use Rattle.id_element.specs.Desks.{state_of}
+use Rattle.id_element.specs.Replays.{ElementView}
+use Rattle.id_element.proofs.ShortLemmas.{IsKept-short, if_err, on_ok, not_ok, on_err}
+use Rattle.id_element.proofs.OutcomeLemmas.{outputs_fit}
 use Rattle.id_element.proofs.element.Element.take_plain_held.Goals as goal
 
 pub invariant_of-self-2 : goal.invariant_of-self-2

@@ -3,7 +3,7 @@ use Rattle.std.proofs.Common.{◌≡◌, false, List, ap, sym, ◌∙◌, subst,
 use Rattle.std.proofs.lemmas.List.{drop_all}
 use Rattle.id_facts.specs.declared.facts.RowFact.{RowFact}
 use Rattle.id_facts.specs.RowFacts.{AreHeld, member_chain}
-use Rattle.id_links.specs.Links.{targets}
+use Rattle.id_source.specs.Links.{targets}
 use Rattle.id_facts.proofs.SameLemmas.{found-at, is_in}
 use Rattle.id_facts.proofs.MembersLemmas.{held-out}
 use Rattle.id_facts.proofs.facts.Facts.has.Goals as goal

@@ -1,7 +1,7 @@
 -- the rest of the list tells
 use Rattle.std.proofs.Common.{ℕ, ◌≡◌, ◌<◌, ◌∙◌, ap, sym, length, get_or, arith}
 use Rattle.std.proofs.lemmas.Grind.{common_steps}
-use Rattle.id_front.specs.declared.Half.{Half}
+use Rattle.id_match.specs.declared.meeting.Half.{Half}
 use Rattle.id_match.proofs.FramedLemmas.{any_default, find_here}
 use Rattle.id_match.proofs.rear.Frame.find.Goals as goal
 

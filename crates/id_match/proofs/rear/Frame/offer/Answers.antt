@@ -1,11 +1,11 @@
 -- the value is added at the end, or its partner is taken
 use Rattle.std.proofs.Common.{◌≡◌, ◌∙◌, ◌++◌, [], ◌∷◌, Some, None, refl, sym, ap, subst, nat_eq}
 use Rattle.std.specs.Map.{lookup}
-use Rattle.id_front.specs.Halves.{half_after}
+use Rattle.id_match.specs.Halves.{half_after}
 use Rattle.id_match.specs.Rear.{Sets, after_said}
-use Rattle.id_front.proofs.CallLemmas.{apart_ports}
+use Rattle.id_match.proofs.CallLemmas.{apart_ports}
 use Rattle.id_match.proofs.FramedLemmas.{sets_push, sets_taken}
-use Rattle.id_front.proofs.FrontLemmas.{gone}
+use Rattle.id_match.proofs.FrontLemmas.{gone}
 use Rattle.id_match.proofs.rear.Frame.offer.Goals as goal
 
 pub returns-in_default-clause-sets : goal.returns-in_default-clause-sets

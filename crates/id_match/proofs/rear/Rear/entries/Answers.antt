@@ -1,7 +1,7 @@
 -- the sorted list is the store's
 use Rattle.std.proofs.Common.{◌∙◌, ap, subst, IsPermutation}
 use Rattle.id_match.specs.Rear.{rear_entries}
-use Rattle.id_front.specs.Waiting.{entries_of}
+use Rattle.id_match.specs.Waiting.{entries_of}
 use Rattle.id_match.proofs.EntriesLemmas.{entries_of-from_entries}
 use Rattle.id_match.proofs.FramedLemmas.{distinct_rear}
 use Rattle.id_match.proofs.rear.Rear.entries.Goals as goal

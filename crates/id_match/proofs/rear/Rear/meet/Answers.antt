@@ -2,12 +2,12 @@
 use Rattle.std.proofs.Common.{◌∙◌, sym, ap}
 use Rattle.std.specs.FinMap.{from_entries, len}
 use Rattle.id_tag.specs.Tags.{tag_cmp}
-use Rattle.id_front.specs.Halves.{answer_at}
+use Rattle.id_match.specs.Halves.{answer_at}
 use Rattle.id_match.specs.Rear.{rear_entries, said}
-use Rattle.id_front.specs.declared.Offered.TheVariants.{Kept}
+use Rattle.id_match.specs.declared.meeting.Offered.TheVariants.{Kept}
 use Rattle.id_match.proofs.CountedLemmas.{after_framed, answer_framed, counted_by, had_room, same_framed}
 use Rattle.id_match.proofs.FramedLemmas.{here_said, same_said}
-use Rattle.id_front.proofs.FrontLemmas.{if_some}
+use Rattle.id_match.proofs.FrontLemmas.{if_some}
 use Rattle.id_match.proofs.RearLemmas.{err_always}
 use Rattle.id_match.proofs.rear.Rear.meet.Goals as goal
 

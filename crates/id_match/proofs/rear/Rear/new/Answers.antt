@@ -2,7 +2,7 @@
 use Rattle.std.proofs.Common.{◌∙◌, sym, ap, subst, arith}
 use Rattle.std.specs.FinMap.{from_entries, len, len-empty}
 use Rattle.id_tag.specs.Tags.{tag_cmp}
-use Rattle.id_front.specs.declared.Half.{Half}
+use Rattle.id_match.specs.declared.meeting.Half.{Half}
 use Rattle.id_match.specs.Rear.{IsFramed, rear_entries}
 use Rattle.id_match.proofs.FramedLemmas.{framed_new}
 use Rattle.id_match.proofs.rear.Rear.new.Goals as goal

@@ -2,9 +2,9 @@
 use Rattle.std.proofs.Common.{◌∙◌, map, sym, ap}
 use Rattle.std.specs.Map.{lookup}
 use Rattle.id_tag.specs.Tags.{same_tag}
-use Rattle.id_front.specs.Front.{half_entry}
+use Rattle.id_match.specs.Front.{half_entry}
 use Rattle.id_match.specs.Rear.{rear_entries}
-use Rattle.id_front.proofs.BehindLemmas.{half_back}
+use Rattle.id_match.proofs.BehindLemmas.{half_back}
 use Rattle.id_match.proofs.RearLemmas.{if_ok, lookup-entries}
 use Rattle.id_match.proofs.rear.Rear.unordered.Goals as goal
 

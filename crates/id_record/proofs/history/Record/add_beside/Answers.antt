@@ -1,7 +1,7 @@
 -- The record goes on by one event, in a line with a cell beside it.
 use Rattle.std.proofs.Common.{Bool, true, false, ◌++◌, ◌∷◌, [], length, ap, refl, sym, subst}
 use Rattle.std.specs.Prelude.{IsTrue, IsFalse}
-use Rattle.id_line.specs.Lines.{AreThere, IsPackedBeside, beside}
+use Rattle.id_record.specs.Lines.{AreThere, IsPackedBeside, beside}
 use Rattle.id_record.proofs.RecordsLemmas.{AreKept-push, pushed_cell, kept_cell}
 use Rattle.id_record.proofs.history.Record.add_beside.Goals as goal
 

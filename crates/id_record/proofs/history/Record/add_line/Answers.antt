@@ -1,7 +1,7 @@
 -- The record goes on by one event, in a line of its own.
 use Rattle.std.proofs.Common.{Bool, true, false, ap, refl, sym, subst}
 use Rattle.std.specs.Prelude.{IsTrue, IsFalse}
-use Rattle.id_line.specs.Lines.{AreThere}
+use Rattle.id_record.specs.Lines.{AreThere}
 use Rattle.id_record.proofs.RecordsLemmas.{AreKept-push, pushed_line, kept_line}
 use Rattle.id_record.proofs.history.Record.add_line.Goals as goal
 

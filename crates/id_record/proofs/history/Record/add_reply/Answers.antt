@@ -1,9 +1,9 @@
 -- One more reply changes no event.
 use Rattle.std.proofs.Common.{ap, sym, ◌∙◌}
 use Rattle.std.proofs.lemmas.List.Elements.{recursion_from_All}
-use Rattle.id_line.specs.Lines.{IsKept}
+use Rattle.id_record.specs.Lines.{IsKept}
 use Rattle.id_record.proofs.RecordsLemmas.{events_from-replies, kept_replies}
-use Rattle.id_ledger.specs.Tellings.{telling_from}
+use Rattle.id_record.specs.Tellings.{telling_from}
 use Rattle.id_record.proofs.history.Record.add_reply.Goals as goal
 
 pub invariant_of-self : goal.invariant_of-self

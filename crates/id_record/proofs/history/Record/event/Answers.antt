@@ -1,6 +1,6 @@
 -- The event at a position is that of its line.
 use Rattle.std.proofs.Common.{◌≡◌, ◌<◌, ◌+◌, Some, length, sym, ap, ◌∙◌, arith}
-use Rattle.id_line.specs.Lines.{AreThere}
+use Rattle.id_record.specs.Lines.{AreThere}
 use Rattle.id_record.specs.Records.{event_of_handled}
 use Rattle.std.proofs.Common.{subst}
 use Rattle.id_valid.specs.Validator.{IsValid}

@@ -1,7 +1,7 @@
 -- One more event is of a marked instruction, or of none.
 use Rattle.std.proofs.Common.{◌≡◌, ◌≤◌, ℕ, Some, false, below_more, sym, ◌∙◌, arith}
 use Rattle.std.specs.Prelude.{option_map, slice_get}
-use Rattle.id_line.specs.Events.{is_marked, is_marked_in, tag_of}
+use Rattle.id_record.specs.Events.{is_marked, is_marked_in, tag_of}
 use Rattle.id_record.proofs.MarksLemmas.{image-from_part}
 use Rattle.id_record.proofs.history.Record.next_marked.Goals as goal
 

@@ -1,6 +1,6 @@
 -- No event so far is of a marked instruction.
 use Rattle.std.proofs.Common.{◌≤◌}
-use Rattle.id_line.specs.Events.{AreUnmarked}
+use Rattle.id_record.specs.Events.{AreUnmarked}
 use Rattle.id_record.proofs.history.Record.next_marked.Given as goal
 
 abbrev pub invariant-loop-position : goal.invariant-loop-position

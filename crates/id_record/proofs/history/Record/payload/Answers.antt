@@ -1,9 +1,9 @@
 -- What a message says is what the message of its line says.
 use Rattle.std.proofs.Common.{◌≡◌, Some, length, ap, ◌∙◌, arith}
 use Rattle.std.specs.Prelude.{option_map}
-use Rattle.id_ledger.specs.Ledgers.{bare_of, stamps_of, with_stamps}
-use Rattle.id_line.specs.Lines.{unpacked}
-use Rattle.id_ledger.proofs.LedgersLemmas.{payload-unstamped, within-unstamped}
+use Rattle.id_record.specs.Ledgers.{bare_of, stamps_of, with_stamps}
+use Rattle.id_record.specs.Lines.{unpacked}
+use Rattle.id_record.proofs.LedgersLemmas.{payload-unstamped, within-unstamped}
 use Rattle.id_record.proofs.RecordsLemmas.{length-events_from, events_from-get, line_kept}
 use Rattle.id_record.proofs.history.Record.payload.Goals as goal
 

@@ -1,7 +1,7 @@
 -- The record goes on by one event, in a line of its own.
 use Rattle.std.proofs.lemmas.Grind.{common_steps}
 use Rattle.std.proofs.Common.{arith, refl}
-use Rattle.id_line.specs.Lines.{handled}
+use Rattle.id_record.specs.Lines.{handled}
 use Rattle.id_record.proofs.history.Record.push.Goals as goal
 
 pub add_line-requires-clause-stands : goal.add_line-requires-clause-stands

@@ -1,8 +1,8 @@
 -- The record goes on by one event, which stands aside.
 use Rattle.std.proofs.Common.{◌≡◌, ◌++◌, ◌∷◌, [], List, ap, subst, sym, ◌∙◌}
 use Rattle.id_tag.specs.declared.Tag.{Tag}
-use Rattle.id_line.specs.declared.line.Handled.{Handled}
-use Rattle.id_line.specs.Lines.{AreThere, beside}
+use Rattle.id_record.specs.declared.line.Handled.{Handled}
+use Rattle.id_record.specs.Lines.{AreThere, beside}
 use Rattle.id_record.specs.Records.{RecordView}
 use Rattle.id_record.proofs.RecordsLemmas.{AreKept-push, pushed_aside, kept_aside}
 use Rattle.id_record.proofs.history.Record.push_aside.Goals as goal

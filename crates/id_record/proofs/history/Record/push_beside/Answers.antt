@@ -1,7 +1,7 @@
 -- The record goes on by one event, in a line with a cell beside it.
 use Rattle.std.proofs.lemmas.Grind.{common_steps}
 use Rattle.std.proofs.Common.{refl, subst, arith}
-use Rattle.id_line.specs.Lines.{IsPackedBeside, handled}
+use Rattle.id_record.specs.Lines.{IsPackedBeside, handled}
 use Rattle.id_record.proofs.history.Record.push_beside.Goals as goal
 
 pub add_beside-requires-clause-stands : goal.add_beside-requires-clause-stands

@@ -1,8 +1,8 @@
 -- The record goes on by one event, in a line of its own.
 use Rattle.std.proofs.lemmas.Grind.{common_steps}
 use Rattle.std.proofs.Common.{refl, arith}
-use Rattle.id_shots.specs.Shootings.{doing}
-use Rattle.id_ledger.proofs.TellingsLemmas.{tells-doing}
+use Rattle.id_record.specs.Shootings.{doing}
+use Rattle.id_record.proofs.TellingsLemmas.{tells-doing}
 use Rattle.id_record.proofs.history.Record.push_deed.Goals as goal
 
 pub add_line-requires-clause-stands : goal.add_line-requires-clause-stands

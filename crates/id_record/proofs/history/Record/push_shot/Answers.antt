@@ -1,9 +1,9 @@
 -- The record goes on by one event, in a line of its own.
 use Rattle.std.proofs.lemmas.Grind.{common_steps}
 use Rattle.std.proofs.Common.{ap, arith, refl}
-use Rattle.id_shots.specs.Shootings.{shooting}
+use Rattle.id_record.specs.Shootings.{shooting}
 use Rattle.id_record.proofs.RecordsLemmas.{AreKept-push, pushed_line, kept_line}
-use Rattle.id_ledger.proofs.TellingsLemmas.{tells-shooting}
+use Rattle.id_record.proofs.TellingsLemmas.{tells-shooting}
 use Rattle.id_record.proofs.history.Record.push_shot.Goals as goal
 
 pub invariant_of-self : goal.invariant_of-self

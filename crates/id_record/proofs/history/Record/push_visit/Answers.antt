@@ -1,9 +1,9 @@
 -- The record goes on by one event, in a line with a cell beside it.
 use Rattle.std.proofs.lemmas.Grind.{common_steps}
 use Rattle.std.proofs.Common.{arith, refl, subst}
-use Rattle.id_line.specs.Lines.{IsPackedBeside}
-use Rattle.id_shots.specs.Visits.{visiting}
-use Rattle.id_ledger.proofs.TellingsLemmas.{tells-visiting}
+use Rattle.id_record.specs.Lines.{IsPackedBeside}
+use Rattle.id_record.specs.Visits.{visiting}
+use Rattle.id_record.proofs.TellingsLemmas.{tells-visiting}
 use Rattle.id_record.proofs.history.Record.push_visit.Goals as goal
 
 pub add_beside-requires-clause-stands : goal.add_beside-requires-clause-stands

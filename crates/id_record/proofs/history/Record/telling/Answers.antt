@@ -1,6 +1,6 @@
 -- The positions are those of the events that tell.
 use Rattle.std.proofs.Common.{ap, ◌∙◌}
-use Rattle.id_ledger.specs.Tellings.{telling_from}
+use Rattle.id_record.specs.Tellings.{telling_from}
 use Rattle.id_record.proofs.history.Record.telling.Goals as goal
 
 pub returns : goal.returns

@@ -1,6 +1,0 @@
--- Each message has a key of its own among those of its live activation, whose path is no other's.
-use Rattle.id_bounds.proofs.Bounds as bounds
-use Rattle.id_bounds.proofs.bounded.Goals as goal
-
-pub returns : goal.returns
-returns c = bounds.bounded

@@ -1,6 +1,0 @@
--- Each message has a key of its own among those of the block that its activation's context was opened for.
-use Rattle.id_bounds.proofs.ByBlocks as blocks
-use Rattle.id_bounds.proofs.bounded_by_block.Goals as goal
-
-pub returns : goal.returns
-returns c = blocks.bounded_by_block

@@ -1,6 +1,0 @@
--- What is On is carried, under an activation whose trigger has fired.
-use Rattle.id_bounds.proofs.Ending.{at_end}
-use Rattle.id_bounds.proofs.rest_is_the_end.Goals as goal
-
-pub returns : goal.returns
-returns c = at_end

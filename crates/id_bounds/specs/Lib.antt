@@ -1,5 +1,0 @@
--- What public clauses cite.
-pub mod Bounded
-pub mod ByBlock
-pub mod Ended
-pub mod Rest

@@ -1,0 +1,14 @@
+-- The arcs so far, and those that are left.
+use Rattle.std.proofs.Common.{◌≡◌, ◌++◌, ◌+◌, drop, map}
+use Rattle.id_pieces.specs.Made.{arc_of, number_by}
+use Rattle.id_pieces.specs.Rows.{first_binder, import_feeds, output}
+use Rattle.id_build.proofs.feeds.push_firsts.Given as goal
+
+abbrev pub invariant-loop-next : goal.invariant-loop-next
+invariant-loop-next l = record {
+  list : l.arcs.list.items ++ map (arc_of l.fn.arcs.firsts.items l.n)
+      (import_feeds l.checked (output l.n) l.region (l.first + l.next-index) (map (first_binder l.checked) (drop l.next-index l.nexts)))
+      ≡ l.fn.arcs.list.items ++ map (arc_of l.fn.arcs.firsts.items l.n) (import_feeds l.checked (output l.n) l.region l.first (map (first_binder l.checked) l.nexts));
+  firsts : l.arcs.firsts.items ≡ l.fn.arcs.firsts.items;
+  to : l.to ≡ number_by l.fn.arcs.firsts.items l.n 0 + l.first + l.next-index;
+}

@@ -1,0 +1,14 @@
+-- The arcs so far, and those that are left.
+use Rattle.std.proofs.Common.{◌≡◌, ◌++◌, ◌+◌, drop, map}
+use Rattle.id_pieces.specs.Made.{arc_of, number_by}
+use Rattle.id_pieces.specs.Rows.{import_feeds}
+use Rattle.id_build.proofs.feeds.push_imports.Given as goal
+
+abbrev pub invariant-loop-binder : goal.invariant-loop-binder
+invariant-loop-binder l = record {
+  list : l.arcs.list.items ++ map (arc_of l.fn.arcs.firsts.items l.n)
+      (import_feeds l.checked l.source l.region (l.part + l.binder-index) (drop l.binder-index l.binders))
+      ≡ l.fn.arcs.list.items ++ map (arc_of l.fn.arcs.firsts.items l.n) (import_feeds l.checked l.source l.region l.part l.binders);
+  firsts : l.arcs.firsts.items ≡ l.fn.arcs.firsts.items;
+  to : l.to ≡ number_by l.fn.arcs.firsts.items l.n 0 + l.part + l.binder-index;
+}

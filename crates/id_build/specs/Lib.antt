@@ -1,2 +1,0 @@
--- What public clauses cite.
--- For use inside: the graph that the builder makes.

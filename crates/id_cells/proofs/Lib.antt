@@ -1,5 +1,0 @@
-pub mod ToldLemmas
-pub mod ChainsLemmas
-pub mod LookupLemmas
-pub mod QueuesLemmas
-pub mod WaitsLemmas

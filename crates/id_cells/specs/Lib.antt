@@ -1,4 +1,0 @@
--- What public clauses cite.
-pub mod Cells
-pub mod Queues
-pub mod Waits

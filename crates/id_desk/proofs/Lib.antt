@@ -1,7 +1,0 @@
-pub mod EventsLemmas
-pub mod FitsLemmas
-pub mod HandledLemmas
-pub mod OutcomeLemmas
-pub mod ReplaysLemmas
-pub mod SentLemmas
-pub mod ShortLemmas

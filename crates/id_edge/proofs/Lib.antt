@@ -1,2 +1,0 @@
-pub mod ReadingLemmas
-pub mod WritingLemmas

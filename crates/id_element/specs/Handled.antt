@@ -1,0 +1,59 @@
+-- What it is that a desk handled a message: what is recorded, and what is sent.
+use Rattle.std.specs.Prelude.{◌≡◌, ◌+◌, ◌++◌, ◌∷◌, [], ℕ, List, Some, length}
+use Rattle.id_instr.specs.declared.instr.Instr.{Instr}
+use Rattle.id_instr.specs.Graph.{arcs_on}
+use Rattle.id_tag.specs.declared.Tag.{Tag}
+use Rattle.id_tag.specs.declared.Message.{Message}
+use Rattle.id_tag.specs.declared.Payload.{Payload}
+use Rattle.id_ops.specs.declared.Fired.{Fired}
+use Rattle.id_ops.specs.Operators.{side_of}
+use Rattle.id_record.specs.declared.step.Step.{Step}
+use Rattle.id_record.specs.Sends.{numbered, sent}
+use Rattle.id_element.specs.Steps.{Outcome, allocated_by, made_by}
+use Rattle.id_element.specs.declared.desk.Desk.{Desk}
+use Rattle.id_element.specs.Desks.{state_of}
+
+-- the messages that a desk sends at this stamp, for what its next event sends
+abbrev pub outputs_at : Desk → ℕ → List Payload → List Message
+outputs_at d stamp xs = numbered d.log.element (length d.log.events) stamp 0 xs
+
+-- the desk has handled this message at this stamp with this outcome: its event is the last in the record, what it made
+-- is counted, and the number and the graph stay
+pub record IsRecorded (old new : Desk) (m : Message) (stamp : ℕ) (o : Outcome) : Type 0 where
+  pub state : state_of new ≡ record {
+    waiting = o.waiting;
+    cells = o.cells;
+    stamp = stamp;
+    contexts = old.contexts + o.made;
+    structures = old.structures + o.allocated;
+    events = old.log.events ++ record {
+      element = old.log.element;
+      stamp = stamp;
+      message = m;
+      fired = o.fired;
+      outputs = outputs_at old stamp o.sends;
+      step = o.step;
+    } ∷ [];
+  }
+  pub number : new.log.element ≡ old.log.element
+  pub graph : new.log.graph ≡ old.log.graph
+
+-- what its event at this stamp sends was put behind the messages before
+abbrev pub IsSent : Desk → List Message → List Message → ℕ → List Payload → Type 0
+IsSent old before after stamp xs = after ≡ before ++ outputs_at old stamp xs
+
+-- what a token under this tag sends, for which its instruction fires this
+abbrev pub token_sends : Instr → Tag → Fired → List Payload
+token_sends i t f = sent (Some i.op) (arcs_on (side_of f) i) t f
+
+-- the outcome of it, where it comes to this step: what waits and the cells are as at the desk
+abbrev pub token_outcome : Desk → Instr → Tag → Fired → Step → Outcome
+token_outcome d i t f s = record {
+  fired = f;
+  sends = token_sends i t f;
+  step = s;
+  waiting = d.waiting;
+  cells = d.cells;
+  made = made_by f;
+  allocated = allocated_by i.op f;
+}

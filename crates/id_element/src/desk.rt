@@ -1,0 +1,642 @@
+//! What an element works on: what waits, its cells, the last stamp, how many contexts and structures it has made, and
+//! the record.
+
+ghost use Rattle.std.specs.Prelude.{◌≡◌};
+
+use crate::gate::Gate;
+use crate::outcome::{
+    allocated_by, allocated_by_deed, deed_of, fresh_numbers, made_by, most_sent, next_stamp, react,
+    react_operands, react_plain, send, send_deed, send_like, send_shot, short_of,
+};
+use crate::step::{PlainOperands, Reacted, Short, TakeError};
+use id_bank::Bank;
+use id_flight::Queue;
+use id_instr::{Graph, Instr, Port};
+use id_match::Waiting;
+use id_ops::{Deed, Shot};
+use id_record::{
+    Doing, Envelope, Handling, NO_REPLIES, Reaction, Record, Shooting, Verdict, has_line, message,
+    tag_of,
+};
+use id_tag::{Message, Payload, PlainToken, Tag, Value};
+use id_valid::Valid;
+use std::alloc::{AllocError, Global};
+
+/// What waits at an element, its cells, its last stamp, how many contexts and structures it has made, and its record,
+/// which knows its number.
+#[derive(Drop)]
+pub struct Desk<'a> {
+    pub waiting: Waiting,
+    pub cells: Bank,
+    pub stamp: u64,
+    pub contexts: u64,
+    pub structures: u64,
+    pub log: Record<'a>,
+}
+
+impl<'a> Desk<'a> {
+    ghost use Rattle.std.specs.Prelude.{◌≡◌, ◌+◌, ◌-◌, ◌^◌, ◌<◌, ◌≤◌, ◌++◌};
+    ghost use Rattle.std.specs.Prelude.{◌↔◌, Some, slice_get};
+    ghost use Rattle.std.specs.Prelude.{IfErr, IfOk, IfSome, OnOk, OnErr, IsTrue};
+    ghost use Rattle.id_element.specs.declared.step.TakeError.TheVariants.{StampEnd};
+    ghost use Rattle.id_record.specs.Events.{full_step, tag_of};
+    ghost use Rattle.id_element.specs.Fits.{Fits};
+    ghost use Rattle.id_tag.specs.Plains.{message_of, tag_in};
+    ghost use Rattle.id_ops.specs.Deeds.{fired_by_deed};
+    ghost use Rattle.id_ops.specs.Shots.{IsBrief, IsOwn, fired_of};
+    ghost use Rattle.id_ops.specs.declared.Fired.TheVariants.{Nothing};
+    ghost use Rattle.id_record.specs.declared.step.Step.TheVariants.{Went};
+    ghost use Rattle.id_element.specs.Steps.{allocated_by, at_instr, fresh, next_numbers};
+    ghost use Rattle.id_tag.specs.declared.Payload.TheVariants.{Token};
+    ghost use Rattle.id_element.specs.Steps.{fired_verdict, is_ended, made_by, next_stamp, step_of};
+    ghost use Rattle.id_element.specs.Steps.{outputs_of, state_after};
+    ghost use Rattle.id_record.specs.Sends.{sent};
+    ghost use Rattle.id_valid.specs.Validator.{IsValid};
+    ghost use Rattle.id_element.specs.Desks.{state_of, IsShort, IsToken, fired_by};
+    ghost use Rattle.id_element.specs.Concluded.{IsConcluded, IsUnchanged};
+    ghost use Rattle.id_element.specs.Handled.{IsRecorded, IsSent, token_outcome, token_sends};
+    ghost use Rattle.id_element.specs.Shorts.{IsHandled, step_in};
+    ghost use Rattle.id_element.specs.declared.step.Short.{Short};
+    ghost use Rattle.id_match.specs.Waiting.{Store};
+    ghost use Rattle.id_element.specs.declared.step.Reacted.{Reacted};
+    ghost use Rattle.id_element.specs.Firings.{IsBound, IsReaction, most_sent};
+    ghost use Rattle.id_instr.specs.Graph.{arcs_on, IsGraph};
+    ghost use Rattle.id_ops.specs.Operators.{side_of};
+
+    /// The desk of the element of this number, which is alone or one of several, at which nothing was handled. Takes no
+    /// memory.
+    pub fn new(alloc: Global, number: u32, graph: &'a Valid, alone: bool) -> Desk<'a>
+        ensures number { result.log.element ≡ number }
+        ensures graph { result.log.graph ≡ graph.now }
+        ensures state { state_of result ≡ fresh }
+    {
+        Desk {
+            waiting: Waiting::new(alloc),
+            cells: Bank::new(alloc),
+            stamp: 0,
+            contexts: 0,
+            structures: 0,
+            log: Record::new(alloc, number, graph, alone),
+        }
+    }
+
+    /// Gives back the memory of the waiting store, where nothing waits.
+    pub fn give_back(&mut self, alloc: Global)
+        ensures state { state_of self.new ≡ state_of self.old }
+        ensures log { self.new.log ≡ self.old.log }
+    {
+        if self.waiting.len() == 0 {
+            self.waiting = Waiting::new(alloc);
+        }
+    }
+
+    /// Handles a token that fits the graph: the element step where a stamp is left, which is this one.
+    #[inline(always)]
+    pub fn take_token<G: Gate>(
+        &mut self,
+        graph: &Graph,
+        message: &Message,
+        stamp: u64,
+        outputs: &mut Queue,
+        gate: &G,
+    ) -> Result<Verdict, TakeError>
+        requires is { IsToken message.now.payload }
+        requires stamp { stamp ≡ next_stamp (state_of self.old) message.now }
+        requires own { graph.now ≡ self.old.log.graph }
+        requires valid { IsValid graph.now }
+        requires contexts { self.old.contexts + 1 < 2 ^ 64 }
+        requires structures { self.old.structures + 1 < 2 ^ 64 }
+        requires fits { Fits graph.now message.now }
+
+        ensures step { IfOk result (λ v. full_step message.now.payload v
+            ≡ step_of graph.now self.old.log.element (state_of self.old) message.now) }
+        ensures state { OnOk result
+            (state_of self.new ≡ state_after graph.now self.old.log.element (state_of self.old) message.now) }
+        ensures outputs { OnOk result
+            (outputs.new.messages
+            ≡ outputs.old.messages ++ outputs_of graph.now self.old.log.element (state_of self.old) message.now) }
+        ensures number { self.new.log.element ≡ self.old.log.element }
+        ensures graph { self.new.log.graph ≡ self.old.log.graph }
+
+        ensures memory { IfErr result (λ e. e ≡ TakeError.Memory) }
+        ensures err { OnErr result (state_of self.new ≡ state_of self.old) }
+        ensures err_outputs { OnErr result (outputs.new.messages ≡ outputs.old.messages) }
+    {
+        let Payload::Token { tag, port, value } = message.payload else {
+            unreachable!()
+        };
+        let instr = &graph.instrs()[tag.instr as usize];
+        let reaction = self.react_with_room(instr, tag, port, value, outputs)?;
+        self.hold(gate);
+        Ok(self.conclude(instr, tag, message, stamp, &reaction, outputs))
+    }
+
+    /// Makes room for the event of a token, and lets it come to its instruction. After an error nothing has changed.
+    #[inline(always)]
+    fn react_with_room(
+        &mut self,
+        instr: &Instr,
+        tag: Tag,
+        port: Port,
+        value: Value,
+        outputs: &mut Queue,
+    ) -> Result<Reaction, TakeError>
+        requires iteration { tag.iteration < 2 ^ 64 - 1 }
+        requires contexts { self.old.contexts + 1 < 2 ^ 64 }
+        requires structures { self.old.structures + 1 < 2 ^ 64 }
+
+        ensures outcome { IfOk result (λ r. at_instr (next_numbers self.old.log.element (state_of self.old))
+            self.old.waiting self.old.cells tag port value (Some instr.now) ≡ record {
+              fired = r.fired;
+              sends = sent (Some instr.now.op) (arcs_on (side_of r.fired) instr.now) tag r.fired;
+              step = full_step (Token tag port value) r.verdict;
+              waiting = self.new.waiting;
+              cells = self.old.cells;
+              made = made_by r.fired;
+              allocated = allocated_by instr.now.op r.fired;
+            }) }
+        ensures state { OnOk result
+            (state_of self.new ≡ record (state_of self.old) { waiting = self.new.waiting }) }
+        ensures messages { outputs.new.messages ≡ outputs.old.messages }
+        ensures number { self.new.log.element ≡ self.old.log.element }
+        ensures graph { self.new.log.graph ≡ self.old.log.graph }
+
+        ensures room { OnOk result (0 < self.new.log.room) }
+        ensures room_aside { OnOk result (0 < self.new.log.room_aside) }
+        ensures room_in_outputs { OnOk result (most_sent instr.now ≤ outputs.new.room) }
+
+        ensures memory { IfErr result (λ e. e ≡ TakeError.Memory) }
+        ensures err { OnErr result (state_of self.new ≡ state_of self.old) }
+    {
+        self.reserve(most_sent(instr), 0, outputs)?;
+        let next = fresh_numbers(self.log.element(), self.contexts, self.structures);
+        let reaction = react(&mut self.waiting, instr, next, tag, port, value)?;
+        Ok(reaction)
+    }
+
+    /// Handles a plain token that fits the graph, where that is short, and says what became of it: the element step. No
+    /// instruction sends more than the most, which is large too where the number of the element or those of the
+    /// instructions are.
+    #[inline(always)]
+    pub fn take_plain<G: Gate>(
+        &mut self,
+        graph: &Graph,
+        token: &PlainToken,
+        most: usize,
+        outputs: &mut Queue,
+        gate: &G,
+    ) -> Result<Short, TakeError>
+        requires own { graph.now ≡ self.old.log.graph }
+        requires valid { IsValid graph.now }
+        requires bound { IsBound graph.now self.old.log.element most }
+        requires counted { self.old.contexts ≤ self.old.stamp }
+        requires numbered { self.old.structures ≤ self.old.stamp }
+        requires fits { Fits graph.now (message_of token.now) }
+
+        ensures step { IfOk result (λ short. IsHandled short → step_in short (tag_in token.now)
+            ≡ step_of graph.now self.old.log.element (state_of self.old) (message_of token.now)) }
+        ensures state { IfOk result (λ short. IsHandled short → state_of self.new
+            ≡ state_after graph.now self.old.log.element (state_of self.old) (message_of token.now)) }
+        ensures outputs { IfOk result (λ short. IsHandled short → outputs.new.messages
+            ≡ outputs.old.messages
+            ++ outputs_of graph.now self.old.log.element (state_of self.old) (message_of token.now)) }
+        ensures apart { result ≡ Ok Short.Apart → state_of self.new ≡ state_of self.old }
+        ensures apart_outputs { result ≡ Ok Short.Apart → outputs.new.messages ≡ outputs.old.messages }
+        ensures number { self.new.log.element ≡ self.old.log.element }
+        ensures graph { self.new.log.graph ≡ self.old.log.graph }
+        ensures left { OnOk result (token.now.stamp < 2 ^ 64 - 1) }
+        ensures last_left { OnOk result (self.old.stamp < 2 ^ 64 - 1) }
+
+        ensures end { (result ≡ Err StampEnd) ↔ IsTrue (is_ended (state_of self.old) (message_of token.now)) }
+        ensures err { OnErr result (state_of self.new ≡ state_of self.old) }
+        ensures err_outputs { OnErr result (outputs.new.messages ≡ outputs.old.messages) }
+    {
+        let stamp = next_stamp(self.stamp, u64::from(token.stamp))?;
+        let instr = &graph.instrs()[token.instr as usize];
+        let Some(room) = self.short_bound(graph, instr, most, token, stamp) else {
+            return Ok(Short::Apart);
+        };
+        self.take_short(instr, token, room, stamp as u32, outputs, gate)
+    }
+
+    /// Handles a plain token at its instruction and at this stamp, which is the next, where all numbers of its event,
+    /// which sends at most so many messages, are small: the element step.
+    #[inline(always)]
+    fn take_short<G: Gate>(
+        &mut self,
+        instr: &Instr,
+        token: &PlainToken,
+        most: usize,
+        stamp: u32,
+        outputs: &mut Queue,
+        gate: &G,
+    ) -> Result<Short, TakeError>
+        requires own { slice_get self.old.log.graph.instrs token.now.instr ≡ Some instr.now }
+        requires stamp { stamp ≡ next_stamp (state_of self.old) (message_of token.now) }
+        requires few { most_sent instr.now ≤ most }
+        requires short { IsShort self.old most token.now stamp }
+        requires graph { IsGraph self.old.log.graph }
+        requires valid { IsValid self.old.log.graph }
+        requires counted { self.old.contexts + 1 < 2 ^ 64 }
+        requires numbered { self.old.structures + 1 < 2 ^ 64 }
+
+        ensures handled { IfOk result (λ short. IsHandled short → IsConcluded self.old self.new outputs.old.messages
+            outputs.new.messages self.old.waiting token.now short) }
+        ensures apart { result ≡ Ok Short.Apart
+            → IsUnchanged self.old self.new outputs.old.messages outputs.new.messages }
+        ensures number { self.new.log.element ≡ self.old.log.element }
+        ensures graph { self.new.log.graph ≡ self.old.log.graph }
+
+        ensures memory { IfErr result (λ e. e ≡ TakeError.Memory) }
+        ensures err { OnErr result (IsUnchanged self.old self.new outputs.old.messages outputs.new.messages) }
+    {
+        self.reserve(most, 0, outputs)?;
+        let reacted = react_plain(&mut self.waiting, instr.op, token)?;
+        self.hold_here(&reacted, gate);
+        Ok(self.conclude_reacted(instr, token, stamp, reacted, outputs))
+    }
+
+    /// Lets the gate hold the handling of a plain token, unless it is to be handled apart. Takes no memory.
+    #[inline(always)]
+    fn hold_here<G: Gate>(&self, reacted: &Reacted, gate: &G) {
+        if !matches!(reacted, Reacted::Apart) {
+            self.hold(gate);
+        }
+    }
+
+    /// Sends what came of a plain token, and records the event, unless it is to be handled apart: the element step at
+    /// this stamp, which is the next, where what waited before is known. There is room for it. Takes no memory.
+    #[inline(always)]
+    fn conclude_reacted(
+        &mut self,
+        instr: &Instr,
+        token: &PlainToken,
+        stamp: u32,
+        reacted: Reacted,
+        outputs: &mut Queue,
+    ) -> Short
+        requires room { 0 < self.old.log.room }
+        requires room_aside { 0 < self.old.log.room_aside }
+        requires own { slice_get self.old.log.graph.instrs token.now.instr ≡ Some instr.now }
+        requires stamp { stamp ≡ next_stamp (state_of self.old) (message_of token.now) }
+        requires short { IsShort self.old (most_sent instr.now) token.now stamp }
+        requires came { (w : Store) × IsReaction instr.now.op w self.old.waiting token.now reacted }
+        requires room_in_outputs { most_sent instr.now ≤ outputs.old.room }
+        requires graph { IsGraph self.old.log.graph }
+        requires valid { IsValid self.old.log.graph }
+        requires counted { self.old.contexts + 1 < 2 ^ 64 }
+        requires numbered { self.old.structures + 1 < 2 ^ 64 }
+
+        ensures handled { (w : Store) → IsReaction instr.now.op w self.old.waiting token.now reacted
+            → IsHandled result
+            → IsConcluded self.old self.new outputs.old.messages outputs.new.messages w token.now result }
+        ensures apart { result ≡ Short.Apart
+            → (reacted ≡ Reacted.Apart) × IsUnchanged self.old self.new outputs.old.messages outputs.new.messages }
+        ensures number { self.new.log.element ≡ self.old.log.element }
+        ensures graph { self.new.log.graph ≡ self.old.log.graph }
+    {
+        match reacted {
+            Reacted::Waits => {
+                self.conclude_shot(instr, token, stamp, Shot::Nothing, outputs);
+                Short::Went
+            }
+            Reacted::One(shot) => {
+                self.conclude_shot(instr, token, stamp, shot, outputs);
+                Short::Went
+            }
+            Reacted::Two(shot) => {
+                self.conclude_shot(instr, token, stamp, shot, outputs);
+                Short::Went
+            }
+            Reacted::Fires(operands) => {
+                self.conclude_plain(instr, token, stamp, operands, outputs)
+            }
+            Reacted::Apart => Short::Apart,
+        }
+    }
+
+    /// A bound on what the event of a token that fits the graph sends, where all its numbers are small: the most, or
+    /// what its instruction sends, where another one's messages are many.
+    #[inline(always)]
+    fn short_bound(
+        &self,
+        graph: &Graph,
+        instr: &Instr,
+        most: usize,
+        token: &PlainToken,
+        stamp: u64,
+    ) -> Option<usize>
+        requires bound { IsBound graph.now self.now.log.element most }
+        requires few { most_sent instr.now ≤ most }
+        requires fits { Fits graph.now (message_of token.now) }
+        requires above { token.now.stamp < stamp }
+        ensures few { IfSome result (λ m. most_sent instr.now ≤ m) }
+        ensures short { IfSome result (λ m. IsShort self.now m token.now stamp) }
+    {
+        if self.is_short_in(graph, most, token, stamp) {
+            return Some(most);
+        }
+        let own = most_sent(instr);
+        if most > 0x100 && self.is_short(own, token, stamp) {
+            Some(own)
+        } else {
+            None
+        }
+    }
+
+    /// Whether all numbers of this event are small, which sends at most so many messages.
+    #[inline(always)]
+    pub fn is_short(&self, most: usize, token: &PlainToken, stamp: u64) -> bool
+        ensures { IsTrue result → IsShort self.now most token.now stamp }
+    {
+        // All at once, without a branch for each: nearly all of them hold.
+        (stamp <= 0xffff_ffff)
+            & (self.log.len() <= 0xffff_ffff)
+            & (self.log.element() <= 0xff)
+            & (token.iteration < 0xffff_ffff)
+            & (most <= 0x100)
+            & has_line(token)
+    }
+
+    /// The same of a token that fits the graph, at a stamp above its own, where the most is large too unless the number
+    /// of the element and those of the instructions are small: those of the token and its iteration follow.
+    #[inline(always)]
+    fn is_short_in(&self, graph: &Graph, most: usize, token: &PlainToken, stamp: u64) -> bool
+        requires bound { IsBound graph.now self.now.log.element most }
+        requires fits { Fits graph.now (message_of token.now) }
+        requires above { token.now.stamp < stamp }
+        ensures { IsTrue result → IsShort self.now most token.now stamp }
+    {
+        // What has 31 bits alike is asked at once, without a branch for each: nearly all of it has.
+        ((stamp | self.log.len() as u64 | u64::from(token.position)) <= 0x7fff_ffff)
+            & (most <= 0x100)
+            & (token.sender < 0xff)
+    }
+
+    /// Makes room for an event that sends so many messages, to so many replies.
+    #[inline(always)]
+    pub fn reserve(
+        &mut self,
+        sent: usize,
+        replies: usize,
+        outputs: &mut Queue,
+    ) -> Result<(), AllocError>
+        ensures state { state_of self.new ≡ state_of self.old }
+        ensures number { self.new.log.element ≡ self.old.log.element }
+        ensures graph { self.new.log.graph ≡ self.old.log.graph }
+        ensures messages { outputs.new.messages ≡ outputs.old.messages }
+
+        ensures room { OnOk result (0 < self.new.log.room) }
+        ensures room_aside { OnOk result (0 < self.new.log.room_aside) }
+        ensures room_for_replies { OnOk result (replies ≤ self.new.log.room_for_replies) }
+        ensures room_in_outputs { OnOk result (sent ≤ outputs.new.room) }
+    {
+        outputs.reserve(sent)?;
+        self.log.reserve(replies)?;
+        Ok(())
+    }
+
+    /// Sends what was fired, and records the event. There is room for it. Takes no memory.
+    #[inline(never)]
+    fn conclude(
+        &mut self,
+        instr: &Instr,
+        tag: Tag,
+        message: &Message,
+        stamp: u64,
+        reaction: &Reaction,
+        outputs: &mut Queue,
+    ) -> Verdict
+        requires room { 0 < self.old.log.room }
+        requires room_aside { 0 < self.old.log.room_aside }
+        requires own { slice_get self.old.log.graph.instrs (tag_of message.now.payload).instr ≡ Some instr.now }
+        requires tag { tag ≡ tag_of message.now.payload }
+        requires room_in_outputs { most_sent instr.now ≤ outputs.old.room }
+        requires graph { IsGraph self.old.log.graph }
+        requires valid { IsValid self.old.log.graph }
+        requires counted { self.old.contexts + 1 < 2 ^ 64 }
+        requires numbered { self.old.structures + 1 < 2 ^ 64 }
+
+        ensures verdict { result ≡ reaction.now.verdict }
+        ensures recorded { IsRecorded self.old self.new message.now stamp (token_outcome self.old instr.now
+            tag reaction.now.fired (full_step message.now.payload reaction.now.verdict)) }
+        ensures sent { IsSent self.old outputs.old.messages outputs.new.messages stamp
+            (token_sends instr.now tag reaction.now.fired) }
+    {
+        let envelope = Envelope {
+            number: self.log.element(),
+            position: self.log.len(),
+            stamp,
+        };
+        send(instr, tag, &reaction.fired, envelope, outputs);
+        self.note(instr, message, stamp, reaction);
+        reaction.verdict
+    }
+
+    /// Records the event of a token at the instruction, and counts what it made. There is room for it. Takes no memory.
+    #[inline(always)]
+    fn note(&mut self, instr: &Instr, message: &Message, stamp: u64, reaction: &Reaction)
+        requires room { 0 < self.old.log.room }
+        requires room_aside { 0 < self.old.log.room_aside }
+        requires own { slice_get self.old.log.graph.instrs (tag_of message.now.payload).instr ≡ Some instr.now }
+        requires counted { self.old.contexts + 1 < 2 ^ 64 }
+        requires numbered { self.old.structures + 1 < 2 ^ 64 }
+
+        ensures { IsRecorded self.old self.new message.now stamp (token_outcome self.old instr.now
+            (tag_of message.now.payload) reaction.now.fired
+            (full_step message.now.payload reaction.now.verdict)) }
+    {
+        self.log.push(Handling {
+            message,
+            stamp,
+            reaction,
+            replies: NO_REPLIES,
+        });
+        self.stamp = stamp;
+        self.contexts += made_by(&reaction.fired);
+        self.structures += allocated_by(instr.op, &reaction.fired);
+    }
+
+    /// Sends what was shot, and records the event. There is room for it. Takes no memory.
+    #[inline(always)]
+    fn conclude_shot(
+        &mut self,
+        instr: &Instr,
+        token: &PlainToken,
+        stamp: u32,
+        shot: Shot,
+        outputs: &mut Queue,
+    )
+        requires room { 0 < self.old.log.room }
+        requires room_aside { 0 < self.old.log.room_aside }
+        requires short { IsShort self.old (most_sent instr.now) token.now stamp }
+        requires own_value { IsOwn shot token.now.value }
+        requires brief { IsBrief token.now.iteration shot }
+        requires makes_none { allocated_by instr.now.op (fired_of shot) ≡ 0 }
+        requires own { slice_get self.old.log.graph.instrs token.now.instr ≡ Some instr.now }
+        requires room_in_outputs { most_sent instr.now ≤ outputs.old.room }
+        requires graph { IsGraph self.old.log.graph }
+        requires valid { IsValid self.old.log.graph }
+        requires counted { self.old.contexts + 1 < 2 ^ 64 }
+        requires numbered { self.old.structures + 1 < 2 ^ 64 }
+
+        ensures recorded { IsRecorded self.old self.new (message_of token.now) stamp
+            (token_outcome self.old instr.now (tag_in token.now) (fired_of shot) Went) }
+        ensures sent { IsSent self.old outputs.old.messages outputs.new.messages stamp
+            (token_sends instr.now (tag_in token.now) (fired_of shot)) }
+    {
+        let sample = PlainToken {
+            position: self.log.len() as u32,
+            stamp,
+            sender: self.log.element() as u8,
+            ..*token
+        };
+        send_shot(instr, &sample, shot, outputs);
+        self.log.push_shot(Shooting { token, stamp, shot });
+        self.stamp = u64::from(stamp);
+    }
+
+    /// Sends what a deed sends, and records the event. There is room for it. Takes no memory.
+    #[inline(always)]
+    fn conclude_deed(
+        &mut self,
+        instr: &Instr,
+        token: &PlainToken,
+        stamp: u32,
+        deed: Deed,
+        outputs: &mut Queue,
+    )
+        requires room { 0 < self.old.log.room }
+        requires room_aside { 0 < self.old.log.room_aside }
+        requires short { IsShort self.old (most_sent instr.now) token.now stamp }
+        requires own { slice_get self.old.log.graph.instrs token.now.instr ≡ Some instr.now }
+        requires room_in_outputs { most_sent instr.now ≤ outputs.old.room }
+        requires counted { self.old.contexts + 1 < 2 ^ 64 }
+        requires numbered { self.old.structures + 1 < 2 ^ 64 }
+
+        ensures recorded { IsRecorded self.old self.new (message_of token.now) stamp
+            (token_outcome self.old instr.now (tag_in token.now) (fired_by_deed (tag_in token.now) deed) Went) }
+        ensures sent { IsSent self.old outputs.old.messages outputs.new.messages stamp
+            (token_sends instr.now (tag_in token.now) (fired_by_deed (tag_in token.now) deed)) }
+    {
+        let sample = PlainToken {
+            position: self.log.len() as u32,
+            stamp,
+            sender: self.log.element() as u8,
+            ..*token
+        };
+        send_deed(instr, &sample, deed, outputs);
+        self.log.push_deed(Doing { token, stamp, deed });
+        self.stamp = u64::from(stamp);
+        self.structures += allocated_by_deed(instr.op, deed);
+    }
+
+    /// Fires the operands of which a plain token is one, sends what comes of them, and records the event. There is room
+    /// for it. Takes no memory.
+    #[inline(never)]
+    fn conclude_plain(
+        &mut self,
+        instr: &Instr,
+        token: &PlainToken,
+        stamp: u32,
+        operands: PlainOperands,
+        outputs: &mut Queue,
+    ) -> Short
+        requires room { 0 < self.old.log.room }
+        requires room_aside { 0 < self.old.log.room_aside }
+        requires own { slice_get self.old.log.graph.instrs token.now.instr ≡ Some instr.now }
+        requires short { IsShort self.old (most_sent instr.now) token.now stamp }
+        requires room_in_outputs { most_sent instr.now ≤ outputs.old.room }
+        requires graph { IsGraph self.old.log.graph }
+        requires valid { IsValid self.old.log.graph }
+        requires counted { self.old.contexts + 1 < 2 ^ 64 }
+        requires numbered { self.old.structures + 1 < 2 ^ 64 }
+
+        ensures handled { IsHandled result }
+        ensures verdict { step_in result (tag_in token.now) ≡ full_step
+            (message_of token.now).payload (fired_verdict (fired_by self.old instr.now token.now operands)) }
+        ensures recorded { IsRecorded self.old self.new (message_of token.now) stamp (token_outcome self.old instr.now
+            (tag_in token.now) (fired_by self.old instr.now token.now operands) (full_step
+            (message_of token.now).payload (fired_verdict (fired_by self.old instr.now token.now operands)))) }
+        ensures sent { IsSent self.old outputs.old.messages outputs.new.messages stamp
+            (token_sends instr.now (tag_in token.now) (fired_by self.old instr.now token.now operands)) }
+    {
+        match deed_of(instr.op, operands) {
+            Some(deed) => {
+                self.conclude_deed(instr, token, stamp, deed, outputs);
+                Short::Went
+            }
+            None => self.conclude_full(instr, token, stamp, operands, outputs),
+        }
+    }
+
+    /// The same where it is no deed.
+    #[inline(never)]
+    fn conclude_full(
+        &mut self,
+        instr: &Instr,
+        token: &PlainToken,
+        stamp: u32,
+        operands: PlainOperands,
+        outputs: &mut Queue,
+    ) -> Short
+        requires room { 0 < self.old.log.room }
+        requires room_aside { 0 < self.old.log.room_aside }
+        requires own { slice_get self.old.log.graph.instrs token.now.instr ≡ Some instr.now }
+        requires short { IsShort self.old (most_sent instr.now) token.now stamp }
+        requires room_in_outputs { most_sent instr.now ≤ outputs.old.room }
+        requires graph { IsGraph self.old.log.graph }
+        requires valid { IsValid self.old.log.graph }
+        requires counted { self.old.contexts + 1 < 2 ^ 64 }
+        requires numbered { self.old.structures + 1 < 2 ^ 64 }
+
+        ensures handled { IsHandled result }
+        ensures verdict { step_in result (tag_in token.now) ≡ full_step
+            (message_of token.now).payload (fired_verdict (fired_by self.old instr.now token.now operands)) }
+        ensures recorded { IsRecorded self.old self.new (message_of token.now) stamp (token_outcome self.old instr.now
+            (tag_in token.now) (fired_by self.old instr.now token.now operands) (full_step
+            (message_of token.now).payload (fired_verdict (fired_by self.old instr.now token.now operands)))) }
+        ensures sent { IsSent self.old outputs.old.messages outputs.new.messages stamp
+            (token_sends instr.now (tag_in token.now) (fired_by self.old instr.now token.now operands)) }
+    {
+        let reaction = self.fire_full(instr, token, stamp, operands, outputs);
+        self.note(instr, &token.message(), u64::from(stamp), &reaction);
+        short_of(&reaction.fired)
+    }
+
+    /// Fires the operands of which a plain token is one, and sends what comes of them. There is room for it. Takes no
+    /// memory.
+    #[inline(always)]
+    fn fire_full(
+        &self,
+        instr: &Instr,
+        token: &PlainToken,
+        stamp: u32,
+        operands: PlainOperands,
+        outputs: &mut Queue,
+    ) -> Reaction
+        requires own { slice_get self.now.log.graph.instrs token.now.instr ≡ Some instr.now }
+        requires short { IsShort self.now (most_sent instr.now) token.now stamp }
+        requires room_in_outputs { most_sent instr.now ≤ outputs.old.room }
+        requires graph { IsGraph self.now.log.graph }
+        requires valid { IsValid self.now.log.graph }
+        requires counted { self.now.contexts + 1 < 2 ^ 64 }
+        requires numbered { self.now.structures + 1 < 2 ^ 64 }
+
+        ensures fired { result.fired ≡ fired_by self.now instr.now token.now operands }
+        ensures verdict { result.verdict ≡ fired_verdict (fired_by self.now instr.now token.now operands) }
+        ensures sent { IsSent self.now outputs.old.messages outputs.new.messages stamp
+            (token_sends instr.now (tag_in token.now) (fired_by self.now instr.now token.now operands)) }
+    {
+        let next = fresh_numbers(self.log.element(), self.contexts, self.structures);
+        let reaction = react_operands(instr, next, token.tag(), operands);
+        let sample = PlainToken {
+            position: self.log.len() as u32,
+            stamp,
+            sender: self.log.element() as u8,
+            ..*token
+        };
+        send_like(instr, &sample, &reaction.fired, outputs);
+        reaction
+    }
+}

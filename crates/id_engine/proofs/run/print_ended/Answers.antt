@@ -1,0 +1,15 @@
+use Rattle.std.proofs.Common.{refl, subst}
+use Rattle.id_core.specs.Machines.{MachineView}
+use Rattle.id_print.specs.RunReports.{IsReportFrom}
+use Rattle.id_engine.proofs.PrintedLemmas.{PrintsMachine-memory, PrintsMachine-reported}
+use Rattle.id_engine.proofs.run.print_ended.Goals as goal
+
+pub returns-in-Err : goal.returns-in-Err
+returns-in-Err g c = PrintsMachine-memory _ _ _ _ _ _ _ refl c.in-Err.ensures.memory
+
+pub print_run-status-requires-clause-inside : goal.print_run-status-requires-clause-inside
+print_run-status-requires-clause-inside g c =
+    c.requires.inside _ (subst (λ (m : MachineView). IsReportFrom m c.args.names c.in-Ok.report) c.report_of.ensures.same c.in-Ok.ensures.report)
+
+pub returns-in-Ok : goal.returns-in-Ok
+returns-in-Ok g c = PrintsMachine-reported _ _ _ _ _ _ _ _ _ c.report_of.ensures.same c.in-Ok.ensures.report c.print_run-status.ensures

@@ -1,0 +1,120 @@
+-- What a command prints of a program (docs/PROMISES.md, "The engine").
+use Rattle.std.specs.Prelude.{◌≡◌, ℕ, Bool, true, false, IsTrue, List, ◌++◌, codes, Option, Result, Ok, Err}
+use Rattle.std.specs.Prelude.{IfSome}
+use Rattle.id_check.specs.declared.checked.Checked.{Checked}
+use Rattle.id_value.specs.declared.Constant.{Constant}
+use Rattle.id_source.specs.declared.Ask.{Ask}
+use Rattle.id_source.specs.declared.SourceValue.{SourceValue}
+use Rattle.id_source.specs.declared.SourceFault.{SourceFault}
+use Rattle.id_source.specs.declared.NameValue.{NameValue}
+use Rattle.id_source.specs.declared.Fact.{Fact}
+use Rattle.id_source.specs.Sources.{source}
+use Rattle.id_source.specs.Inputs.{AreInputsOf}
+use Rattle.id_source.specs.Rounds.{Answers, IsAnswer, Faulty, FaultFree}
+use Rattle.id_source.specs.Names.{AreNames, AreSomeNames, AreWaiting}
+use Rattle.id_source.specs.Computed.{AreFacts}
+use Rattle.id_instr.specs.Graph.{Parts}
+use Rattle.id_graph.specs.Dot.{dot_text}
+use Rattle.id_graph.specs.Listing.{listing}
+use Rattle.id_pieces.specs.Schemas.{Schemas}
+use Rattle.id_core.specs.Events.{EventView}
+use Rattle.id_core.specs.Firsts.{AreMergedOf}
+use Rattle.id_core.specs.Machines.{World}
+use Rattle.id_runs.specs.Orders.{IsLegalOrder}
+use Rattle.id_sink.specs.declared.sink.PrintError.{PrintError}
+use Rattle.id_sink.specs.Told.{Told, Prints}
+use Rattle.id_print.specs.declared.helds.Held.{Held}
+use Rattle.id_print.specs.Names.{AreHeld, AreSomeHeld}
+use Rattle.id_print.specs.Texts.{quiet_text, stopped_text, fault_text, facts_text}
+use Rattle.id_print.specs.Reports.{asked}
+use Rattle.id_print.specs.Traces.{trace_text}
+use Rattle.id_compile.specs.Programs.{IsProgramOf}
+
+-- a command: say that the text is accepted, print its graph, print the picture of its graph, print the facts of a
+-- round, or run it, with what names have or without, and with its trace or without; the last two with the words of its
+-- inputs
+pub data Command : Type 0 where
+  Check : Command
+  List_graph : Command
+  Draw_graph : Command
+  Facts : ℕ → List (List ℕ) → Command
+  Run : Bool → Bool → List (List ℕ) → Command
+
+-- what a command prints of a program, with this status
+pub data Shows (P : Checked) (text : List ℕ) : Command → ℕ → List ℕ → Type 0 where
+  -- an accepted text is said to be so
+  accepted : Shows P text Check 0 (codes "ok\n")
+  -- the graph is one that the schemas give
+  listed : {g : Parts} → Schemas P g → Shows P text List_graph 0 (listing text g)
+  drawn : {g : Parts} → Schemas P g → Shows P text Draw_graph 0 (dot_text text g)
+  -- the facts are exactly those of the round, on the inputs that the words give
+  facts : {n : ℕ} {ws : List (List ℕ)} {vs : List Constant} {fs : List Fact} → AreInputsOf P ws vs
+      → AreFacts (source P vs) n fs →
+      Shows P text (Facts n ws) 0 (facts_text text fs)
+  -- a quiet run shows the answer that the source's equations give, exactly what its names have, where they are asked
+  -- for, its structures and what is put into their cells, and its fetches that wait; and the source has no fault
+  quiet : {b : Bool} {ws : List (List ℕ)} {vs : List Constant} (v : Option SourceValue) (ns : List NameValue)
+      (hs : List Held) (waiting : List Ask) → AreInputsOf P ws vs →
+      IsAnswer (source P vs) v → (IsTrue b → AreNames (source P vs) ns) → AreHeld (source P vs) hs →
+      AreWaiting (source P vs) waiting → FaultFree (source P vs) →
+      Shows P text (Run b false ws) 0 (quiet_text text v (asked b ns) hs waiting)
+  -- a run that stops at a fault shows a fault of the source
+  fault : {b : Bool} {ws : List (List ℕ)} {vs : List Constant} (f : SourceFault) → AreInputsOf P ws vs
+      → Faulty (source P vs) f →
+      Shows P text (Run b false ws) 1 (fault_text text f)
+  -- a run that stops at its limit shows no answer but the source's, of names only what they have, and no structures and
+  -- cells but its own
+  stopped : {b : Bool} {ws : List (List ℕ)} {vs : List Constant} (v : Option SourceValue) (ns : List NameValue)
+      (hs : List Held) → AreInputsOf P ws vs →
+      IfSome v (Answers (source P vs)) → AreSomeNames (source P vs) ns → AreSomeHeld (source P vs) hs →
+      Shows P text (Run b false ws) 3 (stopped_text text v (asked b ns) hs)
+  -- where a trace is asked for, all events of a run of a graph that the schemas give come before that, by stamp, and at
+  -- one stamp by element: so they are a legal list of events from the start
+  traced : {b : Bool} {ws : List (List ℕ)} {vs : List Constant} {g : Parts} {status : ℕ} {output : List ℕ}
+      (count : ℕ)
+      (w : World) (es : List EventView) → AreInputsOf P ws vs → Schemas P g → AreMergedOf w.elements es
+      → IsLegalOrder g vs count es w → Shows P text (Run b false ws) status output →
+      Shows P text (Run b true ws) status (trace_text es ++ output)
+
+-- what a command shows of the text's program, with this status, is printed with this result
+pub record HasShown (c : Command) (text : List ℕ) (old new : Option Told) (status : ℕ)
+    (result : Result (Unit {0}) PrintError) : Type 0 where
+  pub program : Checked
+  pub is_program : IsProgramOf text program
+  pub output : List ℕ
+  pub shows : Shows program text c status output
+  pub printed : Prints old new output result
+
+-- all of it is printed
+abbrev pub ShowsAll : Command → List ℕ → Option Told → Option Told → ℕ → Type 0
+ShowsAll c text old new status = HasShown c text old new status (Ok tt)
+
+-- a front of it is printed, and then a write failed
+pub record ShowsFront (c : Command) (text : List ℕ) (old new : Option Told) : Type 0 where
+  pub status : ℕ
+  pub error : PrintError
+  pub shown : HasShown c text old new status (Err error)
+
+-- the bytes are the listing of a graph that the schemas give the text's program
+pub record IsListingOf (text bytes : List ℕ) : Type 0 where
+  pub program : Checked
+  pub is_program : IsProgramOf text program
+  pub graph : Parts
+  pub schemas : Schemas program graph
+  pub listing_is : bytes ≡ listing text graph
+
+-- the bytes are the picture of a graph that the schemas give the text's program
+pub record IsPictureOf (text bytes : List ℕ) : Type 0 where
+  pub program : Checked
+  pub is_program : IsProgramOf text program
+  pub graph : Parts
+  pub schemas : Schemas program graph
+  pub picture_is : bytes ≡ dot_text text graph
+
+-- these are exactly the facts of a round of the text's program, on the inputs that the words give
+pub record AreFactsOf (text : List ℕ) (words : List (List ℕ)) (round : ℕ) (fs : List Fact) : Type 0 where
+  pub program : Checked
+  pub is_program : IsProgramOf text program
+  pub inputs : List Constant
+  pub are_inputs : AreInputsOf program words inputs
+  pub are : AreFacts (source program inputs) round fs

@@ -1,0 +1,327 @@
+//! A text, compiled, run and printed.
+
+ghost use Rattle.std.specs.Prelude.{◌≡◌, ◌≢◌, ◌≤◌, ◌++◌, length, map};
+ghost use Rattle.std.specs.Prelude.{IfErr, IfOk, OnOk};
+ghost use Rattle.id_pieces.specs.Schemas.{Schemas};
+ghost use Rattle.id_source.specs.Sources.{AreInputs};
+ghost use Rattle.id_print.specs.Reports.{report_text};
+ghost use Rattle.id_sink.specs.Told.{Prints};
+ghost use Rattle.id_print.specs.Traces.{trace_text};
+ghost use Rattle.id_print.specs.RunReports.{IsReportFrom};
+ghost use Rattle.id_print.specs.Within.{ReportWithin};
+ghost use Rattle.id_elements.specs.Runs.{IsRun, MovesOn};
+ghost use Rattle.id_engine.specs.Alike.{PrintedAlike};
+ghost use Rattle.id_engine.specs.Commands.{ShowsAll, ShowsFront};
+ghost use Rattle.id_engine.specs.Commands as command;
+ghost use Rattle.id_compile.specs.Programs.{IsPlacedWithin};
+ghost use Rattle.id_compile.specs.Refusals.{IsInsideOf, IsRefusedRun, IsTakenRun};
+ghost use Rattle.id_engine.specs.Reports.{AreAllowed, IsUnallowed};
+ghost use Rattle.id_engine.specs.Reports.{AreReportsWithin, PrintsEvents, PrintsMachine, PrintsRun, RunsSo, status_of};
+ghost use Rattle.id_engine.specs.Runs.{IsTraceOf, Ran, RanFront};
+
+use id_compile::{EngineError, Prepared, prepare};
+use id_core::{Gate, Merged, merge_records};
+use id_elements::{Run, RunError, Settings};
+use id_print::{Ending, PrintError, Report, Sink, report, write_report, write_trace};
+use id_valid::Valid;
+use std::alloc::{AllocError, Global};
+use std::sync::Wait;
+use std::thread::Threads;
+
+/// The report of a run of the graph, with what names have where that is asked for. Before it is made, the memory of the
+/// run is given back.
+fn report_of(
+    alloc: Global,
+    run: &mut Run<'_>,
+    graph: &Valid,
+    named: bool,
+) -> Result<Report, EngineError>
+    requires { run.old.graph ≡ graph.now }
+    ensures same { run.new ≡ run.old }
+    ensures report { IfOk result (IsReportFrom run.new named) }
+    ensures memory { IfErr result (λ e. e ≡ EngineError.Memory) }
+{
+    run.give_back(alloc);
+    match report(alloc, run, graph, named) {
+        Ok(report) => Ok(report),
+        Err(_) => Err(EngineError::Memory),
+    }
+}
+
+/// All events of a run, by stamp, and at one stamp by element, where they are asked for, and else none.
+fn trace_of<'a>(alloc: Global, run: &'a Run<'_>, trace: bool) -> Result<Merged<'a>, AllocError>
+    ensures { IfOk result (IsTraceOf trace run.now.world) }
+{
+    if trace {
+        run.order(alloc)
+    } else {
+        merge_records(alloc, &[])
+    }
+}
+
+/// Writes the line of each event, and then the report.
+fn write_run<W: Sink>(
+    events: &Merged<'_>,
+    report: &Report,
+    text: &str,
+    names: bool,
+    out: &mut W,
+) -> Result<(), PrintError>
+    requires fits { length text.now ≤ 1048576 }
+    requires inside { ReportWithin (length text.now) report.now }
+    ensures { Prints (W.told out.old) (W.told out.new)
+        (trace_text events.now ++ report_text text.now names report.now) result }
+{
+    write_trace(events, out)?;
+    write_report(report, text, names, out)
+}
+
+/// Writes the line of each event, and then the report, and answers the status. The events are let go.
+fn print_events<W: Sink>(
+    events: Merged<'_>,
+    report: &Report,
+    text: &str,
+    names: bool,
+    out: &mut W,
+) -> Result<u8, EngineError>
+    requires fits { length text.now ≤ 1048576 }
+    requires inside { ReportWithin (length text.now) report.now }
+    ensures { PrintsEvents text.now names events.entry report.now (W.told out.old) (W.told out.new) result }
+{
+    match write_run(&events, report, text, names, out) {
+        Ok(()) => Ok(status_of(&report.ending)),
+        Err(_) => Err(EngineError::Write),
+    }
+}
+
+/// Writes the trace of a run, where it is asked for, and the report, and answers the status. All that is written is
+/// made before the first byte.
+fn print_run<W: Sink>(
+    alloc: Global,
+    run: &Run<'_>,
+    report: &Report,
+    text: &str,
+    names: bool,
+    trace: bool,
+    out: &mut W,
+) -> Result<u8, EngineError>
+    requires fits { length text.now ≤ 1048576 }
+    requires inside { ReportWithin (length text.now) report.now }
+    ensures { PrintsRun text.now trace names run.now.world report.now (W.told out.old) (W.told out.new) result }
+{
+    match trace_of(alloc, run, trace) {
+        Ok(events) => print_events(events, report, text, names, out),
+        Err(_) => Err(EngineError::Memory),
+    }
+}
+
+/// Writes what is asked for of a run of the graph.
+fn print_ended<W: Sink>(
+    alloc: Global,
+    run: &mut Run<'_>,
+    graph: &Valid,
+    text: &str,
+    names: bool,
+    trace: bool,
+    out: &mut W,
+) -> Result<u8, EngineError>
+    requires graph { run.old.graph ≡ graph.now }
+    requires fits { length text.now ≤ 1048576 }
+    requires inside { AreReportsWithin run.old names (length text.now) }
+    ensures { PrintsMachine run.old text.now trace names (W.told out.old) (W.told out.new) result }
+{
+    match report_of(alloc, run, graph, names) {
+        Ok(report) => {
+            let status = print_run(alloc, run, &report, text, names, trace, out);
+            drop(report);
+            status
+        }
+        Err(error) => Err(error),
+    }
+}
+
+/// Writes what is asked for of a run of the graph, and lets the run go.
+fn print_once<W: Sink>(
+    alloc: Global,
+    run: Run<'_>,
+    graph: &Valid,
+    text: &str,
+    names: bool,
+    trace: bool,
+    out: &mut W,
+) -> Result<u8, EngineError>
+    requires graph { run.graph ≡ graph.now }
+    requires fits { length text.now ≤ 1048576 }
+    requires inside { AreReportsWithin run names (length text.now) }
+    ensures { PrintsMachine run.entry text.now trace names (W.told out.old) (W.told out.new) result }
+{
+    let mut run = run;
+    let status = print_ended(alloc, &mut run, graph, text, names, trace, out);
+    drop(run);
+    status
+}
+
+/// The run of a compiled program with its inputs. No run of such a graph is `Stuck`.
+fn run_for<'a, R: Threads + Wait + Sync, G: Gate + Sync>(
+    rt: &R,
+    alloc: Global,
+    prepared: &'a Prepared,
+    settings: Settings,
+    gate: &G,
+) -> Result<Run<'a>, EngineError>
+    requires { AreInputs prepared.now.compiled.checked prepared.now.inputs.values }
+    ensures schemas { Schemas prepared.now.compiled.checked prepared.now.compiled.graph }
+    ensures run { IfOk result (IsRun prepared.now.compiled.graph prepared.now.inputs.values settings.elements
+        settings.steps) }
+    ensures moves { IfOk result (λ r. MovesOn r.world) }
+    ensures allowed { OnOk result (AreAllowed settings.elements settings.steps) }
+    ensures refused { IfErr result (IsUnallowed settings.elements settings.steps) }
+{
+    id_laws::inputs_fit();
+    id_laws::never_stuck();
+    match id_elements::run(
+        rt,
+        alloc,
+        prepared.compiled.valid(),
+        &prepared.inputs,
+        settings,
+        gate,
+    ) {
+        Ok(run) => Ok(run),
+        Err(RunError::BadElements) => Err(EngineError::BadElements),
+        Err(RunError::BadSteps) => Err(EngineError::BadSteps),
+        Err(RunError::Stuck) => unreachable!(),
+        Err(RunError::Memory) => Err(EngineError::Memory),
+    }
+}
+
+/// Runs a compiled program with its inputs, where so many elements and so many steps are allowed, and writes what is
+/// asked for.
+fn run_prepared<R: Threads + Wait + Sync, G: Gate + Sync, W: Sink>(
+    rt: &R,
+    alloc: Global,
+    prepared: &Prepared,
+    text: &str,
+    settings: Settings,
+    names: bool,
+    trace: bool,
+    gate: &G,
+    out: &mut W,
+) -> Result<u8, EngineError>
+    requires inputs { AreInputs prepared.now.compiled.checked prepared.now.inputs.values }
+    requires within { IsPlacedWithin (length text.now) prepared.now.compiled.checked }
+    requires short { length text.now ≤ 1048576 }
+    ensures { RunsSo prepared.now.compiled.checked prepared.now.inputs.values text.now settings.elements trace
+        settings.steps names (W.told out.old) (W.told out.new) result }
+{
+    id_laws::sound();
+    id_laws::complete();
+    match run_for(rt, alloc, prepared, settings, gate) {
+        Ok(run) => print_once(
+            alloc,
+            run,
+            prepared.compiled.valid(),
+            text,
+            names,
+            trace,
+            out,
+        ),
+        Err(error) => Err(error),
+    }
+}
+
+/// The same, and lets the program go.
+fn run_once<R: Threads + Wait + Sync, G: Gate + Sync, W: Sink>(
+    rt: &R,
+    alloc: Global,
+    prepared: Prepared,
+    text: &str,
+    settings: Settings,
+    names: bool,
+    trace: bool,
+    gate: &G,
+    out: &mut W,
+) -> Result<u8, EngineError>
+    requires inputs { AreInputs prepared.compiled.checked prepared.inputs.values }
+    requires within { IsPlacedWithin (length text.now) prepared.compiled.checked }
+    requires short { length text.now ≤ 1048576 }
+    ensures { RunsSo prepared.compiled.checked prepared.inputs.values text.now settings.elements trace settings.steps
+        names (W.told out.old) (W.told out.new) result }
+{
+    let status = run_prepared(
+        rt, alloc, &prepared, text, settings, names, trace, gate, out,
+    );
+    drop(prepared);
+    status
+}
+
+/// The status of a run that ended so.
+fn status_of(ending: &Ending) -> u8
+    ensures { result ≡ status_of ending.now }
+{
+    match ending {
+        Ending::Quiet => 0,
+        Ending::Fault(_) => 1,
+        Ending::Stopped => 3,
+    }
+}
+
+/// Compiles a text, runs it on the inputs that the words give, on `settings.elements` elements, each worked by a thread
+/// of its own and each for at most `settings.steps` messages, and writes what `idc run` prints: all events where
+/// `trace` asks for them, and then the report, with what names have where `names` asks for it. The gate holds each
+/// handling of a message for as long as it likes. Where `settings.order` is a seed, the calling thread delivers the
+/// messages in the order that it gives, and no gate holds it. It answers the status: 0 after a quiet run, 1 after a
+/// fault, 3 at the step limit.
+pub fn engine<R: Threads + Wait + Sync, G: Gate + Sync, W: Sink>(
+    rt: &R,
+    alloc: Global,
+    text: &str,
+    inputs: &[&str],
+    settings: Settings,
+    names: bool,
+    trace: bool,
+    gate: &G,
+    out: &mut W,
+) -> Result<u8, EngineError>
+    // What is printed is what a run of the text's program on its inputs shows, and the source's equations give it.
+    ensures shown { IfOk result
+        (ShowsAll (command.Run names trace (map (λ w. w.now) inputs.now)) text.now (W.told out.old) (W.told out.new)) }
+
+    // It is a run, that has come to its end: its events are a legal list, and each message left is held back, or there
+    // was a fault.
+    ensures ran { IfOk result
+        (Ran text.now (map (λ w. w.now) inputs.now) settings.elements trace settings.steps names (W.told out.old)
+        (W.told out.new)) }
+
+    // After a failed write a front of such a text is out, that of the run that was made, and after any other error
+    // nothing.
+    ensures cut { result ≡ Err EngineError.Write
+        → ShowsFront (command.Run names trace (map (λ w. w.now) inputs.now)) text.now (W.told out.old)
+        (W.told out.new) }
+    ensures front { result ≡ Err EngineError.Write
+        → RanFront text.now (map (λ w. w.now) inputs.now) settings.elements trace settings.steps names
+        (W.told out.old) (W.told out.new) }
+    ensures silent { IfErr result (λ e. e ≢ EngineError.Write → W.told out.new ≡ W.told out.old) }
+
+    // A refusal comes for its cause alone, at a place of the text.
+    ensures taken { OnOk result
+        (IsTakenRun text.now (map (λ w. w.now) inputs.now) settings.elements settings.steps) }
+    ensures refused { IfErr result
+        (IsRefusedRun text.now (map (λ w. w.now) inputs.now) settings.elements settings.steps) }
+    ensures inside { IfErr result (IsInsideOf text.now) }
+{
+    match prepare(alloc, text, inputs) {
+        Ok(prepared) => run_once(rt, alloc, prepared, text, settings, names, trace, gate, out),
+        Err(error) => Err(error),
+    }
+}
+
+/// *Printed alike*, a law: all runs of one source that fall quiet print the same bytes, whatever the
+/// numberings of their graphs, the numbers of their elements and the orders of their deliveries, and where
+/// one falls quiet none ends at a fault (docs/PROMISES.md, "The run"). Takes no memory.
+pub fn printed_alike()
+    ensures { PrintedAlike }
+{
+    id_laws::sound();
+    id_laws::determinate();
+}

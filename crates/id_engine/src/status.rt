@@ -1,0 +1,24 @@
+//! What the status of a run tells of its program.
+
+ghost use Rattle.id_engine.specs.Status.{StatusTold};
+ghost use Rattle.id_engine.specs.Stopped.{StoppedShort};
+
+/// *Stopped short*, a law: a run that stops because no element may handle more messages shows that its source
+/// needs more: so many different paths are active that the graph may need more messages than these
+/// (docs/PROMISES.md, "The run"). Takes no memory.
+pub fn stopped_short()
+    ensures { StoppedShort }
+{
+    id_laws::bounded();
+}
+
+/// *Status told*, a law: where finitely many paths are active, and each element may handle as many
+/// messages as the graph may need for them, a run ends with status 0 exactly where its source has no fault, and
+/// with status 1 exactly where it has one (docs/PROMISES.md, "The run"). Takes no memory.
+pub fn status_told()
+    ensures { StatusTold }
+{
+    id_laws::bounded();
+    id_laws::sound();
+    id_laws::complete();
+}

@@ -1,0 +1,43 @@
+-- What the facts so far tell, and what the rest does.
+use Rattle.std.proofs.Common.{ap, of_z, to_z, w64, ◌∙◌}
+use Rattle.std.proofs.lemmas.Int.{to_z-of_z}
+use Rattle.id_facts.specs.declared.facts.Sort.TheVariants.{Puts}
+use Rattle.id_facts.specs.Cells.{chain, items, put_by}
+use Rattle.id_facts.specs.RowFacts.{chain_by}
+use Rattle.id_source.proofs.TurnsLemmas.{gathered-none, if_err}
+use Rattle.id_facts.proofs.ToldLemmas.{listed-none, listed-some, told-all, told-more}
+use Rattle.id_facts.proofs.cells.Cells.puts.Goals as goal
+use Rattle.id_facts.proofs.cells.Cells.puts.Goals.{in-Some+in_ok-push, in_default}
+
+pub loop-number-init : goal.loop-number-init
+loop-number-init c = gathered-none _ _ c.new-values.ensures.items
+
+pub loop-number-preserved : goal.loop-number-preserved
+loop-number-preserved c =
+    let j = to_z w64 (of_z w64 c.args.index) in
+    let cells = c.args.self.now in
+    let same = c.of-number-items.ensures ∙ ap (chain cells) c.chain_by.ensures.chain in
+    let told_by = c.put_at.ensures ∙ ap (put_by c.args.name j) c.fact.ensures in
+    told-more (put_by c.args.name j) (items cells) (chain cells (chain_by Puts c.args.name j))
+    c.of-number-items.result.now c.loop-number.number-index _ _ _ _ same
+    c.loop-number-test.true
+    (elim c.match-put_at.branch [
+      | in-Some+in_ok-push w ↦ listed-some c.put_at.result _ w.in-Some.value _ _ told_by w.in-Some.is
+          (ap (λ v. v.items) w.values-is ∙ w.in_ok-push.ensures.items)
+      | in_default w ↦ listed-none c.put_at.result _ _ _ told_by w.in_default.is (ap (λ v. v.items) w.values-is)
+    ])
+    c.loop-number.invariant
+
+pub returns-in_err-push : goal.returns-in_err-push
+returns-in_err-push c = if_err _ c.from_residual.result c.from_residual.ensures.0
+
+pub returns : goal.returns
+returns c =
+    let j = to_z w64 (of_z w64 c.args.index) in
+    let cells = c.args.self.now in
+    let same = c.of-number-items.ensures ∙ ap (chain cells) c.chain_by.ensures.chain in
+    let all =
+    told-all (put_by c.args.name j) (items cells) (chain cells (chain_by Puts c.args.name j))
+    c.of-number-items.result.now c.loop-number.number-index _ _ same c.loop-number-test.false
+    c.loop-number.invariant in
+    rw (to_z-of_z w64 c.args.index c.ranges.index) at all

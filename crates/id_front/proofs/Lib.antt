@@ -1,4 +1,0 @@
-pub mod BehindLemmas
-pub mod CallLemmas
-pub mod FrontLemmas
-pub mod WaitingLemmas

@@ -1,8 +1,0 @@
-use Rattle.std.proofs.Common.{arith}
-use Rattle.std.proofs.lemmas.Grind.{common_steps}
-use Rattle.id_front.specs.Front.{place_of}
-use Rattle.id_front.proofs.front.place_of.Goals as goal
-
-pub returns-clause-exact : goal.returns-clause-exact
-unfolding place_of
-returns-clause-exact c = grind (arith, common_steps)

@@ -1,8 +1,0 @@
--- The facts so far, and those of the rest.
-use Rattle.std.proofs.Common.{◌≡◌, ◌++◌, drop}
-use Rattle.id_given.specs.Given.{arrays}
-use Rattle.id_given.proofs.structures.add_array.Given as goal
-
-abbrev pub invariant-loop-low : goal.invariant-loop-low
-invariant-loop-low l =
-    l.found.items ++ arrays l.path l.row l.spot (drop l.low-index l.lows) l.highs ≡ l.initial.found.items ++ arrays l.path l.row l.spot l.lows l.highs

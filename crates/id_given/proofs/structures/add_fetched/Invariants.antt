@@ -1,8 +1,0 @@
--- The facts so far, and those of the rest.
-use Rattle.std.proofs.Common.{◌≡◌, ◌++◌, drop}
-use Rattle.id_given.specs.Given.{asked}
-use Rattle.id_given.proofs.structures.add_fetched.Given as goal
-
-abbrev pub invariant-loop-index : goal.invariant-loop-index
-invariant-loop-index l =
-    l.found.items ++ asked l.path l.row l.name l.shapes (drop l.index-index l.indices) ≡ l.initial.found.items ++ asked l.path l.row l.name l.shapes l.indices

@@ -1,8 +1,0 @@
--- The facts so far, and those of the rest.
-use Rattle.std.proofs.Common.{◌≡◌, ◌++◌, drop}
-use Rattle.id_given.specs.Given.{made}
-use Rattle.id_given.proofs.structures.add_made.Given as goal
-
-abbrev pub invariant-loop-high : goal.invariant-loop-high
-invariant-loop-high l =
-    l.found.items ++ made l.path l.row l.spot l.low (drop l.high-index l.highs) ≡ l.initial.found.items ++ made l.path l.row l.spot l.low l.highs

@@ -1,9 +1,0 @@
--- The facts so far, and those of the rest.
-use Rattle.std.proofs.Common.{◌≡◌, ◌++◌, drop}
-use Rattle.id_given.specs.Given.{stored}
-use Rattle.id_given.proofs.structures.add_stored_in.Given as goal
-
-abbrev pub invariant-loop-index : goal.invariant-loop-index
-invariant-loop-index l =
-    l.found.items ++ stored l.path l.row l.name l.shapes (drop l.index-index l.indices) l.values ≡ l.initial.found.items ++
-    stored l.path l.row l.name l.shapes l.indices l.values

@@ -1,6 +1,0 @@
--- `split_once` cuts at the first `=`.
-use Rattle.id_inputs.proofs.InputsLemmas.{cut_split}
-use Rattle.id_inputs.proofs.inputs.cut.Goals as goal
-
-pub returns : goal.returns
-returns c = cut_split c.args.word.now _ (assumption c)

@@ -1,4 +1,0 @@
--- What public clauses cite.
-pub mod Inputs
--- For use inside.
-pub mod Reading

@@ -1,2 +1,0 @@
-pub mod LedgersLemmas
-pub mod TellingsLemmas

@@ -1,4 +1,0 @@
--- What public clauses cite.
-pub mod Ledgers
-pub mod Margins
-pub mod Tellings

@@ -1,4 +1,0 @@
--- What public clauses cite.
-pub mod Events
-pub mod Lines
-pub mod Spots

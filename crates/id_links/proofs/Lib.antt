@@ -1,4 +1,0 @@
-pub mod TurnsLemmas
-pub mod AroundLemmas
-pub mod EdgesLemmas
-pub mod LinksLemmas

@@ -1,6 +1,0 @@
--- The arguments among the rows so far.
-use Rattle.id_links.specs.Links.{AreArgsTo}
-use Rattle.id_links.proofs.links.args.Given as goal
-
-abbrev pub invariant-loop-n : goal.invariant-loop-n
-invariant-loop-n l = AreArgsTo l.checked l.n l.args

@@ -1,3 +1,0 @@
-pub mod AmongLemmas
-pub mod DifferLemmas
-pub mod PlacesLemmas

@@ -1,2 +1,0 @@
-pub mod OrdersLemmas
-pub mod PathsLemmas

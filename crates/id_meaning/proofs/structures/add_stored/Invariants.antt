@@ -1,0 +1,9 @@
+-- The facts so far, and those of the rest.
+use Rattle.std.proofs.Common.{◌≡◌, ◌++◌, drop}
+use Rattle.id_meaning.specs.Given.{stores}
+use Rattle.id_meaning.proofs.structures.add_stored.Given as goal
+
+abbrev pub invariant-loop-target : goal.invariant-loop-target
+invariant-loop-target l =
+    l.found.items ++ stores l.cells l.path l.row (drop l.target-index l.targets) l.indices l.values ≡ l.initial.found.items ++
+    stores l.cells l.path l.row l.targets l.indices l.values

@@ -1,4 +1,0 @@
-pub mod OrderedLemmas
-pub mod MergedLemmas
-pub mod RecordsLemmas
-pub mod FirstsLemmas

@@ -1,3 +1,0 @@
--- What public clauses cite.
-pub mod Merged
-pub mod Firsts

@@ -1,2 +1,0 @@
-pub mod HeldsLemmas
-pub mod NamesLemmas

@@ -1,0 +1,12 @@
+-- What is put into the cells of the elements so far are there.
+use Rattle.std.proofs.Common.{◌≡◌, map, take}
+use Rattle.std.specs.List.{filter_map, flat_map}
+use Rattle.id_bank.specs.Cells.{cells_of}
+use Rattle.id_observe.specs.Observed.{put_of}
+use Rattle.id_observe.specs.Paths.{structure_by}
+use Rattle.id_observe.specs.Paths.{path_by}
+use Rattle.id_observe.proofs.shown.all_cells.Given as goal
+
+abbrev pub invariant-loop-element : goal.invariant-loop-element
+invariant-loop-element l = l.puts.items ≡ filter_map (put_of l.paths.graph.now (path_by l.paths) (structure_by l.paths))
+    (flat_map (λ e. cells_of e.cells) (map (λ e. e.state) (take l.element-index l.elements)))

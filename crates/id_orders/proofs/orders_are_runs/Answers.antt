@@ -1,6 +1,0 @@
--- Each message was in flight when it was taken, and each element's events lead it from its fresh state to its end.
-use Rattle.id_orders.proofs.Orders.{orders}
-use Rattle.id_orders.proofs.orders_are_runs.Goals as goal
-
-pub returns : goal.returns
-returns c = orders

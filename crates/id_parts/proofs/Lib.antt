@@ -1,2 +1,0 @@
--- For the proofs of this crate alone.
-mod MakingLemmas

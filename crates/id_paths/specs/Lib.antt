@@ -1,3 +1,0 @@
--- What public clauses cite.
-pub mod Paths
-pub mod Sourced

@@ -1,0 +1,22 @@
+-- One tactic finds each of these, without a search before it.
+use Rattle.std.proofs.Common.{arith}
+use Rattle.std.proofs.lemmas.Grind.{common_steps}
+use Rattle.id_record.proofs.shooting.shot_effect.Goals as goal
+
+pub returns-in-Nothing : goal.returns-in-Nothing
+returns-in-Nothing c = grind (arith, common_steps)
+
+pub returns-in-Out : goal.returns-in-Out
+returns-in-Out c = grind (arith, common_steps)
+
+pub returns-in-Side-true-default : goal.returns-in-Side-true-default
+returns-in-Side-true-default c = grind (arith, common_steps)
+
+pub returns-in-Side-false-default : goal.returns-in-Side-false-default
+returns-in-Side-false-default c = grind (arith, common_steps)
+
+pub returns-in-Moved : goal.returns-in-Moved
+returns-in-Moved c = grind (arith, common_steps)
+
+pub returns-in-Sent : goal.returns-in-Sent
+returns-in-Sent c = grind (arith, common_steps)

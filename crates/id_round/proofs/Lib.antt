@@ -1,0 +1,4 @@
+pub mod DepthsLemmas
+pub mod CompareLemmas
+pub mod ShownLemmas
+pub mod WrittenLemmas

@@ -1,0 +1,18 @@
+//! The facts of a round in order, by path and row: what a list of them would say, without their paths.
+//!
+//! Keeps: the depth of each fact's path.
+//! Errors: want of memory alone.
+//! Read first: docs/MEANING.md ("Order"), `specs/Depths.antt`, then `sorted`.
+//! Not here: the same facts as a list (`id_facts`), which facts those of a round are (`id_meaning`).
+#![tactic(auto)]
+
+mod compare;
+mod order;
+mod paths;
+mod round;
+mod tree;
+
+pub use order::sorted;
+pub use paths::{Paths, write_steps};
+pub use round::{Round, find_round};
+pub use tree::{Tree, last_step, place_of};

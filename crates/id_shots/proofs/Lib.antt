@@ -1,2 +1,0 @@
-pub mod NearLemmas
-pub mod ShotsLemmas

@@ -1,3 +1,0 @@
--- What public clauses cite.
-pub mod Shootings
-pub mod Visits

@@ -1,0 +1,20 @@
+-- The parameters so far, and those of the rows that are left.
+use Rattle.std.proofs.Common.{arith}
+use Rattle.std.proofs.lemmas.Grind.{common_steps}
+use Rattle.id_source.proofs.TurnsLemmas.{if_err}
+use Rattle.id_source.proofs.inputs.wanted_all.Goals as goal
+
+pub loop-row-init : goal.loop-row-init
+loop-row-init c = grind (arith, common_steps)
+
+pub returns-in_err-param : goal.returns-in_err-param
+returns-in_err-param c = if_err _ c.from_residual.result c.from_residual.ensures.0
+
+pub returns-in_err-push : goal.returns-in_err-push
+returns-in_err-push c = if_err _ c.from_residual-in_err-push.result c.from_residual-in_err-push.ensures.0
+
+pub loop-row-preserved : goal.loop-row-preserved
+loop-row-preserved c = grind (arith, common_steps)
+
+pub returns : goal.returns
+returns c = grind (arith, common_steps)

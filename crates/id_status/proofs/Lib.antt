@@ -1,2 +1,0 @@
-pub mod HeldLemmas
-pub mod StatusLemmas

@@ -1,2 +1,0 @@
--- For use inside.
-pub mod Visited
