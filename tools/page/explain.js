@@ -754,7 +754,8 @@ var idExplain = (function () {
       Object.assign(this, { table, text, at, message: "", lines: [], length: 0, mark: at });
       if (at === null) return;
       const token = tokensOf(text).find((it) => it.at === at);
-      this.length = token && token.text ? token.text.length : at < text.length ? [...text.slice(at, at + 2)][0].length : 0;
+      const sign = at < text.length ? [...text.slice(at, at + 2)][0].length : 0;
+      this.length = token && token.text ? token.text.length : sign;
     }
 
     cause(words) {
