@@ -192,7 +192,8 @@ function inputsOf(graph) {
     if (instr.op === "enter" || instr.op === "fetch") fed.add(Number(instr.args[instr.args.length - 1]));
   });
   if (main < 0) return found;
-  for (let at = main + 2; at < graph.length && graph[at].op === "merge" && !fed.has(at); at++) found.push(at);
+  const isInput = (it) => it.op === "merge" && (it.args[0] === "int" || it.args[0] === "bool");
+  for (let at = main + 2; at < graph.length && isInput(graph[at]) && !fed.has(at); at++) found.push(at);
   return found;
 }
 
