@@ -113,7 +113,7 @@ function saying(it, kind, said = "") {
     head.prepend("Line ", placeButton(`${it.line}:${it.column}`), ": ");
     box.append(made("pre", {}, pointed(it.at, it.length)));
   }
-  it.lines.forEach((line) => box.append(made("p", {}, line[0].toUpperCase() + line.slice(1))));
+  it.lines.forEach((line) => box.append(made("p", {}, line.slice(0, 1).toUpperCase() + line.slice(1))));
   if (said && said !== it.message) box.append(made("p", { class: "dim" }, made("code", {}, said)));
   return box;
 }
