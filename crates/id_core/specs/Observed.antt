@@ -7,7 +7,7 @@ use Rattle.id_source.specs.declared.Shape.{Shape}
 use Rattle.id_source.specs.declared.Put.{Put}
 use Rattle.id_source.specs.declared.Ask.{Ask}
 use Rattle.id_source.specs.declared.NameValue.{NameValue}
-pub use Rattle.id_observe.specs.Observed.{CellValue}
+pub use Rattle.id_observe.specs.declared.shown.CellValue.{CellValue}
 pub use Rattle.id_observe.specs.Observed.{events_of, brought, source_value, answers, answer_in, place_of, path_of}
 pub use Rattle.id_observe.specs.Observed.{path_in, fault_of, faults_of, faults_in, is_value_merge, is_next, claims}
 pub use Rattle.id_observe.specs.Observed.{is_label_of, is_label, name_at, name_in, names_of, names_in}

@@ -24,7 +24,7 @@ use Rattle.id_core.specs.Observed.{events_of}
 use Rattle.id_runs.specs.Accounts.{IsAccounted}
 use Rattle.id_runs.specs.Orders.{AreReplayed, OrdersAreRuns}
 use Rattle.id_runs.proofs.Elements.{AreReplayed-from}
-use Rattle.id_runs.proofs.Orders.{left_holds}
+use Rattle.id_runs.proofs.OrdersLemmas.{left_holds}
 use Rattle.std.proofs.lemmas.Bool.{cases_eq}
 use Rattle.std.proofs.lemmas.Option.{get_or_from_slice_get, slice_get-get_or}
 use Rattle.id_elements.proofs.FinishLemmas.{upto}

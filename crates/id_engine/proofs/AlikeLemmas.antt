@@ -64,7 +64,7 @@ module _ {A : Type 0} (c : A → A → Ordering) (B C : A → A → Type 0) (t :
   behind x y xs ys same up z h (inr k) = k
 
   -- two lists that rise and have the same members are one
-  rising_same : (xs ys : List A) → Rises B xs → Rises B ys → ((x : A) → Among x xs → Among x ys) → ((x : A) → Among x ys → Among x xs) → xs ≡ ys
+  pub rising_same : (xs ys : List A) → Rises B xs → Rises B ys → ((x : A) → Among x xs → Among x ys) → ((x : A) → Among x ys → Among x xs) → xs ≡ ys
   rising_same [] [] up high to from = refl
   rising_same [] (y ∷ ys) up high to from = absurd (from y (inl refl))
   rising_same (x ∷ xs) [] up high to from = absurd (to x (inl refl))
@@ -83,7 +83,7 @@ module _ {A : Type 0} (c : A → A → Ordering) (B C : A → A → Type 0) (t :
       (λ x l. among_permuted us xs x h.same (among_sorted us vs x moved (among_sorted vs ys x k.same l)))
 
 -- how a quiet run is printed
-record IsQuietly (g : Parts) (count : ℕ) (w : World) (text : List ℕ) (b : Bool) (bytes : List ℕ) : Type 0 where
+pub record IsQuietly (g : Parts) (count : ℕ) (w : World) (text : List ℕ) (b : Bool) (bytes : List ℕ) : Type 0 where
   pub names : List NameValue
   pub helds : List Held
   pub waits : List Ask
@@ -94,14 +94,14 @@ record IsQuietly (g : Parts) (count : ℕ) (w : World) (text : List ℕ) (b : Bo
   pub is : bytes ≡ quiet_text text (shown.answer g w) (asked b names) helds waits
 
 module _ (g : Parts) (count steps : ℕ) (w : World) (text : List ℕ) (b : Bool) where
-  quietly : (status : ℕ) (bytes : List ℕ) → status ≡ 0 → Ends g count steps w text b status bytes → IsQuietly g count w text b bytes
+  pub quietly : (status : ℕ) (bytes : List ℕ) → status ≡ 0 → Ends g count steps w text b status bytes → IsQuietly g count w text b bytes
   quietly _ _ e (quiet ns hs waits still sorted held waiting) =
       record { names = ns; helds = hs; waits = waits; still = still; sorted = sorted; held = held; waiting = waiting; is = refl }
   quietly _ _ e (fault f first) = absurd (omega (arith, e))
   quietly _ _ e (stopped ns hs none left all sorted held) = absurd (omega (arith, e))
 
   -- a run that ends at a fault shows it
-  at_fault : (status : ℕ) (bytes : List ℕ) → status ≡ 1 → Ends g count steps w text b status bytes → (f : SourceFault) × IsFirstFault g w.elements f
+  pub at_fault : (status : ℕ) (bytes : List ℕ) → status ≡ 1 → Ends g count steps w text b status bytes → (f : SourceFault) × IsFirstFault g w.elements f
   at_fault _ _ e (quiet ns hs waits still sorted held waiting) = absurd (omega (arith, e))
   at_fault _ _ e (fault f first) = (f, first)
   at_fault _ _ e (stopped ns hs none left all sorted held) = absurd (omega (arith, e))

@@ -10,4 +10,11 @@ pub mod TraceLemmas
 pub mod PrintedLemmas
 pub mod HeldBackLemmas
 pub mod StatusLemmas
+pub mod OneReadingLemmas
+pub mod OneTreeLemmas
+pub mod SameFactsLemmas
+pub mod SameGraphsLemmas
+pub mod OneProgramLemmas
+pub mod OneAnswerLemmas
+pub mod MomentsLemmas
 mod ServedLemmas

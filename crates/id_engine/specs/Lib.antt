@@ -2,6 +2,9 @@
 pub mod Commands
 pub mod Runs
 pub mod Alike
+pub mod OneProgram
+pub mod OneAnswer
+pub mod Moments
 pub mod Stopped
 pub mod Status
 pub mod Served

@@ -5,7 +5,8 @@
 //! report of one that has come to its end, or a front of it.
 //! Errors: `EngineError`.
 //! Read first: `specs/Commands.antt`, `specs/Runs.antt`, then `engine`; `specs/Served.antt`, then `serve`,
-//! `drive_asked` and `drive`; `specs/Status.antt`, then `status_told`; docs/PROMISES.md.
+//! `drive_asked` and `drive`; `specs/OneAnswer.antt`, then `one_answer`; `specs/Status.antt`, then `status_told`;
+//! docs/PROMISES.md.
 //! Not here: which words ask for what (`id_args`), the streams of the process (`idc`), what comes of a text and how a
 //! refusal is told (`id_compile`), runs (`id_elements`), and every step between, which have a crate each.
 #![tactic(auto)]
@@ -29,6 +30,6 @@ pub use id_sink::{
     write_some,
 };
 pub use program::{drive_asked, serve};
-pub use run::{engine, printed_alike};
+pub use run::{at_every_moment, engine, one_answer, one_program, printed_alike};
 pub use stream::settle;
 pub use words::{drive, drive_settled};

@@ -11,6 +11,9 @@ ghost use Rattle.id_print.specs.RunReports.{IsReportFrom};
 ghost use Rattle.id_print.specs.Within.{ReportWithin};
 ghost use Rattle.id_elements.specs.Runs.{IsRun, MovesOn};
 ghost use Rattle.id_engine.specs.Alike.{PrintedAlike};
+ghost use Rattle.id_engine.specs.Moments.{AllMoments};
+ghost use Rattle.id_engine.specs.OneAnswer.{OneAnswer};
+ghost use Rattle.id_engine.specs.OneProgram.{OneProgram};
 ghost use Rattle.id_engine.specs.Commands.{ShowsAll, ShowsFront};
 ghost use Rattle.id_engine.specs.Commands as command;
 ghost use Rattle.id_compile.specs.Programs.{IsPlacedWithin};
@@ -324,4 +327,30 @@ pub fn printed_alike()
 {
     id_laws::sound();
     id_laws::determinate();
+}
+
+/// *One program*, a law: two programs of one text are alike, whatever the places of their lists in memory: they have
+/// the same rows, names, `main`, binders and kinds, the schemas give them the same graphs, the same words the same
+/// inputs, and with these they have the same facts, faults and answer (docs/PROMISES.md, "The run"). Takes no memory.
+pub fn one_program()
+    ensures { OneProgram }
+{}
+
+/// *One answer*, a law: all runs of one text on the same words for which `engine` answers and that fall quiet have the
+/// same report, on any numbers of elements and in any orders, but that names may be left out of it; and where one
+/// falls quiet none ends at a fault (docs/PROMISES.md, "The run"). Takes no memory.
+pub fn one_answer()
+    ensures { OneAnswer }
+{
+    id_laws::sound();
+    id_laws::complete();
+}
+
+/// *At every moment*, a law: after each front of its events, in their order, a run for which `engine` answers has shown
+/// facts and faults of the text's source alone, whatever its status (docs/PROMISES.md, "The run"). Takes no memory.
+pub fn at_every_moment()
+    ensures { AllMoments }
+{
+    id_laws::sound();
+    id_laws::legal_lists();
 }

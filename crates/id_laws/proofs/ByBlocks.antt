@@ -49,7 +49,7 @@ use Rattle.id_laws.proofs.Wholes.{AreWhole, are_whole}
 use Rattle.id_laws.specs.ByBlock.{BoundedByBlock, IsBoundedByBlock, IsTurn, Turn, messages_in_block, messages_of}
 use Rattle.id_laws.proofs.BlockKeys.{block_key, block_keys, block_long, row_key, row_keys, row_long, sum_by_alike}
 use Rattle.id_laws.proofs.BlockRows.{answer_main, one_block, part_block, row_block}
-use Rattle.id_laws.proofs.Bounds.{acting, acting_live, backed as is_backed, keys, keys_are_apart, moved}
+use Rattle.id_laws.proofs.BoundsLemmas.{acting, acting_live, backed as is_backed, keys, keys_are_apart, moved}
 use Rattle.id_laws.proofs.DifferCounts.{Among-flat_map, length-flat_map}
 use Rattle.id_laws.proofs.Keys.{part_key}
 use Rattle.id_laws.proofs.Paid.{pays}

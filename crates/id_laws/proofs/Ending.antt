@@ -44,7 +44,7 @@ use Rattle.id_laws.proofs.StartTells.{seats}
 use Rattle.id_laws.proofs.Triggers.{live_turned}
 use Rattle.id_laws.proofs.Wholes.{AreWhole, are_whole, wholes}
 use Rattle.id_laws.specs.Bounded.{IsActive, IsAtEnd, RestIsTheEnd, something_on, index_has, loop_begins}
-use Rattle.id_laws.proofs.Bounds.{acting, acting_paths, keys, paths_active}
+use Rattle.id_laws.proofs.BoundsLemmas.{acting, acting_paths, keys, paths_active}
 use Rattle.id_laws.proofs.Told.{under}
 
 module _ (S : Source) (known : IsKnown S.checked) (inputs : AreInputs S.checked S.inputs) (are : AreWhole S) (g : Parts) (number : ℕ → ℕ → ℕ)

@@ -87,7 +87,7 @@ pub mod DifferCounts
 pub mod Told
 pub mod Paid
 pub mod Keys
-pub mod Bounds
+pub mod BoundsLemmas
 pub mod Ending
 pub mod BlockRows
 pub mod BlockKeys

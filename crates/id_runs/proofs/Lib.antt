@@ -25,5 +25,5 @@ pub mod Weights
 pub mod Flights
 pub mod Records
 pub mod Ordered
-pub mod Orders
+pub mod OrdersLemmas
 pub mod Elements

@@ -7,8 +7,8 @@ use Rattle.id_facts.specs.Listed.{AreShown, IsRound, facts_in}
 use Rattle.id_meaning.proofs.ListedLemmas.{AreFacts-from_rows, shown-count}
 use Rattle.id_round.proofs.round.find_round.Goals as goal
 
-pub new-paths-requires : goal.new-paths-requires
-new-paths-requires c = c.in_ok-facts.ensures.facts.found.before
+pub new-requires : goal.new-requires
+new-requires c = c.in_ok-facts.ensures.facts.found.before
 
 pub returns-clause-facts : goal.returns-clause-facts
 returns-clause-facts c =
