@@ -13,6 +13,7 @@ WASM = "wasm64-unknown-unknown"
 LAYOUT = "e-m:e-p:64:64-p10:8:8-p20:8:8-i64:64-i128:128-n32:64-S128"
 SAID_OF_X86 = re.compile(r' "(probe-stack|stack-probe-size|target-cpu|target-features|frame-pointer)"="[^"]*"')
 CLANG = ["--target=" + WASM, "-mcpu=lime1", "-O2"]
+PAUSE = "@llvm.x86.sse2.pause()"
 # what the program's stack may take, below its data, so that what goes over it ends the instance
 STACK = 1 << 20
 LINK = ["-mwasm64", "--no-entry", "--export=main", "--gc-sections", "--stack-first", "-z", f"stack-size={STACK}"]
@@ -33,6 +34,8 @@ def for_wasm(text):
         elif line.startswith("attributes #"):
             line = SAID_OF_X86.sub("", line).replace(" sanitize_address", "")
             line = line.replace("{ }", "{ nounwind }")  # a group has at least one, and nothing here unwinds
+        elif PAUSE in line:
+            continue  # a hint to the processor while another thread is waited for, of which a page has none
         yield line
 
 
