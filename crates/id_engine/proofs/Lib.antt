@@ -10,8 +10,6 @@ pub mod TraceLemmas
 pub mod PrintedLemmas
 pub mod HeldBackLemmas
 pub mod StatusLemmas
-pub mod OneReadingLemmas
-pub mod OneTreeLemmas
 pub mod SameFactsLemmas
 pub mod SameGraphsLemmas
 pub mod OneProgramLemmas

@@ -32,8 +32,8 @@ use Rattle.id_source.specs.Inputs.{AreInputsOf, first_cause, value_for, wanted, 
 use Rattle.id_source.specs.Sources.{head_of, main_params}
 use Rattle.id_compile.specs.Programs.{IsProgramOf}
 use Rattle.id_engine.specs.OneProgram.{AreAlike, OneProgram}
-use Rattle.id_engine.proofs.OneReadingLemmas.{one_reading}
-use Rattle.id_engine.proofs.OneTreeLemmas.{one_tree}
+use Rattle.id_text.proofs.OneReadingLemmas.{one_reading}
+use Rattle.id_tree.proofs.CompleteLemmas.{one_tree}
 use Rattle.id_engine.proofs.SameFactsLemmas.{AreAlike-sym, MeanTheSame-alike}
 use Rattle.id_engine.proofs.SameGraphsLemmas.{Schemas-alike}
 

@@ -176,8 +176,8 @@ fn compare_cells(
     other: usize,
     there: i64,
 ) -> Ordering
-    ensures { result ≡ ordering_then (site_cmp (name_at checked.now tree.now name) (name_at checked.now tree.now other))
-        (int_cmp index there) }
+    ensures { result ≡ ordering_then
+        (site_cmp (name_at checked.now tree.now name) (name_at checked.now tree.now other)) (int_cmp index there) }
 {
     match compare_names(checked, tree, name, other) {
         Ordering::Equal => index.cmp(&there),
@@ -212,7 +212,8 @@ fn outwards(
     found: Ordering,
 ) -> (Trail, Trail, Ordering)
     requires { same_trail a b ≡ false }
-    ensures same { compared checked.now tree.now result.0 result.1 result.2 ≡ compared checked.now tree.now a b found }
+    ensures same { compared checked.now tree.now result.0 result.1 result.2
+        ≡ compared checked.now tree.now a b found }
     ensures nearer { steps_in_all result.0 + steps_in_all result.1 < steps_in_all a + steps_in_all b }
 {
     let deep = tree.depth(a);

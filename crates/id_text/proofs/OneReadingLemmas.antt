@@ -155,10 +155,10 @@ large_not_nothing text large nothing =
 empty_no_piece : (k : Option TokenKind) (n : ℕ) → Begins [] k n → ⊥
 empty_no_piece k n piece = let within = piece_within piece in omega arith
 
-abbrev Same : List Token → Ending → List Token → Ending → Type 0
+abbrev pub Same : List Token → Ending → List Token → Ending → Type 0
 Same ts e us f = (ts ≡ us) × (e ≡ f)
 
-one_reading : {at : ℕ} {text : List ℕ} {ts us : List Token} {e f : Ending} → Lexes at text ts e → Lexes at text us f → Same ts e us f
+pub one_reading : {at : ℕ} {text : List ℕ} {ts us : List Token} {e f : Ending} → Lexes at text ts e → Lexes at text us f → Same ts e us f
 one_reading end end = (refl, refl)
 one_reading end (gap n p r) = absurd (empty_no_piece None n p)
 one_reading end (token k n p r) = absurd (empty_no_piece (Some k) n p)

@@ -1,4 +1,4 @@
--- The machine takes whatever the grammar derives, and makes the same tree of it.
+-- The machine takes whatever the grammar derives, and makes the same tree of it: so tokens have one tree.
 use Rattle.std.proofs.Common.{◌≡◌, ℕ, ◌+◌, ◌≤◌, max, true, false, cond, leb, Option, Some, None, List, [], ◌∷◌, ◌++◌, refl, sym, ap, ◌∙◌, append_assoc, arith}
 use Rattle.std.proofs.Math.Dec.{leb-zero}
 use Rattle.id_text.specs.declared.token.Token.{Token}
@@ -22,6 +22,7 @@ use Rattle.id_grammar.specs.Grammar.{bare, atomic, fetched, some_arguments, Foll
 use Rattle.id_grammar.specs.Grammar.{named, kinded, given, Program, empty, defined}
 use Rattle.id_grammar.specs.Machine.{opening, is_word, room, Move, pick, ahead, ends, wants, Frame, Left, Right, Target}
 use Rattle.id_grammar.specs.Machine.{Inside, Sizing, Outer, again, State, Begin, Want, Have, Next, Accepted, Refused, run}
+use Rattle.id_tree.specs.Accepted.{Accepts as AcceptsTree}
 use Rattle.id_grammar.proofs.RowLemmas.{Quiet, Ends, Bars, Parts, valid, not_fetch, Quiet-atom, Quiet-fetch, Quiet-operator, Follows-height, arguments_parts}
 use Rattle.id_grammar.proofs.RunLemmas.{run-sized, run-sizing, run-lifted, run-unlifted}
 use Rattle.id_grammar.proofs.RunLemmas.{First, Unopened, run-done, run-part, run-inside, run-outer, run-right, run-level}
@@ -507,3 +508,9 @@ run-defined (defined {us = us} {ts = ts} {a = a} {e = e} {m = m} x p) n w ds =
 -- a program is accepted within its height
 pub run-program : {ts : List Token} {e : Tree} {h : ℕ} → Program ts e h → (n : ℕ) → h ≤ n → run n ts (Begin []) ≡ Accepted e
 run-program p n w = run-defined p n w []
+
+-- tokens that are accepted have one tree
+pub one_tree : (ts : List Token) (a b : Tree) → AcceptsTree ts a → AcceptsTree ts b → a ≡ b
+one_tree ts a b h k =
+    let same : Accepted a ≡ Accepted b = sym (run-program h.derives 200 h.fits) ∙ run-program k.derives 200 k.fits in
+    cc

@@ -4,7 +4,7 @@ pub mod CallLemmas
 pub mod ForLemmas
 pub mod ReadLemmas
 pub mod WholeLemmas
-mod CompleteLemmas
+pub mod CompleteLemmas
 mod SoundLemmas
 mod FinishLemmas
 mod RefusedLemmas
