@@ -1,9 +1,7 @@
 -- Lemmas on specs/Alike.antt: two quiet runs of one source show the same, and what is shown has one order, so they are
 -- printed alike.
-use Rattle.std.proofs.Common.{◌≡◌, inl, inr, ℕ, Bool, true, false, List, [], ◌∷◌, Ordering, Less, Equal, Greater, map, refl, sym, ap, subst, ◌∙◌, arith}
+use Rattle.std.proofs.Common.{◌≡◌, ℕ, Bool, true, false, List, [], Ordering, map, refl, sym, ap, ◌∙◌, arith}
 use Rattle.std.specs.Prelude.{IsPermutation, IsTrue, Some, slice_get}
-use Rattle.std.specs.Ordering.{ordering_reverse}
-use Rattle.std.proofs.lemmas.Cmp.{tied_itself}
 use Rattle.std.proofs.lemmas.List.Sorted.{IsPermutation-append, IsPermutation-map}
 use Rattle.id_instr.specs.Graph.{Parts}
 use Rattle.id_value.specs.List.{Among}
@@ -29,51 +27,12 @@ use Rattle.id_core.specs.Firsts.{IsFirstFault}
 use Rattle.id_engine.specs.Runs.Ends.{fault, quiet, stopped}
 use Rattle.id_engine.proofs.HeldLemmas.{AreApartBy-held, AreApartBy-waiting}
 use Rattle.id_engine.proofs.NamesLemmas.{AreApart-sound, among_permuted, among_sorted}
+use Rattle.id_engine.proofs.RisingLemmas.{IsStrict-told, one_list}
 
--- things that rise by an order that a comparison tells: none is before itself, no two are before each other, and the
--- first is before all others
 module _ {A : Type 0} (c : A → A → Ordering) (B C : A → A → Type 0) (t : Tells c B C) where
-  not_itself : (x : A) → B x x → ⊥
-  not_itself x h = let less : c x x ≡ Less = t.less x x h in let tied : c x x ≡ Equal = tied_itself t.total x in absurd cc
-
-  not_both : (x y : A) → B x y → B y x → ⊥
-  not_both x y h k =
-      let less : c x y ≡ Less = t.less x y h in
-      let greater : c x y ≡ Greater = t.total.antisymm x y ∙ ap ordering_reverse (t.less y x k) in
-      absurd cc
-
-  first_before : (x : A) (xs : List A) → Rises B (x ∷ xs) → (y : A) → Among y xs → B x y
-  first_before x [] up y h = absurd h
-  first_before x (z ∷ zs) up y (inl e) = let P : A → Type 0 = λ w. B x w in subst P (sym e) up.0
-  first_before x (z ∷ zs) up y (inr h) = t.before x y (t.total.trans x z y (t.less x z up.0) (t.less z y (first_before z zs up.1 y h)))
-
-  rest_rises : (x : A) (xs : List A) → Rises B (x ∷ xs) → Rises B xs
-  rest_rises x [] up = tt
-  rest_rises x (y ∷ xs) up = up.1
-
-  same_first : (x y : A) (xs ys : List A) → Rises B (x ∷ xs) → Rises B (y ∷ ys) → Among x (y ∷ ys) → Among y (x ∷ xs) → x ≡ y
-  same_first x y xs ys up high (inl e) k = e
-  same_first x y xs ys up high (inr h) (inl e) = sym e
-  same_first x y xs ys up high (inr h) (inr k) = absurd (not_both x y (first_before x xs up y k) (first_before y ys high x h))
-
-  -- what is among one list is behind the first of the other, where the firsts are one
-  behind : (x y : A) (xs ys : List A) → x ≡ y → Rises B (x ∷ xs) → (z : A) → Among z xs → Among z (y ∷ ys) → Among z ys
-  behind x y xs ys same up z h (inl e) =
-      let P : A → Type 0 = λ w. Among w xs in
-      absurd (not_itself x (first_before x xs up x (subst P (e ∙ sym same) h)))
-  behind x y xs ys same up z h (inr k) = k
-
-  -- two lists that rise and have the same members are one
+  -- two lists that rise by an order that a comparison tells and have the same members are one
   pub rising_same : (xs ys : List A) → Rises B xs → Rises B ys → ((x : A) → Among x xs → Among x ys) → ((x : A) → Among x ys → Among x xs) → xs ≡ ys
-  rising_same [] [] up high to from = refl
-  rising_same [] (y ∷ ys) up high to from = absurd (from y (inl refl))
-  rising_same (x ∷ xs) [] up high to from = absurd (to x (inl refl))
-  rising_same (x ∷ xs) (y ∷ ys) up high to from =
-      let first : x ≡ y = same_first x y xs ys up high (to x (inl refl)) (from y (inl refl)) in
-      let rest : xs ≡ ys = rising_same xs ys (rest_rises x xs up) (rest_rises y ys high)
-      (λ z h. behind x y xs ys first up z h (to z (inr h)))
-      (λ z h. behind y x ys xs (sym first) high z h (from z (inr h))) in
-      λ i. first i ∷ rest i
+  rising_same = one_list B (IsStrict-told c B C t)
 
   -- what is put in order from the same things, which are apart, is one list
   order_same : (xs ys us vs : List A) → IsOrderOf B xs us → IsOrderOf B ys vs → AreApartBy C us → AreApartBy C vs → IsPermutation us vs → xs ≡ ys

@@ -1,3 +1,4 @@
+pub mod RisingLemmas
 pub mod AlikeLemmas
 pub mod AnsweredLemmas
 pub mod HeldLemmas
@@ -14,5 +15,7 @@ pub mod SameFactsLemmas
 pub mod SameGraphsLemmas
 pub mod OneProgramLemmas
 pub mod OneAnswerLemmas
+pub mod ChainLemmas
+pub mod OneRoundLemmas
 pub mod MomentsLemmas
 mod ServedLemmas

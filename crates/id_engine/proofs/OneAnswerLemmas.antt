@@ -36,14 +36,13 @@ use Rattle.id_print.specs.Texts.{quiet_text}
 use Rattle.id_print.specs.Traces.{trace_text}
 use Rattle.id_print.proofs.NamesLemmas.{NamesRise-Rises, Rises-sorted, asks_told, helds_told, names_told}
 use Rattle.id_engine.specs.OneAnswer.{Answered, OneAnswer, ShowOne, report_of}
-use Rattle.id_engine.specs.OneProgram.{AreAlike, MeanTheSame}
+use Rattle.id_engine.specs.OneProgram.{MeanTheSame}
 use Rattle.id_engine.specs.Runs.{Ran}
 use Rattle.id_engine.proofs.AlikeLemmas.{IsQuietly, at_fault, quietly, rising_same}
 use Rattle.id_engine.proofs.HeldBackLemmas.{inputs_of}
 use Rattle.id_engine.proofs.HeldLemmas.{AreApartBy-held, AreApartBy-waiting, AreHeld-complete, AreSomeHeld-sound, AreWaiting-complete}
 use Rattle.id_engine.proofs.NamesLemmas.{AreApart-sound, AreNames-complete, AreSomeNames-sound}
-use Rattle.id_engine.proofs.OneProgramLemmas.{AreAlike-text, inputs_same, inputs_to}
-use Rattle.id_engine.proofs.SameFactsLemmas.{MeanTheSame-alike}
+use Rattle.id_engine.proofs.OneProgramLemmas.{MeanTheSame-text}
 
 -- ---- what a quiet run shows is what is so of its source
 
@@ -234,11 +233,7 @@ module _ (sound : Soundness) (complete : QuietIsComplete) (text : List ℕ) (wor
   mean_the_same : (m n : ℕ) (h : Answered text words b m) (k : Answered text words c n)
       → MeanTheSame (source k.ran.program k.ran.inputs) (source h.ran.program h.ran.inputs)
   mean_the_same m n h k =
-      let alike : AreAlike k.ran.program h.ran.program = AreAlike-text text k.ran.program h.ran.program k.ran.is_program h.ran.is_program in
-      let given : k.ran.inputs ≡ h.ran.inputs = inputs_same h.ran.program words k.ran.inputs h.ran.inputs
-      (inputs_to k.ran.program h.ran.program alike words k.ran.inputs k.ran.are_inputs) h.ran.are_inputs in
-      subst (λ vs. MeanTheSame (source k.ran.program k.ran.inputs) (source h.ran.program vs)) given
-      (MeanTheSame-alike k.ran.program h.ran.program k.ran.inputs alike)
+      MeanTheSame-text text words k.ran.program h.ran.program k.ran.inputs h.ran.inputs k.ran.is_program h.ran.is_program k.ran.are_inputs h.ran.are_inputs
 
   both_show : (h : Answered text words b 0) (k : Answered text words c 0) → ShowOne text b c (report_of h) (report_of k)
   both_show h k =

@@ -29,9 +29,9 @@ use Rattle.id_check.specs.Programs.{binder, kind, rows, tree}
 use Rattle.id_check.proofs.ProgramsLemmas.{binder_below, both_nil, kind_once, table_of}
 use Rattle.id_source.specs.declared.inputs.Wanted.{Wanted}
 use Rattle.id_source.specs.Inputs.{AreInputsOf, first_cause, value_for, wanted, wanted_of}
-use Rattle.id_source.specs.Sources.{head_of, main_params}
+use Rattle.id_source.specs.Sources.{head_of, main_params, source}
 use Rattle.id_compile.specs.Programs.{IsProgramOf}
-use Rattle.id_engine.specs.OneProgram.{AreAlike, OneProgram}
+use Rattle.id_engine.specs.OneProgram.{AreAlike, MeanTheSame, OneProgram}
 use Rattle.id_text.proofs.OneReadingLemmas.{one_reading}
 use Rattle.id_tree.proofs.CompleteLemmas.{one_tree}
 use Rattle.id_engine.proofs.SameFactsLemmas.{AreAlike-sym, MeanTheSame-alike}
@@ -311,6 +311,14 @@ pub inputs_same : (P : Checked) (words : List (List ℕ)) (vs us : List Constant
 inputs_same P words vs us h k =
     let long : length vs ≡ length us = h.enough ∙ sym k.enough in
     same_list vs us long (λ n l. h.values n l ∙ sym (k.values n (subst (λ m. n < m) long l)))
+
+-- with inputs that the same words give them they mean the same
+pub MeanTheSame-text : (text : List ℕ) (words : List (List ℕ)) (P Q : Checked) (vs us : List Constant) → IsProgramOf text P → IsProgramOf text Q
+    → AreInputsOf P words vs → AreInputsOf Q words us → MeanTheSame (source P vs) (source Q us)
+MeanTheSame-text text words P Q vs us h k given there =
+    let alike : AreAlike P Q = AreAlike-text text P Q h k in
+    let same : vs ≡ us = inputs_same Q words vs us (inputs_to P Q alike words vs given) there in
+    subst (λ ws. MeanTheSame (source P vs) (source Q ws)) same (MeanTheSame-alike P Q vs alike)
 
 pub OneProgram-text : OneProgram
 OneProgram-text = record {

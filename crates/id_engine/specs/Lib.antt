@@ -4,6 +4,7 @@ pub mod Runs
 pub mod Alike
 pub mod OneProgram
 pub mod OneAnswer
+pub mod OneRound
 pub mod Moments
 pub mod Stopped
 pub mod Status

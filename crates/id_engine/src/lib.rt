@@ -5,8 +5,8 @@
 //! report of one that has come to its end, or a front of it.
 //! Errors: `EngineError`.
 //! Read first: `specs/Commands.antt`, `specs/Runs.antt`, then `engine`; `specs/Served.antt`, then `serve`,
-//! `drive_asked` and `drive`; `specs/OneAnswer.antt`, then `one_answer`; `specs/Status.antt`, then `status_told`;
-//! docs/PROMISES.md.
+//! `drive_asked` and `drive`; `specs/OneAnswer.antt`, then `one_answer`; `specs/OneRound.antt`, then `one_round`;
+//! `specs/Status.antt`, then `status_told`; docs/PROMISES.md.
 //! Not here: which words ask for what (`id_args`), the streams of the process (`idc`), what comes of a text and how a
 //! refusal is told (`id_compile`), runs (`id_elements`), and every step between, which have a crate each.
 #![tactic(auto)]
@@ -19,7 +19,7 @@ mod status;
 mod stream;
 mod words;
 
-pub use commands::{check_text, draw_text, facts_text, graph_text};
+pub use commands::{check_text, draw_text, facts_text, graph_text, one_round};
 pub use id_args::{Request, Unasked};
 pub use id_compile::{
     Cause, CompileError, Compiled, Detail, EngineError, Refusal, compile, put_refusal,

@@ -1,0 +1,177 @@
+-- Lemmas on specs/OneRound.antt: the sources of one text mean the same, a round is one list, and each line of a round
+-- has a byte, so that a round with more facts has more bytes.
+use Rattle.std.proofs.Common.{◌≡◌, inl, inr, ◌⊎◌, ℕ, suc, ◌+◌, ◌<◌, ◌≤◌, List, [], ◌∷◌, ◌++◌, length, Option, Some, Result, refl, sym, ap, subst, ◌∙◌, arith, length-append}
+use Rattle.std.specs.Prelude.{Ok, codes}
+use Rattle.std.proofs.lemmas.Bool.{cases_lt}
+use Rattle.id_value.specs.List.{Among}
+use Rattle.id_value.specs.declared.Constant.{Constant}
+use Rattle.id_check.specs.declared.checked.Checked.{Checked}
+use Rattle.id_source.specs.declared.Fact.{Fact}
+use Rattle.id_source.specs.declared.Fact.TheVariants as fact
+use Rattle.id_source.specs.Computed.{AreFacts}
+use Rattle.id_source.specs.Inputs.{AreInputsOf}
+use Rattle.id_source.specs.Orders.{FactBefore, Rises}
+use Rattle.id_source.specs.Rounds.{Rounds}
+use Rattle.id_source.specs.Sources.{Source, source}
+use Rattle.id_laws.specs.Ended.{AreAllFacts}
+use Rattle.id_laws.proofs.EndedLemmas.{ended_facts}
+use Rattle.id_sink.specs.Texts.{ask_text, point_text, point_value_text, shape_text}
+use Rattle.id_sink.specs.Told.{Told}
+use Rattle.id_sink.specs.declared.sink.PrintError.{PrintError}
+use Rattle.id_print.specs.Texts.{fact_text, facts_text, put_text}
+use Rattle.id_compile.specs.Programs.{IsProgramOf}
+use Rattle.id_engine.specs.Commands.{AreFactsOf, Facts, HasShown, Shows, ShowsAll}
+use Rattle.id_engine.specs.Commands.Shows.{facts}
+use Rattle.id_engine.specs.OneProgram.{MeanTheSame}
+use Rattle.id_engine.specs.OneRound.{IsRoundText, OneRound}
+use Rattle.id_engine.proofs.ChainLemmas.{later}
+use Rattle.id_engine.proofs.OneProgramLemmas.{MeanTheSame-text}
+use Rattle.id_engine.proofs.RisingLemmas.{FactsRise-Rises, behind, fact_strict, first_before, one_list, rest_rises}
+
+-- ---- one list
+
+-- rounds with the same facts are one list
+pub one_list_of : (S : Source) (n m : ℕ) (fs gs : List Fact) → AreFacts S n fs → AreFacts S m gs → ((f : Fact) → Rounds S n f → Rounds S m f)
+    → ((f : Fact) → Rounds S m f → Rounds S n f) → fs ≡ gs
+one_list_of S n m fs gs h k to from =
+    one_list FactBefore fact_strict fs gs (FactsRise-Rises fs h.rise) (FactsRise-Rises gs k.rise) (λ f l. k.all f (to f (h.only f l)))
+    (λ f l. h.all f (from f (k.only f l)))
+
+-- the facts of a round of one program of the text are those of the same round of another
+pub facts_there : (text : List ℕ) (words : List (List ℕ)) (P : Checked) (vs : List Constant) → IsProgramOf text P → AreInputsOf P words vs
+    → (m : ℕ) (gs : List Fact) → AreFactsOf text words m gs → AreFacts (source P vs) m gs
+facts_there text words P vs is given m gs k =
+    let mean : MeanTheSame (source k.program k.inputs) (source P vs) = MeanTheSame-text text words k.program P k.inputs vs k.is_program is k.are_inputs given in
+    record {
+      all = λ f r. (k.are).all f ((mean.rounds m f).1 r);
+      only = λ f a. (mean.rounds m f).0 ((k.are).only f a);
+      rise = (k.are).rise;
+    }
+
+there : (text : List ℕ) (words : List (List ℕ)) (n m : ℕ) (fs gs : List Fact) (h : AreFactsOf text words n fs) → AreFactsOf text words m gs
+    → AreFacts (source h.program h.inputs) m gs
+there text words n m fs gs h k = facts_there text words h.program h.inputs h.is_program h.are_inputs m gs k
+
+one_facts : (text : List ℕ) (words : List (List ℕ)) (n : ℕ) (fs gs : List Fact) → AreFactsOf text words n fs → AreFactsOf text words n gs → fs ≡ gs
+one_facts text words n fs gs h k =
+    one_list_of (source h.program h.inputs) n n fs gs h.are (there text words n n fs gs h k) (λ f r. r) (λ f r. r)
+
+-- ---- one text
+
+-- what a call has printed, or a front of it, is the text of a round
+pub round_text : (text : List ℕ) (words : List (List ℕ)) (n : ℕ) (old new : Option Told) (result : Result (Unit {0}) PrintError)
+    → (h : HasShown (Facts n words) text old new 0 result) → IsRoundText text words n h.output
+round_text text words n old new result h = by h.output h.shows
+  where
+    by : (bytes : List ℕ) → Shows h.program text (Facts n words) 0 bytes → IsRoundText text words n bytes
+    by _ (facts {vs = vs} {fs = fs} inputs are) =
+        record { list = fs; are = record { program = h.program; is_program = h.is_program; inputs = vs; are_inputs = inputs; are = are }; is = refl }
+
+one_text : (text : List ℕ) (words : List (List ℕ)) (n : ℕ) (old new before after : Option Told) (result other : Result (Unit {0}) PrintError)
+    → (h : HasShown (Facts n words) text old new 0 result) → (k : HasShown (Facts n words) text before after 0 other) → h.output ≡ k.output
+one_text text words n old new before after result other h k =
+    let x = round_text text words n old new result h in
+    let y = round_text text words n before after other k in
+    x.is ∙ (ap (facts_text text) (one_facts text words n x.list y.list x.are y.are) ∙ sym y.is)
+
+one_told : (text : List ℕ) (words : List (List ℕ)) (n : ℕ) (old : Told) (new other : Option Told)
+    → ShowsAll (Facts n words) text (Some old) new 0 → ShowsAll (Facts n words) text (Some old) other 0 → new ≡ other
+one_told text words n old new other h k =
+    let same : h.output ≡ k.output = one_text text words n (Some old) new (Some old) other (Ok tt) (Ok tt) h k in
+    (h.printed).told.all ∙ (ap (λ bytes. Some (record { bytes = old.bytes ++ bytes; failures = old.failures })) same ∙ sym (k.printed).told.all)
+
+-- ---- what the bytes say
+
+-- what begins with some bytes has some
+some_front : (xs ys : List ℕ) → 0 < length xs → 0 < length (xs ++ ys)
+some_front xs ys h = omega (arith, length-append xs ys, h)
+
+has_byte : (text : List ℕ) (f : Fact) → 0 < length (fact_text text f)
+has_byte text (fact.On p e) = some_front (codes "on ") (point_text text p e ++ codes "\n") (omega arith)
+has_byte text (fact.Has p e v) = some_front (codes "has ") (point_value_text text p e v) (omega arith)
+has_byte text (fact.Shape s) = some_front (codes "shape ") (shape_text text s) (omega arith)
+has_byte text (fact.Put p) = some_front (codes "put ") (put_text text p) (omega arith)
+has_byte text (fact.Ask a) = some_front (codes "ask ") (ask_text text a) (omega arith)
+
+-- of these two lists the first has no more bytes, and as many only where they are one
+record IsPartOf (text : List ℕ) (fs gs : List Fact) : Type 0 where
+  few : length (facts_text text fs) ≤ length (facts_text text gs)
+  all : length (facts_text text fs) ≡ length (facts_text text gs) → fs ≡ gs
+
+module _ (text : List ℕ) where
+  longer : (f : Fact) (fs : List Fact) → length (facts_text text fs) < length (facts_text text (f ∷ fs))
+  longer f fs = omega (arith, length-append (fact_text text f) (facts_text text fs), has_byte text f)
+
+  -- so it is with lists that rise, where each of the first is among the second
+  part_of : (gs fs : List Fact) → Rises FactBefore fs → Rises FactBefore gs → ((f : Fact) → Among f fs → Among f gs) → IsPartOf text fs gs
+  part_of [] [] up high to = record { few = omega arith; all = λ e. refl }
+  part_of [] (f ∷ fs) up high to = absurd (to f (inl refl))
+  part_of (g ∷ gs) [] up high to = record { few = omega arith; all = λ e. absurd (omega (arith, e, longer g gs)) }
+  part_of (g ∷ gs) (f ∷ fs) up high to =
+      by (to f (inl refl))
+      (λ e. part_of gs fs (rest_rises FactBefore fact_strict f fs up) (rest_rises FactBefore fact_strict g gs high)
+      (λ z l. behind FactBefore fact_strict f g fs gs e up z l (to z (inr l))))
+      (λ h. part_of gs (f ∷ fs) up (rest_rises FactBefore fact_strict g gs high) (λ z l. all_behind h z l (to z l)))
+    where
+      at_first : f ≡ g → IsPartOf text fs gs → IsPartOf text (f ∷ fs) (g ∷ gs)
+      at_first same rest =
+          let one : length (fact_text text f) ≡ length (fact_text text g) = ap (λ x. length (fact_text text x)) same in record {
+            few = omega (arith, one, rest.few, length-append (fact_text text f) (facts_text text fs), length-append (fact_text text g) (facts_text text gs));
+            all = λ e.
+                let left = rest.all (omega (arith, one, e, length-append (fact_text text f) (facts_text text fs), length-append (fact_text text g) (facts_text text gs))) in
+                λ i. same i ∷ left i;
+          }
+
+      past_first : IsPartOf text (f ∷ fs) gs → IsPartOf text (f ∷ fs) (g ∷ gs)
+      past_first rest = record {
+        few = omega (arith, rest.few, longer g gs);
+        all = λ e. absurd (omega (arith, rest.few, longer g gs, e));
+      }
+
+      -- the first of the second is before that of the first, and so is none of it
+      not_here : Among f gs → (z : Fact) → Among z (f ∷ fs) → z ≡ g → ⊥
+      not_here h z (inl e) d =
+          let P : Fact → Type 0 = λ x. FactBefore g x in
+          fact_strict.not_itself g (subst P (sym e ∙ d) (first_before FactBefore fact_strict g gs high f h))
+      not_here h z (inr l) d =
+          let P : Fact → Type 0 = λ x. FactBefore f x in
+          let back : FactBefore f g = subst P d (first_before FactBefore fact_strict f fs up z l) in
+          fact_strict.not_itself g (fact_strict.trans g f g (first_before FactBefore fact_strict g gs high f h) back)
+
+      all_behind : Among f gs → (z : Fact) → Among z (f ∷ fs) → (z ≡ g) ⊎ Among z gs → Among z gs
+      all_behind h z l (inl e) = absurd (not_here h z l e)
+      all_behind h z l (inr k) = k
+
+      by : (f ≡ g) ⊎ Among f gs → (f ≡ g → IsPartOf text fs gs) → (Among f gs → IsPartOf text (f ∷ fs) gs) → IsPartOf text (f ∷ fs) (g ∷ gs)
+      by (inl e) one other = at_first e (one e)
+      by (inr h) one other = past_first (other h)
+
+same_facts : (S : Source) (text : List ℕ) (n m : ℕ) (fs gs : List Fact) → n ≤ m → AreFacts S n fs → AreFacts S m gs → facts_text text fs ≡ facts_text text gs → fs ≡ gs
+same_facts S text n m fs gs low h k e =
+    (part_of text gs fs (FactsRise-Rises fs h.rise) (FactsRise-Rises gs k.rise) (λ f l. k.all f (later S n m f low (h.only f l)))).all (ap length e)
+
+read_back : (text : List ℕ) (words : List (List ℕ)) (n m : ℕ) (fs gs : List Fact) → AreFactsOf text words n fs → AreFactsOf text words m gs
+    → facts_text text fs ≡ facts_text text gs → fs ≡ gs
+read_back text words n m fs gs h k e = by (cases_lt m n)
+  where
+    by : (m < n) ⊎ (n ≤ m) → fs ≡ gs
+    by (inl less) = sym (same_facts (source h.program h.inputs) text m n gs fs (omega (arith, less)) (there text words n m fs gs h k) h.are (sym e))
+    by (inr most) = same_facts (source h.program h.inputs) text n m fs gs most h.are (there text words n m fs gs h k) e
+
+-- a round to which the next one adds no bytes has all facts
+pub all_facts : (text : List ℕ) (words : List (List ℕ)) (n : ℕ) (fs gs : List Fact) → (h : AreFactsOf text words n fs) → AreFactsOf text words (suc n) gs
+    → facts_text text fs ≡ facts_text text gs → AreAllFacts (source h.program h.inputs) fs
+all_facts text words n fs gs h k e =
+    let S = source h.program h.inputs in
+    let same : fs ≡ gs = read_back text words n (suc n) fs gs h k e in
+    ended_facts S n fs h.are (subst (AreFacts S (suc n)) (sym same) (there text words n (suc n) fs gs h k))
+
+pub OneRound-text : OneRound
+OneRound-text = record {
+  listed = round_text;
+  facts = one_facts;
+  bytes = one_text;
+  told = one_told;
+  read = read_back;
+  ended = all_facts;
+}
