@@ -17,5 +17,7 @@ pub mod OneProgramLemmas
 pub mod OneAnswerLemmas
 pub mod ChainLemmas
 pub mod OneRoundLemmas
+pub mod AtOnceLemmas
+pub mod FoundEnoughLemmas
 pub mod MomentsLemmas
 mod ServedLemmas

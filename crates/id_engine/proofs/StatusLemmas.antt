@@ -27,12 +27,12 @@ use Rattle.id_engine.specs.Status.{AreEnough, StatusTold, TellsFaults}
 use Rattle.id_engine.proofs.HeldBackLemmas.{IsLeft, inputs_of, left_short, same_itself}
 
 -- how a run ends, by its status
-data EndsBy (g : Parts) (count steps : ℕ) (w : World) (status : ℕ) : Type 0 where
+pub data EndsBy (g : Parts) (count steps : ℕ) (w : World) (status : ℕ) : Type 0 where
   in_quiet : status ≡ 0 → IsQuiet w → EndsBy g count steps w status
   at_fault : status ≡ 1 → (f : SourceFault) → IsFirstFault g w.elements f → EndsBy g count steps w status
   with_some : IsLeft count steps w → EndsBy g count steps w status
 
-ends_by : (g : Parts) (count steps : ℕ) (w : World) (text : List ℕ) (b : Bool) (status : ℕ) (bytes : List ℕ)
+pub ends_by : (g : Parts) (count steps : ℕ) (w : World) (text : List ℕ) (b : Bool) (status : ℕ) (bytes : List ℕ)
     → Ends g count steps w text b status bytes → EndsBy g count steps w status
 ends_by g count steps w text b _ _ (quiet ns hs waits still sorted held waiting) = in_quiet refl still
 ends_by g count steps w text b _ _ (fault f first) = at_fault refl f first
@@ -79,7 +79,7 @@ module _ (bounded : Bounded) (sound : Soundness) (complete : QuietIsComplete) (S
       let here : Among f (shown.faults_in r.graph w.elements) = Among-from_at f (shown.faults_in r.graph w.elements) there.0 there.1 in
       s.faults f (subst (λ (es : List State). Among f (shown.faults_in r.graph es)) (sym same.elements) here)
 
-  told_there : (steps status : ℕ) → steps < 2 ^ 64 - 1 → AreEnough S r.graph steps → EndsBy r.graph r.count steps w status → TellsFaults S status
+  pub told_there : (steps status : ℕ) → steps < 2 ^ 64 - 1 → AreEnough S r.graph steps → EndsBy r.graph r.count steps w status → TellsFaults S status
   told_there steps status small enough (in_quiet is q) = told_free S status is (free_there q)
   told_there steps status small enough (at_fault is f first) = told_fault S status is f (fault_there f first)
   told_there steps status small enough (with_some left) = absurd (not_short S r.graph steps enough (left_short bounded S inputs r w same steps small left))

@@ -8,6 +8,7 @@ pub mod OneRound
 pub mod Moments
 pub mod Stopped
 pub mod Status
+pub mod AtOnce
 pub mod Served
 pub mod Settled
 -- For use inside.

@@ -1,5 +1,6 @@
 //! What the status of a run tells of its program.
 
+ghost use Rattle.id_engine.specs.AtOnce.{AtOnce};
 ghost use Rattle.id_engine.specs.Status.{StatusTold};
 ghost use Rattle.id_engine.specs.Stopped.{StoppedShort};
 
@@ -17,6 +18,18 @@ pub fn stopped_short()
 /// with status 1 exactly where it has one (docs/PROMISES.md, "The run"). Takes no memory.
 pub fn status_told()
     ensures { StatusTold }
+{
+    id_laws::bounded();
+    id_laws::sound();
+    id_laws::complete();
+}
+
+/// *At once*, a law: all graphs that the schemas give a program may have as many messages at once, as many as its rows
+/// say. So where a round of a text adds no bytes to the round before it, the status of each run of the text whose
+/// elements may handle that many messages for each path that is active by those facts tells whether its source has a
+/// fault, and all such runs have one status (docs/PROMISES.md, "The run"). Takes no memory.
+pub fn at_once()
+    ensures { AtOnce }
 {
     id_laws::bounded();
     id_laws::sound();
