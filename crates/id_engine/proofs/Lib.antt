@@ -19,5 +19,7 @@ pub mod ChainLemmas
 pub mod OneRoundLemmas
 pub mod AtOnceLemmas
 pub mod FoundEnoughLemmas
+pub mod LastRoundLemmas
+pub mod QuietRoundLemmas
 pub mod MomentsLemmas
 mod ServedLemmas

@@ -9,6 +9,7 @@ pub mod Moments
 pub mod Stopped
 pub mod Status
 pub mod AtOnce
+pub mod LastRound
 pub mod Served
 pub mod Settled
 -- For use inside.

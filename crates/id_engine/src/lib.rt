@@ -6,7 +6,8 @@
 //! Errors: `EngineError`.
 //! Read first: `specs/Commands.antt`, `specs/Runs.antt`, then `engine`; `specs/Served.antt`, then `serve`,
 //! `drive_asked` and `drive`; `specs/OneAnswer.antt`, then `one_answer`; `specs/OneRound.antt`, then `one_round`;
-//! `specs/Status.antt`, then `status_told`; `specs/AtOnce.antt`, then `at_once`; docs/PROMISES.md.
+//! `specs/Status.antt`, then `status_told`; `specs/AtOnce.antt`, then `at_once`; `specs/LastRound.antt`, then
+//! `last_round`; docs/PROMISES.md.
 //! Not here: which words ask for what (`id_args`), the streams of the process (`idc`), what comes of a text and how a
 //! refusal is told (`id_compile`), runs (`id_elements`), and every step between, which have a crate each.
 #![tactic(auto)]
@@ -31,6 +32,6 @@ pub use id_sink::{
 };
 pub use program::{drive_asked, serve};
 pub use run::{at_every_moment, engine, one_answer, one_program, printed_alike};
-pub use status::{at_once, status_told, stopped_short};
+pub use status::{at_once, last_round, status_told, stopped_short};
 pub use stream::settle;
 pub use words::{drive, drive_settled};

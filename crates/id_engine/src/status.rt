@@ -1,6 +1,7 @@
 //! What the status of a run tells of its program.
 
 ghost use Rattle.id_engine.specs.AtOnce.{AtOnce};
+ghost use Rattle.id_engine.specs.LastRound.{LastRound};
 ghost use Rattle.id_engine.specs.Status.{StatusTold};
 ghost use Rattle.id_engine.specs.Stopped.{StoppedShort};
 
@@ -33,5 +34,13 @@ pub fn at_once()
 {
     id_laws::bounded();
     id_laws::sound();
+    id_laws::complete();
+}
+
+/// *Last round*, a law: where a run falls quiet, all facts of its source are of one round, to which the next round of
+/// the text adds no bytes (docs/PROMISES.md, "The run"). Takes no memory.
+pub fn last_round()
+    ensures { LastRound }
+{
     id_laws::complete();
 }
