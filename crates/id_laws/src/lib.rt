@@ -13,7 +13,7 @@ ghost use Rattle.id_runs.specs.Legal.{LegalLists};
 
 mod bounds;
 
-pub use bounds::bounded;
+pub use bounds::{bounded, bounded_by_block, comes_to_rest, ended_facts, rest_is_the_end};
 /// *Sound*: what any run of a schemas' graph shows is of the source. The answer is the source's, each
 /// fault is one of the source at its path, what a binder is shown to have at a path it Has there, and
 /// each value that the instruction of an expression sends under a tag is one that the expression Has at
