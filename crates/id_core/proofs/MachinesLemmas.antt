@@ -8,7 +8,7 @@ use Rattle.std.proofs.lemmas.List.{set-get_or, length-map, length-append, length
 use Rattle.std.proofs.lemmas.Bool.{cases_lt, cases_eq}
 use Rattle.std.proofs.Math.ListN.{get_or-append}
 use Rattle.std.proofs.Math.Seq.{get_or-append_seam}
-use Rattle.std.proofs.lemmas.List.Elements.{All-cons, All-append, All-take, All-drop}
+use Rattle.std.proofs.lemmas.List.Elements.{All-cons, All-append, All-set, All-take, All-drop}
 use Rattle.id_instr.specs.declared.dests.Port.TheVariants as port
 use Rattle.id_instr.specs.declared.instr.Block.{Block}
 use Rattle.id_instr.specs.declared.instr.Op.TheVariants.{Merge, Back}
@@ -32,7 +32,10 @@ use Rattle.id_element.specs.Replays.{ElementView}
 use Rattle.id_record.specs.declared.step.Step.{Step}
 use Rattle.id_core.specs.Machines.{world_of, taken_from, given_to, routed_to, delivered, event_of_given}
 use Rattle.id_core.specs.Machines.{event_of_routed, event_at, start_message, input_messages, block_messages, AreTaken}
-use Rattle.id_core.specs.Machines.{IsElement, AreElements, IsMachine, MachineView}
+use Rattle.id_core.specs.Machines.{AllKeep, IsElement, AreElements, IsMachine, MachineView}
+use Rattle.id_record.specs.declared.kept.Keeps.{Keeps}
+use Rattle.id_record.specs.declared.kept.Keeps.TheVariants as kept
+use Rattle.id_observe.specs.Tellings.{AreOf, KeepAll, KeepNames}
 use Rattle.id_observe.specs.Observed.{main_tag}
 use Rattle.id_element.proofs.SentLemmas.{kind_at_op}
 use Rattle.id_core.proofs.InputsLemmas.{inputs_fit}
@@ -149,7 +152,7 @@ pub world-delivered : (g : Parts) (count : ℕ) (es : List ElementView) (flight 
     → IsDelivery g count es flight k n m e
     → world_of (set es n (taken e m)) (remove flight k ++ outputs_of e.graph e.number e.state m) ≡ delivered g count (world_of es flight) k
 world-delivered g count es flight k n m e d =
-    rw (d.same.graph, d.same.number, map-set (λ x. x.state) es n (record { number = n; count = e.count; graph = g; state = state_after g n e.state m }))
+    rw (d.same.graph, d.same.number, map-set (λ x. x.state) es n (record { number = n; count = e.count; graph = g; keeps = e.keeps; state = state_after g n e.state m }))
     (sym (delivered-is g count es flight k n m e d.given d.left))
 
 -- the event of a delivery
@@ -160,10 +163,10 @@ event-delivered g count es flight k n m e d =
     event_at-is g count es flight k n m e d.given ∙ ap (λ b. cond b None (Some (event_of g n e.state m))) d.left
 
 -- a machine is one after a delivery
-pub IsMachine-deliver : (g : Parts) (es : List ElementView) (flight : List Message) (k n : ℕ) (m : Message) (e : ElementView)
-    → IsMachine g es flight → IsDelivery g (length es) es flight k n m e → All (Fits e.graph) (outputs_of e.graph e.number e.state m)
-    → IsMachine g (set es n (taken e m)) (remove flight k ++ outputs_of e.graph e.number e.state m)
-IsMachine-deliver g es flight k n m e old d fits = record {
+pub IsMachine-deliver : (g : Parts) (keeps : Keeps) (es : List ElementView) (flight : List Message) (k n : ℕ) (m : Message) (e : ElementView)
+    → IsMachine g keeps es flight → IsDelivery g (length es) es flight k n m e → All (Fits e.graph) (outputs_of e.graph e.number e.state m)
+    → IsMachine g keeps (set es n (taken e m)) (remove flight k ++ outputs_of e.graph e.number e.state m)
+IsMachine-deliver g keeps es flight k n m e old d fits = record {
   at_least_one = omega (arith, old.at_least_one, length-set es n (taken e m));
   at_most_64 = omega (arith, old.at_most_64, length-set es n (taken e m));
   elements =
@@ -171,6 +174,9 @@ IsMachine-deliver g es flight k n m e old d fits = record {
       subst P (sym (length-set es n (taken e m)))
       (AreElements-set g (length es) es n (taken e m) (slice_get_within es n e d.given.element) old.elements
       (record { number = d.same.number; count_is = d.same.count_is; graph = d.same.graph }));
+  kept = All-set (λ x. x.keeps ≡ keeps) es n (taken e m)
+      (subst (λ (x : ElementView). x.keeps ≡ keeps) (get_or_from_slice_get es n e e d.given.element)
+      (old.kept n e (slice_get_within es n e d.given.element))) old.kept;
   flight_fits = All-append (Fits g) (remove flight k) _
       (All-append (Fits g) (take k flight) (drop (suc k) flight) (All-take (Fits g) k flight old.flight_fits)
       (All-drop (Fits g) (suc k) flight old.flight_fits))
@@ -180,7 +186,7 @@ IsMachine-deliver g es flight k n m e old d fits = record {
 -- the element at each position has it as its number
 number_at : (g : Parts) (count : ℕ) (es : List ElementView) (k : ℕ) → AreElements g count es → k < length es → slice_index (map (λ e. e.number) es) k ≡ k
 number_at g count es k are lt =
-    let none : ElementView = record { number = 0; count = 0; graph = g; state = fresh } in
+    let none : ElementView = record { number = 0; count = 0; graph = g; keeps = kept.All; state = fresh } in
     get_or-map (λ e. e.number) es k none 0 lt ∙ (are k none lt).number
 
 -- so the numbers of a machine's elements rise
@@ -188,6 +194,17 @@ pub AreElements-rise : (g : Parts) (count : ℕ) (es : List ElementView) → Are
 AreElements-rise g count es are k lt =
     let next : k + 1 < length es = omega (arith, lt, length-map es (λ e. e.number)) in
     omega (arith, number_at g count es k are (omega (arith, next)), number_at g count es (k + 1) are next)
+
+-- they are of its graph
+pub AreElements-of : (g : Parts) (count : ℕ) (es : List ElementView) → AreElements g count es → AreOf g es
+AreElements-of g count es are n d lt = (are n d lt).graph
+
+-- and keep what it does
+pub AllKeep-all : (k : Keeps) (es : List ElementView) → AllKeep k es → k ≡ kept.All → KeepAll es
+AllKeep-all k es keep is = subst (λ (x : Keeps). AllKeep x es) is keep
+
+pub AllKeep-names : (k : Keeps) (es : List ElementView) → AllKeep k es → (k ≡ kept.Tellings → ⊥) → KeepNames es
+AllKeep-names k es keep more n d lt is = more (sym (keep n d lt) ∙ is)
 
 -- ---- what a delivery leaves, whatever it came to
 
@@ -245,8 +262,8 @@ pub record IsTold {A : Type 0} (Done Apart : A → Type 0) (gives : A → Step) 
   pub end : r ≡ Err StampEnd ↔ event_at v.graph v.count v.world k ≡ None
   pub err : OnErr r (later ≡ v)
 
-module _ {g : Parts} {es : List ElementView} {flight : List Message} {k n : ℕ} {m : Message} {e : ElementView}
-    (given : IsGiven g (length es) es flight k n m e) (old : IsMachine g es flight) where
+module _ {g : Parts} {keeps : Keeps} {es : List ElementView} {flight : List Message} {k n : ℕ} {m : Message} {e : ElementView}
+    (given : IsGiven g (length es) es flight k n m e) (old : IsMachine g keeps es flight) where
   -- the element that the message is for is that of its number
   element_is : IsElement g (length es) n e
   element_is = subst (IsElement g (length es) n) (get_or_from_slice_get es n e e given.element) (old.elements n e (slice_get_within es n e given.element))
@@ -268,16 +285,16 @@ module _ {g : Parts} {es : List ElementView} {flight : List Message} {k n : ℕ}
 
   -- the machine stays one, whatever the delivery came to
   pub IsMachine-given : {A : Type 0} {Done Apart : A → Type 0} {later : ElementView} {left : List Message}
-      (which : (a : A) → Done a ⊎ Apart a) (r : Result A TakeError) → IsGiving Done Apart flight k m e later left r → IsMachine g (set es n later) left
+      (which : (a : A) → Done a ⊎ Apart a) (r : Result A TakeError) → IsGiving Done Apart flight k m e later left r → IsMachine g keeps (set es n later) left
   IsMachine-given which (Ok a) x = ⊎_elim
-      (λ done. rw (x.state done, x.messages done) (IsMachine-deliver g es flight k n m e old (delivery (left_ok a (is_ended e.state m) x.end)) x.fits))
+      (λ done. rw (x.state done, x.messages done) (IsMachine-deliver g keeps es flight k n m e old (delivery (left_ok a (is_ended e.state m) x.end)) x.fits))
       (λ apart. rw (x.apart apart, x.apart_messages apart, kept_list) old) (which a)
   IsMachine-given which (Err b) x = rw (x.err, x.err_messages, kept_list) old
 
-  module _ {v : MachineView} (is : ◌≡◌ {A = MachineView} (record { graph = g; count = length es; world = world_of es flight }) v) where
+  module _ {v : MachineView} (is : ◌≡◌ {A = MachineView} (record { graph = g; count = length es; keeps = keeps; world = world_of es flight }) v) where
     -- what the machine shows afterwards
     abbrev pub after : ElementView → List Message → MachineView
-    after later left = record { graph = g; count = length (set es n later); world = world_of (set es n later) left }
+    after later left = record { graph = g; count = length (set es n later); keeps = keeps; world = world_of (set es n later) left }
 
     view-kept : (later : ElementView) (left : List Message) → later ≡ e → left ≡ flight → after later left ≡ v
     view-kept later left same still = rw (same, still, kept_list) is
@@ -288,7 +305,7 @@ module _ {g : Parts} {es : List ElementView} {flight : List Message} {k n : ℕ}
         let world : world_of (set es n later) left ≡ delivered g (length es) (world_of es flight) k =
         rw (took, gone) (world-delivered g (length es) es flight k n m e (delivery stamp)) in
         subst (λ (x : MachineView). after later left ≡ record x { world = delivered x.graph x.count x.world k }) is
-        (λ i. record { graph = g; count = length-set es n later i; world = world i })
+        (λ i. record { graph = g; count = length-set es n later i; keeps = keeps; world = world i })
 
     event_in_view : (b : Bool) → is_ended e.state m ≡ b → event_at v.graph v.count v.world k ≡ cond b None (Some (event_of g n e.state m))
     event_in_view b stamp = subst (λ (x : MachineView). event_at x.graph x.count x.world k ≡ cond b None (Some (event_of g n e.state m))) is

@@ -19,6 +19,7 @@ use Rattle.id_tag.specs.Kinds.{kind_of}
 use Rattle.id_tag.specs.Routes.{route_of}
 use Rattle.id_valid.specs.Roles.{has_main_place, op_at, IsMain}
 use Rattle.id_record.specs.Events.{EventView, AllWent}
+use Rattle.id_record.specs.declared.kept.Keeps.{Keeps}
 use Rattle.id_element.specs.Fits.{Fits}
 use Rattle.id_element.specs.Replays.{ElementView}
 use Rattle.id_element.specs.Steps.{State, fresh, is_ended, outputs_of, event_of, state_after}
@@ -127,19 +128,27 @@ pub record IsElement (g : Parts) (count n : ℕ) (e : ElementView) : Type 0 wher
 abbrev pub AreElements : Parts → ℕ → List ElementView → Type 0
 AreElements g count es = (n : ℕ) (d : ElementView) → n < length es → IsElement g count n (slice_index_or es n d)
 
+-- the elements keep so much of their events
+abbrev pub AllKeep : Keeps → List ElementView → Type 0
+AllKeep k es = All (λ e. e.keeps ≡ k) es
+
 -- the states of the elements, with what is in flight
 abbrev pub world_of : List ElementView → List Message → World
 world_of es flight = record { elements = map (λ e. e.state) es; flight = flight }
 
--- a machine as contracts see it: its graph, how many elements it has, and their states with what is in flight
+-- a machine as contracts see it: its graph, how many elements it has, how much of their events they keep, and their
+-- states with what is in flight
 pub record MachineView : Type 0 where
   pub graph : Parts
   pub count : ℕ
+  pub keeps : Keeps
   pub world : World
 
--- what every machine keeps: 1 to 64 elements in order of their numbers, and in flight what fits the graph
-pub record IsMachine (g : Parts) (es : List ElementView) (flight : List Message) : Type 0 where
+-- what every machine keeps: 1 to 64 elements in order of their numbers, each of which keeps so much of its events, and
+-- in flight what fits the graph
+pub record IsMachine (g : Parts) (k : Keeps) (es : List ElementView) (flight : List Message) : Type 0 where
   pub at_least_one : 0 < length es
   pub at_most_64 : length es ≤ 64
   pub elements : AreElements g (length es) es
+  pub kept : AllKeep k es
   pub flight_fits : All (Fits g) flight

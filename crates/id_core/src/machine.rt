@@ -8,7 +8,8 @@ ghost use Rattle.id_tag.specs.declared.Payload.TheVariants.{Token};
 ghost use Rattle.id_record.specs.Events.{AllWent};
 ghost use Rattle.id_element.specs.Fits.{Fits};
 ghost use Rattle.id_element.specs.Steps.{fresh};
-ghost use Rattle.id_core.specs.Machines.{AreElements, TakesInputs, input_messages, start_message, start_messages};
+ghost use Rattle.id_core.specs.Machines.{AllKeep, AreElements, TakesInputs};
+ghost use Rattle.id_core.specs.Machines.{input_messages, start_message, start_messages};
 ghost use Rattle.id_observe.specs.Observed.{main_tag};
 
 use crate::flight::Flight;
@@ -21,7 +22,7 @@ use id_observe::{
     observe_records,
 };
 use id_ops::value_of;
-use id_record::Step;
+use id_record::{Keeps, Step};
 use id_source::{Inputs, NameValue, SourceFault, SourceValue};
 use id_tag::{Message, Payload, Sender, Value, route};
 use id_valid::Valid;
@@ -63,10 +64,12 @@ impl<T: Drop> From<AllocFailed<T>> for MachineError {
     }
 }
 
-/// A machine: 1 to 64 elements of one graph, and the messages in flight, in the order in which they were sent.
+/// A machine: 1 to 64 elements of one graph, each of which keeps so much of its events, and the messages in flight, in
+/// the order in which they were sent.
 #[derive(Drop)]
 pub struct Machine<'a> {
     graph: &'a Valid,
+    keeps: Keeps,
     elements: Vec<Element<'a>>,
     flight: InFlight,
 }
@@ -83,14 +86,15 @@ impl<'a> Model for Machine<'a> {
     ghost view = { λ m. record {
       graph = m.graph.now;
       count = length m.elements.items;
+      keeps = m.keeps;
       world = world_of m.elements.items m.flight.messages;
     } };
 
-    ghost invariant = { λ m. IsMachine m.graph.now m.elements.items m.flight.messages };
+    ghost invariant = { λ m. IsMachine m.graph.now m.keeps m.elements.items m.flight.messages };
 }
 
 impl<'a> Machine<'a> {
-    ghost use Rattle.std.specs.Prelude.{◌≡◌, ◌<◌, ◌↔◌, ◌⊎◌, [], All, length, map, Some, None};
+    ghost use Rattle.std.specs.Prelude.{◌≡◌, ◌≢◌, ◌<◌, ◌↔◌, ◌⊎◌, [], All, length, map, Some, None};
     ghost use Rattle.std.specs.Prelude.{option_map};
     ghost use Rattle.std.specs.Prelude.{IfOk, OnOk, OnErr, IsTrue, MatchOption};
     ghost use Rattle.std.specs.List.Sorted.{IsStrictlyIncreasing};
@@ -99,13 +103,14 @@ impl<'a> Machine<'a> {
     ghost use Rattle.id_element.specs.declared.step.TakeError.TheVariants.{StampEnd};
     ghost use Rattle.id_element.specs.Fits.{Fits};
     ghost use Rattle.id_core.specs.Observed.{answer, asks, cell_values, cells, faults, names, structures, waiting};
-    ghost use Rattle.id_core.specs.Machines.{AreElements, IsMachine, IsQuiet, TakesInputs};
+    ghost use Rattle.id_record.specs.declared.kept.Keeps.TheVariants as keeps;
+    ghost use Rattle.id_core.specs.Machines.{AllKeep, AreElements, IsMachine, IsQuiet, TakesInputs};
     ghost use Rattle.id_core.specs.Machines.{delivered, event_at, start};
     ghost use Rattle.id_core.specs.Machines.{world_of};
 
     /// The machine of so many elements at its start, with the start messages in flight: a signal to
     /// main's first instruction, the continuation to instruction 0, and an input to each of main's entries.
-    /// `BadElements` comes where the count is not from 1 to 64.
+    /// `BadElements` comes where the count is not from 1 to 64. Each element keeps all events.
     pub fn new(
         alloc: Global,
         graph: &'a Valid,
@@ -113,38 +118,66 @@ impl<'a> Machine<'a> {
         count: u32,
     ) -> Result<Machine<'a>, MachineError>
         requires { TakesInputs graph.now inputs.now.values }
-        ensures ok { IfOk result
-            (λ m. m ≡ record { graph = graph.now; count = count; world = start graph.now inputs.now.values count }) }
+        ensures ok { IfOk result (λ m. m ≡ record {
+          graph = graph.now;
+          count = count;
+          keeps = keeps.All;
+          world = start graph.now inputs.now.values count;
+        }) }
+        ensures refused { (result ≡ Err BadElements) ↔ ((count ≡ 0) ⊎ (64 < count)) }
+    {
+        Machine::keeping(alloc, graph, inputs, count, Keeps::All)
+    }
+
+    /// The same, where each element keeps so much of its events.
+    pub fn keeping(
+        alloc: Global,
+        graph: &'a Valid,
+        inputs: &Inputs,
+        count: u32,
+        keeps: Keeps,
+    ) -> Result<Machine<'a>, MachineError>
+        requires { TakesInputs graph.now inputs.now.values }
+        ensures ok { IfOk result (λ m. m ≡ record {
+          graph = graph.now;
+          count = count;
+          keeps = keeps;
+          world = start graph.now inputs.now.values count;
+        }) }
         ensures refused { (result ≡ Err BadElements) ↔ ((count ≡ 0) ⊎ (64 < count)) }
     {
         if count == 0 || count > MAX_ELEMENTS {
             return Err(MachineError::BadElements);
         }
-        let elements = fresh_elements(alloc, graph, count)?;
+        let elements = fresh_elements(alloc, graph, count, keeps)?;
         let messages = start_flight(alloc, graph, inputs)?;
         Ok(Machine {
             graph,
+            keeps,
             elements,
             flight: InFlight::new(alloc, messages),
         })
     }
 
-    /// The machine of these elements, with these messages in flight. Takes no memory.
+    /// The machine of these elements, which keep so much, with these messages in flight. Takes no memory.
     pub fn resume(
         alloc: Global,
         graph: &'a Valid,
+        keeps: Keeps,
         elements: Vec<Element<'a>>,
         flight: Queue,
     ) -> Machine<'a>
-        requires { IsMachine graph.now elements.items flight.messages }
+        requires { IsMachine graph.now keeps elements.items flight.messages }
         ensures { result ≡ record {
           graph = graph.now;
           count = length elements.entry.items;
+          keeps = keeps;
           world = world_of elements.entry.items flight.messages;
         } }
     {
         Machine {
             graph,
+            keeps,
             elements,
             flight: InFlight::new(alloc, flight),
         }
@@ -199,6 +232,7 @@ impl<'a> Machine<'a> {
     /// What the run so far shows: the answer, what binders have, structures and their cells, what fetches ask for and
     /// which of them wait, and the faults.
     pub fn observe(&self, alloc: Global) -> Result<Observed, AllocError>
+        requires { self.now.keeps ≡ keeps.All }
         ensures answer { IfOk result (λ o. o.answer ≡ answer self.now.graph self.now.world) }
         ensures names { IfOk result (λ o. o.names ≡ names self.now.graph self.now.world) }
         ensures structures { IfOk result (λ o. o.structures ≡ structures self.now.graph self.now.world) }
@@ -221,6 +255,7 @@ impl<'a> Machine<'a> {
 
     /// What the run so far shows that binders have, for who asks for nothing else.
     pub fn names(&self, alloc: Global) -> Result<Vec<NameValue>, AllocError>
+        requires { self.now.keeps ≢ keeps.Tellings }
         ensures { IfOk result (λ v. v.items ≡ names self.now.graph self.now.world) }
     {
         observe_names(alloc, self.graph, self.elements.as_slice())
@@ -245,11 +280,19 @@ impl<'a> Machine<'a> {
         first_fault(alloc, self.graph, self.elements())
     }
 
+    /// How much each element keeps of its events. Takes no memory.
+    pub fn keeps(&self) -> Keeps
+        ensures { result ≡ self.now.keeps }
+    {
+        self.keeps
+    }
+
     /// The elements, in order of their numbers. Takes no memory.
     pub fn elements(&self) -> &[Element<'a>]
         ensures elements { AreElements self.now.graph self.now.count result.now }
         ensures world { world_of result.now self.now.world.flight ≡ self.now.world }
-        // So `merge_records` takes them.
+        ensures kept { AllKeep self.now.keeps result.now }
+        // So `merge_records` takes them, where they keep all.
         ensures rise { IsStrictlyIncreasing (map (λ e. e.number) result.now) }
     {
         self.elements.as_slice()
@@ -277,16 +320,18 @@ fn fresh_elements<'a>(
     alloc: Global,
     graph: &'a Valid,
     count: u32,
+    keeps: Keeps,
 ) -> Result<Vec<Element<'a>>, AllocError>
     requires at_least_one { 0 < count }
     requires at_most_64 { count ≤ 64 }
     ensures len { IfOk result (λ es. length es.items ≡ count) }
     ensures elements { IfOk result (λ es. AreElements graph.now count es.items) }
+    ensures kept { IfOk result (λ es. AllKeep keeps es.items) }
     ensures states { IfOk result (λ es. map (λ e. e.state) es.items ≡ replicate count fresh) }
 {
     let mut elements = Vec::with_capacity(alloc, count as usize)?;
     for number in 0..count {
-        elements.push_reserved(Element::new(alloc, number, count, graph));
+        elements.push_reserved(Element::keeping(alloc, number, count, graph, keeps));
     }
     Ok(elements)
 }

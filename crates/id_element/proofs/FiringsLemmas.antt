@@ -30,8 +30,8 @@ use Rattle.id_ops.specs.Operators.{fired, side_of}
 use Rattle.id_element.specs.declared.step.Arrival.{Arrival}
 use Rattle.id_element.specs.declared.step.Arrival.TheVariants.{Fires, Waits, Blocked}
 use Rattle.id_record.specs.Events.{EventView, full_step, tag_of}
-use Rattle.id_record.specs.Lines.{no_replies}
-use Rattle.id_record.specs.declared.line.Handled.{Handled}
+use Rattle.id_record.specs.Handlings.{no_replies}
+use Rattle.id_record.specs.declared.handled.Handled.{Handled}
 use Rattle.id_record.proofs.RecordsLemmas.{event_alone}
 use Rattle.id_tag.specs.declared.Payload.{Payload}
 use Rattle.id_element.specs.Steps.{State, next_stamp, outputs_of, outcome, outcome_of, state_after, step_of}

@@ -49,8 +49,9 @@ pub recorded : (old new : Desk) (m : Message) (stamp : ℕ) (o : Outcome) → ne
     → new.cells ≡ o.cells → new.stamp ≡ stamp → new.contexts ≡ old.contexts + o.made
     → new.structures ≡ old.structures + o.allocated
     → new.log.events ≡ old.log.events ++ event_in (state_of old) old.log.element m stamp o ∷ []
-    → new.log.element ≡ old.log.element → new.log.graph ≡ old.log.graph → IsRecorded old new m stamp o
-recorded old new m stamp o waiting cells stamp_is contexts structures events number graph =
+    → new.log.element ≡ old.log.element → new.log.graph ≡ old.log.graph → new.log.keeps ≡ old.log.keeps
+    → IsRecorded old new m stamp o
+recorded old new m stamp o waiting cells stamp_is contexts structures events number graph keeps =
     let d : State = state_of new in
     let last : State = state_then (state_of old) old.log.element m stamp o in
     record {
@@ -63,13 +64,15 @@ recorded old new m stamp o waiting cells stamp_is contexts structures events num
           ∙ ap (λ x. record last { events = x }) events;
       number = number;
       graph = graph;
+      keeps = keeps;
     }
 
 -- a message that is recorded at a desk is so at another in the same state, of the same number and graph
 pub recorded_from : (a b new : Desk) (m : Message) (n : ℕ) (o p : Outcome) → state_of a ≡ state_of b
-    → a.log.element ≡ b.log.element → a.log.graph ≡ b.log.graph → o ≡ p → IsRecorded a new m n o
+    → a.log.element ≡ b.log.element → a.log.graph ≡ b.log.graph → a.log.keeps ≡ b.log.keeps → o ≡ p
+    → IsRecorded a new m n o
     → IsRecorded b new m n p
-recorded_from a b new m n o p same number graph comes done = record {
+recorded_from a b new m n o p same number graph keeps comes done = record {
   state =
       done.state
       ∙ ap (λ s. state_then s a.log.element m n o) same
@@ -77,6 +80,7 @@ recorded_from a b new m n o p same number graph comes done = record {
       ∙ ap (state_then (state_of b) b.log.element m n) comes;
   number = done.number ∙ number;
   graph = done.graph ∙ graph;
+  keeps = done.keeps ∙ keeps;
 }
 
 -- a desk at which a message was recorded did the element step of its outcome, where what waited and the cells had

@@ -4,9 +4,7 @@ use Rattle.std.proofs.Common.{sym, ap, subst, ◌∙◌}
 use Rattle.std.specs.Prelude.{◌&&◌, ◌↔◌, IfErr, IfOk, IsErr, IsErrAnd, IsTrue, OnErr, OnOk, slice_get}
 use Rattle.std.proofs.Math.Nat.{le_trans}
 use Rattle.std.proofs.lemmas.List.Elements.{All-get_or}
-use Rattle.std.proofs.lemmas.Option.{slice_get_read, slice_get_within}
-use Rattle.std.specs.Prelude.{Option, None}
-use Rattle.std.specs.Option.{option_map}
+use Rattle.std.proofs.lemmas.Option.{slice_get_read}
 use Rattle.id_instr.specs.declared.instr.Instr.{Instr}
 use Rattle.id_instr.specs.declared.instr.PortKind.{PortKind}
 use Rattle.id_instr.specs.Graph.{Parts, kind_at}
@@ -21,6 +19,7 @@ use Rattle.id_element.specs.Firings.{IsBound, IsMost, IsReaction, IsShot, most_s
 use Rattle.id_element.specs.declared.desk.Desk.{Desk}
 use Rattle.id_element.specs.Desks.{IsShort}
 use Rattle.id_instr.specs.declared.dests.Dest.{Dest}
+use Rattle.id_instr.specs.declared.dests.Port.{Port}
 use Rattle.id_ops.specs.declared.shot.Shot.{Shot}
 use Rattle.id_instr.specs.declared.instr.Op.{Op}
 use Rattle.id_element.proofs.FiringsLemmas.{IsStepBy, fires_outcome, plain_outcome, shot_outcome, step_by, within_kind}
@@ -29,19 +28,13 @@ use Rattle.id_tag.specs.declared.Tag.{Tag}
 use Rattle.id_tag.specs.declared.Value.{Value}
 use Rattle.id_tag.specs.declared.Payload.TheVariants.{Token}
 use Rattle.id_tag.specs.declared.plain.PlainToken.{PlainToken}
-use Rattle.id_tag.specs.Plains.{message_of, tag_in, whole}
-use Rattle.id_tag.specs.declared.plain.Plain.{Plain}
-use Rattle.id_tag.specs.declared.plain.Plain.TheVariants as plain
-use Rattle.id_instr.specs.declared.dests.Port.{Port}
-use Rattle.id_instr.specs.declared.instr.Op.TheVariants.{Merge}
-use Rattle.id_valid.specs.Roles.{op_at}
-use Rattle.id_record.specs.Shootings.{IsNarrow}
+use Rattle.id_tag.specs.Plains.{message_of, tag_in}
 use Rattle.id_record.specs.declared.step.Step.TheVariants as step
 use Rattle.id_element.specs.declared.step.Short.{Short}
 use Rattle.id_element.specs.declared.step.TakeError.{TakeError}
 use Rattle.id_element.specs.declared.step.TakeError.TheVariants.{Memory, StampEnd}
 use Rattle.id_element.specs.declared.step.Short.TheVariants.{Went, Failed, Apart}
-use Rattle.id_element.specs.Fits.{ContinuationFits, Fits, IsFor}
+use Rattle.id_element.specs.Fits.{Fits, IsFor}
 use Rattle.id_element.specs.Replays.{ElementView, IsKept}
 use Rattle.id_element.specs.Shorts.{IsHandled, step_in}
 use Rattle.id_element.specs.Steps.{Outcome, State, at_instr, fired_verdict, next_numbers, outcome, state_after, step_of}
@@ -180,7 +173,6 @@ IsShort-kept d e most t stamp s same number = record {
   element = subst (λ n. n < 256) (sym number) s.element;
   iteration = s.iteration;
   few = s.few;
-  line = s.line;
 }
 
 -- and for a smaller bound on what is sent
@@ -191,54 +183,24 @@ IsShort-below d n m t stamp below s = record {
   element = s.element;
   iteration = s.iteration;
   few = le_trans below s.few;
-  line = s.line;
 }
 
--- the number of an instruction that has an operator is one of the graph's
-within_op : (g : Parts) (n : ℕ) (op : Op) → op_at g n ≡ Some op → n < length g.instrs
-within_op g n op h = at (slice_get g.instrs n) refl h
-  where
-    at : (o : Option Instr) → slice_get g.instrs n ≡ o → option_map (λ i. i.op) o ≡ Some op → n < length g.instrs
-    at None e h = cc
-    at (Some i) e h = slice_get_within g.instrs n i e
-
--- a continuation that fits a graph of few instructions names one with a small number
-narrow : (g : Parts) (stamp : ℕ) (t : Tag) (p : Port) (v : Plain) → length g.instrs ≤ 2 ^ 24 → ContinuationFits g stamp t p (whole v) → IsNarrow v
-narrow g stamp t p plain.Signal few fits = tt
-narrow g stamp t p (plain.Bool b) few fits = tt
-narrow g stamp t p (plain.Int n) few fits = tt
-narrow g stamp t p (plain.Context n) few fits = tt
-narrow g stamp t p (plain.Continuation n k j) few fits =
-    omega (arith, within_op g j (Merge fits.1.0) fits.1.1.merge, few)
-narrow g stamp t p (plain.Structure n l h) few fits = tt
-narrow g stamp t p (plain.Address n q) few fits = tt
-
--- the event of a token that fits the graph is short where the most, its stamp and what stands in no graph are small
+-- the event of a token that fits the graph is short where its stamp, the most and what stands in no graph are small
 pub IsShort-bound : (g : Parts) (d : Desk) (most : ℕ) (t : PlainToken) (stamp : ℕ) → IsBound g d.log.element most → Fits g (message_of t)
-    → t.stamp < stamp → stamp < 2 ^ 32 → length d.log.events < 2 ^ 32 → most ≤ 256 → t.position < 2 ^ 31 → t.sender < 255 → IsShort d most t stamp
-IsShort-bound g d most t stamp bound fits above small room few position sender =
-    let iteration : t.iteration < 2 ^ 32 - 1 = omega (arith, fits.in_time, above, small) in
-    record {
-      stamp_is = small;
-      position = room;
-      element = bound.element few;
-      iteration = iteration;
-      few = few;
-      line = record {
-        position = position;
-        instr = omega (arith, within_kind g (record { instr = t.instr; port = t.port }) _ fits.kind, bound.instrs few);
-        sender = sender;
-        iteration = iteration;
-        value = narrow g t.stamp (tag_in t) t.port t.value (bound.instrs few) fits.continuation;
-      };
-    }
+    → t.stamp < stamp → stamp < 2 ^ 32 → length d.log.events < 2 ^ 32 → most ≤ 256 → IsShort d most t stamp
+IsShort-bound g d most t stamp bound fits above small room few = record {
+  stamp_is = small;
+  position = room;
+  element = bound.element few;
+  iteration = omega (arith, fits.in_time, above, small);
+  few = few;
+}
 
--- what three tests say that hold at once
-pub all_true : (a b c : Bool) → IsTrue ((a && b) && c) → (a ≡ true) × (b ≡ true) × (c ≡ true)
-all_true true true true h = (refl, refl, refl)
-all_true true true false h = cc
-all_true true false c h = cc
-all_true false b c h = cc
+-- what two tests say that hold at once
+pub both_true : (a b : Bool) → IsTrue (a && b) → (a ≡ true) × (b ≡ true)
+both_true true true h = (refl, refl)
+both_true true false h = cc
+both_true false b h = cc
 
 -- the instruction that was read in the list sends no more than the most of the graph, nor than what is no less
 pub within : (g : Parts) (m n : ℕ) (d : Dest) (k : PortKind) (is : List Instr) (i : Instr) → IsMost g m → kind_at g.instrs d ≡ Some k → is ≡ g.instrs

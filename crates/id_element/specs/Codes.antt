@@ -13,11 +13,13 @@ use Rattle.id_ops.specs.declared.Fired.{Fired}
 use Rattle.id_ops.specs.contracts.Fired as fired
 use Rattle.id_record.specs.declared.step.Step.{Step}
 use Rattle.id_record.specs.contracts.step.Step as step
+use Rattle.id_record.specs.declared.kept.Keeps.{Keeps}
+use Rattle.id_record.specs.contracts.kept.Keeps as keeps
 use Rattle.id_record.specs.Events.{EventView}
 use Rattle.id_element.specs.Steps.{State}
 use Rattle.id_element.specs.Replays.{ElementView}
 
--- a graph, a message, what was fired and what an event came to have the codes of their types
+-- a graph, a message, what was fired, what an event came to and how much is kept have the codes of their types
 abbrev pub coded_graph : Coded Parts
 coded_graph = valid.the_row.coded
 
@@ -29,6 +31,9 @@ coded_fired = fired.the_row.coded
 
 abbrev pub coded_step : Coded Step
 coded_step = step.the_row.coded
+
+abbrev pub coded_keeps : Coded Keeps
+coded_keeps = keeps.the_row.coded
 
 -- an event as the tuple of its fields
 abbrev pub coded_event : Coded EventView
@@ -67,7 +72,8 @@ coded_state =
 -- an element as the tuple of its fields
 abbrev pub coded_element : Coded ElementView
 coded_element =
-    code_by (ℕ × (ℕ × (Parts × State))) (coded× coded_ℕ (coded× coded_ℕ (coded× coded_graph coded_state)))
-    (λ e. (e.number, (e.count, (e.graph, e.state))))
-    (λ p. record { number = p.0; count = p.1.0; graph = p.1.1.0; state = p.1.1.1 })
+    code_by (ℕ × (ℕ × (Parts × (Keeps × State))))
+    (coded× coded_ℕ (coded× coded_ℕ (coded× coded_graph (coded× coded_keeps coded_state))))
+    (λ e. (e.number, (e.count, (e.graph, (e.keeps, e.state)))))
+    (λ p. record { number = p.0; count = p.1.0; graph = p.1.1.0; keeps = p.1.1.1.0; state = p.1.1.1.1 })
     (λ _. refl)

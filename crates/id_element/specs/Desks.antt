@@ -8,7 +8,6 @@ use Rattle.id_tag.specs.declared.Payload.TheVariants.{Token}
 use Rattle.id_element.specs.declared.desk.Desk.{Desk}
 use Rattle.id_ops.specs.declared.Fired.{Fired}
 use Rattle.id_ops.specs.Operators.{fired}
-use Rattle.id_record.specs.Shootings.{HasLine}
 use Rattle.id_element.specs.declared.step.PlainOperands.{PlainOperands}
 use Rattle.id_element.specs.Firings.{operands_in}
 use Rattle.id_element.specs.Steps.{State, fresh_numbers}
@@ -36,7 +35,6 @@ pub record IsShort (d : Desk) (most : ℕ) (t : PlainToken) (stamp : ℕ) : Type
   pub element : d.log.element < 256
   pub iteration : t.iteration < 2 ^ 32 - 1
   pub few : most ≤ 256
-  pub line : HasLine t
 
 -- what the instruction fires on these operands under the tag of a plain token
 abbrev pub fired_by : Desk → Instr → PlainToken → PlainOperands → Fired

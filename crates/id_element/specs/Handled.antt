@@ -18,7 +18,7 @@ abbrev pub outputs_at : Desk → ℕ → List Payload → List Message
 outputs_at d stamp xs = numbered d.log.element (length d.log.events) stamp 0 xs
 
 -- the desk has handled this message at this stamp with this outcome: its event is the last in the record, what it made
--- is counted, and the number and the graph stay
+-- is counted, and the number, the graph and how much is kept stay
 pub record IsRecorded (old new : Desk) (m : Message) (stamp : ℕ) (o : Outcome) : Type 0 where
   pub state : state_of new ≡ record {
     waiting = o.waiting;
@@ -37,6 +37,7 @@ pub record IsRecorded (old new : Desk) (m : Message) (stamp : ℕ) (o : Outcome)
   }
   pub number : new.log.element ≡ old.log.element
   pub graph : new.log.graph ≡ old.log.graph
+  pub keeps : new.log.keeps ≡ old.log.keeps
 
 -- what its event at this stamp sends was put behind the messages before
 abbrev pub IsSent : Desk → List Message → List Message → ℕ → List Payload → Type 0

@@ -11,6 +11,7 @@ use Rattle.id_tag.specs.declared.Message.{Message}
 use Rattle.id_match.specs.Waiting.{waits}
 use Rattle.id_bank.specs.Cells.{CellState, Present, Deferred}
 use Rattle.id_instr.specs.Graph.{Parts}
+use Rattle.id_record.specs.declared.kept.Keeps.{Keeps}
 use Rattle.id_record.specs.Events.{EventView, AllWent}
 use Rattle.id_element.specs.Fits.{TokenFits, ReplyFits, IsFor, held_in}
 use Rattle.id_element.specs.Steps.{State, fresh, state_after}
@@ -35,11 +36,12 @@ pub record IsLegal (g : Parts) (count n : ℕ) (e : EventView) : Type 0 where
   pub stamp_left : e.message.stamp < 2 ^ 64 - 1
   pub stamp : e.stamp < 2 ^ 64
 
--- an element as contracts see it: its number of so many, the graph, and its state
+-- an element as contracts see it: its number of so many, the graph, how much it keeps of its events, and its state
 pub record ElementView : Type 0 where
   pub number : ℕ
   pub count : ℕ
   pub graph : Parts
+  pub keeps : Keeps
   pub state : State
 
 -- whatever waits fits the graph at the last stamp

@@ -8,8 +8,7 @@ ghost use Rattle.std.specs.FinMap as map;
 ghost use Rattle.id_bank.specs.Cells.{count_expected, write_after, write_answer};
 ghost use Rattle.id_record.specs.Events.{full_step, tag_of, value_of};
 ghost use Rattle.id_flight.specs.Demands.{demanded};
-ghost use Rattle.id_record.specs.Lines.{AreThere};
-ghost use Rattle.id_record.specs.Shootings.{HasLine};
+ghost use Rattle.id_record.specs.Handlings.{AreThere};
 ghost use Rattle.id_record.specs.Visits.{fated};
 ghost use Rattle.id_tag.specs.Plains.{tag_in, whole};
 ghost use Rattle.id_record.specs.declared.step.Step.TheVariants.{Went};
@@ -57,6 +56,7 @@ pub fn take_read<G: Gate>(
         ≡ outputs.old.messages ++ outputs_of desk.old.log.graph desk.old.log.element (state_of desk.old) read.now) }
     ensures number { desk.new.log.element ≡ desk.old.log.element }
     ensures graph { desk.new.log.graph ≡ desk.old.log.graph }
+    ensures keeps { desk.new.log.keeps ≡ desk.old.log.keeps }
 
     ensures memory { IfErr result (λ e. e ≡ TakeError.Memory) }
     ensures err { OnErr result (state_of desk.new ≡ state_of desk.old) }
@@ -92,6 +92,7 @@ pub fn take_write<G: Gate>(
         ++ outputs_of desk.old.log.graph desk.old.log.element (state_of desk.old) write.now) }
     ensures number { desk.new.log.element ≡ desk.old.log.element }
     ensures graph { desk.new.log.graph ≡ desk.old.log.graph }
+    ensures keeps { desk.new.log.keeps ≡ desk.old.log.keeps }
 
     ensures memory { IfErr result (λ e. e ≡ TakeError.Memory) }
     ensures err { OnErr result (state_of desk.new ≡ state_of desk.old) }
@@ -130,6 +131,7 @@ pub fn take_demand<G: Gate>(
     ensures apart_outputs { result ≡ Ok false → outputs.new.messages ≡ outputs.old.messages }
     ensures number { desk.new.log.element ≡ desk.old.log.element }
     ensures graph { desk.new.log.graph ≡ desk.old.log.graph }
+    ensures keeps { desk.new.log.keeps ≡ desk.old.log.keeps }
     ensures left { OnOk result (demand.now.like.stamp < 2 ^ 64 - 1) }
     ensures last_left { OnOk result (desk.old.stamp < 2 ^ 64 - 1) }
 
@@ -167,6 +169,7 @@ fn ask_or_put<G: Gate>(
     ensures apart_outputs { result ≡ Ok false → outputs.new.messages ≡ outputs.old.messages }
     ensures number { desk.new.log.element ≡ desk.old.log.element }
     ensures graph { desk.new.log.graph ≡ desk.old.log.graph }
+    ensures keeps { desk.new.log.keeps ≡ desk.old.log.keeps }
 
     ensures memory { IfErr result (λ e. e ≡ TakeError.Memory) }
     ensures err { OnErr result (state_of desk.new ≡ state_of desk.old) }
@@ -201,6 +204,7 @@ fn ask<G: Gate>(
         ++ outputs_of desk.old.log.graph desk.old.log.element (state_of desk.old) (demanded read.now)) }
     ensures number { desk.new.log.element ≡ desk.old.log.element }
     ensures graph { desk.new.log.graph ≡ desk.old.log.graph }
+    ensures keeps { desk.new.log.keeps ≡ desk.old.log.keeps }
 
     ensures memory { IfErr result (λ e. e ≡ TakeError.Memory) }
     ensures err { OnErr result (state_of desk.new ≡ state_of desk.old) }
@@ -226,7 +230,6 @@ fn answer_demand(
     requires is { read.now.stored ≡ None }
     requires short { IsShort desk.old 1 read.now.like stamp }
     requires room { 0 < desk.old.log.room }
-    requires room_aside { 0 < desk.old.log.room_aside }
     requires room_in_outputs { 1 ≤ outputs.old.room }
 
     ensures recorded { IsRecorded desk.old desk.new (demanded read.now) stamp
@@ -266,7 +269,6 @@ fn answer_full(
 )
     requires is { read.now.stored ≡ None }
     requires room { 0 < desk.old.log.room }
-    requires room_aside { 0 < desk.old.log.room_aside }
     requires room_in_outputs { 1 ≤ outputs.old.room }
 
     ensures recorded { IsRecorded desk.old desk.new (demanded read.now) stamp
@@ -303,6 +305,7 @@ fn put<G: Gate>(
     ensures apart_outputs { result ≡ Ok false → outputs.new.messages ≡ outputs.old.messages }
     ensures number { desk.new.log.element ≡ desk.old.log.element }
     ensures graph { desk.new.log.graph ≡ desk.old.log.graph }
+    ensures keeps { desk.new.log.keeps ≡ desk.old.log.keeps }
 
     ensures memory { IfErr result (λ e. e ≡ TakeError.Memory) }
     ensures err { OnErr result (state_of desk.new ≡ state_of desk.old) }
@@ -341,6 +344,7 @@ fn put_first<G: Gate>(
         ++ outputs_of desk.old.log.graph desk.old.log.element (state_of desk.old) (demanded write.now)) }
     ensures number { desk.new.log.element ≡ desk.old.log.element }
     ensures graph { desk.new.log.graph ≡ desk.old.log.graph }
+    ensures keeps { desk.new.log.keeps ≡ desk.old.log.keeps }
 
     ensures memory { IfErr result (λ e. e ≡ TakeError.Memory) }
     ensures err { OnErr result (state_of desk.new ≡ state_of desk.old) }
@@ -373,9 +377,9 @@ fn write_cell(
     ensures messages { outputs.new.messages ≡ outputs.old.messages }
     ensures number { desk.new.log.element ≡ desk.old.log.element }
     ensures graph { desk.new.log.graph ≡ desk.old.log.graph }
+    ensures keeps { desk.new.log.keeps ≡ desk.old.log.keeps }
 
     ensures room { OnOk result (0 < desk.new.log.room) }
-    ensures room_aside { OnOk result (0 < desk.new.log.room_aside) }
     ensures room_for_replies { IfOk result (λ a. length (readers_of a) ≤ desk.new.log.room_for_replies) }
     ensures room_in_outputs { IfOk result (λ a. length (readers_of a) ≤ outputs.new.room) }
 
@@ -401,7 +405,6 @@ fn fill_demand(
     requires is { write.now.stored ≡ Some value }
     requires short { IsShort desk.old 1 write.now.like stamp }
     requires room { 0 < desk.old.log.room }
-    requires room_aside { 0 < desk.old.log.room_aside }
     requires room_for_replies { length (readers_of answer.now) ≤ desk.old.log.room_for_replies }
     requires room_in_outputs { length (readers_of answer.now) ≤ outputs.old.room }
 
@@ -429,8 +432,6 @@ fn fill_demand(
 #[inline(always)]
 fn visit(desk: &mut Desk<'_>, demand: &Demand, stamp: u32, fate: Fate)
     requires room { 0 < desk.old.log.room }
-    requires room_aside { 0 < desk.old.log.room_aside }
-    requires fits { HasLine demand.now.like }
     requires replies { AreThere desk.old.log.replies (fated fate demand.now.cell (tag_in demand.now.like)).replies }
 
     ensures { IsRecorded desk.old desk.new (visit_message demand.now fate) stamp
@@ -455,7 +456,6 @@ fn answer_read(
     outputs: &mut Queue,
 ) -> Verdict
     requires room { 0 < desk.old.log.room }
-    requires room_aside { 0 < desk.old.log.room_aside }
     requires room_in_outputs { 1 ≤ outputs.old.room }
 
     ensures verdict { result ≡ verdict.Went }
@@ -498,7 +498,6 @@ fn fill(
     outputs: &mut Queue,
 ) -> Verdict
     requires room { 0 < desk.old.log.room }
-    requires room_aside { 0 < desk.old.log.room_aside }
     requires room_for_replies { length (readers_of answer.now) ≤ desk.old.log.room_for_replies }
     requires room_in_outputs { length (readers_of answer.now) ≤ outputs.old.room }
 

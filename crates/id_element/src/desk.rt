@@ -15,7 +15,7 @@ use id_instr::{Graph, Instr, Port};
 use id_match::Waiting;
 use id_ops::{Deed, Shot};
 use id_record::{
-    Doing, Envelope, Handling, NO_REPLIES, Reaction, Record, Shooting, Verdict, has_line, message,
+    Doing, Envelope, Handling, Keeps, NO_REPLIES, Reaction, Record, Shooting, Verdict, message,
     tag_of,
 };
 use id_tag::{Message, Payload, PlainToken, Tag, Value};
@@ -63,11 +63,12 @@ impl<'a> Desk<'a> {
     ghost use Rattle.id_instr.specs.Graph.{arcs_on, IsGraph};
     ghost use Rattle.id_ops.specs.Operators.{side_of};
 
-    /// The desk of the element of this number, which is alone or one of several, at which nothing was handled. Takes no
-    /// memory.
-    pub fn new(alloc: Global, number: u32, graph: &'a Valid, alone: bool) -> Desk<'a>
+    /// The desk of the element of this number, at which nothing was handled, and which will keep so much of its events.
+    /// Takes no memory.
+    pub fn new(alloc: Global, number: u32, graph: &'a Valid, keeps: Keeps) -> Desk<'a>
         ensures number { result.log.element ≡ number }
         ensures graph { result.log.graph ≡ graph.now }
+        ensures keeps { result.log.keeps ≡ keeps }
         ensures state { state_of result ≡ fresh }
     {
         Desk {
@@ -76,7 +77,7 @@ impl<'a> Desk<'a> {
             stamp: 0,
             contexts: 0,
             structures: 0,
-            log: Record::new(alloc, number, graph, alone),
+            log: Record::new(alloc, number, graph, keeps),
         }
     }
 
@@ -117,6 +118,7 @@ impl<'a> Desk<'a> {
             ≡ outputs.old.messages ++ outputs_of graph.now self.old.log.element (state_of self.old) message.now) }
         ensures number { self.new.log.element ≡ self.old.log.element }
         ensures graph { self.new.log.graph ≡ self.old.log.graph }
+        ensures keeps { self.new.log.keeps ≡ self.old.log.keeps }
 
         ensures memory { IfErr result (λ e. e ≡ TakeError.Memory) }
         ensures err { OnErr result (state_of self.new ≡ state_of self.old) }
@@ -160,9 +162,9 @@ impl<'a> Desk<'a> {
         ensures messages { outputs.new.messages ≡ outputs.old.messages }
         ensures number { self.new.log.element ≡ self.old.log.element }
         ensures graph { self.new.log.graph ≡ self.old.log.graph }
+        ensures keeps { self.new.log.keeps ≡ self.old.log.keeps }
 
         ensures room { OnOk result (0 < self.new.log.room) }
-        ensures room_aside { OnOk result (0 < self.new.log.room_aside) }
         ensures room_in_outputs { OnOk result (most_sent instr.now ≤ outputs.new.room) }
 
         ensures memory { IfErr result (λ e. e ≡ TakeError.Memory) }
@@ -204,6 +206,7 @@ impl<'a> Desk<'a> {
         ensures apart_outputs { result ≡ Ok Short.Apart → outputs.new.messages ≡ outputs.old.messages }
         ensures number { self.new.log.element ≡ self.old.log.element }
         ensures graph { self.new.log.graph ≡ self.old.log.graph }
+        ensures keeps { self.new.log.keeps ≡ self.old.log.keeps }
         ensures left { OnOk result (token.now.stamp < 2 ^ 64 - 1) }
         ensures last_left { OnOk result (self.old.stamp < 2 ^ 64 - 1) }
 
@@ -246,6 +249,7 @@ impl<'a> Desk<'a> {
             → IsUnchanged self.old self.new outputs.old.messages outputs.new.messages }
         ensures number { self.new.log.element ≡ self.old.log.element }
         ensures graph { self.new.log.graph ≡ self.old.log.graph }
+        ensures keeps { self.new.log.keeps ≡ self.old.log.keeps }
 
         ensures memory { IfErr result (λ e. e ≡ TakeError.Memory) }
         ensures err { OnErr result (IsUnchanged self.old self.new outputs.old.messages outputs.new.messages) }
@@ -276,7 +280,6 @@ impl<'a> Desk<'a> {
         outputs: &mut Queue,
     ) -> Short
         requires room { 0 < self.old.log.room }
-        requires room_aside { 0 < self.old.log.room_aside }
         requires own { slice_get self.old.log.graph.instrs token.now.instr ≡ Some instr.now }
         requires stamp { stamp ≡ next_stamp (state_of self.old) (message_of token.now) }
         requires short { IsShort self.old (most_sent instr.now) token.now stamp }
@@ -294,6 +297,7 @@ impl<'a> Desk<'a> {
             → (reacted ≡ Reacted.Apart) × IsUnchanged self.old self.new outputs.old.messages outputs.new.messages }
         ensures number { self.new.log.element ≡ self.old.log.element }
         ensures graph { self.new.log.graph ≡ self.old.log.graph }
+        ensures keeps { self.new.log.keeps ≡ self.old.log.keeps }
     {
         match reacted {
             Reacted::Waits => {
@@ -355,7 +359,6 @@ impl<'a> Desk<'a> {
             & (self.log.element() <= 0xff)
             & (token.iteration < 0xffff_ffff)
             & (most <= 0x100)
-            & has_line(token)
     }
 
     /// The same of a token that fits the graph, at a stamp above its own, where the most is large too unless the number
@@ -367,10 +370,8 @@ impl<'a> Desk<'a> {
         requires above { token.now.stamp < stamp }
         ensures { IsTrue result → IsShort self.now most token.now stamp }
     {
-        // What has 31 bits alike is asked at once, without a branch for each: nearly all of it has.
-        ((stamp | self.log.len() as u64 | u64::from(token.position)) <= 0x7fff_ffff)
-            & (most <= 0x100)
-            & (token.sender < 0xff)
+        // What has 32 bits alike is asked at once: nearly all of it has.
+        ((stamp | self.log.len() as u64) <= 0xffff_ffff) & (most <= 0x100)
     }
 
     /// Makes room for an event that sends so many messages, to so many replies.
@@ -384,10 +385,10 @@ impl<'a> Desk<'a> {
         ensures state { state_of self.new ≡ state_of self.old }
         ensures number { self.new.log.element ≡ self.old.log.element }
         ensures graph { self.new.log.graph ≡ self.old.log.graph }
+        ensures keeps { self.new.log.keeps ≡ self.old.log.keeps }
         ensures messages { outputs.new.messages ≡ outputs.old.messages }
 
         ensures room { OnOk result (0 < self.new.log.room) }
-        ensures room_aside { OnOk result (0 < self.new.log.room_aside) }
         ensures room_for_replies { OnOk result (replies ≤ self.new.log.room_for_replies) }
         ensures room_in_outputs { OnOk result (sent ≤ outputs.new.room) }
     {
@@ -408,7 +409,6 @@ impl<'a> Desk<'a> {
         outputs: &mut Queue,
     ) -> Verdict
         requires room { 0 < self.old.log.room }
-        requires room_aside { 0 < self.old.log.room_aside }
         requires own { slice_get self.old.log.graph.instrs (tag_of message.now.payload).instr ≡ Some instr.now }
         requires tag { tag ≡ tag_of message.now.payload }
         requires room_in_outputs { most_sent instr.now ≤ outputs.old.room }
@@ -437,7 +437,6 @@ impl<'a> Desk<'a> {
     #[inline(always)]
     fn note(&mut self, instr: &Instr, message: &Message, stamp: u64, reaction: &Reaction)
         requires room { 0 < self.old.log.room }
-        requires room_aside { 0 < self.old.log.room_aside }
         requires own { slice_get self.old.log.graph.instrs (tag_of message.now.payload).instr ≡ Some instr.now }
         requires counted { self.old.contexts + 1 < 2 ^ 64 }
         requires numbered { self.old.structures + 1 < 2 ^ 64 }
@@ -468,7 +467,6 @@ impl<'a> Desk<'a> {
         outputs: &mut Queue,
     )
         requires room { 0 < self.old.log.room }
-        requires room_aside { 0 < self.old.log.room_aside }
         requires short { IsShort self.old (most_sent instr.now) token.now stamp }
         requires own_value { IsOwn shot token.now.value }
         requires brief { IsBrief token.now.iteration shot }
@@ -507,7 +505,6 @@ impl<'a> Desk<'a> {
         outputs: &mut Queue,
     )
         requires room { 0 < self.old.log.room }
-        requires room_aside { 0 < self.old.log.room_aside }
         requires short { IsShort self.old (most_sent instr.now) token.now stamp }
         requires own { slice_get self.old.log.graph.instrs token.now.instr ≡ Some instr.now }
         requires room_in_outputs { most_sent instr.now ≤ outputs.old.room }
@@ -543,7 +540,6 @@ impl<'a> Desk<'a> {
         outputs: &mut Queue,
     ) -> Short
         requires room { 0 < self.old.log.room }
-        requires room_aside { 0 < self.old.log.room_aside }
         requires own { slice_get self.old.log.graph.instrs token.now.instr ≡ Some instr.now }
         requires short { IsShort self.old (most_sent instr.now) token.now stamp }
         requires room_in_outputs { most_sent instr.now ≤ outputs.old.room }
@@ -581,7 +577,6 @@ impl<'a> Desk<'a> {
         outputs: &mut Queue,
     ) -> Short
         requires room { 0 < self.old.log.room }
-        requires room_aside { 0 < self.old.log.room_aside }
         requires own { slice_get self.old.log.graph.instrs token.now.instr ≡ Some instr.now }
         requires short { IsShort self.old (most_sent instr.now) token.now stamp }
         requires room_in_outputs { most_sent instr.now ≤ outputs.old.room }

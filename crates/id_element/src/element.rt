@@ -12,8 +12,8 @@ use crate::outcome::bound;
 use crate::step::{Short, TakeError};
 use id_bank::{Cells, Reader};
 use id_flight::{Demand, Queue};
-use id_record::{Events, Step, full_step};
-use id_tag::{Message, PlainToken};
+use id_record::{Events, Faulted, Keeps, Step, Telling, full_step};
+use id_tag::{Message, Payload, PlainToken};
 use id_valid::Valid;
 use std::alloc::{AllocError, Global};
 use std::marker::Model;
@@ -43,6 +43,7 @@ impl<'a> Model for Element<'a> {
       number = e.desk.log.element;
       count = e.count;
       graph = e.desk.log.graph;
+      keeps = e.desk.log.keeps;
       state = state_of e.desk;
     } };
 
@@ -50,6 +51,7 @@ impl<'a> Model for Element<'a> {
       number = e.desk.log.element;
       count = e.count;
       graph = e.desk.log.graph;
+      keeps = e.desk.log.keeps;
       state = state_of e.desk;
     }) e.went × IsBound e.desk.log.graph e.desk.log.element e.most };
 }
@@ -57,8 +59,10 @@ impl<'a> Model for Element<'a> {
 impl<'a> Element<'a> {
     ghost use Rattle.std.specs.Prelude.{◌≡◌, ◌<◌, ◌≤◌, ◌-◌, ◌^◌, ◌==◌, ◌||◌, ◌++◌};
     ghost use Rattle.std.specs.Prelude.{◌↔◌, All, IfOk, OnOk, OnErr, IsTrue};
-    ghost use Rattle.std.specs.Prelude.{true, false};
+    ghost use Rattle.std.specs.Prelude.{true, false, ◌≢◌, length};
     ghost use Rattle.std.specs.FinMap.{empty};
+    ghost use Rattle.id_record.specs.declared.kept.Keeps.TheVariants as keeps;
+    ghost use Rattle.id_record.specs.Tellings.{any_stuck, first_fault, merged, tellings};
     ghost use Rattle.id_element.specs.declared.step.TakeError.TheVariants.{StampEnd};
     ghost use Rattle.id_record.specs.Events.{AllWent};
     ghost use Rattle.id_element.specs.Fits.{Fits, IsFor};
@@ -70,17 +74,35 @@ impl<'a> Element<'a> {
     ghost use Rattle.id_element.specs.declared.step.Short.{Short};
     ghost use Rattle.id_tag.specs.Plains.{message_of, tag_in};
 
-    /// The element of this number, of so many, that has handled nothing. Takes no memory, and looks at each instruction
-    /// once.
+    /// The element of this number, of so many, that has handled nothing and keeps all events. Takes no memory, and
+    /// looks at each instruction once.
     pub fn new(alloc: Global, number: u32, count: u32, graph: &'a Valid) -> Element<'a>
         requires at_least_one { 0 < count }
         requires at_most_64 { count ≤ 64 }
         requires number { number < count }
-        ensures { result ≡ record { number = number; count = count; graph = graph.now; state = fresh } }
+        ensures { result
+            ≡ record { number = number; count = count; graph = graph.now; keeps = keeps.All; state = fresh } }
+    {
+        Element::keeping(alloc, number, count, graph, Keeps::All)
+    }
+
+    /// The same, of one that keeps so much of its events.
+    pub fn keeping(
+        alloc: Global,
+        number: u32,
+        count: u32,
+        graph: &'a Valid,
+        keeps: Keeps,
+    ) -> Element<'a>
+        requires at_least_one { 0 < count }
+        requires at_most_64 { count ≤ 64 }
+        requires number { number < count }
+        ensures { result
+            ≡ record { number = number; count = count; graph = graph.now; keeps = keeps; state = fresh } }
     {
         Element {
             count,
-            desk: Desk::new(alloc, number, graph, count == 1),
+            desk: Desk::new(alloc, number, graph, keeps),
             went: true,
             most: bound(number, graph.graph()),
         }
@@ -271,13 +293,61 @@ impl<'a> Element<'a> {
         self.desk.log.graph()
     }
 
-    /// The record: the events, in order. Takes no memory.
+    /// How much it keeps of its events. Takes no memory.
+    #[inline(always)]
+    pub fn keeps(&self) -> Keeps
+        ensures { result ≡ self.now.keeps }
+    {
+        self.desk.log.keeps()
+    }
+
+    /// The record: the events, in order, of an element that keeps them all. Takes no memory.
     pub fn events(&self) -> Events<'_>
+        requires { self.now.keeps ≡ keeps.All }
         ensures value { result ≡ self.now.state.events }
         // The record leads to the element's state, by legal events.
         ensures kept { Replays self.now }
     {
         self.desk.log.events()
+    }
+
+    /// How many messages it has handled, which is how many events its record has. Takes no memory.
+    #[inline(always)]
+    pub fn handled(&self) -> usize
+        ensures value { result ≡ length self.now.state.events }
+        // The record leads to the element's state, by legal events.
+        ensures kept { Replays self.now }
+    {
+        self.desk.log.len()
+    }
+
+    /// What its events tell of contexts, of structures and of instruction 0, in order. Takes no memory.
+    pub fn tellings(&self) -> &[Telling]
+        ensures { result.now ≡ tellings self.now.state.events }
+    {
+        self.desk.log.tellings()
+    }
+
+    /// What came to merges for values of the source, in order, where that is kept. Takes no memory.
+    pub fn merged(&self) -> &[Payload]
+        requires { self.now.keeps ≢ keeps.Tellings }
+        ensures { result.now ≡ merged self.now.graph self.now.state.events }
+    {
+        self.desk.log.merged()
+    }
+
+    /// The first event that was a fault. Takes no memory.
+    pub fn fault(&self) -> Option<Faulted>
+        ensures { result ≡ first_fault self.now.state.events }
+    {
+        self.desk.log.fault()
+    }
+
+    /// Whether an event came to `Stuck`. Takes no memory.
+    pub fn is_stuck(&self) -> bool
+        ensures { result ≡ any_stuck self.now.state.events }
+    {
+        self.desk.log.is_stuck()
     }
 }
 

@@ -717,8 +717,8 @@ pub fn send_replies(
     ensures events { log.new.events ≡ log.old.events }
     ensures number { log.new.element ≡ log.old.element }
     ensures graph { log.new.graph ≡ log.old.graph }
+    ensures keeps { log.new.keeps ≡ log.old.keeps }
     ensures room_in_log { log.new.room ≡ log.old.room }
-    ensures room_aside { log.new.room_aside ≡ log.old.room_aside }
 {
     for (number, reader) in readers.iter().enumerate() {
         outputs.push_back_reserved(message(envelope, number, token_at(*reader, value)));

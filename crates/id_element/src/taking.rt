@@ -43,6 +43,7 @@ pub fn take<G: Gate>(
         ≡ outputs.old.messages ++ outputs_of graph.now desk.old.log.element (state_of desk.old) message.now) }
     ensures number { desk.new.log.element ≡ desk.old.log.element }
     ensures graph { desk.new.log.graph ≡ desk.old.log.graph }
+    ensures keeps { desk.new.log.keeps ≡ desk.old.log.keeps }
     ensures left { OnOk result (message.now.stamp < 2 ^ 64 - 1) }
     ensures last_left { OnOk result (desk.old.stamp < 2 ^ 64 - 1) }
 

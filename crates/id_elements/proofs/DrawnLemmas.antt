@@ -9,6 +9,7 @@ use Rattle.std.proofs.lemmas.Option.{get_or_from_slice_get, slice_get_within}
 use Rattle.id_instr.specs.Graph.{Parts}
 use Rattle.id_value.specs.declared.Constant.{Constant}
 use Rattle.id_tag.specs.Routes.{route_of}
+use Rattle.id_record.specs.declared.kept.Keeps.{Keeps}
 use Rattle.id_core.specs.Events.{EventView}
 use Rattle.id_core.specs.Steps.{State, event_of, fresh, outputs_of, state_after}
 use Rattle.id_core.specs.Machines.{World, MachineView, delivered, start, start_messages, taken_from}
@@ -74,8 +75,8 @@ module _ (steps count k : ℕ) (old new : MachineView) (same : old.count ≡ cou
 
 -- ---- the start
 
-module _ (g : Parts) (vs : List Constant) (count : ℕ) (m : MachineView)
-    (is : m ≡ record { graph = g; count = count; world = start g vs count }) where
+module _ (g : Parts) (vs : List Constant) (count : ℕ) (keeps : Keeps) (m : MachineView)
+    (is : m ≡ record { graph = g; count = count; keeps = keeps; world = start g vs count }) where
   pub start_counts : 0 < count → count ≤ 64 → HasCount m
   start_counts some few =
       let c : m.count ≡ count = ap (λ (x : MachineView). x.count) is in

@@ -224,6 +224,7 @@ goes_on steps count k old new same f is few =
     record {
       same_graph = ap (λ (m : MachineView). m.graph) is;
       same_count = ap (λ (m : MachineView). m.count) is;
+      same_keeps = ap (λ (m : MachineView). m.keeps) is;
       few = subst (λ (w : World). All (λ (s : State). length s.events ≤ steps) w.elements) (sym world_is) (few_after old.graph count steps old.world k f few);
       accounted = λ start was. subst (λ (w : World). IsAccounted start w.elements w.flight) (sym world_is) (accounted_after old.graph count steps old.world k f start was);
     }
@@ -284,6 +285,7 @@ pub goes_on_more : (steps : ℕ) (a b c : MachineView) → GoesOn steps a b → 
 goes_on_more steps a b c p q = record {
   same_graph = q.same_graph ∙ p.same_graph;
   same_count = q.same_count ∙ p.same_count;
+  same_keeps = q.same_keeps ∙ p.same_keeps;
   few = q.few;
   accounted = λ start was. q.accounted start (p.accounted start was);
 }

@@ -5,6 +5,7 @@ use Rattle.std.proofs.lemmas.List.Sums.{sum_by-cons}
 use Rattle.id_instr.specs.Graph.{Parts}
 use Rattle.id_tag.specs.declared.Message.{Message}
 use Rattle.id_inbox.specs.Doors.{DoorView}
+use Rattle.id_record.specs.declared.kept.Keeps.{Keeps}
 use Rattle.id_element.specs.Steps.{State}
 use Rattle.id_element.specs.Replays.{ElementView}
 use Rattle.id_runs.specs.Accounts.{sent_of, taken_of}
@@ -50,8 +51,8 @@ whole_parts start old new ss before after w ds e own out stray ds_is e_is own_is
         omega (arith, l, a, b, c)
 
 -- an element before those that follow it
-pub gathered_more : (g : Parts) (count most n : ℕ) (e : ElementView) (es : List ElementView) → IsGathered g count most n e → AreGathered g count most (n + 1) es
-    → AreGathered g count most n (e ∷ es)
-gathered_more g count most n e es mine kept zero d lt = subst (λ (k : ℕ). IsGathered g count most k e) (let k : n ≡ n + 0 = omega arith in k) mine
-gathered_more g count most n e es mine kept (suc i) d lt =
-    subst (λ (k : ℕ). IsGathered g count most k (get_or es i d)) (let k : (n + 1) + i ≡ n + suc i = omega arith in k) (kept i d (omega arith))
+pub gathered_more : (g : Parts) (count most : ℕ) (keeps : Keeps) (n : ℕ) (e : ElementView) (es : List ElementView) → IsGathered g count most keeps n e
+    → AreGathered g count most keeps (n + 1) es → AreGathered g count most keeps n (e ∷ es)
+gathered_more g count most keeps n e es mine kept zero d lt = subst (λ (k : ℕ). IsGathered g count most keeps k e) (let k : n ≡ n + 0 = omega arith in k) mine
+gathered_more g count most keeps n e es mine kept (suc i) d lt =
+    subst (λ (k : ℕ). IsGathered g count most keeps k (get_or es i d)) (let k : (n + 1) + i ≡ n + suc i = omega arith in k) (kept i d (omega arith))

@@ -1,5 +1,5 @@
 -- What workers have come to is a machine, and its run (specs/Runs.antt).
-use Rattle.std.proofs.Common.{◌≡◌, ◌≢◌, ℕ, zero, suc, ◌+◌, ◌<◌, ◌≤◌, ◌⊎◌, inl, inr, Result, Ok, Err, List, [], ◌∷◌, All, length, get_or, refl, sym, ap, subst, ◌∙◌, arith}
+use Rattle.std.proofs.Common.{◌≡◌, ◌≢◌, ℕ, zero, suc, ◌+◌, ◌<◌, ◌≤◌, ◌⊎◌, inl, inr, Bool, true, false, not, ◌||◌, Result, Ok, Err, List, [], ◌∷◌, All, length, get_or, refl, sym, ap, subst, ◌∙◌, arith}
 use Rattle.std.specs.Prelude.{◌↔◌, IfOk}
 use Rattle.std.specs.List.Sorted.{IsPermutation, IsStrictlySortedBy}
 use Rattle.std.proofs.lemmas.List.Folds.{flat_map-map}
@@ -14,12 +14,16 @@ use Rattle.id_value.specs.declared.Constant.{Constant}
 use Rattle.id_tag.specs.declared.Message.{Message}
 use Rattle.id_value.specs.List.{Among}
 use Rattle.id_value.proofs.AmongLemmas.{Among-either, Among-left, Among-right}
+use Rattle.id_record.specs.declared.kept.Keeps.{Keeps}
+use Rattle.id_record.specs.declared.step.Step.{Step}
+use Rattle.id_record.specs.declared.step.Step.TheVariants as steps
 use Rattle.id_record.specs.declared.step.Step.TheVariants.{Stuck}
+use Rattle.id_record.specs.Tellings.{any_stuck, is_stuck}
 use Rattle.id_core.specs.Events.{AllWent, EventView}
 use Rattle.id_element.specs.Fits.{Fits}
 use Rattle.id_core.specs.Steps.{State}
 use Rattle.id_element.specs.Replays.{ElementView, Replays}
-use Rattle.id_core.specs.Machines.{AreElements, IsElement, IsMachine, MachineView, World, start_messages, world_of}
+use Rattle.id_core.specs.Machines.{AllKeep, AreElements, IsElement, IsMachine, MachineView, World, start_messages, world_of}
 use Rattle.id_core.specs.Observed.{events_of}
 use Rattle.id_runs.specs.Accounts.{IsAccounted}
 use Rattle.id_runs.specs.Orders.{AreReplayed, OrdersAreRuns}
@@ -34,11 +38,14 @@ use Rattle.id_elements.specs.Workers.{sent_in}
 
 -- ---- what is gathered
 
-pub elements_gathered : (g : Parts) (count most : ℕ) (es : List ElementView) → AreGathered g count most 0 es → AreElements g count es
-elements_gathered g count most es all n d lt = subst (λ (k : ℕ). IsElement g count k (get_or es n d)) (let k : 0 + n ≡ n = omega arith in k) (all n d lt).element
+pub elements_gathered : (g : Parts) (count most : ℕ) (keeps : Keeps) (es : List ElementView) → AreGathered g count most keeps 0 es → AreElements g count es
+elements_gathered g count most keeps es all n d lt = subst (λ (k : ℕ). IsElement g count k (get_or es n d)) (let k : 0 + n ≡ n = omega arith in k) (all n d lt).element
 
-pub few_gathered : (g : Parts) (count most : ℕ) (es : List ElementView) → AreGathered g count most 0 es → All (λ (s : State). length s.events ≤ most) (states_of es)
-few_gathered g count most es all n d lt = go es n d lt (λ k e l. (all k e l).few)
+pub kept_gathered : (g : Parts) (count most : ℕ) (keeps : Keeps) (es : List ElementView) → AreGathered g count most keeps 0 es → AllKeep keeps es
+kept_gathered g count most keeps es all n d lt = (all n d lt).kept
+
+pub few_gathered : (g : Parts) (count most : ℕ) (keeps : Keeps) (es : List ElementView) → AreGathered g count most keeps 0 es → All (λ (s : State). length s.events ≤ most) (states_of es)
+few_gathered g count most keeps es all n d lt = go es n d lt (λ k e l. (all k e l).few)
   where
     go : (es : List ElementView) (n : ℕ) (d : State) → n < length (states_of es)
         → ((k : ℕ) (e : ElementView) → k < length es → length (get_or es k e).state.events ≤ most) → length (get_or (states_of es) n d).events ≤ most
@@ -56,22 +63,23 @@ sent_fits g (x ∷ xs) each =
     (sent_fits g xs (λ k e l. each (suc k) e (omega arith))))
 
 -- so does what is left
-pub left_fits : (g : Parts) (vs : List Constant) (count most : ℕ) (es : List ElementView) (left : List Message) → AreGathered g count most 0 es
+pub left_fits : (g : Parts) (vs : List Constant) (count most : ℕ) (keeps : Keeps) (es : List ElementView) (left : List Message) → AreGathered g count most keeps 0 es
     → All (Fits g) (start_messages g vs) → IsAccounted (start_messages g vs) (states_of es) left → All (Fits g) left
-left_fits g vs count most es left all begun accounted =
+left_fits g vs count most keeps es left all begun accounted =
     All-from_recursion (Fits g) left (left_holds (Fits g) g vs (record { elements = states_of es; flight = left }) accounted
     (recursion_from_All (Fits g) (start_messages g vs) begun)
     (recursion_from_All (Fits g) _ (sent_fits g es (λ k e l. (all k e l).sent))))
 
 -- they are a machine's
-pub machine_gathered : (g : Parts) (vs : List Constant) (count most : ℕ) (es : List ElementView) (left : List Message) → 0 < count → count ≤ 64
-    → length es ≡ count → AreGathered g count most 0 es → All (Fits g) (start_messages g vs)
-    → IsAccounted (start_messages g vs) (states_of es) left → IsMachine g es left
-machine_gathered g vs count most es left some few long all begun accounted = record {
+pub machine_gathered : (g : Parts) (vs : List Constant) (count most : ℕ) (keeps : Keeps) (es : List ElementView) (left : List Message) → 0 < count → count ≤ 64
+    → length es ≡ count → AreGathered g count most keeps 0 es → All (Fits g) (start_messages g vs)
+    → IsAccounted (start_messages g vs) (states_of es) left → IsMachine g keeps es left
+machine_gathered g vs count most keeps es left some few long all begun accounted = record {
   at_least_one = omega arith;
   at_most_64 = omega arith;
-  elements = subst (λ (n : ℕ). AreElements g n es) (sym long) (elements_gathered g count most es all);
-  flight_fits = left_fits g vs count most es left all begun accounted;
+  elements = subst (λ (n : ℕ). AreElements g n es) (sym long) (elements_gathered g count most keeps es all);
+  kept = kept_gathered g count most keeps es all;
+  flight_fits = left_fits g vs count most keeps es left all begun accounted;
 }
 
 -- ---- the records of a machine
@@ -117,6 +125,39 @@ moves_to : (es : List ElementView) → ((v : EventView) → Among v (events_of (
 moves_to [] each k d lt = absurd (omega arith)
 moves_to (x ∷ xs) each zero d lt = all_move x.state.events (λ v h. each v (Among-left v x.state.events (events_of (states_of xs)) h))
 moves_to (x ∷ xs) each (suc k) d lt = moves_to xs (λ v h. each v (Among-right v x.state.events (events_of (states_of xs)) h)) k d (omega arith)
+
+-- which is noted of each element
+moves_step : (s : Step) → is_stuck s ≡ false → s ≢ Stuck
+moves_step steps.Went h is = cc
+moves_step (steps.Fault f) h is = cc
+moves_step steps.Stuck h is = cc
+
+step_moves : (s : Step) → s ≢ Stuck → is_stuck s ≡ false
+step_moves steps.Went h = refl
+step_moves (steps.Fault f) h = refl
+step_moves steps.Stuck h = absurd (h refl)
+
+neither : (a b : Bool) → (a || b) ≡ false → (a ≡ false) × (b ≡ false)
+neither false b h = (refl, h)
+neither true b h = absurd cc
+
+none_of : (a b : Bool) → a ≡ false → b ≡ false → (a || b) ≡ false
+none_of false b h k = k
+none_of true b h k = absurd cc
+
+move_all : (es : List EventView) → any_stuck es ≡ false → AllMove es
+move_all [] none k d lt = absurd (omega arith)
+move_all (x ∷ xs) none zero d lt = moves_step x.step (neither (is_stuck x.step) (any_stuck xs) none).0
+move_all (x ∷ xs) none (suc k) d lt = move_all xs (neither (is_stuck x.step) (any_stuck xs) none).1 k d (omega arith)
+
+none_stuck : (es : List EventView) → AllMove es → any_stuck es ≡ false
+none_stuck [] all = refl
+none_stuck (x ∷ xs) all = none_of (is_stuck x.step) (any_stuck xs) (step_moves x.step (all 0 x (omega arith)))
+    (none_stuck xs (λ k d lt. all (suc k) d (omega arith)))
+
+pub moves_noted : (es : List EventView) (stuck : Bool) → stuck ≡ any_stuck es → (not stuck ≡ true ↔ AllMove es)
+moves_noted es true is = ((λ h. absurd cc), (λ all. absurd (let none = none_stuck es all in cc)))
+moves_noted es false is = ((λ h. move_all es (sym is)), (λ all. refl))
 
 -- no event of a machine was, where none of any element was
 pub moves_on_from : (m : MachineView) (es : List ElementView) → world_of es m.world.flight ≡ m.world

@@ -17,6 +17,7 @@ use Rattle.id_tag.specs.declared.Message.{Message}
 use Rattle.id_tag.specs.declared.Payload.{Payload}
 use Rattle.id_inbox.specs.Doors.{DoorView}
 use Rattle.id_inbox.specs.Hands.{sending, taking}
+use Rattle.id_record.specs.declared.kept.Keeps.{Keeps}
 use Rattle.id_record.specs.Events.{EventView}
 use Rattle.id_element.specs.Fits.{Fits, IsFor}
 use Rattle.id_element.specs.Steps.{State, event_of, outputs_of, state_after}
@@ -106,6 +107,7 @@ IsSame-passed ds e e' own own' out out' stray k p = record {
   number = ap (λ (x : ElementView). x.number) p.element_is;
   count = ap (λ (x : ElementView). x.count) p.element_is;
   graph = ap (λ (x : ElementView). x.graph) p.element_is;
+  keeps = ap (λ (x : ElementView). x.keeps) p.element_is;
 }
 
 pub handled_one : (k : ℕ) (own : List Message) (e : ElementView) (out own' : List Message) (e' : ElementView) (out' : List Message)
@@ -302,29 +304,29 @@ longer_by_one : (ws : List WorkerView) (w : WorkerView) → length (ws ++ w ∷ 
 longer_by_one ws w = length-append ws (w ∷ [])
 
 -- one more worker
-pub workers_more : (g : Parts) (count most : ℕ) (qs : List (SegId Global)) (ws : List WorkerView) (w : WorkerView) → AreWorkers g count most qs ws
-    → IsWorker g count most qs (length ws) w → AreWorkers g count most qs (ws ++ w ∷ [])
-workers_more g count most qs ws w kept mine i d lt =
-    ⊎_elim (λ (below : i < length ws). subst (IsWorker g count most qs i) (sym (get_or_push_less ws w i d below)) (kept i d below))
+pub workers_more : (g : Parts) (count most : ℕ) (keeps : Keeps) (qs : List (SegId Global)) (ws : List WorkerView) (w : WorkerView) → AreWorkers g count most keeps qs ws
+    → IsWorker g count most keeps qs (length ws) w → AreWorkers g count most keeps qs (ws ++ w ∷ [])
+workers_more g count most keeps qs ws w kept mine i d lt =
+    ⊎_elim (λ (below : i < length ws). subst (IsWorker g count most keeps qs i) (sym (get_or_push_less ws w i d below)) (kept i d below))
     (λ (le : length ws ≤ i).
     let here : i ≡ length ws = (let k = longer_by_one ws w in omega arith) in
     let at : get_or (ws ++ w ∷ []) i d ≡ w = ap (λ (k : ℕ). get_or (ws ++ w ∷ []) k d) here ∙ get_or_push_end ws w d in
-    subst (IsWorker g count most qs i) (sym at) (subst (λ (k : ℕ). IsWorker g count most qs k w) (sym here) mine))
+    subst (IsWorker g count most keeps qs i) (sym at) (subst (λ (k : ℕ). IsWorker g count most keeps qs k w) (sym here) mine))
     (cases_lt i (length ws))
 
 -- one worker less
-pub workers_less : (g : Parts) (count most : ℕ) (qs : List (SegId Global)) (ws : List WorkerView) (w : WorkerView)
-    → AreWorkers g count most qs (ws ++ w ∷ []) → AreWorkers g count most qs ws × IsWorker g count most qs (length ws) w
-workers_less g count most qs ws w kept = (
-  (λ i d lt. subst (IsWorker g count most qs i) (get_or_push_less ws w i d lt) (kept i d (let l = longer_by_one ws w in omega arith))),
-  subst (IsWorker g count most qs (length ws)) (get_or_push_end ws w w) (kept (length ws) w (let l = longer_by_one ws w in omega arith)),
+pub workers_less : (g : Parts) (count most : ℕ) (keeps : Keeps) (qs : List (SegId Global)) (ws : List WorkerView) (w : WorkerView)
+    → AreWorkers g count most keeps qs (ws ++ w ∷ []) → AreWorkers g count most keeps qs ws × IsWorker g count most keeps qs (length ws) w
+workers_less g count most keeps qs ws w kept = (
+  (λ i d lt. subst (IsWorker g count most keeps qs i) (get_or_push_less ws w i d lt) (kept i d (let l = longer_by_one ws w in omega arith))),
+  subst (IsWorker g count most keeps qs (length ws)) (get_or_push_end ws w w) (kept (length ws) w (let l = longer_by_one ws w in omega arith)),
 )
 
 -- workers that have worked
-pub workers_worked : (g : Parts) (count less most : ℕ) (qs : List (SegId Global)) (ws vs : List WorkerView) → length vs ≡ length ws
-    → AreWorkers g count less qs ws
-    → ((i : ℕ) (d : WorkerView) → i < length ws → IsSameWithin most (get_or ws i d) (get_or vs i d)) → AreWorkers g count most qs vs
-workers_worked g count less most qs ws vs long are worked i d lt =
+pub workers_worked : (g : Parts) (count less most : ℕ) (keeps : Keeps) (qs : List (SegId Global)) (ws vs : List WorkerView) → length vs ≡ length ws
+    → AreWorkers g count less keeps qs ws
+    → ((i : ℕ) (d : WorkerView) → i < length ws → IsSameWithin most (get_or ws i d) (get_or vs i d)) → AreWorkers g count most keeps qs vs
+workers_worked g count less most keeps qs ws vs long are worked i d lt =
     let lt' : i < length ws = omega arith in
     let was = are i d lt' in
     let has = worked i d lt' in
@@ -335,5 +337,6 @@ workers_worked g count less most qs ws vs long are worked i d lt =
         count_is = has.same.count ∙ was.element.count_is;
         graph = has.same.graph ∙ was.element.graph;
       };
+      kept = has.same.keeps ∙ was.kept;
       few = has.few;
     }

@@ -4,6 +4,7 @@ use Rattle.std.specs.List.{sum_by}
 use Rattle.id_instr.specs.Graph.{Parts}
 use Rattle.id_tag.specs.declared.Message.{Message}
 use Rattle.id_inbox.specs.Doors.{DoorView}
+use Rattle.id_record.specs.declared.kept.Keeps.{Keeps}
 use Rattle.id_element.specs.Fits.{Fits}
 use Rattle.id_element.specs.Steps.{State}
 use Rattle.id_element.specs.Replays.{ElementView}
@@ -22,13 +23,15 @@ abbrev pub IsWhole : List Message → List DoorView → List State → List Mess
 IsWhole start ds ss left = (f : Message → ℕ)
     → taken_by f ds + sum_by f start + sent_of f ss ≡ sent_by f ds + taken_of f ss + sum_by f left
 
--- the element is the one of this number, it has handled so many messages at most, and what it sent fits the graph
-pub record IsGathered (g : Parts) (count most n : ℕ) (e : ElementView) : Type 0 where
+-- the element is the one of this number, it keeps so much of its events, it has handled so many messages at most, and
+-- what it sent fits the graph
+pub record IsGathered (g : Parts) (count most : ℕ) (k : Keeps) (n : ℕ) (e : ElementView) : Type 0 where
   pub element : IsElement g count n e
+  pub kept : e.keeps ≡ k
   pub few : length e.state.events ≤ most
   pub sent : All (Fits g) (sent_in e.state)
 
 -- so are these elements, whose numbers begin with this one
-abbrev pub AreGathered : Parts → ℕ → ℕ → ℕ → List ElementView → Type 0
-AreGathered g count most from es = (i : ℕ) (d : ElementView) → i < length es
-    → IsGathered g count most (from + i) (slice_index_or es i d)
+abbrev pub AreGathered : Parts → ℕ → ℕ → Keeps → ℕ → List ElementView → Type 0
+AreGathered g count most k from es = (i : ℕ) (d : ElementView) → i < length es
+    → IsGathered g count most k (from + i) (slice_index_or es i d)

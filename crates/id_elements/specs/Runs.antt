@@ -87,11 +87,12 @@ AreHeldBefore count steps w k =
 abbrev pub HasCount : MachineView → Type 0
 HasCount m = (0 < m.count) × (m.count ≤ 64) × (length m.world.elements ≡ m.count)
 
--- the machine has gone on: it is of the same graph and of as many elements, none of which has handled more than so many
--- messages, and its records account for each message for which they did before
+-- the machine has gone on: it is of the same graph and of as many elements, which keep as much, none of which has
+-- handled more than so many messages, and its records account for each message for which they did before
 pub record GoesOn (steps : ℕ) (old new : MachineView) : Type 0 where
   pub same_graph : new.graph ≡ old.graph
   pub same_count : new.count ≡ old.count
+  pub same_keeps : new.keeps ≡ old.keeps
   pub few : All (λ s. length s.events ≤ steps) new.world.elements
   pub accounted : (start : List Message) → IsAccounted start old.world.elements old.world.flight
       → IsAccounted start new.world.elements new.world.flight

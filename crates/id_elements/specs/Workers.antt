@@ -6,6 +6,7 @@ use Rattle.crossbeam_queue.specs.SegTies.{SegId}
 use Rattle.id_instr.specs.Graph.{Parts}
 use Rattle.id_tag.specs.declared.Message.{Message}
 use Rattle.id_inbox.specs.Doors.{DoorView}
+use Rattle.id_record.specs.declared.kept.Keeps.{Keeps}
 use Rattle.id_element.specs.Fits.{Fits}
 use Rattle.id_element.specs.Steps.{State, fresh}
 use Rattle.id_element.specs.Replays.{ElementView}
@@ -57,6 +58,7 @@ pub record IsSame (old new : WorkerView) : Type 0 where
   pub number : new.element.number ≡ old.element.number
   pub count : new.element.count ≡ old.element.count
   pub graph : new.element.graph ≡ old.element.graph
+  pub keeps : new.element.keeps ≡ old.element.keeps
 
 -- and its element has handled so many messages at most
 pub record IsSameWithin (most : ℕ) (old new : WorkerView) : Type 0 where
@@ -64,10 +66,10 @@ pub record IsSameWithin (most : ℕ) (old new : WorkerView) : Type 0 where
   pub few : length new.element.state.events ≤ most
 
 -- the worker of an element that has handled nothing, with these doors
-abbrev pub fresh_worker : Parts → ℕ → ℕ → List DoorView → WorkerView
-fresh_worker g count number doors = record {
+abbrev pub fresh_worker : Parts → ℕ → Keeps → ℕ → List DoorView → WorkerView
+fresh_worker g count keeps number doors = record {
   doors = doors;
-  element = record { number = number; count = count; graph = g; state = fresh };
+  element = record { number = number; count = count; graph = g; keeps = keeps; state = fresh };
   own = [];
   out = [];
   stray = [];
@@ -77,14 +79,16 @@ fresh_worker g count number doors = record {
 abbrev pub IsFirstOwn : WorkerView → Type 0
 IsFirstOwn w = IsRouted w.element.count w.out w.element.number
 
--- the worker has these inboxes, is that of the element of this number, and the element has handled so many messages at
--- most
-pub record IsWorker (g : Parts) (count most : ℕ) (qs : List (SegId Global)) (i : ℕ) (w : WorkerView) : Type 0 where
+-- the worker has these inboxes, is that of the element of this number, which keeps so much of its events, and the
+-- element has handled so many messages at most
+pub record IsWorker (g : Parts) (count most : ℕ) (k : Keeps) (qs : List (SegId Global)) (i : ℕ) (w : WorkerView) :
+    Type 0 where
   pub queues : queues_of w.doors ≡ qs
   pub element : IsElement g count i w.element
+  pub kept : w.element.keeps ≡ k
   pub few : length w.element.state.events ≤ most
 
 -- these are the workers of the elements of the graph, in order of their numbers
-abbrev pub AreWorkers : Parts → ℕ → ℕ → List (SegId Global) → List WorkerView → Type 0
-AreWorkers g count most qs ws = (i : ℕ) (d : WorkerView) → i < length ws
-    → IsWorker g count most qs i (slice_index_or ws i d)
+abbrev pub AreWorkers : Parts → ℕ → ℕ → Keeps → List (SegId Global) → List WorkerView → Type 0
+AreWorkers g count most k qs ws = (i : ℕ) (d : WorkerView) → i < length ws
+    → IsWorker g count most k qs i (slice_index_or ws i d)

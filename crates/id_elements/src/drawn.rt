@@ -11,7 +11,7 @@ use crate::ended::Run;
 use crate::finish::{first_free, is_held_back};
 use crate::running::{moves_on, replay_all};
 use crate::settings::{MAX_STEPS, RunError, Settings};
-use id_core::{MAX_ELEMENTS, Machine, MachineError, Step, TakeError};
+use id_core::{Keeps, MAX_ELEMENTS, Machine, MachineError, Step, TakeError};
 use id_source::Inputs;
 use id_valid::Valid;
 use rand_core::{Rng, SeedableRng};
@@ -27,14 +27,19 @@ fn start_of<'a>(
     graph: &'a Valid,
     inputs: &Inputs,
     count: u32,
+    keeps: Keeps,
 ) -> Result<Machine<'a>, AllocError>
     requires inputs { TakesInputs graph.now inputs.now.values }
     requires some { 0 < count }
     requires few { count ≤ 64 }
-    ensures { IfOk result
-        (λ m. m ≡ record { graph = graph.now; count = count; world = start graph.now inputs.now.values count }) }
+    ensures { IfOk result (λ m. m ≡ record {
+      graph = graph.now;
+      count = count;
+      keeps = keeps;
+      world = start graph.now inputs.now.values count;
+    }) }
 {
-    match Machine::new(alloc, graph, inputs, count) {
+    match Machine::keeping(alloc, graph, inputs, count, keeps) {
         Ok(machine) => Ok(machine),
         Err(MachineError::BadElements) => unreachable!(),
         Err(MachineError::Memory) => Err(AllocError),
@@ -152,11 +157,12 @@ fn run_drawn<'a>(
     requires some { 0 < settings.elements }
     requires few { settings.elements ≤ 64 }
     ensures run { IfOk result (IsRun graph.now inputs.now.values settings.elements settings.steps) }
+    ensures kept { IfOk result (λ r. r.keeps ≡ settings.keeps) }
     ensures moves { IfOk result (λ r. MovesOn r.world) }
     ensures refused { IfErr result (IsRefusedRun graph.now inputs.now.values settings.elements settings.steps) }
 {
     id_runs::orders_are_runs();
-    let mut machine = start_of(alloc, graph, inputs, settings.elements)?;
+    let mut machine = start_of(alloc, graph, inputs, settings.elements, settings.keeps)?;
     let mut rng = Pcg64Mcg::seed_from_u64(seed);
     deliver_drawn(&mut machine, &mut rng, settings.elements, settings.steps)?;
     replay_all(&machine);
@@ -180,6 +186,7 @@ pub fn run_in_order<'a>(
     // It is a run of the machine, and it has come to its end: where every event went well, each message left is held
     // back.
     ensures run { IfOk result (IsRun graph.now inputs.now.values settings.elements settings.steps) }
+    ensures kept { IfOk result (λ r. r.keeps ≡ settings.keeps) }
     ensures moves { IfOk result (λ r. MovesOn r.world) }
     ensures elements { (result ≡ Err BadElements) ↔ ((settings.elements ≡ 0) ⊎ (64 < settings.elements)) }
     ensures steps { (result ≡ Err BadSteps) ↔ AreBadSteps settings.elements settings.steps }

@@ -27,7 +27,8 @@ impl<'a> Run<'a> {
     ghost use Rattle.std.specs.Prelude.{◌≡◌, map, IfOk};
     ghost use Rattle.std.specs.List.Sorted.{IsStrictlyIncreasing};
     ghost use Rattle.id_core.specs.Firsts.{AreMergedOf};
-    ghost use Rattle.id_core.specs.Machines.{AreElements, world_of};
+    ghost use Rattle.id_core.specs.Machines.{AllKeep, AreElements, world_of};
+    ghost use Rattle.id_record.specs.declared.kept.Keeps.TheVariants as keeps;
 
     /// The run that has come to this machine. Takes no memory.
     pub(crate) fn of(machine: Machine<'a>) -> Run<'a>
@@ -47,6 +48,7 @@ impl<'a> Run<'a> {
     pub fn elements(&self) -> &[Element<'a>]
         ensures elements { AreElements self.now.graph self.now.count result.now }
         ensures world { world_of result.now self.now.world.flight ≡ self.now.world }
+        ensures kept { AllKeep self.now.keeps result.now }
         ensures rise { IsStrictlyIncreasing (map (λ e. e.number) result.now) }
     {
         self.machine.elements()
@@ -59,8 +61,9 @@ impl<'a> Run<'a> {
         self.machine.in_flight()
     }
 
-    /// All events, by stamp, and at one stamp by element.
+    /// All events, by stamp, and at one stamp by element, of a run that keeps them.
     pub fn order(&self, alloc: Global) -> Result<Merged<'_>, AllocError>
+        requires { self.now.keeps ≡ keeps.All }
         ensures { IfOk result (AreMergedOf self.now.world.elements) }
     {
         merge_records(alloc, self.machine.elements())

@@ -34,7 +34,7 @@ fn takes_no_more(element: &Element<'_>, message: &Message, steps: u64) -> bool
     ensures some { IsFalse result → length element.now.state.events ≢ steps }
     ensures stamp { IsFalse result → IsFalse (is_ended element.now.state message.now) }
 {
-    element.events().len() as u64 == steps || element.is_ended(message)
+    element.handled() as u64 == steps || element.is_ended(message)
 }
 
 /// Whether the message at a position is held back: the element that it is for has handled `steps` messages, or no stamp

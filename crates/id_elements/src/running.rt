@@ -22,7 +22,7 @@ use crate::finish::finish;
 use crate::settings::{MAX_STEPS, RunError, Settings};
 use crate::shared::Shared;
 use crate::worker::Worker;
-use id_core::{Element, Events, Gate, InFlight, MAX_ELEMENTS, Machine, Step, start_flight};
+use id_core::{Element, Gate, InFlight, Keeps, MAX_ELEMENTS, Machine, start_flight};
 use id_flight::Queue;
 use id_inbox::Door;
 use id_source::Inputs;
@@ -78,11 +78,12 @@ fn make_workers<'a>(
     alloc: Global,
     doors: &mut Vec<Door>,
     graph: &'a Valid,
+    keeps: Keeps,
 ) -> Result<Vec<Worker<'a>>, AllocError>
     requires few { vec_len doors.old ≤ 64 }
     requires parts { HaveParts 1024 doors.old.items }
     ensures workers { IfOk result
-        (λ ws. AreWorkers graph.now (vec_len doors.old) 0 (queues_of doors.new.items) ws.items) }
+        (λ ws. AreWorkers graph.now (vec_len doors.old) 0 keeps (queues_of doors.new.items) ws.items) }
     ensures len { IfOk result (λ ws. vec_len ws ≡ vec_len doors.old) }
     ensures parts { OnOk result (HaveParts (1024 - vec_len doors.old) doors.new.items) }
     ensures whole { OnOk result ((start : List Message)
@@ -92,7 +93,7 @@ fn make_workers<'a>(
     let mut workers = Vec::new(alloc);
     for number in 0..count {
         let theirs = split_all(alloc, doors)?;
-        workers.push(Worker::new(alloc, number, theirs, graph))?;
+        workers.push(Worker::new(alloc, number, theirs, graph, keeps))?;
     }
     Ok(workers)
 }
@@ -162,16 +163,17 @@ fn gather<'a>(
     doors: &mut Vec<Door>,
     mut workers: Vec<Worker<'a>>,
     graph: &'a Valid,
-    count: u32,
-    steps: u64,
+    settings: Settings,
 ) -> Result<Gathered<'a>, AllocError>
-    requires len { vec_len workers ≡ count }
-    requires few { count ≤ 64 }
-    requires workers { AreWorkers graph.now count steps (queues_of doors.old.items) workers.items }
+    requires len { vec_len workers ≡ settings.elements }
+    requires few { settings.elements ≤ 64 }
+    requires workers { AreWorkers graph.now settings.elements settings.steps settings.keeps (queues_of doors.old.items)
+        workers.items }
     requires parts { HaveParts (1024 - vec_len workers) doors.old.items }
     ensures parts { OnOk result (HaveParts 1024 doors.new.items) }
-    ensures elements { IfOk result (λ r. AreGathered graph.now count steps 0 r.elements.items) }
-    ensures len { IfOk result (λ r. length r.elements.items ≡ count) }
+    ensures elements { IfOk result
+        (λ r. AreGathered graph.now settings.elements settings.steps settings.keeps 0 r.elements.items) }
+    ensures len { IfOk result (λ r. length r.elements.items ≡ settings.elements) }
     ensures whole { IfOk result (λ r. (start : List Message) → IsWhole start doors.old.items [] []
         → IsWhole start doors.new.items (states_of r.elements.items) r.left.messages) }
 {
@@ -195,7 +197,8 @@ fn run_workers<'a, R: Threads + Wait + Sync, G: Gate + Sync>(
 ) -> Result<Gathered<'a>, AllocError>
     requires some { 0 < settings.elements }
     requires few { settings.elements ≤ 64 }
-    ensures elements { IfOk result (λ r. AreGathered graph.now settings.elements settings.steps 0 r.elements.items) }
+    ensures elements { IfOk result
+        (λ r. AreGathered graph.now settings.elements settings.steps settings.keeps 0 r.elements.items) }
     ensures len { IfOk result (λ r. length r.elements.items ≡ settings.elements) }
     ensures accounted { IfOk result
         (λ r. IsAccounted start.now.messages (states_of r.elements.items) r.left.messages) }
@@ -203,7 +206,7 @@ fn run_workers<'a, R: Threads + Wait + Sync, G: Gate + Sync>(
     let count = settings.elements;
     let mut doors = open_all(alloc, count)?;
     send_start(rt, alloc, &mut doors, start)?;
-    let mut workers = make_workers(alloc, &mut doors, graph)?;
+    let mut workers = make_workers(alloc, &mut doors, graph, settings.keeps)?;
     let shared = Shared::new(alloc, count, start.len())?;
     work_all(
         rt,
@@ -216,7 +219,7 @@ fn run_workers<'a, R: Threads + Wait + Sync, G: Gate + Sync>(
     if shared.was_refused() {
         return Err(AllocError);
     }
-    let mut gathered = gather(alloc, &mut doors, workers, graph, count, settings.steps)?;
+    let mut gathered = gather(alloc, &mut doors, workers, graph, settings)?;
     drain_all(rt, &mut doors, &mut gathered.left)?;
     Ok(gathered)
 }
@@ -236,6 +239,7 @@ fn machine_of<'a, R: Threads + Wait + Sync, G: Gate + Sync>(
     requires few { settings.elements ≤ 64 }
     ensures graph { IfOk result (λ m. m.graph ≡ graph.now) }
     ensures count { IfOk result (λ m. m.count ≡ settings.elements) }
+    ensures kept { IfOk result (λ m. m.keeps ≡ settings.keeps) }
     ensures elements { IfOk result HasCount }
     ensures few { IfOk result (λ m. All (λ s. length s.events ≤ settings.steps) m.world.elements) }
     ensures accounted { IfOk result (λ m. IsAccounted (start_messages graph.now inputs.now.values) m.world.elements
@@ -244,7 +248,7 @@ fn machine_of<'a, R: Threads + Wait + Sync, G: Gate + Sync>(
     id_runs::orders_are_runs();
     let start = start_flight(alloc, graph, inputs)?;
     let Gathered { elements, left } = run_workers(rt, alloc, graph, &start, settings, limit, gate)?;
-    Ok(Machine::resume(alloc, graph, elements, left))
+    Ok(Machine::resume(alloc, graph, settings.keeps, elements, left))
 }
 
 /// Whether no event of the machine was `Stuck`.
@@ -261,23 +265,11 @@ fn all_move_in(elements: &[Element<'_>]) -> bool
     elements.iter().all(|element| moves_at(element))
 }
 
-/// Whether no event of an element was `Stuck`. Where each event went well, that takes no look at its record.
+/// Whether no event of an element was `Stuck`.
 fn moves_at(element: &Element<'_>) -> bool
     ensures { IsTrue result ↔ AllMove element.now.state.events }
 {
-    element.all_went() || all_move(&element.events())
-}
-
-/// Whether none of these events was `Stuck`.
-fn all_move(events: &Events<'_>) -> bool
-    ensures { IsTrue result ↔ AllMove events.now }
-{
-    for position in 0..events.len() {
-        if let Step::Stuck = events.event(position).step {
-            return false;
-        }
-    }
-    true
+    !element.is_stuck()
 }
 
 /// The elements of a machine are what their records lead to.
@@ -287,7 +279,7 @@ pub fn replay_all(machine: &Machine<'_>)
 {
     let elements = machine.elements();
     for element in elements {
-        let _events = element.events();
+        let _handled = element.handled();
     }
 }
 
@@ -305,6 +297,7 @@ fn run_allowed<'a, R: Threads + Wait + Sync, G: Gate + Sync>(
     requires some { 0 < settings.elements }
     requires few { settings.elements ≤ 64 }
     ensures run { IfOk result (IsRun graph.now inputs.now.values settings.elements settings.steps) }
+    ensures kept { IfOk result (λ r. r.keeps ≡ settings.keeps) }
     ensures moves { IfOk result (λ r. MovesOn r.world) }
     ensures refused { IfErr result (IsRefusedRun graph.now inputs.now.values settings.elements settings.steps) }
 {
@@ -336,6 +329,7 @@ pub fn run_limited<'a, R: Threads + Wait + Sync, G: Gate + Sync>(
     // It is a run of the machine, and it has come to its end: where every event went well, each message left is held
     // back.
     ensures run { IfOk result (IsRun graph.now inputs.now.values settings.elements settings.steps) }
+    ensures kept { IfOk result (λ r. r.keeps ≡ settings.keeps) }
     ensures moves { IfOk result (λ r. MovesOn r.world) }
     ensures elements { (result ≡ Err BadElements) ↔ ((settings.elements ≡ 0) ⊎ (64 < settings.elements)) }
     ensures steps { (result ≡ Err BadSteps) ↔ AreBadSteps settings.elements settings.steps }
@@ -362,6 +356,7 @@ pub fn run<'a, R: Threads + Wait + Sync, G: Gate + Sync>(
 ) -> Result<Run<'a>, RunError>
     requires { TakesInputs graph.now inputs.now.values }
     ensures run { IfOk result (IsRun graph.now inputs.now.values settings.elements settings.steps) }
+    ensures kept { IfOk result (λ r. r.keeps ≡ settings.keeps) }
     ensures moves { IfOk result (λ r. MovesOn r.world) }
     ensures elements { (result ≡ Err BadElements) ↔ ((settings.elements ≡ 0) ⊎ (64 < settings.elements)) }
     ensures steps { (result ≡ Err BadSteps) ↔ AreBadSteps settings.elements settings.steps }

@@ -7,7 +7,7 @@ use crate::doors::put;
 use crate::hand::Hand;
 use crate::passing::{give, pass, sort, stay};
 use crate::shared::Shared;
-use id_core::InFlight;
+use id_core::{InFlight, Keeps};
 use id_element::{Element, Gate, TakeError};
 use id_flight::Queue;
 use id_inbox::Door;
@@ -81,13 +81,20 @@ impl<'a> Worker<'a> {
     ghost use Rattle.id_elements.specs.Doors.{AreUnused, HaveParts};
     ghost use Rattle.id_elements.specs.Workers.{IsFirstOwn, IsKept, IsSame, IsSameWithin, fresh_worker};
 
-    /// The worker of this number, with a door to each inbox, whose element has handled nothing. Takes no memory.
-    pub fn new(alloc: Global, number: u32, doors: Vec<Door>, graph: &'a Valid) -> Worker<'a>
+    /// The worker of this number, with a door to each inbox, whose element has handled nothing and keeps so much of its
+    /// events. Takes no memory.
+    pub fn new(
+        alloc: Global,
+        number: u32,
+        doors: Vec<Door>,
+        graph: &'a Valid,
+        keeps: Keeps,
+    ) -> Worker<'a>
         requires inbox { number < vec_len doors }
         requires few { vec_len doors ≤ 64 }
         requires parts { HaveParts 1 doors.items }
         requires unused { AreUnused doors.items }
-        ensures { result ≡ fresh_worker graph.now (vec_len doors) number doors.items }
+        ensures { result ≡ fresh_worker graph.now (vec_len doors) keeps number doors.items }
     {
         let count = doors.len() as u32;
         Worker {
@@ -95,7 +102,7 @@ impl<'a> Worker<'a> {
             number,
             count,
             doors,
-            element: Element::new(alloc, number, count, graph),
+            element: Element::keeping(alloc, number, count, graph, keeps),
             own: InFlight::new(alloc, Queue::new(alloc)),
             out: Queue::new(alloc),
             stray: Queue::new(alloc),
@@ -129,7 +136,7 @@ impl<'a> Worker<'a> {
     fn handled(&self) -> u64
         ensures { result ≡ length self.now.element.state.events }
     {
-        self.element.events().len() as u64
+        self.element.handled() as u64
     }
 
     /// Takes a message out of its inbox, if it is found to have one, and says whether it was.

@@ -11,6 +11,7 @@ use Rattle.id_value.specs.List.{Among, AllDiffer}
 use Rattle.id_source.specs.Sources.{Source}
 use Rattle.id_source.specs.Names.{AreWaiting}
 use Rattle.id_source.specs.Orders.{AskBefore, Rises}
+use Rattle.id_record.specs.declared.kept.Keeps.TheVariants as keeps
 use Rattle.id_core.specs.Machines.{World}
 use Rattle.id_core.specs.Observed as shown
 use Rattle.id_core.specs.Observed.{CellValue}
@@ -111,7 +112,7 @@ keys_of (x ∷ xs) = ap (λ ks. (x.name, x.index) ∷ ks) (keys_of xs)
 
 -- what a sound run shows of structures and cells is apart
 pub AreApartBy-held : (S : Source) (g : Parts) (number : ℕ → ℕ → ℕ) (count : ℕ) (w : World) → IsSound S g number w
-    → AreApartBy OfOneThing (held_lines (record { graph = g; count = count; world = w }))
+    → AreApartBy OfOneThing (held_lines (record { graph = g; count = count; keeps = keeps.All; world = w }))
 AreApartBy-held S g number count w s = record {
   differ = both_differ _ _ (arrays_differ ss differ_shapes) (cells_differ ps differ_cells)
       (λ h a b. not_both h ss ps a b);
@@ -141,9 +142,9 @@ AreApartBy-held S g number count w s = record {
 
 -- what a sound run's report says of structures and cells is so
 pub AreSomeHeld-sound : (S : Source) (g : Parts) (number : ℕ → ℕ → ℕ) (count : ℕ) (w : World) (hs : List Held) → IsSound S g number w
-    → IsOrderOf HeldBefore hs (held_lines (record { graph = g; count = count; world = w })) → Rises HeldBefore hs → AreSomeHeld S hs
+    → IsOrderOf HeldBefore hs (held_lines (record { graph = g; count = count; keeps = keeps.All; world = w })) → Rises HeldBefore hs → AreSomeHeld S hs
 AreSomeHeld-sound S g number count w hs s sorted rise =
-    let all = held_lines (record { graph = g; count = count; world = w }) in
+    let all = held_lines (record { graph = g; count = count; keeps = keeps.All; world = w }) in
     record {
       shapes = λ x h. s.structures x (the_shape x (shown.structures g w) (shown.cell_values g w) (among_sorted all hs (Array x) sorted.same h));
       puts = λ c h. put_there c (among_image shown.cell_value (shown.cells g w) c
@@ -160,9 +161,9 @@ AreSomeHeld-sound S g number count w hs s sorted rise =
 
 -- and all, where the run is complete
 pub AreHeld-complete : (S : Source) (g : Parts) (count : ℕ) (w : World) (hs : List Held) → AreSomeHeld S hs → IsComplete S g w
-    → IsOrderOf HeldBefore hs (held_lines (record { graph = g; count = count; world = w })) → AreHeld S hs
+    → IsOrderOf HeldBefore hs (held_lines (record { graph = g; count = count; keeps = keeps.All; world = w })) → AreHeld S hs
 AreHeld-complete S g count w hs some c sorted =
-    let all = held_lines (record { graph = g; count = count; world = w }) in
+    let all = held_lines (record { graph = g; count = count; keeps = keeps.All; world = w }) in
     record {
       shapes = λ x h. among_permuted all hs (Array x) sorted.same (among_first _ _ _ (among_map Array (shown.structures g w) x (c.structures x h)));
       puts = λ x h. among_permuted all hs (Cell (shown.cell_value x)) sorted.same

@@ -8,6 +8,7 @@ pub mod RunLemmas
 pub mod ShownLemmas
 pub mod LeftLemmas
 pub mod TraceLemmas
+pub mod KeepsLemmas
 pub mod PrintedLemmas
 pub mod HeldBackLemmas
 pub mod StatusLemmas

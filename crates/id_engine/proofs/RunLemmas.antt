@@ -8,6 +8,7 @@ use Rattle.id_source.specs.Sources.{Source, AreInputs}
 use Rattle.id_source.specs.Names.{AreSomeNames}
 use Rattle.id_source.specs.Rounds.{Answers, IsAnswer, Faulty}
 use Rattle.id_pieces.specs.Schemas.{Schemas}
+use Rattle.id_record.specs.declared.kept.Keeps.TheVariants as keeps
 use Rattle.id_core.specs.Machines.{World, MachineView, IsQuiet, start, run}
 use Rattle.id_core.specs.Observed.{faults}
 use Rattle.id_core.specs.Observed as shown
@@ -39,8 +40,8 @@ if_some S (Some v) h = h v refl
 -- what a report says is so where the state is sound, and complete if it is quiet
 true_in : (S : Source) (g : Parts) (count : ℕ) (w : World) (b : Bool) (r : Report) (e : Ending) →
     ((i : ℕ) (f : SourceFault) → slice_get (faults g w) i ≡ Some f → Faulty S f)
-    → (IsQuiet w → IsComplete S g w) → SaysSome S r → IsReportFrom (record { graph = g; count = count; world = w }) b r → Rises WaitBefore r.waiting
-    → EndsSo (record { graph = g; count = count; world = w }) e → SaysTruly S b r e
+    → (IsQuiet w → IsComplete S g w) → SaysSome S r → IsReportFrom (record { graph = g; count = count; keeps = keeps.All; world = w }) b r → Rises WaitBefore r.waiting
+    → EndsSo (record { graph = g; count = count; keeps = keeps.All; world = w }) e → SaysTruly S b r e
 true_in S g count w b r Quiet fails completes some from rise ends =
     let done : IsComplete S g w = completes ends in
     let Q : Option SourceValue → Type 0 = IsAnswer S in
@@ -67,11 +68,11 @@ left_none (keep x h) e = absurd cc
 left_none (swap x y) e = absurd cc
 left_none (next h k) e = left_none k (left_none h e)
 
--- a report of a machine is one of each that is equal but for its count and the order of what is in flight
+-- a report of a machine is one of each that is equal but for its count, what it keeps and the order of what is in flight
 from_same : (m : MachineView) (g : Parts) (n : ℕ) (w : World) (b : Bool) (r : Report) → m.graph ≡ g → IsSameBut w m.world → IsReportFrom m b r
-    → IsReportFrom (record { graph = g; count = n; world = w }) b r
+    → IsReportFrom (record { graph = g; count = n; keeps = keeps.All; world = w }) b r
 from_same m g n w b r same is h =
-    let Q : Parts → List State → Type 0 = λ x es. IsReportFrom (record { graph = x; count = n; world = record { elements = es; flight = w.flight } }) b r in
+    let Q : Parts → List State → Type 0 = λ x es. IsReportFrom (record { graph = x; count = n; keeps = keeps.All; world = record { elements = es; flight = w.flight } }) b r in
     subst (λ (x : Parts). Q x w.elements) same (subst (λ (es : List State). Q m.graph es) (sym is.elements) (record {
       answer_is = h.answer_is;
       sorted = h.sorted;
@@ -85,20 +86,20 @@ from_same m g n w b r same is h =
     }))
   where
     ends_at : (e : Ending) → EndsSo m e →
-        EndsSo (record { graph = m.graph; count = n; world = record { elements = m.world.elements; flight = w.flight } }) e
+        EndsSo (record { graph = m.graph; count = n; keeps = keeps.All; world = record { elements = m.world.elements; flight = w.flight } }) e
     ends_at Quiet h = record { empty = none_left is.flight h.empty; went = h.went }
     ends_at Stopped h = (h.0, λ q. h.1 (record { empty = left_none is.flight q.empty; went = q.went }))
     ends_at (Fault f) h = h
 
 -- its names are some of the source's where the state is sound
 some_names : (S : Source) (g : Parts) (number : ℕ → ℕ → ℕ) (count : ℕ) (w : World) (b : Bool) (r : Report) → IsSound S g number w
-    → IsReportFrom (record { graph = g; count = count; world = w }) b r → AreSomeNames S r.names
+    → IsReportFrom (record { graph = g; count = count; keeps = keeps.All; world = w }) b r → AreSomeNames S r.names
 some_names S g number count w true r ok h = AreSomeNames-sound S g number w r.names ok (h.sorted refl) (h.rise refl (AreApart-sound S g number w ok))
 some_names S g number count w false r ok h = subst (AreSomeNames S) (sym (h.none refl)) (AreSomeNames-none S)
 
 -- and what it says is some of what is so of the source
 says_some : (S : Source) (g : Parts) (number : ℕ → ℕ → ℕ) (count : ℕ) (w : World) (b : Bool) (r : Report) → IsSound S g number w
-    → IsReportFrom (record { graph = g; count = count; world = w }) b r → SaysSome S r
+    → IsReportFrom (record { graph = g; count = count; keeps = keeps.All; world = w }) b r → SaysSome S r
 says_some S g number count w b r ok h = record {
   answer = if_some S r.answer (λ v k. ok.answer v (sym h.answer_is ∙ k));
   names = some_names S g number count w b r ok h;
@@ -113,7 +114,7 @@ IsTrueOf-laws : (S : Source) (g : Parts) (count : ℕ) (ks : List ℕ) (m : Mach
 IsTrueOf-laws S g count ks m b r sound complete inputs schemas same_graph world from =
     let w : World = run g count ks (start g S.inputs count) in
     let ok : IsSound S g schemas.number w = sound S g count ks inputs schemas in
-    let here : IsReportFrom (record { graph = g; count = count; world = w }) b r = from_same m g count w b r same_graph world from in
+    let here : IsReportFrom (record { graph = g; count = count; keeps = keeps.All; world = w }) b r = from_same m g count w b r same_graph world from in
     let some : SaysSome S r = says_some S g schemas.number count w b r ok here in
     record {
       says = true_in S g count w b r r.ending (λ i f k. ok.faults f (Among-from_at f (faults g w) i k)) (complete S g count ks inputs schemas)

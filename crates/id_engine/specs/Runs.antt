@@ -1,6 +1,6 @@
 -- Runs of the engine: how they end, and what is printed of them (docs/PROMISES.md, "The run").
 use Rattle.std.specs.Prelude.{◌≡◌, ◌≢◌, ℕ, Bool, IsTrue, IsFalse, List, [], ◌++◌, All, Option, Result}
-use Rattle.std.specs.Prelude.{Ok, Err}
+use Rattle.std.specs.Prelude.{Ok, Err, if◌then◌else◌}
 use Rattle.id_check.specs.declared.checked.Checked.{Checked}
 use Rattle.id_instr.specs.Graph.{Parts}
 use Rattle.id_value.specs.declared.Constant.{Constant}
@@ -9,6 +9,8 @@ use Rattle.id_source.specs.declared.SourceFault.{SourceFault}
 use Rattle.id_source.specs.declared.NameValue.{NameValue}
 use Rattle.id_source.specs.Inputs.{AreInputsOf}
 use Rattle.id_pieces.specs.Schemas.{Schemas}
+use Rattle.id_record.specs.declared.kept.Keeps.{Keeps}
+use Rattle.id_record.specs.declared.kept.Keeps.TheVariants as keeps
 use Rattle.id_core.specs.Events.{EventView}
 use Rattle.id_core.specs.Firsts.{AreMergedOf, IsFirstFault}
 use Rattle.id_core.specs.Machines.{MachineView, World, IsQuiet}
@@ -26,7 +28,11 @@ use Rattle.id_engine.specs.Commands.{Run, Shows}
 
 -- the lines about structures and cells that a machine of so many elements shows
 abbrev pub held_of : Parts → ℕ → World → List Held
-held_of g count w = held_lines (record { graph = g; count = count; world = w })
+held_of g count w = held_lines (record { graph = g; count = count; keeps = keeps.All; world = w })
+
+-- as much as is kept of the events of a run whose trace or names are asked for, or neither
+abbrev pub keeps_for : Bool → Bool → Keeps
+keeps_for trace names = if trace then keeps.All else if names then keeps.Names else keeps.Tellings
 
 -- what is traced of a machine: all its events, by stamp, and at one stamp by element, where they are asked for, and
 -- else none

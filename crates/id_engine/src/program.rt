@@ -9,7 +9,7 @@ use crate::commands::{check_text, draw_text, facts_text, graph_text};
 use crate::run::engine;
 use id_args::{Request, Unasked};
 use id_compile::{Cause, EngineError, Source, of_engine_error, of_source_fault, plain, refuse};
-use id_core::{Gate, Open};
+use id_core::{Gate, Keeps, Open};
 use id_elements::Settings;
 use id_print::{Sink, put};
 use std::alloc::Global;
@@ -81,6 +81,7 @@ fn run_asked<R: Threads + Wait + Sync, G: Gate + Sync, O: Sink>(
                 elements: *count,
                 steps: *steps,
                 order: *order,
+                keeps: Keeps::Tellings,
             },
             *names,
             *trace,

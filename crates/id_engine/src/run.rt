@@ -1,7 +1,8 @@
 //! A text, compiled, run and printed.
 
 ghost use Rattle.std.specs.Prelude.{◌≡◌, ◌≢◌, ◌≤◌, ◌++◌, length, map};
-ghost use Rattle.std.specs.Prelude.{IfErr, IfOk, OnOk};
+ghost use Rattle.std.specs.Prelude.{IfErr, IfOk, IsTrue, OnOk};
+ghost use Rattle.id_record.specs.declared.kept.Keeps.TheVariants as keeps;
 ghost use Rattle.id_pieces.specs.Schemas.{Schemas};
 ghost use Rattle.id_source.specs.Sources.{AreInputs};
 ghost use Rattle.id_print.specs.Reports.{report_text};
@@ -20,16 +21,29 @@ ghost use Rattle.id_compile.specs.Programs.{IsPlacedWithin};
 ghost use Rattle.id_compile.specs.Refusals.{IsInsideOf, IsRefusedRun, IsTakenRun};
 ghost use Rattle.id_engine.specs.Reports.{AreAllowed, IsUnallowed};
 ghost use Rattle.id_engine.specs.Reports.{AreReportsWithin, PrintsEvents, PrintsMachine, PrintsRun, RunsSo, status_of};
-ghost use Rattle.id_engine.specs.Runs.{IsTraceOf, Ran, RanFront};
+ghost use Rattle.id_engine.specs.Runs.{IsTraceOf, Ran, RanFront, keeps_for};
 
 use id_compile::{EngineError, Prepared, prepare};
-use id_core::{Gate, Merged, merge_records};
+use id_core::{Gate, Keeps, Merged, merge_records};
 use id_elements::{Run, RunError, Settings};
 use id_print::{Ending, PrintError, Report, Sink, report, write_report, write_trace};
 use id_valid::Valid;
 use std::alloc::{AllocError, Global};
 use std::sync::Wait;
 use std::thread::Threads;
+
+/// As much as is kept of the events of a run whose trace or names are asked for, or neither.
+fn keeps_for(trace: bool, names: bool) -> Keeps
+    ensures { result ≡ keeps_for trace names }
+{
+    if trace {
+        Keeps::All
+    } else if names {
+        Keeps::Names
+    } else {
+        Keeps::Tellings
+    }
+}
 
 /// The report of a run of the graph, with what names have where that is asked for. Before it is made, the memory of the
 /// run is given back.
@@ -39,7 +53,8 @@ fn report_of(
     graph: &Valid,
     named: bool,
 ) -> Result<Report, EngineError>
-    requires { run.old.graph ≡ graph.now }
+    requires graph { run.old.graph ≡ graph.now }
+    requires kept { IsTrue named → run.old.keeps ≢ keeps.Tellings }
     ensures same { run.new ≡ run.old }
     ensures report { IfOk result (IsReportFrom run.new named) }
     ensures memory { IfErr result (λ e. e ≡ EngineError.Memory) }
@@ -53,6 +68,7 @@ fn report_of(
 
 /// All events of a run, by stamp, and at one stamp by element, where they are asked for, and else none.
 fn trace_of<'a>(alloc: Global, run: &'a Run<'_>, trace: bool) -> Result<Merged<'a>, AllocError>
+    requires { IsTrue trace → run.now.keeps ≡ keeps.All }
     ensures { IfOk result (IsTraceOf trace run.now.world) }
 {
     if trace {
@@ -108,6 +124,7 @@ fn print_run<W: Sink>(
     trace: bool,
     out: &mut W,
 ) -> Result<u8, EngineError>
+    requires kept { IsTrue trace → run.now.keeps ≡ keeps.All }
     requires fits { length text.now ≤ 1048576 }
     requires inside { ReportWithin (length text.now) report.now }
     ensures { PrintsRun text.now trace names run.now.world report.now (W.told out.old) (W.told out.new) result }
@@ -129,6 +146,7 @@ fn print_ended<W: Sink>(
     out: &mut W,
 ) -> Result<u8, EngineError>
     requires graph { run.old.graph ≡ graph.now }
+    requires kept { run.old.keeps ≡ keeps_for trace names }
     requires fits { length text.now ≤ 1048576 }
     requires inside { AreReportsWithin run.old names (length text.now) }
     ensures { PrintsMachine run.old text.now trace names (W.told out.old) (W.told out.new) result }
@@ -154,6 +172,7 @@ fn print_once<W: Sink>(
     out: &mut W,
 ) -> Result<u8, EngineError>
     requires graph { run.graph ≡ graph.now }
+    requires kept { run.keeps ≡ keeps_for trace names }
     requires fits { length text.now ≤ 1048576 }
     requires inside { AreReportsWithin run names (length text.now) }
     ensures { PrintsMachine run.entry text.now trace names (W.told out.old) (W.told out.new) result }
@@ -176,6 +195,7 @@ fn run_for<'a, R: Threads + Wait + Sync, G: Gate + Sync>(
     ensures schemas { Schemas prepared.now.compiled.checked prepared.now.compiled.graph }
     ensures run { IfOk result (IsRun prepared.now.compiled.graph prepared.now.inputs.values settings.elements
         settings.steps) }
+    ensures kept { IfOk result (λ r. r.keeps ≡ settings.keeps) }
     ensures moves { IfOk result (λ r. MovesOn r.world) }
     ensures allowed { OnOk result (AreAllowed settings.elements settings.steps) }
     ensures refused { IfErr result (IsUnallowed settings.elements settings.steps) }
@@ -219,7 +239,11 @@ fn run_prepared<R: Threads + Wait + Sync, G: Gate + Sync, W: Sink>(
 {
     id_laws::sound();
     id_laws::complete();
-    match run_for(rt, alloc, prepared, settings, gate) {
+    let asked = Settings {
+        keeps: keeps_for(trace, names),
+        ..settings
+    };
+    match run_for(rt, alloc, prepared, asked, gate) {
         Ok(run) => print_once(
             alloc,
             run,
@@ -273,8 +297,8 @@ fn status_of(ending: &Ending) -> u8
 /// of its own and each for at most `settings.steps` messages, and writes what `idc run` prints: all events where
 /// `trace` asks for them, and then the report, with what names have where `names` asks for it. The gate holds each
 /// handling of a message for as long as it likes. Where `settings.order` is a seed, the calling thread delivers the
-/// messages in the order that it gives, and no gate holds it. It answers the status: 0 after a quiet run, 1 after a
-/// fault, 3 at the step limit.
+/// messages in the order that it gives, and no gate holds it. Of events no more is kept than what is asked for needs,
+/// whatever `settings.keeps` says. It answers the status: 0 after a quiet run, 1 after a fault, 3 at the step limit.
 pub fn engine<R: Threads + Wait + Sync, G: Gate + Sync, W: Sink>(
     rt: &R,
     alloc: Global,

@@ -7,7 +7,6 @@ pub mod OrderedLemmas
 pub mod MergedLemmas
 pub mod RecordsLemmas
 pub mod FirstsLemmas
-pub mod MarkedLemmas
 pub mod ObservedLemmas
 pub mod NothingLemmas
 pub mod AnswerLemmas

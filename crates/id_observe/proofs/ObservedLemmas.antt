@@ -15,12 +15,13 @@ use Rattle.id_source.specs.declared.SourceValue.{SourceValue}
 use Rattle.id_tag.specs.declared.Payload.{Payload}
 use Rattle.id_bank.specs.declared.cell.Filled.{Filled}
 use Rattle.id_bank.specs.declared.cell.Reader.{Reader}
-use Rattle.id_record.specs.Events.{EventView}
+use Rattle.id_record.specs.Events.{EventView, tag_of}
 use Rattle.id_element.specs.Replays.{ElementView}
-use Rattle.id_observe.specs.Observed.{ask_of, asks_of, cell_value, cell_value_of, label_marks, reader_in}
+use Rattle.id_observe.specs.Observed.{ask_of, asks_of, cell_value, cell_value_of, label_marks, reader_in, shape_at, shape_of, shapes_of, structures_in}
 use Rattle.id_observe.specs.Observed.{is_label, is_label_of, put_of}
 use Rattle.id_observe.specs.Sourced.{source_value}
-use Rattle.id_observe.specs.Paths.{events_of, site_at}
+use Rattle.id_observe.specs.declared.paths.Paths.{Paths}
+use Rattle.id_observe.specs.Paths.{events_of, made, makings_of, path_by, path_in, site_at}
 use Rattle.id_observe.proofs.WalksLemmas.{filter_map-next_part, take-next, walk-next}
 
 -- what cells hold is that of what is put into them
@@ -73,3 +74,25 @@ pub asks_of-records : (g : Parts) (path : Tag → Path) (name : Structure → Si
     ≡ asks_of g path name (events_of (map (λ x. x.state) (take i es))) ++ asks_of g path name e.state.events
 asks_of-records g path name es i e at =
     ap (map (ask_of g path name)) (walk-next (λ s. s.events) (λ v. reader_in v.message.payload) es i e at) ∙ map-append (ask_of g path name) _ _
+
+-- what is shown of the structures that were made is what is shown of those events
+pub shapes_of-makings : (g : Parts) (path : Tag → Path) (es : List EventView) → map (shape_at g path) (makings_of g es) ≡ shapes_of g path es
+shapes_of-makings g path [] = refl
+shapes_of-makings g path (e ∷ es) =
+    one (made g e) ∙ ap (cons_option (shape_of g path e)) (shapes_of-makings g path es)
+  where
+    one : (o : Option Structure)
+        → map (shape_at g path) (cons_option (option_map (λ s. record { structure = s; tag = tag_of e.message.payload }) o) (makings_of g es))
+        ≡ cons_option (option_map (λ s. record { name = site_at g path (tag_of e.message.payload); low = s.low; high = s.high }) o)
+        (map (shape_at g path) (makings_of g es))
+    one None = refl
+    one (Some s) = refl
+
+-- what is shown of them, where tables tell what the events of elements do
+pub structures-from_makings : (g h : Parts) (es : List ElementView) (p : Paths) → p.graph.now ≡ h → path_by p ≡ path_in h (map (λ e. e.state) es)
+    → p.makings.items ≡ makings_of h (events_of (map (λ e. e.state) es)) → h ≡ g
+    → map (shape_at p.graph.now (path_by p)) p.makings.items ≡ structures_in g (map (λ e. e.state) es)
+structures-from_makings g h es p graph path makings same =
+    let ss = map (λ e. e.state) es in
+    ap (λ x. map (shape_at x (path_by p)) p.makings.items) graph ∙ ap (λ f. map (shape_at h f) p.makings.items) path
+    ∙ ap (map (shape_at h (path_in h ss))) makings ∙ shapes_of-makings h (path_in h ss) (events_of ss) ∙ ap (λ x. structures_in x ss) same

@@ -54,10 +54,10 @@ each-at P (y ∷ ys) x a (inl e) = subst P (sym e) a.0
 each-at P (y ∷ ys) x a (inr b) = each-at P ys x a.1 b
 
 -- no element is below itself, and no two are below each other
-less-itself : {X : Type 0} {R : X → X → Ordering} → IsTotalOrder R → (x : X) → R x x ≡ Less → ⊥
+pub less-itself : {X : Type 0} {R : X → X → Ordering} → IsTotalOrder R → (x : X) → R x x ≡ Less → ⊥
 less-itself o x less = let tied = tied_itself o x in cc
 
-less-both : {X : Type 0} {R : X → X → Ordering} → IsTotalOrder R → (x y : X) → R x y ≡ Less → R y x ≡ Less → ⊥
+pub less-both : {X : Type 0} {R : X → X → Ordering} → IsTotalOrder R → (x y : X) → R x y ≡ Less → R y x ≡ Less → ⊥
 less-both {R = R} o x y less more = less-itself o x (o.trans x y x less more)
 
 -- what is among a list and above its first is among the rest

@@ -11,10 +11,7 @@ use Rattle.id_tag.specs.declared.Context.{Context}
 use Rattle.id_tag.specs.declared.Tag.{Tag}
 use Rattle.id_tag.specs.declared.Structure.{Structure}
 use Rattle.id_tag.specs.Tags.{same_context, same_structure}
-use Rattle.id_record.specs.Events.{EventView, tag_of}
-use Rattle.id_instr.specs.declared.instr.Op.{Op}
-use Rattle.id_valid.specs.Roles.{op_at}
-use Rattle.std.specs.Prelude.{option_map}
+use Rattle.id_record.specs.Events.{EventView}
 use Rattle.id_element.specs.Replays.{ElementView}
 use Rattle.id_value.specs.List.{Among}
 use Rattle.id_observe.specs.declared.paths.Paths.{Paths}
@@ -36,7 +33,7 @@ unfolding enter_in
 enter_in-cons g e es c = refl
 
 -- one of three
-or-assoc : {X : Type 0} (x y z : Option X) → option_or (option_or x y) z ≡ option_or x (option_or y z)
+pub or-assoc : {X : Type 0} (x y z : Option X) → option_or (option_or x y) z ≡ option_or x (option_or y z)
 or-assoc None y z = refl
 or-assoc (Some x) y z = refl
 
@@ -51,19 +48,6 @@ unfolding enter_in
 enter_in-append g [] fs c = sym (or-none (enter_in g fs c))
 enter_in-append g (e ∷ es) fs c =
     ap (λ o. option_or o (enter_of g e c)) (enter_in-append g es fs c) ∙ or-assoc (enter_in g fs c) (enter_in g es c) (enter_of g e c)
-
--- one event
-pub enter_in-one : (g : Parts) (e : EventView) (c : Context) → enter_in g (e ∷ []) c ≡ enter_of g e c
-unfolding enter_in
-enter_in-one g e c = refl
-
--- one more event, over what was there before
-pub enter_in-more : (g : Parts) (es fs : List EventView) (e : EventView) (c : Context) (old : Option Tag) → fs ≡ es ++ e ∷ []
-    → option_or (enter_in g fs c) old ≡ option_or (enter_of g e c) (option_or (enter_in g es c) old)
-enter_in-more g es fs e c old is =
-    let more : enter_in g fs c ≡ option_or (enter_of g e c) (enter_in g es c) =
-    ap (λ xs. enter_in g xs c) is ∙ enter_in-append g es (e ∷ []) c ∙ ap (λ o. option_or o (enter_in g es c)) (enter_in-one g e c) in
-    ap (λ o. option_or o old) more ∙ or-assoc (enter_of g e c) (enter_in g es c) old
 
 -- no events made a structure
 pub maker_in-none : (g : Parts) (s : Structure) → maker_in g [] s ≡ None
@@ -81,19 +65,6 @@ unfolding maker_in
 maker_in-append g [] fs s = sym (or-none (maker_in g fs s))
 maker_in-append g (e ∷ es) fs s =
     ap (λ o. option_or o (maker_of g e s)) (maker_in-append g es fs s) ∙ or-assoc (maker_in g fs s) (maker_in g es s) (maker_of g e s)
-
--- one event
-pub maker_in-one : (g : Parts) (e : EventView) (s : Structure) → maker_in g (e ∷ []) s ≡ maker_of g e s
-unfolding maker_in
-maker_in-one g e s = refl
-
--- one more event, over what was there before
-pub maker_in-more : (g : Parts) (es fs : List EventView) (e : EventView) (s : Structure) (old : Option Tag) → fs ≡ es ++ e ∷ []
-    → option_or (maker_in g fs s) old ≡ option_or (maker_of g e s) (option_or (maker_in g es s) old)
-maker_in-more g es fs e s old is =
-    let more : maker_in g fs s ≡ option_or (maker_of g e s) (maker_in g es s) =
-    ap (λ xs. maker_in g xs s) is ∙ maker_in-append g es (e ∷ []) s ∙ ap (λ o. option_or o (maker_in g es s)) (maker_in-one g e s) in
-    ap (λ o. option_or o old) more ∙ or-assoc (maker_of g e s) (maker_in g es s) old
 
 -- a tag whose context nothing entered has no steps
 pub steps_to-main : (g : Parts) (enter : Context → Option Tag) (n : ℕ) (t : Tag) → enter t.context ≡ None → steps_to g enter n t ≡ []
@@ -235,11 +206,3 @@ enter_in-is g es c e t among is each = elim (enter_in-only g es c t each) [
   | inl none ↦ absurd (enter_in-something g es c e t among is none)
   | inr some ↦ some
 ]
-
--- what the instruction of an event does
-pub op_there : (g : Parts) (o : Option EventView) (n : ℕ) (op : Option Op) → option_map (λ e. (tag_of e.message.payload).instr) o ≡ Some n → op ≡ op_at g n
-    → option_map (λ e. op_at g (tag_of e.message.payload).instr) o ≡ Some op
-op_there g None n op is does = cc
-op_there g (Some e) n op is does =
-    let same : (tag_of e.message.payload).instr ≡ n = cc in
-    ap (λ x. Some x) (ap (op_at g) same ∙ sym does)

@@ -42,11 +42,11 @@ IsRising-all : (g : Parts) (n : ℕ) (s : State) (ms : List Message) → IsRisin
 IsRising-all g n s [] old = old
 IsRising-all g n s (m ∷ ms) old = IsRising-all g n (state_after g n s m) ms (IsRising-take g n s m old)
 
-IsRising-from : (e : ElementView) → Replays e → IsRising e.number e.state
+pub IsRising-from : (e : ElementView) → Replays e → IsRising e.number e.state
 IsRising-from e replays = subst (IsRising e.number) (sym replays.state)
     (IsRising-all e.graph e.number fresh (messages e.state.events) (IsRising-fresh e.number))
 
-number_below : (m n : ℕ) → nat_cmp m n ≡ Less → m < n
+pub number_below : (m n : ℕ) → nat_cmp m n ≡ Less → m < n
 number_below m n less = grind (arith, nat_tests)
 
 -- an event of an element of a lower number is below all of these

@@ -1,15 +1,16 @@
--- Lemmas on the events that tell: in a record that leads to its state, others enter no context, make no structure and bring no answer.
-use Rattle.std.proofs.Common.{◌≡◌, ◌≢◌, ℕ, zero, suc, ◌+◌, ◌<◌, Bool, true, false, ◌||◌, Option, Some, None, List, []}
-use Rattle.std.proofs.Common.{◌∷◌, ◌++◌, get_or, length, take, refl, sym, ap, subst, ◌∙◌, append_assoc, length-append}
-use Rattle.std.proofs.Common.{arith}
-use Rattle.std.specs.Prelude.{◌==◌, All, slice_get, option_map, option_and_then}
+-- Lemmas on specs/Tellings.antt: in a record that leads to its state, tellings say of contexts, of structures and of the answer what events say.
+use Rattle.std.proofs.Common.{◌≡◌, ◌≢◌, ◌⊎◌, inl, inr, ℕ, zero, suc, ◌+◌, ◌-◌, Bool, true, false, Option, Some, None, List, []}
+use Rattle.std.proofs.Common.{◌∷◌, ◌++◌, length, map, take, refl, sym, ap, subst, ◌∙◌, append_assoc, append-nil, arith}
+use Rattle.std.specs.Prelude.{◌==◌, if◌then◌else◌, slice_get, option_map, option_and_then}
 use Rattle.std.specs.List.{AllByRecursion, filter_map, cons_option}
-use Rattle.std.specs.FinMap.{get}
-use Rattle.std.specs.Option.{option_or}
-use Rattle.std.proofs.lemmas.List.Elements.{All-from_recursion}
-use Rattle.std.proofs.lemmas.Option.{get_or_from_slice_get}
+use Rattle.std.specs.FinMap as cells
+use Rattle.std.specs.HashMap.{get}
+use Rattle.std.specs.Option.{option_map_or, option_or}
+use Rattle.std.proofs.lemmas.List.Elements.{filter_map-append}
+use Rattle.id_instr.specs.declared.instr.Instr.{Instr}
 use Rattle.id_instr.specs.declared.instr.Op.{Op}
 use Rattle.id_instr.specs.declared.instr.Op.TheVariants.{Alloc, Enter}
+use Rattle.id_instr.specs.declared.dests.Port.TheVariants.{Zero}
 use Rattle.id_instr.specs.Graph.{Parts}
 use Rattle.id_valid.specs.Roles.{op_at}
 use Rattle.id_tag.specs.declared.Context.{Context}
@@ -18,234 +19,441 @@ use Rattle.id_tag.specs.declared.Tag.{Tag}
 use Rattle.id_tag.specs.declared.Message.{Message}
 use Rattle.id_tag.specs.declared.Payload.{Payload}
 use Rattle.id_tag.specs.declared.Payload.TheVariants.{Token, Read, Write}
+use Rattle.id_tag.specs.declared.Value.{Value}
 use Rattle.id_tag.specs.declared.Value.TheVariants as value
+use Rattle.id_tag.specs.Tags.{same_context, same_structure}
 use Rattle.id_ops.specs.declared.Fired.{Fired}
-use Rattle.id_ops.specs.declared.Fired.TheVariants.{Out, Nothing}
+use Rattle.id_ops.specs.declared.Fired.TheVariants as fired
+use Rattle.id_ops.specs.Operators.{tag_within}
 use Rattle.id_bank.specs.declared.cell.ReadAnswer.{ReadAnswer}
 use Rattle.id_bank.specs.declared.cell.ReadAnswer.TheVariants.{Now, Deferred}
 use Rattle.id_bank.specs.Cells.{read_answer}
+use Rattle.id_source.specs.declared.Path.{Path}
+use Rattle.id_source.specs.declared.Site.{Site}
 use Rattle.id_element.specs.Replays.{ElementView, Replays, after_all, messages}
-use Rattle.id_element.specs.Steps.{State, answer_fired, event_of, fresh, next_numbers, next_stamp, outcome, state_after}
-use Rattle.id_element.proofs.TellingsLemmas.{alloc-makes_nothing, enter-sends_nothing}
-use Rattle.id_record.specs.Events.{EventView, tag_of}
-use Rattle.id_record.specs.Sends.{numbered}
-use Rattle.id_record.specs.Tellings.{is_telling, makes, tells, told_at, telling_from}
-use Rattle.id_record.proofs.EachLemmas.{each-append, each-weaker}
-use Rattle.id_observe.specs.Paths.{DoAlike, enter_in, enter_of, entered, entered_by, events_at, if_made, if_same}
-use Rattle.id_observe.specs.Paths.{is_alike, last_context, made, made_by, maker_in, maker_of, making_of, makings_of}
-use Rattle.id_observe.specs.Paths.{answers, brought}
-use Rattle.id_observe.proofs.PathsLemmas.{enter_in-cons, maker_in-cons, or-none}
-use Rattle.id_observe.proofs.SkippedLemmas.{brought-elsewhere, element-at}
-use Rattle.id_observe.proofs.WalksLemmas.{filter_map-at}
+use Rattle.id_element.specs.Steps.{Outcome, State, answer_fired, event_of, fresh, next_numbers, next_stamp, outcome, state_after}
+use Rattle.id_element.proofs.TellingsLemmas.{Enters, alloc-number, enter-enters}
+use Rattle.id_record.specs.declared.telling.Telling.{Telling}
+use Rattle.id_record.specs.declared.telling.Told.{Told}
+use Rattle.id_record.specs.declared.telling.Told.TheVariants.{Entered, Made, Came}
+use Rattle.id_record.specs.Events.{EventView, tag_of, value_of}
+use Rattle.id_record.specs.Sends.{beside, numbered, token_to}
+use Rattle.id_record.specs.Tellings.{came_in, is_merged, is_number, is_value_merge, made_in, merged, tellings, told_in}
+use Rattle.id_record.proofs.EachLemmas.{each-append}
+use Rattle.id_observe.specs.declared.paths.Tables.{Tables}
+use Rattle.id_observe.specs.Observed.{is_label_of, name_at, name_in, names_of}
+use Rattle.id_observe.specs.Paths.{answers, brought, enter_in, entered, entered_by, if_made, if_same, is_alloc, is_enter}
+use Rattle.id_observe.specs.Paths.{last_context, made, made_by, maker_in, making_of, makings_of}
+use Rattle.id_observe.specs.Sourced.{source_value}
+use Rattle.id_observe.specs.Tellings.{AddsOne, AddsTold, enter_by, entered_told, made_told, maker_by, making_told, value_told}
+use Rattle.id_observe.proofs.PathsLemmas.{enter_in-cons, maker_in-cons, or-assoc, or-none}
+use Rattle.id_observe.proofs.SkippedLemmas.{brought-elsewhere, entered_by-none, made_by-none}
+use Rattle.id_observe.proofs.WalksLemmas.{filter_map-next, take-next}
 
--- ---- what does not tell
+-- this is told of the tag
+abbrev pub telling : Tag → Told → Telling
+telling t w = record { tag = t; told = w }
 
--- an event of a graph by which nothing was entered or made in this one, unless it tells
-pub record Hides (g : Parts) (e : EventView) : Type 0 where
-  pub enters : tells e ≡ false → entered g e.message.payload e.outputs ≡ None
-  pub makes : tells e ≡ false → made g e ≡ None
+-- ---- what an event tells
 
-or-second : (a b : Bool) → (a || b) ≡ false → b ≡ false
-or-second true b is = cc
-or-second false b is = is
+-- of a firing that is no `enter`'s no context is told
+untold-enter : (g : Parts) (x : Payload) (f : Fired) → is_enter (op_at g (tag_of x).instr) ≡ false → option_and_then (entered_told g) (made_in x f) ≡ None
+untold-enter g x (fired.Entered c) not = ap (λ b. if b then Some c else None) not
+untold-enter g x (fired.Out (value.Structure s)) not = from (is_number (value_of x))
+  where
+    from : (b : Bool) → option_and_then (entered_told g) (if b then Some (telling (tag_of x) (Made s)) else None) ≡ None
+    from true = refl
+    from false = refl
+untold-enter g x f not = refl
 
--- an instruction enters nothing where its like sent nothing
-entered_by-alike : (o p : Option Op) (ms : List Message) → is_alike o p ≡ true → ((k r : ℕ) → p ≡ Some (Enter k r) → last_context ms ≡ None) →
-    entered_by o ms ≡ None
-entered_by-alike (Some (Enter b r)) (Some (Enter k q)) ms alike none = none k q refl
-entered_by-alike (Some (Enter b r)) p ms alike none = cc
-entered_by-alike o p ms alike none = refl
+-- and of one that is no `alloc`'s no structure
+untold-made : (g : Parts) (x : Payload) (f : Fired) → is_alloc (op_at g (tag_of x).instr) ≡ false → option_and_then (made_told g) (made_in x f) ≡ None
+untold-made g x (fired.Entered c) not = refl
+untold-made g x (fired.Out (value.Structure s)) not = from (is_number (value_of x))
+  where
+    from : (b : Bool) → option_and_then (made_told g) (if b then Some (telling (tag_of x) (Made s)) else None) ≡ None
+    from true = ap (λ b. if b then Some s else None) not
+    from false = refl
+untold-made g x f not = refl
 
--- and makes nothing where its like made nothing
-made_by-out : (nested : Bool) (f : Fired) → ((s : Structure) → f ≢ Out (value.Structure s)) → made_by (Some (Alloc nested)) f ≡ None
-made_by-out nested (Out (value.Structure s)) none = absurd (none s refl)
-made_by-out nested f none = refl
+enter-is : (o : Option Op) → is_enter o ≡ true → (k : ℕ) × (r : ℕ) × (o ≡ Some (Enter k r))
+enter-is (Some (Enter k r)) is = (k, r, refl)
+enter-is o is = cc
 
-made_by-alike : (o p : Option Op) (f : Fired) → is_alike o p ≡ true
-    → ((nested : Bool) → p ≡ Some (Alloc nested) → (s : Structure) → f ≢ Out (value.Structure s)) → made_by o f ≡ None
-made_by-alike (Some (Alloc nested)) (Some (Alloc other)) f alike none = made_by-out nested f (none other refl)
-made_by-alike (Some (Alloc nested)) p f alike none = cc
-made_by-alike o p f alike none = refl
+alloc-is : (o : Option Op) → is_alloc o ≡ true → (nested : Bool) × (o ≡ Some (Alloc nested))
+alloc-is (Some (Alloc nested)) is = (nested, refl)
+alloc-is o is = cc
 
-made_by-sent : (o : Option Op) (t : Tag) (a : ReadAnswer) → made_by o (answer_fired t a) ≡ None
-made_by-sent (Some (Alloc nested)) t (Now v) = refl
-made_by-sent (Some (Alloc nested)) t Deferred = refl
-made_by-sent o t a = refl
+-- what is told of an `alloc`, where a structure goes out for a number
+told-alloc : (g : Parts) (x : Payload) (f : Fired) (nested : Bool) → op_at g (tag_of x).instr ≡ Some (Alloc nested)
+    → ((s : Structure) → f ≡ fired.Out (value.Structure s) → is_number (value_of x) ≡ true)
+    → made_by (op_at g (tag_of x).instr) f ≡ option_and_then (made_told g) (made_in x f)
+told-alloc g x f nested is number = ap (λ o. made_by o f) is ∙ from f number
+  where
+    from : (h : Fired) → ((s : Structure) → h ≡ fired.Out (value.Structure s) → is_number (value_of x) ≡ true)
+        → made_by (Some (Alloc nested)) h ≡ option_and_then (made_told g) (made_in x h)
+    from (fired.Entered c) each = refl
+    from (fired.Out (value.Structure s)) each =
+        sym (ap (λ b. option_and_then (made_told g) (if b then Some (telling (tag_of x) (Made s)) else None)) (each s refl)
+        ∙ ap (λ o. if is_alloc o then Some s else None) is)
+    from h each = refl
 
-made_by-nothing : (o : Option Op) → made_by o Nothing ≡ None
-made_by-nothing (Some (Alloc nested)) = refl
-made_by-nothing o = refl
+-- the last of some messages that end by these two is for the second
+last-behind : (m : Message) (ms : List Message) (c : Context) → last_context ms ≡ Some c → last_context (m ∷ ms) ≡ Some c
+last-behind m [] c is = cc
+last-behind m (x ∷ ms) c is =
+    let next : length (m ∷ x ∷ ms) - 1 ≡ suc (length (x ∷ ms) - 1) = omega arith in
+    ap (λ i. option_map (λ y. (tag_of y.payload).context) (slice_get (m ∷ x ∷ ms) i)) next ∙ is
 
--- an event that does not tell enters nothing
-enters-nothing : (g h : Parts) → DoAlike g h → (n : ℕ) (s : State) (x : Payload) (number : List Payload → List Message) → last_context (number []) ≡ None
-    → is_telling x (outcome h (next_numbers n s) s.waiting s.cells x).fired ≡ false
-    → entered g x (number (outcome h (next_numbers n s) s.waiting s.cells x).sends) ≡ None
-enters-nothing g h alike n s (Token t p v) number none not =
-    let f = (outcome h (next_numbers n s) s.waiting s.cells (Token t p v)).fired in
-    entered_by-alike (op_at g t.instr) (op_at h t.instr) _ (alike t.instr)
-    (λ k r is. ap (λ xs. last_context (number xs)) (enter-sends_nothing h (next_numbers n s) s.waiting s.cells t p v k r is
-    (or-second (t.instr == 0) (makes v f) not)) ∙ none)
-enters-nothing g h alike n s (Read c t) number none not = refl
-enters-nothing g h alike n s (Write c v t) number none not = refl
+last-two : (n position stamp k : ℕ) (xs : List Payload) (a b : Payload) →
+    last_context (numbered n position stamp k (xs ++ a ∷ b ∷ [])) ≡ Some (tag_of b).context
+last-two n position stamp k [] a b = refl
+last-two n position stamp k (x ∷ xs) a b =
+    last-behind _ (numbered n position stamp (k + 1) (xs ++ a ∷ b ∷ [])) (tag_of b).context (last-two n position stamp (k + 1) xs a b)
 
--- and makes nothing
-makes-nothing : (g h : Parts) → DoAlike g h → (n : ℕ) (s : State) (x : Payload) → is_telling x (outcome h (next_numbers n s) s.waiting s.cells x).fired ≡ false
-    → made_by (op_at g (tag_of x).instr) (outcome h (next_numbers n s) s.waiting s.cells x).fired ≡ None
-makes-nothing g h alike n s (Token t p v) not =
-    let f = (outcome h (next_numbers n s) s.waiting s.cells (Token t p v)).fired in
-    made_by-alike (op_at g t.instr) (op_at h t.instr) f (alike t.instr)
-    (λ nested is. alloc-makes_nothing h (next_numbers n s) s.waiting s.cells t p v nested is (or-second (t.instr == 0) (makes v f) not))
-makes-nothing g h alike n s (Read c t) not = made_by-sent (op_at g t.instr) t (read_answer (get s.cells c))
-makes-nothing g h alike n s (Write c v t) not = made_by-nothing (op_at g t.instr)
+-- an event of a graph tells which context it entered, and which structure it made
+pub record Tells (g : Parts) (e : EventView) : Type 0 where
+  pub enters : entered g e.message.payload e.outputs ≡ option_and_then (entered_told g) (made_in e.message.payload e.fired)
+  pub makes : made g e ≡ option_and_then (made_told g) (made_in e.message.payload e.fired)
 
-Hides-event : (g h : Parts) → DoAlike g h → (n : ℕ) (s : State) (m : Message) → Hides g (event_of h n s m)
-Hides-event g h alike n s m = record {
-  enters = enters-nothing g h alike n s m.payload (numbered n (length s.events) (next_stamp s m) 0) refl;
-  makes = makes-nothing g h alike n s m.payload;
+enters-tell : (g : Parts) (n position stamp : ℕ) (s : State) (x : Payload) →
+    entered g x (numbered n position stamp 0 (outcome g (next_numbers n s) s.waiting s.cells x).sends)
+    ≡ option_and_then (entered_told g) (made_in x (outcome g (next_numbers n s) s.waiting s.cells x).fired)
+enters-tell g n position stamp s (Token t p v) = from (is_enter (op_at g t.instr)) refl
+  where
+    o : Outcome
+    o = outcome g (next_numbers n s) s.waiting s.cells (Token t p v)
+
+    ms : List Message
+    ms = numbered n position stamp 0 o.sends
+
+    at : (k r : ℕ) → op_at g t.instr ≡ Some (Enter k r) → Enters t k r o →
+        entered_by (op_at g t.instr) ms ≡ option_and_then (entered_told g) (made_in (Token t p v) o.fired)
+    at k r is (inl (c, ds, fires, sends)) =
+        ap (λ a. entered_by a ms) is ∙ ap (λ xs. last_context (numbered n position stamp 0 xs)) sends
+        ∙ last-two n position stamp 0 (map (token_to t (value.Context c)) ds) (Token (tag_within c k) Zero value.Signal)
+        (Token (tag_within c (k + 1)) Zero (value.Continuation (beside t r)))
+        ∙ sym (ap (λ f. option_and_then (entered_told g) (made_in (Token t p v) f)) fires ∙ ap (λ a. if is_enter a then Some c else None) is)
+    at k r is (inr (fires, sends)) =
+        ap (λ a. entered_by a ms) is ∙ ap (λ xs. last_context (numbered n position stamp 0 xs)) sends
+        ∙ sym (ap (λ f. option_and_then (entered_told g) (made_in (Token t p v) f)) fires)
+
+    from : (b : Bool) → is_enter (op_at g t.instr) ≡ b → entered_by (op_at g t.instr) ms ≡ option_and_then (entered_told g) (made_in (Token t p v) o.fired)
+    from true is =
+        let enter = enter-is (op_at g t.instr) is in
+        at enter.0 enter.1 enter.2 (enter-enters g (next_numbers n s) s.waiting s.cells t p v enter.0 enter.1 enter.2)
+    from false is = entered_by-none (op_at g t.instr) ms is ∙ sym (untold-enter g (Token t p v) o.fired is)
+enters-tell g n position stamp s (Read c t) = from (read_answer (cells.get s.cells c))
+  where
+    from : (a : ReadAnswer) → None ≡ option_and_then (entered_told g) (made_in (Read c t) (answer_fired t a))
+    from (Now v) = refl
+    from Deferred = refl
+enters-tell g n position stamp s (Write c v t) = refl
+
+makes-tell : (g : Parts) (n : ℕ) (s : State) (x : Payload) →
+    made_by (op_at g (tag_of x).instr) (outcome g (next_numbers n s) s.waiting s.cells x).fired
+    ≡ option_and_then (made_told g) (made_in x (outcome g (next_numbers n s) s.waiting s.cells x).fired)
+makes-tell g n s (Token t p v) = from (is_alloc (op_at g t.instr)) refl
+  where
+    f : Fired
+    f = (outcome g (next_numbers n s) s.waiting s.cells (Token t p v)).fired
+
+    from : (b : Bool) → is_alloc (op_at g t.instr) ≡ b → made_by (op_at g t.instr) f ≡ option_and_then (made_told g) (made_in (Token t p v) f)
+    from true is =
+        let alloc = alloc-is (op_at g t.instr) is in
+        told-alloc g (Token t p v) f alloc.0 alloc.1 (alloc-number g (next_numbers n s) s.waiting s.cells t p v alloc.0 alloc.1)
+    from false is = made_by-none (op_at g t.instr) f is ∙ sym (untold-made g (Token t p v) f is)
+makes-tell g n s (Read c t) = from (op_at g t.instr) (read_answer (cells.get s.cells c))
+  where
+    from : (o : Option Op) (a : ReadAnswer) → made_by o (answer_fired t a) ≡ option_and_then (made_told g) (made_in (Read c t) (answer_fired t a))
+    from (Some (Alloc nested)) (Now v) = refl
+    from (Some (Alloc nested)) Deferred = refl
+    from o (Now v) = refl
+    from o Deferred = refl
+makes-tell g n s (Write c v t) = from (op_at g t.instr)
+  where
+    from : (o : Option Op) → made_by o fired.Nothing ≡ None
+    from (Some (Alloc nested)) = refl
+    from o = refl
+
+Tells-event : (g : Parts) (n : ℕ) (s : State) (m : Message) → Tells g (event_of g n s m)
+Tells-event g n s m = record {
+  enters = enters-tell g n (length s.events) (next_stamp s m) s m.payload;
+  makes = makes-tell g n s m.payload;
 }
 
-Hides-all : (g h : Parts) → DoAlike g h → (n : ℕ) (s : State) (ms : List Message) → AllByRecursion (Hides g) s.events →
-    AllByRecursion (Hides g) (after_all h n s ms).events
-Hides-all g h alike n s [] old = old
-Hides-all g h alike n s (m ∷ ms) old =
-    Hides-all g h alike n (state_after h n s m) ms (each-append (Hides g) s.events (event_of h n s m ∷ []) old (Hides-event g h alike n s m, tt))
+Tells-all : (g : Parts) (n : ℕ) (s : State) (ms : List Message) → AllByRecursion (Tells g) s.events → AllByRecursion (Tells g) (after_all g n s ms).events
+Tells-all g n s [] old = old
+Tells-all g n s (m ∷ ms) old =
+    Tells-all g n (state_after g n s m) ms (each-append (Tells g) s.events (event_of g n s m ∷ []) old (Tells-event g n s m, tt))
 
-Hides-from : (g : Parts) (e : ElementView) → DoAlike g e.graph → Replays e → AllByRecursion (Hides g) e.state.events
-Hides-from g e alike replays = subst (λ s. AllByRecursion (Hides g) s.events) (sym replays.state)
-    (Hides-all g e.graph alike e.number fresh (messages e.state.events) tt)
+Tells-from : (e : ElementView) → Replays e → AllByRecursion (Tells e.graph) e.state.events
+Tells-from e replays = subst (λ s. AllByRecursion (Tells e.graph) s.events) (sym replays.state)
+    (Tells-all e.graph e.number fresh (messages e.state.events) tt)
 
--- an event that does not tell brought no answer
-brought-untold : (x : Payload) (f : Fired) → is_telling x f ≡ false → brought x ≡ None
-brought-untold (Token t p v) f not = brought-elsewhere (Token t p v) (elsewhere t.instr (or-first (t.instr == 0) (makes v f) not))
+-- ---- tellings of one event
+
+-- a token for instruction 0 tells what came, and nothing else
+came-cases : (x : Payload) → (came_in x ≡ None) ⊎ ((v : Value) × (came_in x ≡ Some (telling (tag_of x) (Came v))))
+came-cases (Token t p v) = from (t.instr == 0)
   where
-    or-first : (a b : Bool) → (a || b) ≡ false → a ≡ false
-    or-first true b is = cc
-    or-first false b is = refl
+    from : (b : Bool) → ((if b then Some (telling t (Came v)) else None) ≡ None)
+        ⊎ ((w : Value) × ((if b then Some (telling t (Came v)) else None) ≡ Some (telling t (Came w))))
+    from true = inr (v, refl)
+    from false = inl refl
+came-cases (Read c t) = inl refl
+came-cases (Write c v t) = inl refl
 
+-- what a firing tells is told of the tag of its message
+made-cases : (x : Payload) (f : Fired) → (made_in x f ≡ None) ⊎ ((t : Telling) × (made_in x f ≡ Some t) × (t.tag ≡ tag_of x))
+made-cases x (fired.Entered c) = inr (telling (tag_of x) (Entered c), refl, refl)
+made-cases x (fired.Out (value.Structure s)) = from (is_number (value_of x))
+  where
+    from : (b : Bool) → ((if b then Some (telling (tag_of x) (Made s)) else None) ≡ None)
+        ⊎ ((t : Telling) × ((if b then Some (telling (tag_of x) (Made s)) else None) ≡ Some t) × (t.tag ≡ tag_of x))
+    from true = inr (telling (tag_of x) (Made s), refl, refl)
+    from false = inl refl
+made-cases x f = inl refl
+
+-- so what an event tells of a context is what its firing tells
+enter_by-one : (g : Parts) (t : Telling) (c : Context) → enter_by g (t ∷ []) c ≡ if_same t.tag c (entered_told g t)
+unfolding enter_by
+enter_by-one g t c = refl
+
+enter_by-made : (g : Parts) (x : Payload) (f : Fired) (c : Context) →
+    enter_by g (cons_option (made_in x f) []) c ≡ if_same (tag_of x) c (option_and_then (entered_told g) (made_in x f))
+unfolding enter_by
+enter_by-made g x f c = elim (made-cases x f) [
+  | inl none ↦ ap (λ o. enter_by g (cons_option o []) c) none ∙ sym (ap (λ o. if_same (tag_of x) c (option_and_then (entered_told g) o)) none)
+  | inr (t, is, tag) ↦
+      ap (λ o. enter_by g (cons_option o []) c) is ∙ ap (λ u. if_same u c (entered_told g t)) tag
+      ∙ sym (ap (λ o. if_same (tag_of x) c (option_and_then (entered_told g) o)) is)
+]
+
+enter_by-told : (g : Parts) (x : Payload) (f : Fired) (c : Context) →
+    enter_by g (told_in x f) c ≡ if_same (tag_of x) c (option_and_then (entered_told g) (made_in x f))
+unfolding enter_by
+enter_by-told g x f c = elim (came-cases x) [
+  | inl none ↦ ap (λ o. enter_by g (cons_option o (cons_option (made_in x f) [])) c) none ∙ enter_by-made g x f c
+  | inr (v, is) ↦
+      ap (λ o. enter_by g (cons_option o (cons_option (made_in x f) [])) c) is ∙ or-none (enter_by g (cons_option (made_in x f) []) c)
+      ∙ enter_by-made g x f c
+]
+
+-- so it is of a structure
+maker_by-one : (g : Parts) (t : Telling) (s : Structure) → maker_by g (t ∷ []) s ≡ if_made t.tag s (made_told g t)
+unfolding maker_by
+maker_by-one g t s = refl
+
+maker_by-made : (g : Parts) (x : Payload) (f : Fired) (s : Structure) →
+    maker_by g (cons_option (made_in x f) []) s ≡ if_made (tag_of x) s (option_and_then (made_told g) (made_in x f))
+unfolding maker_by
+maker_by-made g x f s = elim (made-cases x f) [
+  | inl none ↦ ap (λ o. maker_by g (cons_option o []) s) none ∙ sym (ap (λ o. if_made (tag_of x) s (option_and_then (made_told g) o)) none)
+  | inr (t, is, tag) ↦
+      ap (λ o. maker_by g (cons_option o []) s) is ∙ ap (λ u. if_made u s (made_told g t)) tag
+      ∙ sym (ap (λ o. if_made (tag_of x) s (option_and_then (made_told g) o)) is)
+]
+
+maker_by-told : (g : Parts) (x : Payload) (f : Fired) (s : Structure) →
+    maker_by g (told_in x f) s ≡ if_made (tag_of x) s (option_and_then (made_told g) (made_in x f))
+unfolding maker_by
+maker_by-told g x f s = elim (came-cases x) [
+  | inl none ↦ ap (λ o. maker_by g (cons_option o (cons_option (made_in x f) [])) s) none ∙ maker_by-made g x f s
+  | inr (v, is) ↦
+      ap (λ o. maker_by g (cons_option o (cons_option (made_in x f) [])) s) is ∙ or-none (maker_by g (cons_option (made_in x f) []) s)
+      ∙ maker_by-made g x f s
+]
+
+-- and of the structures that were made
+makings-made : (g : Parts) (x : Payload) (f : Fired) → filter_map (making_told g) (cons_option (made_in x f) [])
+    ≡ cons_option (option_map (λ s. record { structure = s; tag = tag_of x }) (option_and_then (made_told g) (made_in x f))) []
+makings-made g x f = elim (made-cases x f) [
+  | inl none ↦
+      ap (λ o. filter_map (making_told g) (cons_option o [])) none
+      ∙ sym (ap (λ o. cons_option (option_map (λ s. record { structure = s; tag = tag_of x }) (option_and_then (made_told g) o)) []) none)
+  | inr (t, is, tag) ↦
+      ap (λ o. filter_map (making_told g) (cons_option o [])) is
+      ∙ ap (λ u. cons_option (option_map (λ s. record { structure = s; tag = u }) (made_told g t)) []) tag
+      ∙ sym (ap (λ o. cons_option (option_map (λ s. record { structure = s; tag = tag_of x }) (option_and_then (made_told g) o)) []) is)
+]
+
+makings-told : (g : Parts) (x : Payload) (f : Fired) → filter_map (making_told g) (told_in x f)
+    ≡ cons_option (option_map (λ s. record { structure = s; tag = tag_of x }) (option_and_then (made_told g) (made_in x f))) []
+makings-told g x f = elim (came-cases x) [
+  | inl none ↦ ap (λ o. filter_map (making_told g) (cons_option o (cons_option (made_in x f) []))) none ∙ makings-made g x f
+  | inr (v, is) ↦ ap (λ o. filter_map (making_told g) (cons_option o (cons_option (made_in x f) []))) is ∙ makings-made g x f
+]
+
+-- what a firing tells is no answer
+values-made : (x : Payload) (f : Fired) → filter_map value_told (cons_option (made_in x f) []) ≡ []
+values-made x (fired.Entered c) = refl
+values-made x (fired.Out (value.Structure s)) = from (is_number (value_of x))
+  where
+    from : (b : Bool) → filter_map value_told (cons_option (if b then Some (telling (tag_of x) (Made s)) else None) []) ≡ []
+    from true = refl
+    from false = refl
+values-made x f = refl
+
+-- so what an event tells of the answer is what its message brought
+values-told : (x : Payload) (f : Fired) → filter_map value_told (told_in x f) ≡ cons_option (brought x) []
+values-told (Token t p v) f = from (t.instr == 0) refl
+  where
     elsewhere : (n : ℕ) → (n == 0) ≡ false → n ≢ 0
     elsewhere zero is = cc
     elsewhere (suc n) is = λ first. absurd (omega (arith, first))
-brought-untold (Read c t) f not = refl
-brought-untold (Write c v t) f not = refl
 
--- ---- the events that tell
+    from : (b : Bool) → (t.instr == 0) ≡ b
+        → filter_map value_told (cons_option (if b then Some (telling t (Came v)) else None) (cons_option (made_in (Token t p v) f) []))
+        ≡ cons_option (brought (Token t p v)) []
+    from true is = ap (cons_option (brought (Token t p v))) (values-made (Token t p v) f)
+    from false is =
+        values-made (Token t p v) f ∙ sym (ap (λ o. cons_option o []) (brought-elsewhere (Token t p v) (elsewhere t.instr is)))
+values-told (Read c t) f = values-made (Read c t) f
+values-told (Write c v t) f = values-made (Write c v t) f
 
-abbrev pub keep : Bool → EventView → List EventView → List EventView
-keep true e es = e ∷ es
-keep false e es = es
+-- ---- tellings of all events
 
--- those of a record
-abbrev pub told_of : List EventView → List EventView
-told_of [] = []
-told_of (e ∷ es) = keep (tells e) e (told_of es)
+-- of nothing that was told a context was entered
+pub enter_by-none : (g : Parts) (c : Context) → enter_by g [] c ≡ None
+unfolding enter_by
+enter_by-none g c = refl
 
-get_behind : (pre es : List EventView) (e : EventView) → slice_get (pre ++ e ∷ es) (length pre) ≡ Some e
-get_behind [] es e = refl
-get_behind (x ∷ pre) es e = get_behind pre es e
+pub maker_by-none : (g : Parts) (s : Structure) → maker_by g [] s ≡ None
+unfolding maker_by
+maker_by-none g s = refl
 
--- they are those at their positions
-events_at-told : (pre es : List EventView) → events_at (pre ++ es) (telling_from (length pre) es) ≡ told_of es
-events_at-told pre [] = refl
-events_at-told pre (e ∷ es) =
-    let next : length (pre ++ e ∷ []) ≡ length pre + 1 = omega (arith, length-append pre (e ∷ [])) in
-    from
-    (ap (λ xs. events_at xs (telling_from (length pre + 1) es)) (sym (append_assoc pre (e ∷ []) es))
-    ∙ ap (λ k. events_at ((pre ++ e ∷ []) ++ es) (telling_from k es)) (sym next) ∙ events_at-told (pre ++ e ∷ []) es)
-    (tells e)
+-- the later tellings count first
+enter_by-append : (g : Parts) (ts us : List Telling) (c : Context) → enter_by g (ts ++ us) c ≡ option_or (enter_by g us c) (enter_by g ts c)
+unfolding enter_by
+enter_by-append g [] us c = sym (or-none (enter_by g us c))
+enter_by-append g (t ∷ ts) us c =
+    let one = if_same t.tag c (entered_told g t) in
+    ap (λ o. option_or o one) (enter_by-append g ts us c) ∙ or-assoc (enter_by g us c) (enter_by g ts c) one
+
+maker_by-append : (g : Parts) (ts us : List Telling) (s : Structure) → maker_by g (ts ++ us) s ≡ option_or (maker_by g us s) (maker_by g ts s)
+unfolding maker_by
+maker_by-append g [] us s = sym (or-none (maker_by g us s))
+maker_by-append g (t ∷ ts) us s =
+    let one = if_made t.tag s (made_told g t) in
+    ap (λ o. option_or o one) (maker_by-append g ts us s) ∙ or-assoc (maker_by g us s) (maker_by g ts s) one
+
+-- tellings of nothing
+enter_by-nothing : (g : Parts) (c : Context) → enter_by g [] c ≡ enter_in g [] c
+unfolding enter_by enter_in
+enter_by-nothing g c = refl
+
+maker_by-nothing : (g : Parts) (s : Structure) → maker_by g [] s ≡ maker_in g [] s
+unfolding maker_by maker_in
+maker_by-nothing g s = refl
+
+enter_by-all : (g : Parts) (es : List EventView) (c : Context) → AllByRecursion (Tells g) es → enter_by g (tellings es) c ≡ enter_in g es c
+enter_by-all g [] c all = enter_by-nothing g c
+enter_by-all g (e ∷ es) c all =
+    let told = told_in e.message.payload e.fired in
+    enter_by-append g told (tellings es) c ∙ ap (λ o. option_or o (enter_by g told c)) (enter_by-all g es c all.1)
+    ∙ ap (option_or (enter_in g es c)) (enter_by-told g e.message.payload e.fired c ∙ ap (if_same (tag_of e.message.payload) c) (sym (all.0).enters))
+    ∙ sym (enter_in-cons g e es c)
+
+maker_by-all : (g : Parts) (es : List EventView) (s : Structure) → AllByRecursion (Tells g) es → maker_by g (tellings es) s ≡ maker_in g es s
+maker_by-all g [] s all = maker_by-nothing g s
+maker_by-all g (e ∷ es) s all =
+    let told = told_in e.message.payload e.fired in
+    maker_by-append g told (tellings es) s ∙ ap (λ o. option_or o (maker_by g told s)) (maker_by-all g es s all.1)
+    ∙ ap (option_or (maker_in g es s)) (maker_by-told g e.message.payload e.fired s ∙ ap (if_made (tag_of e.message.payload) s) (sym (all.0).makes))
+    ∙ sym (maker_in-cons g e es s)
+
+cons-append : {A : Type 0} (o : Option A) (xs : List A) → cons_option o [] ++ xs ≡ cons_option o xs
+cons-append None xs = refl
+cons-append (Some x) xs = refl
+
+makings-all : (g : Parts) (es : List EventView) → AllByRecursion (Tells g) es → filter_map (making_told g) (tellings es) ≡ makings_of g es
+makings-all g [] all = refl
+makings-all g (e ∷ es) all =
+    let x = e.message.payload in
+    filter_map-append (making_told g) (told_in x e.fired) (tellings es)
+    ∙ ap (λ ms. ms ++ filter_map (making_told g) (tellings es))
+    (makings-told g x e.fired ∙ ap (λ o. cons_option (option_map (λ s. record { structure = s; tag = tag_of x }) o) []) (sym (all.0).makes))
+    ∙ cons-append (making_of g e) (filter_map (making_told g) (tellings es)) ∙ ap (cons_option (making_of g e)) (makings-all g es all.1)
+
+-- what the events of an element tell is what they do
+pub enters-told : (e : ElementView) (c : Context) → Replays e → enter_by e.graph (tellings e.state.events) c ≡ enter_in e.graph e.state.events c
+enters-told e c replays = enter_by-all e.graph e.state.events c (Tells-from e replays)
+
+pub makers-told : (e : ElementView) (s : Structure) → Replays e → maker_by e.graph (tellings e.state.events) s ≡ maker_in e.graph e.state.events s
+makers-told e s replays = maker_by-all e.graph e.state.events s (Tells-from e replays)
+
+pub makings-of_told : (e : ElementView) → Replays e → filter_map (making_told e.graph) (tellings e.state.events) ≡ makings_of e.graph e.state.events
+makings-of_told e replays = makings-all e.graph e.state.events (Tells-from e replays)
+
+pub answers-told : (es : List EventView) → filter_map value_told (tellings es) ≡ answers es
+answers-told [] = refl
+answers-told (e ∷ es) =
+    let x = e.message.payload in
+    filter_map-append value_told (told_in x e.fired) (tellings es)
+    ∙ ap (λ vs. vs ++ filter_map value_told (tellings es)) (values-told x e.fired)
+    ∙ cons-append (brought x) (filter_map value_told (tellings es)) ∙ ap (cons_option (brought x)) (answers-told es)
+
+-- ---- what came to merges
+
+label-merged : (g : Parts) (o : Option Instr) → option_map_or (λ i. is_value_merge i.op) o false ≡ false → is_label_of g o ≡ false
+label-merged g None not = refl
+label-merged g (Some i) not = rw not
+
+-- what did not has no name
+name_in-none : (g : Parts) (path : Tag → Path) (name : Structure → Site) (x : Payload) → is_merged g x ≡ false → name_in g path name x ≡ None
+name_in-none g path name (Token t p v) not =
+    ap (λ b. if b then name_at g t.instr (path t) (source_value name v) else None) (label-merged g (slice_get g.instrs t.instr) not)
+name_in-none g path name (Read c t) not = refl
+name_in-none g path name (Write c v t) not = refl
+
+-- so what did has the names of all events
+pub names-merged : (g : Parts) (path : Tag → Path) (name : Structure → Site) (es : List EventView) →
+    filter_map (name_in g path name) (merged g es) ≡ names_of g path name es
+names-merged g path name [] = refl
+names-merged g path name (e ∷ es) = from (names-merged g path name es) (is_merged g e.message.payload) refl
   where
-    from : events_at (pre ++ e ∷ es) (telling_from (length pre + 1) es) ≡ told_of es → (b : Bool)
-        → events_at (pre ++ e ∷ es) (told_at b (length pre) ++ telling_from (length pre + 1) es) ≡ keep b e (told_of es)
-    from rest true = ap (λ o. cons_option o (events_at (pre ++ e ∷ es) (telling_from (length pre + 1) es))) (get_behind pre es e) ∙ ap (λ xs. e ∷ xs) rest
-    from rest false = rest
+    x : Payload
+    x = e.message.payload
 
--- each of these is the position of an event
-positions-within : (k : ℕ) (es : List EventView) → AllByRecursion (λ j. j < k + length es) (telling_from k es)
-positions-within k [] = tt
-positions-within k (e ∷ es) =
-    each-append (λ j. j < k + length (e ∷ es)) (told_at (tells e) k) (telling_from (k + 1) es) (from (tells e))
-    (each-weaker (λ j. j < k + 1 + length es) (λ j. j < k + length (e ∷ es)) (λ j lt. omega (arith, lt)) (telling_from (k + 1) es)
-    (positions-within (k + 1) es))
-  where
-    from : (b : Bool) → AllByRecursion (λ j. j < k + length (e ∷ es)) (told_at b k)
-    from true = (omega arith, tt)
-    from false = tt
+    from : filter_map (name_in g path name) (merged g es) ≡ names_of g path name es → (b : Bool) → is_merged g x ≡ b
+        → filter_map (name_in g path name) (cons_option (if b then Some x else None) (merged g es)) ≡ cons_option (name_in g path name x) (names_of g path name es)
+    from rest true is = ap (cons_option (name_in g path name x)) rest
+    from rest false is = rest ∙ sym (ap (λ o. cons_option o (names_of g path name es)) (name_in-none g path name x is))
 
-pub telling-within : (es : List EventView) → All (λ j. j < length es) (telling_from 0 es)
-telling-within es =
-    All-from_recursion (λ j. j < length es) (telling_from 0 es)
-    (each-weaker (λ j. j < 0 + length es) (λ j. j < length es) (λ j lt. omega (arith, lt)) (telling_from 0 es) (positions-within 0 es))
+-- ---- tables
 
--- what walks over them give is what walks over all events give
-filter_map-told : {B : Type 0} (h : EventView → Option B) (es : List EventView) → AllByRecursion (λ e. tells e ≡ false → h e ≡ None) es
-    → filter_map h (told_of es) ≡ filter_map h es
-filter_map-told h [] all = refl
-filter_map-told h (e ∷ es) all = from (filter_map-told h es all.1) (tells e) refl
-  where
-    from : filter_map h (told_of es) ≡ filter_map h es → (b : Bool) → tells e ≡ b → filter_map h (keep b e (told_of es)) ≡ filter_map h (e ∷ es)
-    from rest true is = ap (cons_option (h e)) rest
-    from rest false is = rest ∙ ap (λ o. cons_option o (filter_map h es)) (sym (all.0 is))
+-- nothing is told yet
+pub AddsTold-none : (g : Parts) (old : Tables) → AddsTold g [] old old
+AddsTold-none g old = record {
+  enters = λ c. sym (ap (λ o. option_or o (get same_context old.enters c)) (enter_by-none g c));
+  makers = λ s. sym (ap (λ o. option_or o (get same_structure old.makers s)) (maker_by-none g s));
+  makings = sym (append-nil old.makings.items);
+  values = sym (append-nil old.values.items);
+}
 
-enter_in-told : (g : Parts) (es : List EventView) (c : Context) → AllByRecursion (Hides g) es → enter_in g (told_of es) c ≡ enter_in g es c
-enter_in-told g [] c all = refl
-enter_in-told g (e ∷ es) c all = from (enter_in-told g es c all.1) (tells e) refl
-  where
-    from : enter_in g (told_of es) c ≡ enter_in g es c → (b : Bool) → tells e ≡ b → enter_in g (keep b e (told_of es)) c ≡ enter_in g (e ∷ es) c
-    from rest true is = enter_in-cons g e (told_of es) c ∙ ap (λ o. option_or o (enter_of g e c)) rest ∙ sym (enter_in-cons g e es c)
-    from rest false is =
-        rest ∙ sym (or-none (enter_in g es c))
-        ∙ ap (λ o. option_or (enter_in g es c) (if_same (tag_of e.message.payload) c o)) (sym ((all.0).enters is)) ∙ sym (enter_in-cons g e es c)
-
-maker_in-told : (g : Parts) (es : List EventView) (s : Structure) → AllByRecursion (Hides g) es → maker_in g (told_of es) s ≡ maker_in g es s
-maker_in-told g [] s all = refl
-maker_in-told g (e ∷ es) s all = from (maker_in-told g es s all.1) (tells e) refl
-  where
-    from : maker_in g (told_of es) s ≡ maker_in g es s → (b : Bool) → tells e ≡ b → maker_in g (keep b e (told_of es)) s ≡ maker_in g (e ∷ es) s
-    from rest true is = maker_in-cons g e (told_of es) s ∙ ap (λ o. option_or o (maker_of g e s)) rest ∙ sym (maker_in-cons g e es s)
-    from rest false is =
-        rest ∙ sym (or-none (maker_in g es s))
-        ∙ ap (λ o. option_or (maker_in g es s) (if_made (tag_of e.message.payload) s o)) (sym ((all.0).makes is)) ∙ sym (maker_in-cons g e es s)
-
-pub enters-told : (g : Parts) (e : ElementView) (c : Context) → DoAlike g e.graph → Replays e
-    → enter_in g (events_at e.state.events (telling_from 0 e.state.events)) c ≡ enter_in g e.state.events c
-enters-told g e c alike replays =
-    ap (λ es. enter_in g es c) (events_at-told [] e.state.events) ∙ enter_in-told g e.state.events c (Hides-from g e alike replays)
-
-pub makers-told : (g : Parts) (e : ElementView) (s : Structure) → DoAlike g e.graph → Replays e
-    → maker_in g (events_at e.state.events (telling_from 0 e.state.events)) s ≡ maker_in g e.state.events s
-makers-told g e s alike replays =
-    ap (λ es. maker_in g es s) (events_at-told [] e.state.events) ∙ maker_in-told g e.state.events s (Hides-from g e alike replays)
-
-pub makings-told : (g : Parts) (e : ElementView) → DoAlike g e.graph → Replays e
-    → makings_of g (events_at e.state.events (telling_from 0 e.state.events)) ≡ makings_of g e.state.events
-makings-told g e alike replays =
-    ap (makings_of g) (events_at-told [] e.state.events)
-    ∙ filter_map-told (making_of g) e.state.events
-    (each-weaker (Hides g) (λ x. tells x ≡ false → making_of g x ≡ None) (λ x hides not. ap (option_map _) (hides.makes not)) e.state.events
-    (Hides-from g e alike replays))
-
-pub answers-told : (es : List EventView) → answers (events_at es (telling_from 0 es)) ≡ answers es
-answers-told es = ap answers (events_at-told [] es) ∙ filter_map-told (λ e. brought e.message.payload) es (each es)
-  where
-    each : (xs : List EventView) → AllByRecursion (λ e. tells e ≡ false → brought e.message.payload ≡ None) xs
-    each [] = tt
-    each (x ∷ xs) = (λ not. brought-untold x.message.payload x.fired not, each xs)
-
--- there is a position where a walk over positions reads one
-pub position-at : (ks : List ℕ) (i d : ℕ) → i < length ks → slice_get ks i ≡ Some (get_or ks i d)
-position-at ks i d lt = let there = element-at ks i lt in there.1 ∙ ap Some (sym (get_or_from_slice_get ks i there.0 d there.1))
-
--- one more position is one more event
-pub events_at-next : (es : List EventView) (ks : List ℕ) (i d : ℕ) (e : EventView) → i < length ks → slice_get es (get_or ks i d) ≡ Some e
-    → events_at es (take (i + 1) ks) ≡ events_at es (take i ks) ++ e ∷ []
-events_at-next es ks i d e lt at = filter_map-at (slice_get es) ks i d (Some e) lt (sym at)
-
--- a walk over positions gives what the events there do
-pub walk-positions : {B : Type 0} (h : EventView → Option B) (es : List EventView) (ks : List ℕ) →
-    filter_map (λ k. option_and_then h (slice_get es k)) ks ≡ filter_map h (events_at es ks)
-walk-positions h es [] = refl
-walk-positions h es (k ∷ ks) = from (walk-positions h es ks) (slice_get es k)
-  where
-    from : filter_map (λ j. option_and_then h (slice_get es j)) ks ≡ filter_map h (events_at es ks) → (o : Option EventView) →
-        cons_option (option_and_then h o) (filter_map (λ j. option_and_then h (slice_get es j)) ks) ≡ filter_map h (cons_option o (events_at es ks))
-    from rest None = rest
-    from rest (Some e) = ap (cons_option (h e)) rest
+-- what is told next comes after what was told
+pub AddsTold-next : (g : Parts) (ts : List Telling) (i : ℕ) (t : Telling) (old mid new : Tables) → slice_get ts i ≡ Some t
+    → AddsTold g (take i ts) old mid → AddsOne g t mid new → AddsTold g (take (i + 1) ts) old new
+AddsTold-next g ts i t old mid new at told one =
+    let next = take-next ts i t at in
+    record {
+      enters = λ c.
+          one.enters c ∙ ap (option_or (if_same t.tag c (entered_told g t))) (told.enters c)
+          ∙ sym (or-assoc (if_same t.tag c (entered_told g t)) (enter_by g (take i ts) c) (get same_context old.enters c))
+          ∙ ap (λ o. option_or o (get same_context old.enters c))
+          (sym (ap (λ xs. enter_by g xs c) next ∙ enter_by-append g (take i ts) (t ∷ []) c ∙ ap (λ o. option_or o (enter_by g (take i ts) c)) (enter_by-one g t c)));
+      makers = λ s.
+          one.makers s ∙ ap (option_or (if_made t.tag s (made_told g t))) (told.makers s)
+          ∙ sym (or-assoc (if_made t.tag s (made_told g t)) (maker_by g (take i ts) s) (get same_structure old.makers s))
+          ∙ ap (λ o. option_or o (get same_structure old.makers s))
+          (sym (ap (λ xs. maker_by g xs s) next ∙ maker_by-append g (take i ts) (t ∷ []) s ∙ ap (λ o. option_or o (maker_by g (take i ts) s)) (maker_by-one g t s)));
+      makings =
+          one.makings ∙ ap (λ ms. ms ++ cons_option (making_told g t) []) told.makings
+          ∙ append_assoc old.makings.items (filter_map (making_told g) (take i ts)) (cons_option (making_told g t) [])
+          ∙ ap (λ ms. old.makings.items ++ ms) (sym (filter_map-next (making_told g) ts i t at));
+      values =
+          one.values ∙ ap (λ vs. vs ++ cons_option (value_told t) []) told.values
+          ∙ append_assoc old.values.items (filter_map value_told (take i ts)) (cons_option (value_told t) [])
+          ∙ ap (λ vs. old.values.items ++ vs) (sym (filter_map-next value_told ts i t at));
+    }

@@ -1,5 +1,6 @@
 -- What public clauses cite.
 pub mod Paths
+pub mod Tellings
 pub mod Sourced
 pub mod Merged
 pub mod Firsts

@@ -25,7 +25,7 @@ use Rattle.id_source.specs.declared.Shape.{Shape}
 use Rattle.id_source.specs.declared.Put.{Put}
 use Rattle.id_source.specs.declared.Ask.{Ask}
 use Rattle.id_source.specs.declared.NameValue.{NameValue}
-use Rattle.id_valid.specs.Validator.{is_value}
+pub use Rattle.id_record.specs.Tellings.{is_value_merge}
 use Rattle.id_bank.specs.declared.cell.Filled.{Filled}
 use Rattle.id_bank.specs.declared.cell.Reader.{Reader}
 use Rattle.id_bank.specs.Cells.{cells_of, deferred_of}
@@ -42,11 +42,6 @@ pub use Rattle.id_observe.specs.Sourced.{source_value, site_cmp, second_store, f
 abbrev pub answer_in : Parts → List State → Option SourceValue
 answer_in g elements =
     option_and_then (source_value (structure_in g elements)) (slice_get (answers (events_of elements)) 0)
-
--- a merge for values of the source
-abbrev pub is_value_merge : Op → Bool
-is_value_merge (op.Merge k) = is_value k
-is_value_merge _ = false
 
 -- whether the operator is a `next`
 abbrev pub is_next : Op → Bool
@@ -146,10 +141,6 @@ abbrev pub asks_in : Parts → List State → List Ask
 asks_in g elements = asks_of g (path_in g elements) (structure_in g elements) (events_of elements)
 
 -- For use inside.
-
--- the value that the event at a position brought to the answer, if it did
-abbrev pub brought_at : List EventView → ℕ → Option Value
-brought_at es k = option_and_then (λ e. brought e.message.payload) (slice_get es k)
 
 -- the first value that the records of these elements brought to instruction 0 under main's tag
 abbrev pub first_value : List State → Option Value

@@ -164,20 +164,6 @@ abbrev pub is_enter : Option Op → Bool
 is_enter (Some (Enter b r)) = true
 is_enter _ = false
 
--- whether the other instruction is an `enter` or an `alloc` where this one is
-abbrev pub is_alike : Option Op → Option Op → Bool
-is_alike (Some (Enter b r)) o = is_enter o
-is_alike (Some (Alloc nested)) o = is_alloc o
-is_alike _ o = true
-
--- each instruction that enters contexts or makes structures does so in the other graph too
-abbrev pub DoAlike : Parts → Parts → Type 0
-DoAlike g h = (n : ℕ) → is_alike (op_at g n) (op_at h n) ≡ true
-
--- the events at these positions
-abbrev pub events_at : List EventView → List ℕ → List EventView
-events_at es ks = filter_map (slice_get es) ks
-
 -- the tables tell what these events do
 pub record AreTold (g : Parts) (es : List EventView) (t : Tables) : Type 0 where
   pub enters : (c : Context) → get same_context t.enters c ≡ enter_in g es c

@@ -1,18 +1,15 @@
 //! The answer that a run shows, for who asks for nothing else (docs/MACHINE.md, "Observed").
 
-ghost use Rattle.std.specs.Prelude.{◌≡◌, ◌==◌, ◌<◌, ◌-◌, length, map};
-ghost use Rattle.std.specs.Prelude.{slice_get};
-ghost use Rattle.std.specs.Prelude.{IfOk, None, Some};
-ghost use Rattle.id_observe.specs.Observed.{answer_in};
-ghost use Rattle.id_observe.specs.Paths.{answers, brought};
-ghost use Rattle.id_observe.specs.Observed.{brought_at};
-ghost use Rattle.id_observe.specs.Observed.{first_value};
-ghost use Rattle.id_observe.specs.Sourced.{source_value};
+ghost use Rattle.std.specs.Prelude.{◌≡◌, map, slice_get, IfOk};
+ghost use Rattle.std.specs.List.{filter_map};
+ghost use Rattle.id_observe.specs.Observed.{answer_in, first_value};
 ghost use Rattle.id_observe.specs.Paths.{structure_in};
+ghost use Rattle.id_observe.specs.Sourced.{source_value};
+ghost use Rattle.id_observe.specs.Tellings.{AreOf, value_told};
 
-use crate::paths::{Paths, brought};
+use crate::paths::{Paths, value_by};
 use id_element::Element;
-use id_record::Events;
+use id_record::Telling;
 use id_source::{Site, SourceValue};
 use id_tag::{Structure, Value};
 use id_valid::Valid;
@@ -24,6 +21,7 @@ pub fn answer(
     graph: &Valid,
     elements: &[Element<'_>],
 ) -> Result<Option<SourceValue>, AllocError>
+    requires { AreOf graph.now elements.now }
     ensures { IfOk result (λ o. o ≡ answer_in graph.now (map (λ e. e.state) elements.now)) }
 {
     match first_value(elements) {
@@ -39,6 +37,7 @@ fn told_value(
     elements: &[Element<'_>],
     value: Value,
 ) -> Result<Option<SourceValue>, AllocError>
+    requires { AreOf graph.now elements.now }
     ensures { IfOk result (λ o. o ≡ source_value (structure_in graph.now (map (λ e. e.state) elements.now)) value) }
 {
     match value {
@@ -59,6 +58,7 @@ fn told_name(
     elements: &[Element<'_>],
     structure: Structure,
 ) -> Result<Site, AllocError>
+    requires { AreOf graph.now elements.now }
     ensures { IfOk result (λ a. a ≡ structure_in graph.now (map (λ e. e.state) elements.now) structure) }
 {
     let paths = Paths::new(alloc, graph.graph(), elements)?;
@@ -70,7 +70,7 @@ fn first_value(elements: &[Element<'_>]) -> Option<Value>
     ensures { result ≡ first_value (map (λ e. e.state) elements.now) }
 {
     for element in elements {
-        let value = first_answer(&element.events());
+        let value = first_answer(element.tellings());
         if value.is_some() {
             return value;
         }
@@ -78,28 +78,15 @@ fn first_value(elements: &[Element<'_>]) -> Option<Value>
     None
 }
 
-/// The first value that one of these events brought to the answer. Only events that tell are looked at.
-fn first_answer(events: &Events<'_>) -> Option<Value>
-    ensures { result ≡ slice_get (answers events.now) 0 }
+/// The first value that came to the answer, of what is told.
+fn first_answer(tellings: &[Telling]) -> Option<Value>
+    ensures { result ≡ slice_get (filter_map value_told tellings.now) 0 }
 {
-    for position in events.telling() {
-        let value = brought_at(events, *position);
+    for telling in tellings {
+        let value = value_by(*telling);
         if value.is_some() {
             return value;
         }
     }
     None
-}
-
-/// The value that the event at a position brought to the answer, if it did. Of another than instruction 0 no more is
-/// looked at.
-fn brought_at(events: &Events<'_>, position: usize) -> Option<Value>
-    requires { position < length events.now }
-    ensures { result ≡ brought_at events.now position }
-{
-    if events.instr(position) == 0 {
-        brought(&events.payload(position))
-    } else {
-        None
-    }
 }

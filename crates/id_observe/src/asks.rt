@@ -4,6 +4,7 @@ ghost use Rattle.std.specs.Prelude.{◌≡◌, ◌++◌, [], map, option_map, If
 ghost use Rattle.std.specs.List.{cons_option};
 ghost use Rattle.id_observe.specs.Observed.{ask_of, asks_of, reader_in};
 ghost use Rattle.id_observe.specs.Paths.{events_of, path_by, structure_by};
+ghost use Rattle.id_observe.specs.Tellings.{KeepAll};
 
 use crate::paths::Paths;
 use crate::shown::ask_of;
@@ -20,6 +21,7 @@ pub fn all_asks(
     paths: &Paths<'_>,
     elements: &[Element<'_>],
 ) -> Result<Vec<Ask>, AllocError>
+    requires { KeepAll elements.now }
     ensures { IfOk result
         (λ v. v.items
         ≡ asks_of paths.now.graph.now (path_by paths.now) (structure_by paths.now)

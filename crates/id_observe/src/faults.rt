@@ -4,6 +4,8 @@ ghost use Rattle.std.specs.Prelude.{◌≡◌, ◌++◌, [], map, IfOk, OnOk};
 ghost use Rattle.std.specs.List.{cons_option};
 ghost use Rattle.id_observe.specs.Paths.{events_of, path_by, structure_by};
 ghost use Rattle.id_observe.specs.Sourced.{faults_of};
+ghost use Rattle.id_observe.specs.Tellings.{KeepAll};
+ghost use Rattle.id_record.specs.declared.kept.Keeps.TheVariants as keeps;
 
 use crate::paths::Paths;
 use crate::sourced::source_fault;
@@ -18,6 +20,7 @@ pub fn all_faults(
     paths: &Paths<'_>,
     elements: &[Element<'_>],
 ) -> Result<Vec<SourceFault>, AllocError>
+    requires { KeepAll elements.now }
     ensures { IfOk result
         (λ v. v.items
         ≡ faults_of paths.now.graph.now (path_by paths.now) (structure_by paths.now)
@@ -37,6 +40,7 @@ fn add_element_faults(
     element: &Element<'_>,
     faults: &mut Vec<SourceFault>,
 ) -> Result<(), AllocError>
+    requires { element.now.keeps ≡ keeps.All }
     ensures { OnOk result
         (faults.new.items ≡ faults.old.items
         ++ faults_of paths.now.graph.now (path_by paths.now) (structure_by paths.now) element.now.state.events) }

@@ -10,6 +10,7 @@ ghost use Rattle.id_observe.specs.Sourced.{source_value};
 ghost use Rattle.id_observe.specs.Paths.{structure_by};
 ghost use Rattle.id_observe.specs.Observed.{waiting_in};
 ghost use Rattle.id_observe.specs.Paths.{path_by};
+ghost use Rattle.id_observe.specs.Tellings.{AreOf};
 
 use crate::answered::answer;
 use crate::paths::{Paths, is_alloc};
@@ -45,6 +46,7 @@ pub fn observe_holdings(
     graph: &Valid,
     elements: &[Element<'_>],
 ) -> Result<Holdings, AllocError>
+    requires { AreOf graph.now elements.now }
     ensures answer { IfOk result (λ o. o.answer ≡ answer_in graph.now (map (λ e. e.state) elements.now)) }
     ensures structures { IfOk result
         (λ o. o.structures ≡ structures_in graph.now (map (λ e. e.state) elements.now)) }
@@ -59,6 +61,7 @@ pub fn observe_holdings(
 
 /// The same where there may be structures or cells.
 fn held(alloc: Global, graph: &Valid, elements: &[Element<'_>]) -> Result<Holdings, AllocError>
+    requires { AreOf graph.now elements.now }
     ensures answer { IfOk result (λ o. o.answer ≡ answer_in graph.now (map (λ e. e.state) elements.now)) }
     ensures structures { IfOk result
         (λ o. o.structures ≡ structures_in graph.now (map (λ e. e.state) elements.now)) }

@@ -6,6 +6,7 @@ ghost use Rattle.std.specs.Prelude.{MatchOption};
 ghost use Rattle.std.specs.List.{flat_map};
 ghost use Rattle.std.specs.List.Sorted.{IsStrictlyIncreasing, IsStrictlySortedBy};
 ghost use Rattle.id_record.specs.Events.{EventView};
+ghost use Rattle.id_observe.specs.Tellings.{KeepAll};
 ghost use Rattle.id_observe.specs.Merged.{by_moment, AreRecords, AreMerged, IsEarliest, IsMerge, earlier_of, head_of};
 
 use id_element::Element;
@@ -80,7 +81,8 @@ pub fn merge_records<'a>(
     alloc: Global,
     elements: &'a [Element<'_>],
 ) -> Result<Merged<'a>, AllocError>
-    requires { IsStrictlyIncreasing (map (λ e. e.number) elements.now) }
+    requires kept { KeepAll elements.now }
+    requires rise { IsStrictlyIncreasing (map (λ e. e.number) elements.now) }
     ensures sorted { IfOk result (λ m. IsStrictlySortedBy by_moment m) }
     ensures all { IfOk result (λ m. IsPermutation (flat_map (λ e. e.state.events) elements.now) m) }
     // There is one such list.
@@ -95,7 +97,8 @@ pub fn merge_records<'a>(
 
 /// The records of these elements.
 fn records_of<'a>(alloc: Global, elements: &'a [Element<'_>]) -> Result<Vec<Events<'a>>, AllocError>
-    requires { IsStrictlyIncreasing (map (λ e. e.number) elements.now) }
+    requires kept { KeepAll elements.now }
+    requires rise { IsStrictlyIncreasing (map (λ e. e.number) elements.now) }
     ensures records { IfOk result (λ rs. rs.items ≡ map (λ e. e.state.events) elements.now) }
     ensures are { IfOk result (λ rs. AreRecords rs.items) }
 {

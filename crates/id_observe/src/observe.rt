@@ -16,6 +16,7 @@ ghost use Rattle.id_observe.specs.Observed.{shape_at};
 ghost use Rattle.id_observe.specs.Paths.{structure_by};
 ghost use Rattle.id_observe.specs.Observed.{structures_in, waiting_in};
 ghost use Rattle.id_observe.specs.Paths.{path_by};
+ghost use Rattle.id_observe.specs.Tellings.{AreOf, KeepAll, KeepNames};
 
 use crate::asks::all_asks;
 use crate::faults::all_faults;
@@ -54,6 +55,8 @@ pub fn observe_records(
     graph: &Valid,
     elements: &[Element<'_>],
 ) -> Result<Observed, AllocError>
+    requires of { AreOf graph.now elements.now }
+    requires kept { KeepAll elements.now }
     ensures answer { IfOk result (λ o. o.answer ≡ answer_in graph.now (map (λ e. e.state) elements.now)) }
     ensures names { IfOk result (λ o. o.names ≡ names_in graph.now (map (λ e. e.state) elements.now)) }
     ensures structures { IfOk result
@@ -73,6 +76,8 @@ pub fn observe_names(
     graph: &Valid,
     elements: &[Element<'_>],
 ) -> Result<Vec<NameValue>, AllocError>
+    requires of { AreOf graph.now elements.now }
+    requires kept { KeepNames elements.now }
     ensures { IfOk result (λ v. v.items ≡ names_in graph.now (map (λ e. e.state) elements.now)) }
 {
     let paths = Paths::new(alloc, graph.graph(), elements)?;
@@ -85,6 +90,8 @@ fn shown_by(
     paths: &Paths<'_>,
     elements: &[Element<'_>],
 ) -> Result<Observed, AllocError>
+    requires of { AreOf paths.now.graph.now elements.now }
+    requires kept { KeepAll elements.now }
     ensures answer { IfOk result (λ o. o.answer
         ≡ option_and_then (source_value (structure_by paths.now)) (slice_get paths.now.values.items 0)) }
     ensures names { IfOk result (λ o. o.names
@@ -130,6 +137,8 @@ struct Told {
 /// The answer that the records of these elements show, what binders have, what fetches ask for, and their faults, by
 /// these paths and names.
 fn told_by(alloc: Global, paths: &Paths<'_>, elements: &[Element<'_>]) -> Result<Told, AllocError>
+    requires of { AreOf paths.now.graph.now elements.now }
+    requires kept { KeepAll elements.now }
     ensures answer { IfOk result (λ o. o.answer
         ≡ option_and_then (source_value (structure_by paths.now)) (slice_get paths.now.values.items 0)) }
     ensures names { IfOk result (λ o. o.names

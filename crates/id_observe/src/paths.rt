@@ -1,25 +1,22 @@
 //! The path of each tag, and the name of each structure (docs/MACHINE.md, "Paths of tags").
 
-ghost use Rattle.std.specs.Prelude.{◌≡◌, ◌<◌, ◌++◌, [], length, map, option_map, slice_get, Some};
-ghost use Rattle.std.specs.Prelude.{All, IfOk, IsTrue, OnOk};
+ghost use Rattle.std.specs.Prelude.{◌≡◌, ◌++◌, [], length, map, option_map, slice_get};
+ghost use Rattle.std.specs.Prelude.{IfOk, OnOk};
 ghost use Rattle.std.specs.List.{cons_option};
 ghost use Rattle.std.specs.Option.{option_or};
 ghost use Rattle.std.specs.HashMap.{get};
 ghost use Rattle.id_tag.specs.Tags.{same_context, same_structure};
-ghost use Rattle.id_record.specs.Events.{EventView, tag_of};
 ghost use Rattle.id_valid.specs.Roles.{op_at};
-ghost use Rattle.id_observe.specs.Paths.{Adds, AreTold, brought, events_of, main_tag, place_of};
-ghost use Rattle.id_observe.specs.Paths.{entered, entered_by, enters_loop, if_made, if_same, last_context};
-ghost use Rattle.id_observe.specs.Paths.{DoAlike, events_at, is_alike};
-ghost use Rattle.id_observe.specs.Paths.{enter_of, is_alloc, is_enter, made_by, maker_of};
-ghost use Rattle.id_observe.specs.Paths.{making_of, step_of, steps_to};
+ghost use Rattle.id_observe.specs.Paths.{Adds, AreTold, events_of, main_tag, place_of};
+ghost use Rattle.id_observe.specs.Paths.{enters_loop, if_made, if_same, step_of, steps_to};
+ghost use Rattle.id_observe.specs.Paths.{is_alloc, is_enter};
+ghost use Rattle.id_observe.specs.Tellings.{AddsOne, AddsTold, AreOf, entered_told, made_told, value_told};
 
 use id_element::{Element, op_at};
 use id_instr::{Graph, Op};
-use id_ops::Fired;
-use id_record::{Events, Outputs, tag_of};
+use id_record::{Telling, Told};
 use id_source::{Path, PathStep, Site};
-use id_tag::{Context, NearHasher, Payload, Structure, Tag, Value};
+use id_tag::{Context, NearHasher, Structure, Tag, Value};
 use id_value::Sequence;
 use std::alloc::{AllocError, Global};
 use std::collections::HashMap;
@@ -41,107 +38,102 @@ struct Tables {
     values: Vec<Value>,
 }
 
-/// Adds what the events of an element tell. Where the element's graph enters contexts and makes structures by the same
-/// instructions, which is this graph mostly, only the events that tell are looked at.
+/// Adds what the events of an element of this graph tell.
 fn add_record(graph: &Graph, element: &Element<'_>, tables: &mut Tables) -> Result<(), AllocError>
+    requires { element.now.graph ≡ graph.now }
     ensures { OnOk result (Adds graph.now element.now.state.events tables.old tables.new) }
 {
-    let events = element.events();
-    if does_alike(graph, element.graph().graph()) {
-        add_events(graph, &events, events.telling(), tables)
-    } else {
-        add_each(graph, &events, tables)
-    }
+    let _handled = element.handled();
+    add_tellings(graph, element.tellings(), tables)
 }
 
-/// Whether each instruction that enters contexts or makes structures does so in the other graph too.
-fn does_alike(graph: &Graph, other: &Graph) -> bool
-    ensures { IsTrue result → DoAlike graph.now other.now }
+/// Adds what is told, in order.
+fn add_tellings(graph: &Graph, tellings: &[Telling], tables: &mut Tables) -> Result<(), AllocError>
+    ensures { OnOk result (AddsTold graph.now tellings.now tables.old tables.new) }
 {
-    for number in 0..graph.instrs().len() {
-        if !is_alike(op_in(graph, number), op_in(other, number)) {
-            return false;
+    for telling in tellings {
+        add_telling(graph, *telling, tables)?;
+    }
+    Ok(())
+}
+
+/// Adds what is told once.
+fn add_telling(graph: &Graph, telling: Telling, tables: &mut Tables) -> Result<(), AllocError>
+    ensures { OnOk result (AddsOne graph.now telling tables.old tables.new) }
+{
+    add_enter(entered_by(graph, telling), telling.tag, &mut tables.enters)?;
+    add_maker(
+        telling.tag,
+        made_by(graph, telling),
+        &mut tables.makers,
+        &mut tables.makings,
+    )?;
+    add_value(value_by(telling), &mut tables.values)
+}
+
+/// The context that was entered, where that is told of an `enter`.
+fn entered_by(graph: &Graph, telling: Telling) -> Option<Context>
+    ensures { result ≡ entered_told graph.now telling }
+{
+    match telling.told {
+        Told::Entered(context) => {
+            if is_enter(op_at(graph, telling.tag.instr)) {
+                Some(context)
+            } else {
+                None
+            }
         }
-    }
-    true
-}
-
-/// What the instruction of this number does, if there is one.
-fn op_in(graph: &Graph, number: usize) -> Option<Op>
-    ensures { result ≡ op_at graph.now number }
-{
-    graph.instrs().get(number).map(|instr| instr.op)
-}
-
-/// Whether the other instruction is one of this kind, where this enters contexts or makes structures.
-fn is_alike(op: Option<Op>, other: Option<Op>) -> bool
-    ensures { result ≡ is_alike op other }
-{
-    match op {
-        Some(Op::Enter { .. }) => is_enter(other),
-        Some(Op::Alloc { .. }) => is_alloc(other),
-        _ => true,
+        _ => None,
     }
 }
 
-/// Adds what these events tell, of which each is looked at.
-fn add_each(graph: &Graph, events: &Events<'_>, tables: &mut Tables) -> Result<(), AllocError>
-    ensures { OnOk result (Adds graph.now events.now tables.old tables.new) }
+/// The structure that was made, where that is told of an `alloc`.
+fn made_by(graph: &Graph, telling: Telling) -> Option<Structure>
+    ensures { result ≡ made_told graph.now telling }
 {
-    for position in 0..events.len() {
-        add_events(graph, events, &[position], tables)?;
+    match telling.told {
+        Told::Made(structure) => {
+            if is_alloc(op_at(graph, telling.tag.instr)) {
+                Some(structure)
+            } else {
+                None
+            }
+        }
+        _ => None,
     }
-    Ok(())
 }
 
-/// Adds what the events at these positions tell.
-fn add_events(
-    graph: &Graph,
-    events: &Events<'_>,
-    positions: &[usize],
-    tables: &mut Tables,
+/// The value that came to instruction 0 under main's tag, where that is told.
+pub(crate) fn value_by(telling: Telling) -> Option<Value>
+    ensures { result ≡ value_told telling }
+{
+    match telling.told {
+        Told::Came(value) => {
+            if telling.tag == main_tag(0) {
+                Some(value)
+            } else {
+                None
+            }
+        }
+        _ => None,
+    }
+}
+
+/// Adds the tag under which a context was entered, if one was.
+fn add_enter(
+    entered: Option<Context>,
+    tag: Tag,
+    enters: &mut HashMap<Context, Tag, NearHasher>,
 ) -> Result<(), AllocError>
-    requires { All (λ k. k < length events.now) positions.now }
-    ensures { OnOk result (Adds graph.now (events_at events.now positions.now) tables.old tables.new) }
+    ensures { OnOk result ((c : Context) → get same_context enters.new c
+        ≡ option_or (if_same tag c entered) (get same_context enters.old c)) }
 {
-    for position in positions {
-        let number = events.instr(*position);
-        let op = op_at(graph, number);
-        add_enter_at(graph, op, events, *position, &mut tables.enters)?;
-        add_maker_at(
-            graph,
-            op,
-            events,
-            *position,
-            &mut tables.makers,
-            &mut tables.makings,
-        )?;
-        add_value_at(number, events, *position, &mut tables.values)?;
-    }
-    Ok(())
-}
-
-/// Adds the value that the event at a position brought to the answer, if it did, where its message names the
-/// instruction of this number. An event of another than instruction 0 is not looked at.
-fn add_value_at(
-    number: u32,
-    events: &Events<'_>,
-    position: usize,
-    values: &mut Vec<Value>,
-) -> Result<(), AllocError>
-    requires position { position < length events.now }
-    requires number { option_map (λ e. (tag_of e.message.payload).instr) (slice_get events.now position)
-        ≡ Some number }
-    ensures { OnOk result
-        ((e : EventView)
-        → slice_get events.now position ≡ Some e
-        → values.new.items ≡ values.old.items ++ cons_option (brought e.message.payload) []) }
-{
-    if number == 0 {
-        add_value(brought(&events.payload(position)), values)?;
-        Ok(())
-    } else {
-        Ok(())
+    match entered {
+        Some(context) => {
+            let _ = enters.insert(context, tag)?;
+            Ok(())
+        }
+        None => Ok(()),
     }
 }
 
@@ -158,33 +150,6 @@ fn add_value(value: Option<Value>, values: &mut Vec<Value>) -> Result<(), AllocE
     }
 }
 
-/// Adds the tag under which the event at a position entered a context, if it did, where its instruction does this. An
-/// event of no `enter` is not looked at.
-fn add_enter_at(
-    graph: &Graph,
-    op: Option<Op>,
-    events: &Events<'_>,
-    position: usize,
-    enters: &mut HashMap<Context, Tag, NearHasher>,
-) -> Result<(), AllocError>
-    requires position { position < length events.now }
-    requires op { option_map (λ e. op_at graph.now (tag_of e.message.payload).instr) (slice_get events.now position)
-        ≡ Some op }
-    ensures { OnOk result
-        ((e : EventView)
-        → slice_get events.now position ≡ Some e
-        → (c : Context)
-        → get same_context enters.new c ≡ option_or (enter_of graph.now e c) (get same_context enters.old c)) }
-{
-    if is_enter(op) {
-        let event = events.event(position);
-        add_enter(graph, &event.message.payload, &event.outputs, enters)?;
-        Ok(())
-    } else {
-        Ok(())
-    }
-}
-
 /// Whether an instruction is an `enter`.
 fn is_enter(op: Option<Op>) -> bool
     ensures { result ≡ is_enter op }
@@ -197,59 +162,6 @@ pub fn is_alloc(op: Option<Op>) -> bool
     ensures { result ≡ is_alloc op }
 {
     matches!(op, Some(Op::Alloc { .. }))
-}
-
-/// Adds the tag under which an event entered a context, if it did, where an instruction took what came and sent
-/// these messages.
-fn add_enter(
-    graph: &Graph,
-    payload: &Payload,
-    outputs: &Outputs<'_>,
-    enters: &mut HashMap<Context, Tag, NearHasher>,
-) -> Result<(), AllocError>
-    ensures { OnOk result ((c : Context) → get same_context enters.new c ≡
-        option_or (if_same (tag_of payload.now) c (entered graph.now payload.now outputs.now))
-        (get same_context enters.old c)) }
-{
-    match entered(graph, payload, outputs) {
-        Some(context) => {
-            let _ = enters.insert(context, tag_of(payload))?;
-            Ok(())
-        }
-        None => Ok(()),
-    }
-}
-
-/// The context that was entered where an instruction took what came, and sent these messages.
-fn entered(graph: &Graph, payload: &Payload, outputs: &Outputs<'_>) -> Option<Context>
-    ensures { result ≡ entered graph.now payload.now outputs.now }
-{
-    match *payload {
-        Payload::Token { tag, .. } => entered_by(op_at(graph, tag.instr), outputs),
-        Payload::Read { .. } | Payload::Write { .. } => None,
-    }
-}
-
-/// The context that an instruction entered by sending these messages.
-fn entered_by(op: Option<Op>, outputs: &Outputs<'_>) -> Option<Context>
-    ensures { result ≡ entered_by op outputs.now }
-{
-    match op {
-        Some(Op::Enter { .. }) => last_context(outputs),
-        _ => None,
-    }
-}
-
-/// The context that the last of these messages is for.
-fn last_context(outputs: &Outputs<'_>) -> Option<Context>
-    ensures { result ≡ last_context outputs.now }
-{
-    let count = outputs.len();
-    if count == 0 {
-        return None;
-    }
-    let last = outputs.message(count - 1);
-    Some(tag_of(&last.payload).context)
 }
 
 /// Whether the instruction is the `enter` of a loop.
@@ -279,39 +191,6 @@ fn step_of(graph: &Graph, number: u32, iteration: u64) -> PathStep
     }
 }
 
-/// Adds the structure that the event at a position made, if it did, and its tag, where its instruction does this. An
-/// event of no `alloc` is not looked at.
-fn add_maker_at(
-    graph: &Graph,
-    op: Option<Op>,
-    events: &Events<'_>,
-    position: usize,
-    makers: &mut HashMap<Structure, Tag, NearHasher>,
-    makings: &mut Vec<Making>,
-) -> Result<(), AllocError>
-    requires position { position < length events.now }
-    requires op { option_map (λ e. op_at graph.now (tag_of e.message.payload).instr) (slice_get events.now position)
-        ≡ Some op }
-    ensures makers { OnOk result
-        ((e : EventView)
-        → slice_get events.now position ≡ Some e
-        → (s : Structure)
-        → get same_structure makers.new s ≡ option_or (maker_of graph.now e s) (get same_structure makers.old s)) }
-    ensures makings { OnOk result
-        ((e : EventView)
-        → slice_get events.now position ≡ Some e
-        → makings.new.items ≡ makings.old.items ++ cons_option (making_of graph.now e) []) }
-{
-    if is_alloc(op) {
-        let event = events.event(position);
-        let tag = tag_of(&event.message.payload);
-        add_maker(tag, made(graph, tag, event.fired), makers, makings)?;
-        Ok(())
-    } else {
-        Ok(())
-    }
-}
-
 /// Adds the structure that an event under this tag made, if it did.
 fn add_maker(
     tag: Tag,
@@ -334,16 +213,6 @@ fn add_maker(
     }
 }
 
-/// The structure that was made where the instruction of the tag fired so.
-fn made(graph: &Graph, tag: Tag, fired: Fired) -> Option<Structure>
-    ensures { result ≡ made_by (op_at graph.now tag.instr) fired }
-{
-    match (op_at(graph, tag.instr), fired) {
-        (Some(Op::Alloc { .. }), Fired::Out(Value::Structure(structure))) => Some(structure),
-        _ => None,
-    }
-}
-
 /// What the records of elements tell of the paths of tags and the names of structures: under which tag each context was
 /// entered and each structure was made, those structures one element's record after another's, how many steps a path
 /// has at most, and which values came to the answer.
@@ -362,12 +231,13 @@ impl<'a> Paths<'a> {
     ghost use Rattle.id_observe.specs.Paths.{answers, events_of, path_in, site_at, structure_by, structure_in};
     ghost use Rattle.id_observe.specs.Paths.{makings_of, path_by};
 
-    /// What the records of these elements tell.
+    /// What the records of these elements of this graph tell.
     pub fn new(
         alloc: Global,
         graph: &'a Graph,
         elements: &[Element<'_>],
     ) -> Result<Paths<'a>, AllocError>
+        requires { AreOf graph.now elements.now }
         ensures paths { IfOk result (λ p. path_by p ≡ path_in graph.now (map (λ e. e.state) elements.now)) }
         ensures structures { IfOk result
             (λ p. structure_by p ≡ structure_in graph.now (map (λ e. e.state) elements.now)) }
@@ -438,6 +308,7 @@ impl<'a> Paths<'a> {
 
 /// What the records of these elements tell, one record after another.
 fn all_records(alloc: Global, graph: &Graph, elements: &[Element<'_>]) -> Result<Tables, AllocError>
+    requires { AreOf graph.now elements.now }
     ensures { IfOk result (AreTold graph.now (events_of (map (λ e. e.state) elements.now))) }
 {
     let mut tables = Tables {
@@ -458,7 +329,7 @@ fn count_events(elements: &[Element<'_>]) -> u128
 {
     let mut count = 0;
     for element in elements {
-        count += element.events().len() as u128;
+        count += element.handled() as u128;
     }
     count
 }
@@ -489,22 +360,6 @@ fn path_to(
     Ok(Path {
         steps: Sequence::new(steps),
     })
-}
-
-/// The value that a token brings to instruction 0 under main's tag.
-pub fn brought(payload: &Payload) -> Option<Value>
-    ensures { result ≡ brought payload.now }
-{
-    match *payload {
-        Payload::Token { tag, value, .. } => {
-            if tag == main_tag(0) {
-                Some(value)
-            } else {
-                None
-            }
-        }
-        Payload::Read { .. } | Payload::Write { .. } => None,
-    }
 }
 
 /// The tag of an instruction in main's context, at iteration 0.

@@ -8,10 +8,11 @@ ghost use Rattle.std.specs.Prelude.{IfOk, OnOk, None, Some, if◌then◌else◌}
 ghost use Rattle.std.specs.HashMap.{get};
 ghost use Rattle.std.specs.List.{cons_option, filter_map, flat_map};
 ghost use Rattle.id_bank.specs.Cells.{cells_of, deferred_of};
-ghost use Rattle.id_valid.specs.Validator.{is_value};
 ghost use Rattle.id_observe.specs.Observed.{ask_of, claims};
 ghost use Rattle.id_observe.specs.Paths.{events_of};
-ghost use Rattle.id_observe.specs.Observed.{is_label, is_next, is_value_merge};
+ghost use Rattle.id_record.specs.Tellings.{is_value_merge};
+ghost use Rattle.id_observe.specs.Tellings.{AreOf, KeepNames};
+ghost use Rattle.id_observe.specs.Observed.{is_label, is_next};
 ghost use Rattle.id_observe.specs.Observed.{label_marks, name_at, name_in, names_of, put_of};
 ghost use Rattle.id_observe.specs.Sourced.{source_value};
 ghost use Rattle.id_observe.specs.Observed.{shape_at};
@@ -22,10 +23,10 @@ use crate::paths::{Making, Paths, place_of};
 use crate::sourced::source_value;
 use id_bank::{Cells, Filled, Reader};
 use id_element::Element;
-use id_instr::{Graph, Instr, Op, PortKind};
-use id_record::Events;
+use id_instr::{Graph, Instr, Op};
+use id_record::is_value_merge;
 use id_source::{Ask, NameValue, Put, Shape, Site, SourceValue};
-use id_tag::{Context, Payload, Structure, Tag, Value};
+use id_tag::{Payload, Structure, Tag, Value};
 use std::alloc::{AllocError, Global};
 use std::collections::HashMap;
 
@@ -51,6 +52,8 @@ pub fn all_names(
     paths: &Paths<'_>,
     elements: &[Element<'_>],
 ) -> Result<Vec<NameValue>, AllocError>
+    requires of { AreOf paths.now.graph.now elements.now }
+    requires kept { KeepNames elements.now }
     ensures { IfOk result
         (λ v. v.items
         ≡ names_of paths.now.graph.now (path_by paths.now) (structure_by paths.now)
@@ -59,13 +62,7 @@ pub fn all_names(
     let marks = label_marks(alloc, paths.graph())?;
     let mut names = Vec::new(alloc);
     for element in elements {
-        add_names(
-            alloc,
-            paths,
-            marks.as_slice(),
-            &element.events(),
-            &mut names,
-        )?;
+        add_names(alloc, paths, marks.as_slice(), element.merged(), &mut names)?;
     }
     Ok(names)
 }
@@ -119,50 +116,22 @@ fn is_next(op: Op) -> bool
     matches!(op, Op::Next(_))
 }
 
-/// Whether the instruction is a merge for values of the source.
-fn is_value_merge(op: Op) -> bool
-    ensures { result ≡ is_value_merge op }
-{
-    match op {
-        Op::Merge(kind) => is_value(kind),
-        _ => false,
-    }
-}
-
-/// Whether the kind is one of values of the source.
-fn is_value(kind: PortKind) -> bool
-    ensures { result ≡ is_value kind }
-{
-    match kind {
-        PortKind::Int | PortKind::Bool | PortKind::Structure | PortKind::Structures => true,
-        PortKind::Signal | PortKind::Address | PortKind::Addresses => false,
-        PortKind::Context | PortKind::Continuation => false,
-    }
-}
-
-/// Adds what these events show that binders have. What comes to an instruction that is no label is not looked at.
+/// Adds what binders have where these came to merges.
 fn add_names(
     alloc: Global,
     paths: &Paths<'_>,
     marks: &[bool],
-    events: &Events<'_>,
+    merged: &[Payload],
     names: &mut Vec<NameValue>,
 ) -> Result<(), AllocError>
     requires { marks.now ≡ label_marks paths.now.graph.now }
-    ensures { OnOk result
-        (names.new.items ≡ names.old.items
-        ++ names_of paths.now.graph.now (path_by paths.now) (structure_by paths.now) events.now) }
+    ensures { OnOk result (names.new.items ≡ names.old.items
+        ++ filter_map (name_in paths.now.graph.now (path_by paths.now) (structure_by paths.now)) merged.now) }
 {
-    let mut from = 0;
-    loop {
-        let position = events.next_marked(marks, from);
-        if position >= events.len() {
-            return Ok(());
-        }
-        let payload = events.payload(position);
-        add_name(name_in(alloc, paths, marks, &payload)?, names)?;
-        from = position + 1;
+    for payload in merged {
+        add_name(name_in(alloc, paths, marks, payload)?, names)?;
     }
+    Ok(())
 }
 
 /// Adds what a binder has, if it has something.

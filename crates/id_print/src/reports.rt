@@ -1,6 +1,7 @@
 //! Reports of runs, and how they are printed.
 
-ghost use Rattle.std.specs.Prelude.{◌≡◌, ◌≤◌, ◌++◌, [], codes, length, IfOk};
+ghost use Rattle.std.specs.Prelude.{◌≡◌, ◌≢◌, ◌≤◌, ◌++◌, [], codes, length, IfOk, IsTrue};
+ghost use Rattle.id_record.specs.declared.kept.Keeps.TheVariants as keeps;
 ghost use Rattle.id_sink.specs.Told.{Prints};
 ghost use Rattle.id_print.specs.Texts.{kind_text, fault_head_text, fault_text, answer_text, answer_value_text};
 ghost use Rattle.id_print.specs.Texts.{name_text, names_text, helds_text, waiting_text, waitings_text};
@@ -30,14 +31,15 @@ use id_valid::Valid;
 use id_value::FaultKind;
 use std::alloc::{AllocError, Global};
 
-/// The report of a run of the graph, with what names have where that is asked for.
+/// The report of a run of the graph, with what names have where that is asked for, of a run that keeps that.
 pub fn report(
     alloc: Global,
     run: &Run<'_>,
     _graph: &Valid,
     named: bool,
 ) -> Result<Report, AllocError>
-    requires { run.now.graph ≡ _graph.now }
+    requires graph { run.now.graph ≡ _graph.now }
+    requires kept { IsTrue named → run.now.keeps ≢ keeps.Tellings }
     ensures { IfOk result (IsReportFrom run.now named) }
 {
     run_report(alloc, run.machine(), named)

@@ -1,6 +1,7 @@
 //! Reports of runs: how a run ended, and what it has shown, in order.
 
-ghost use Rattle.std.specs.Prelude.{◌≡◌, ◌↔◌, ◌++◌, [], false, map, IsTrue, IsFalse, IfOk};
+ghost use Rattle.std.specs.Prelude.{◌≡◌, ◌≢◌, ◌↔◌, ◌++◌, [], false, map, IsTrue, IsFalse, IfOk};
+ghost use Rattle.id_record.specs.declared.kept.Keeps.TheVariants as keeps;
 ghost use Rattle.id_core.specs.Observed.{answer, faults, names, waiting};
 ghost use Rattle.id_source.specs.Orders.{NamesRise, Rises};
 ghost use Rattle.id_print.specs.declared.helds.Held.TheVariants as held;
@@ -34,6 +35,7 @@ pub struct Report {
 /// The report of a run: it ended at its first fault, by stamp and then by element, where there is one, else it is quiet
 /// or it was stopped. What binders have is looked up only where `named` asks for it: else the report has no names.
 pub fn run_report(alloc: Global, machine: &Machine<'_>, named: bool) -> Result<Report, AllocError>
+    requires { IsTrue named → machine.now.keeps ≢ keeps.Tellings }
     ensures { IfOk result (IsReportFrom machine.now named) }
 {
     let names = asked_names(alloc, machine, named)?;
@@ -48,6 +50,7 @@ fn asked_names(
     machine: &Machine<'_>,
     named: bool,
 ) -> Result<Sequence<NameValue>, AllocError>
+    requires { IsTrue named → machine.now.keeps ≢ keeps.Tellings }
     ensures names { IfOk result (λ ns. IsTrue named → IsSortedOf ns (names machine.now.graph machine.now.world)) }
     ensures rise { IfOk result
         (λ ns. IsTrue named → AreApart (names machine.now.graph machine.now.world) → NamesRise ns) }
@@ -129,6 +132,7 @@ fn in_order(
 
 /// What binders have in a run, by path and place.
 fn machine_names(alloc: Global, machine: &Machine<'_>) -> Result<Sequence<NameValue>, AllocError>
+    requires { machine.now.keeps ≢ keeps.Tellings }
     ensures sorted { IfOk result (λ ns. IsSortedOf ns (names machine.now.graph machine.now.world)) }
     ensures rise { IfOk result (λ ns. AreApart (names machine.now.graph machine.now.world) → NamesRise ns) }
 {

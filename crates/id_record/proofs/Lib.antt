@@ -1,10 +1,4 @@
-pub mod LinesLemmas
-pub mod SpotsLemmas
-pub mod NearLemmas
-pub mod ShotsLemmas
-pub mod LedgersLemmas
 pub mod TellingsLemmas
 pub mod EachLemmas
 pub mod SendsLemmas
-pub mod MarksLemmas
 pub mod RecordsLemmas

@@ -1,129 +1,63 @@
 -- Lemmas on specs/Records.antt: a record goes on by one event.
-use Rattle.std.proofs.Common.{Bool, ◌≡◌, ℕ, zero, suc, ◌+◌, ◌<◌, List, [], ◌∷◌, ◌++◌, Some}
-use Rattle.std.proofs.Common.{length, refl, sym, ap, subst, ◌∙◌, length-append, get_or, arith}
-use Rattle.std.specs.Prelude.{All, pos, ◌≤◌, ◌/◌, ◌^◌, drop, slice_get, option_map, take}
-use Rattle.std.specs.List.{AllByRecursion}
-use Rattle.std.proofs.lemmas.List.{append-nil, drop-append-le, get_or_append_left, length-take, take-append-drop, take-append-le, take_all}
+use Rattle.std.proofs.Common.{Bool, true, false, ◌≡◌, ◌||◌, ℕ, zero, suc, ◌+◌, List, [], ◌∷◌, ◌++◌, Some, None, Option}
+use Rattle.std.proofs.Common.{length, refl, sym, ap, ◌∙◌, length-append, arith}
+use Rattle.std.specs.Prelude.{◌≤◌, ◌-◌, drop, slice_get, option_map, take, if◌then◌else◌}
+use Rattle.std.specs.List.{AllByRecursion, cons_option}
+use Rattle.std.specs.Option.{option_map_or, option_or}
+use Rattle.std.proofs.lemmas.List.{append-nil, drop-append-le, length-take, take-append-drop, take-append-le, take_all}
 use Rattle.std.proofs.Math.Seq.{drop-append_seam}
-use Rattle.std.proofs.lemmas.List.Elements.{recursion_from_All, All-from_recursion}
-use Rattle.std.proofs.lemmas.Option.{get_or_from_slice_get}
-use Rattle.std.specs.Option.{option_map_or}
+use Rattle.std.proofs.lemmas.List.Concat.{flat_map-append}
+use Rattle.std.proofs.lemmas.List.Elements.{filter_map-append}
 use Rattle.id_instr.specs.declared.instr.Instr.{Instr}
 use Rattle.id_instr.specs.Graph.{Parts, arcs_on}
 use Rattle.id_ops.specs.declared.Fired.TheVariants as fired
 use Rattle.id_ops.specs.Operators.{side_of}
 use Rattle.id_tag.specs.declared.Payload.{Payload}
 use Rattle.id_tag.specs.declared.Tag.{Tag}
-use Rattle.id_tag.specs.Plains.{made_by}
-use Rattle.id_tag.specs.declared.Value.TheVariants as value
-use Rattle.id_record.specs.declared.line.Handled.{Handled}
-use Rattle.id_tag.specs.declared.Cell.{Cell}
-use Rattle.id_record.specs.declared.line.Replies.{Replies}
-use Rattle.id_record.specs.declared.line.Line.{Line}
-use Rattle.id_record.specs.declared.line.Kind.{Kind}
-use Rattle.id_record.specs.declared.line.Kind.TheVariants as kind
+use Rattle.id_record.specs.declared.handled.Handled.{Handled}
+use Rattle.id_record.specs.declared.handled.Replies.{Replies}
+use Rattle.id_record.specs.declared.kept.Keeps.TheVariants as keeps
+use Rattle.id_record.specs.declared.step.Step.TheVariants.{Went}
 use Rattle.id_record.specs.Events.{EventView, full_step, tag_of, value_of}
+use Rattle.id_record.specs.Handlings.{AreThere, HasThere, no_replies}
+use Rattle.id_record.specs.Kept.{KeptView, keeps_all, keeps_names, merged_by, noted, replied}
 use Rattle.id_record.specs.Sends.{numbered, replies, sent}
-use Rattle.id_record.specs.Lines.{AreThere, Beside, IsKept, IsPacked, IsPackedBeside, IsThere}
-use Rattle.id_record.specs.Lines.{IsWithin, cell_in}
-use Rattle.id_record.specs.Lines.{index_of, no_replies, own, port_at}
-use Rattle.id_record.specs.Lines.{read, saying, tag_at, told, unpacked}
-use Rattle.id_record.specs.Tellings.{is_telling, tells, told_at, telling_from}
-use Rattle.id_record.proofs.TellingsLemmas.{telling_from-push}
+use Rattle.id_record.specs.Tellings.{any_stuck, fault_in, first_fault, is_stuck, merged, merged_in, tellings, told_in}
 use Rattle.id_record.specs.Records.{AreKept, event_of_handled, events_from, replies_in, sent_by, sent_for}
-use Rattle.id_record.proofs.EachLemmas.{each-append, each-weaker, each-get}
-use Rattle.id_record.proofs.LinesLemmas.{celled-read, celled-there}
+use Rattle.id_record.proofs.EachLemmas.{each-append, each-weaker}
 
--- as many events as lines
-pub length-events_from : (g : Parts) (n : ℕ) (ts : List Tag) (k : ℕ) (b : Beside) (ls : List Line) → length (events_from g n ts k b ls) ≡ length ls
-length-events_from g n ts k b [] = refl
-length-events_from g n ts k b (l ∷ ls) = omega (arith, length-events_from g n ts (k + 1) b ls)
+-- as many events as were handled
+pub length-events_from : (g : Parts) (n : ℕ) (ts : List Tag) (k : ℕ) (hs : List Handled) → length (events_from g n ts k hs) ≡ length hs
+length-events_from g n ts k [] = refl
+length-events_from g n ts k (h ∷ hs) = omega (arith, length-events_from g n ts (k + 1) hs)
 
--- the event at a position is that of the line
-pub events_from-get : (g : Parts) (n : ℕ) (ts : List Tag) (k : ℕ) (b : Beside) (ls : List Line) (i : ℕ) (l : Line) → slice_get ls i ≡ Some l
-    → slice_get (events_from g n ts k b ls) i ≡ Some (event_of_handled g n ts (k + i) (unpacked b l))
-events_from-get g n ts k b [] i l is = cc
-events_from-get g n ts k b (m ∷ ls) zero l is =
-    let same : m ≡ l = cc in
+-- the event at a position
+pub events_from-get : (g : Parts) (n : ℕ) (ts : List Tag) (k : ℕ) (hs : List Handled) (i : ℕ) (h : Handled) → slice_get hs i ≡ Some h
+    → slice_get (events_from g n ts k hs) i ≡ Some (event_of_handled g n ts (k + i) h)
+events_from-get g n ts k [] i h is = cc
+events_from-get g n ts k (m ∷ hs) zero h is =
+    let same : m ≡ h = cc in
     let here : k ≡ k + 0 = omega arith in
-    ap (λ x. Some (event_of_handled g n ts k (unpacked b x))) same ∙ ap (λ j. Some (event_of_handled g n ts j (unpacked b l))) here
-events_from-get g n ts k b (m ∷ ls) (suc i) l is =
+    ap (λ x. Some (event_of_handled g n ts k x)) same ∙ ap (λ j. Some (event_of_handled g n ts j h)) here
+events_from-get g n ts k (m ∷ hs) (suc i) h is =
     let there : k + 1 + i ≡ k + suc i = omega arith in
-    events_from-get g n ts (k + 1) b ls i l is ∙ ap (λ j. Some (event_of_handled g n ts j (unpacked b l))) there
+    events_from-get g n ts (k + 1) hs i h is ∙ ap (λ j. Some (event_of_handled g n ts j h)) there
 
--- one more line is one more event
-events_from-push : (g : Parts) (n : ℕ) (ts : List Tag) (k : ℕ) (b : Beside) (ls : List Line) (l : Line)
-    → events_from g n ts k b (ls ++ l ∷ []) ≡ events_from g n ts k b ls ++ event_of_handled g n ts (k + length ls) (unpacked b l) ∷ []
-events_from-push g n ts k b [] l = let here : k ≡ k + 0 = omega arith in ap (λ j. event_of_handled g n ts j (unpacked b l) ∷ []) here
-events_from-push g n ts k b (m ∷ ls) l =
-    let there : k + 1 + length ls ≡ k + length (m ∷ ls) = omega arith in
-    ap (λ es. event_of_handled g n ts k (unpacked b m) ∷ es)
-    (events_from-push g n ts (k + 1) b ls l ∙ ap (λ j. events_from g n ts (k + 1) b ls ++ event_of_handled g n ts j (unpacked b l) ∷ []) there)
+-- one more that was handled is one more event
+events_from-push : (g : Parts) (n : ℕ) (ts : List Tag) (k : ℕ) (hs : List Handled) (h : Handled)
+    → events_from g n ts k (hs ++ h ∷ []) ≡ events_from g n ts k hs ++ event_of_handled g n ts (k + length hs) h ∷ []
+events_from-push g n ts k [] h = let here : k ≡ k + 0 = omega arith in ap (λ j. event_of_handled g n ts j h ∷ []) here
+events_from-push g n ts k (m ∷ hs) h =
+    let there : k + 1 + length hs ≡ k + length (m ∷ hs) = omega arith in
+    ap (λ es. event_of_handled g n ts k m ∷ es)
+    (events_from-push g n ts (k + 1) hs h ∙ ap (λ j. events_from g n ts (k + 1) hs ++ event_of_handled g n ts j h ∷ []) there)
 
--- what stands beside the lines goes on: each line that has its own there has the same
-abbrev pub Goes : Beside → Beside → Type 0
-Goes b d = (l : Line) → IsWithin b l → IsWithin d l × (unpacked d l ≡ unpacked b l)
-
-stays : (b : Beside) → Goes b b
-stays b l within = (within, refl)
-
--- the cell that a line names is the same where more cells come
-cell-append : (cs more : List Cell) (l : Line) → l.to < length cs → cell_in (cs ++ more) l ≡ cell_in cs l
-cell-append cs more l there = grind (arith, get_or_append_left)
-
--- one more event aside changes none
-aside-there : (b : Beside) (e : Handled) (l : Line) (k : Kind) → IsThere b l k → IsThere (record b { asides = b.asides ++ e ∷ [] }) l k
-aside-there b e l kind.Aside there = omega (arith, length-append b.asides (e ∷ []), there)
-aside-there b e l k there = there
-
-aside-same : (b : Beside) (e : Handled) (l : Line) (k : Kind) → IsThere b l k → read (record b { asides = b.asides ++ e ∷ [] }) l k ≡ read b l k
-aside-same b e l kind.Aside there = grind (arith, get_or_append_left)
-aside-same b e l k there = refl
-
-aside_goes : (b : Beside) (e : Handled) → Goes b (record b { asides = b.asides ++ e ∷ [] })
-aside_goes b e l there = (aside-there b e l l.kind there, aside-same b e l l.kind there)
-
--- one more cell changes none
-cell-there : (b : Beside) (c : Cell) (l : Line) (k : Kind) → IsThere b l k → IsThere (record b { cells = b.cells ++ c ∷ [] }) l k
-cell-there b c l kind.Signal there = tt
-cell-there b c l kind.Int there = tt
-cell-there b c l kind.True there = tt
-cell-there b c l kind.False there = tt
-cell-there b c l kind.Context there = tt
-cell-there b c l kind.Continuation there = tt
-cell-there b c l kind.Structure there = tt
-cell-there b c l kind.Address there = tt
-cell-there b c l kind.Near there = tt
-cell-there b c l kind.Passed there = tt
-cell-there b c l kind.Given there = tt
-cell-there b c l kind.Aside there = there
-cell-there b c l k there = omega (arith, length-append b.cells (c ∷ []), there)
-
-cell-same : (b : Beside) (c : Cell) (l : Line) (k : Kind) → IsThere b l k → read (record b { cells = b.cells ++ c ∷ [] }) l k ≡ read b l k
-cell-same b c l kind.Signal there = refl
-cell-same b c l kind.Int there = refl
-cell-same b c l kind.True there = refl
-cell-same b c l kind.False there = refl
-cell-same b c l kind.Context there = refl
-cell-same b c l kind.Continuation there = refl
-cell-same b c l kind.Structure there = refl
-cell-same b c l kind.Address there = refl
-cell-same b c l kind.Near there = refl
-cell-same b c l kind.Passed there = refl
-cell-same b c l kind.Given there = refl
-cell-same b c l kind.Aside there = refl
-cell-same b c l k there = ap (λ d. saying l (told k (tag_at l) (port_at (l.position / 2 ^ 31)) l.value l.result d)) (cell-append b.cells (c ∷ []) l there)
-
-cell_goes : (b : Beside) (c : Cell) → Goes b (record b { cells = b.cells ++ c ∷ [] })
-cell_goes b c l there = (cell-there b c l l.kind there, cell-same b c l l.kind there)
-
-events_from-goes : (g : Parts) (n : ℕ) (ts : List Tag) (k : ℕ) (b d : Beside) (ls : List Line) → Goes b d → AllByRecursion (IsKept b ts) ls
-    → events_from g n ts k d ls ≡ events_from g n ts k b ls
-events_from-goes g n ts k b d [] goes kept = refl
-events_from-goes g n ts k b d (l ∷ ls) goes kept =
-    let here : unpacked d l ≡ unpacked b l = (goes l (kept.0).within).1 in
-    let rest = events_from-goes g n ts (k + 1) b d ls goes kept.1 in
-    ap (λ h. event_of_handled g n ts k h ∷ events_from g n ts (k + 1) d ls) here ∙ ap (λ es. event_of_handled g n ts k (unpacked b l) ∷ es) rest
+-- it comes behind all events before
+pub pushed : (g : Parts) (n : ℕ) (ts : List Tag) (hs : List Handled) (h : Handled)
+    → events_from g n ts 0 (hs ++ h ∷ []) ≡ events_from g n ts 0 hs ++ event_of_handled g n ts (length (events_from g n ts 0 hs)) h ∷ []
+pushed g n ts hs h =
+    let at : 0 + length hs ≡ length (events_from g n ts 0 hs) = omega (arith, length-events_from g n ts 0 hs) in
+    events_from-push g n ts 0 hs h ∙ ap (λ j. events_from g n ts 0 hs ++ event_of_handled g n ts j h ∷ []) at
 
 -- the event of the element n at this position, where it sends this
 abbrev pub event_sending : ℕ → ℕ → Handled → List Payload → EventView
@@ -153,138 +87,144 @@ replies_in-last ts more r from count =
     ∙ ap (λ k. take k more) count
     ∙ take_all (length more) more (omega arith)
 
-pub events_from-replies : (g : Parts) (n : ℕ) (ts more : List Tag) (k : ℕ) (b : Beside) (ls : List Line) → AllByRecursion (IsKept b ts) ls
-    → events_from g n (ts ++ more) k b ls ≡ events_from g n ts k b ls
-events_from-replies g n ts more k b [] kept = refl
-events_from-replies g n ts more k b (l ∷ ls) kept =
-    let h = unpacked b l in
+pub events_from-replies : (g : Parts) (n : ℕ) (ts more : List Tag) (k : ℕ) (hs : List Handled) → AllByRecursion (HasThere ts) hs
+    → events_from g n (ts ++ more) k hs ≡ events_from g n ts k hs
+events_from-replies g n ts more k [] there = refl
+events_from-replies g n ts more k (h ∷ hs) there =
     let here : event_of_handled g n (ts ++ more) k h ≡ event_of_handled g n ts k h =
-    ap (λ us. event_sending n k h (sent_for g h.message.payload h.reaction.fired us)) (replies_in-append ts more h.replies (kept.0).replies) in
-    ap (λ e. e ∷ events_from g n (ts ++ more) (k + 1) b ls) here ∙
-    ap (λ es. event_of_handled g n ts k h ∷ es) (events_from-replies g n ts more (k + 1) b ls kept.1)
+    ap (λ us. event_sending n k h (sent_for g h.message.payload h.reaction.fired us)) (replies_in-append ts more h.replies there.0) in
+    ap (λ e. e ∷ events_from g n (ts ++ more) (k + 1) hs) here ∙
+    ap (λ es. event_of_handled g n ts k h ∷ es) (events_from-replies g n ts more (k + 1) hs there.1)
 
-pub kept_replies : (b : Beside) (ts more : List Tag) (ls : List Line) → All (IsKept b ts) ls → All (IsKept b (ts ++ more)) ls
-kept_replies b ts more ls kept =
-    All-from_recursion (IsKept b (ts ++ more)) ls
-    (each-weaker (IsKept b ts) (IsKept b (ts ++ more))
-    (λ l k. record { within = k.within; replies = omega (arith, k.replies, length-append ts more) })
-    ls (recursion_from_All (IsKept b ts) ls kept))
+there-more : (ts more : List Tag) (hs : List Handled) → AllByRecursion (HasThere ts) hs → AllByRecursion (HasThere (ts ++ more)) hs
+there-more ts more hs there =
+    each-weaker (HasThere ts) (HasThere (ts ++ more)) (λ h k. omega (arith, k, length-append ts more)) hs there
 
--- the last element of a list
-get_last : {X : Type 0} (xs : List X) (x : X) → slice_get (xs ++ x ∷ []) (length xs) ≡ Some x
-get_last [] x = refl
-get_last (y ∷ ys) x = get_last ys x
+-- ---- what is kept, by one more event
 
--- the last event aside
-aside_last : (asides : List Handled) (cells : List Cell) (e : Handled) (l : Line) → l.kind ≡ kind.Aside → index_of l.value ≡ length asides
-    → unpacked (record { asides = asides ++ e ∷ []; cells = cells }) l ≡ e
-aside_last asides cells e l is at =
-    ap (read (record { asides = asides ++ e ∷ []; cells = cells }) l) is
-    ∙ ap (λ i. get_or (asides ++ e ∷ []) i (own l value.Signal)) at
-    ∙ get_or_from_slice_get (asides ++ e ∷ []) (length asides) e (own l value.Signal) (get_last asides e)
+tellings-push : (es : List EventView) (e : EventView) → tellings (es ++ e ∷ []) ≡ tellings es ++ told_in e.message.payload e.fired
+tellings-push es e =
+    flat_map-append (λ x. told_in x.message.payload x.fired) es (e ∷ [])
+    ∙ ap (λ xs. tellings es ++ xs) (append-nil (told_in e.message.payload e.fired))
 
--- the last cell
-cell_last : (asides : List Handled) (cells : List Cell) (c : Cell) (e : Handled) (l : Line) → IsPackedBeside e (length cells) l c
-    → unpacked (record { asides = asides; cells = cells ++ c ∷ [] }) l ≡ e
-cell_last asides cells c e l packed =
-    let d : Beside = record { asides = asides; cells = cells ++ c ∷ [] } in
-    let none : Cell = record { structure = made_by 0 0 (pos 0) (pos 0); index = pos 0 } in
-    let named : cell_in (cells ++ c ∷ []) l ≡ c = ap (λ i. get_or (cells ++ c ∷ []) i none) packed.index ∙
-    get_or_from_slice_get (cells ++ c ∷ []) (length cells) c none (get_last cells c) in
-    celled-read d l l.kind packed.kind
-    ∙ ap (λ x. saying l (told l.kind (tag_at l) (port_at (l.position / 2 ^ 31)) l.value l.result x)) named
-    ∙ packed.is
+merged-push : (g : Parts) (es : List EventView) (e : EventView) → merged g (es ++ e ∷ []) ≡ merged g es ++ cons_option (merged_in g e.message.payload) []
+merged-push g es e = filter_map-append (λ x. merged_in g x.message.payload) es (e ∷ [])
 
--- an event in one more line
-pushed : (g : Parts) (n : ℕ) (ts : List Tag) (b d : Beside) (ls : List Line) (e : Handled) (l : Line) → Goes b d → unpacked d l ≡ e → All (IsKept b ts) ls
-    → events_from g n ts 0 d (ls ++ l ∷ []) ≡ events_from g n ts 0 b ls ++ event_of_handled g n ts (length (events_from g n ts 0 b ls)) e ∷ []
-pushed g n ts b d ls e l goes is kept =
-    let at : 0 + length ls ≡ length (events_from g n ts 0 b ls) = omega (arith, length-events_from g n ts 0 b ls) in
-    events_from-push g n ts 0 d ls l
-    ∙ ap (λ es. es ++ event_of_handled g n ts (0 + length ls) (unpacked d l) ∷ [])
-    (events_from-goes g n ts 0 b d ls goes (recursion_from_All (IsKept b ts) ls kept))
-    ∙ ap (λ h. events_from g n ts 0 b ls ++ event_of_handled g n ts (0 + length ls) h ∷ []) is
-    ∙ ap (λ j. events_from g n ts 0 b ls ++ event_of_handled g n ts j e ∷ []) at
+or-assoc : {A : Type 0} (a b c : Option A) → option_or a (option_or b c) ≡ option_or (option_or a b) c
+or-assoc None b c = refl
+or-assoc (Some x) b c = refl
 
-kept_pushed : (ts : List Tag) (b d : Beside) (ls : List Line) (e : Handled) (l : Line) → Goes b d → IsWithin d l → unpacked d l ≡ e → AreThere ts e.replies
-    → All (IsKept b ts) ls → All (IsKept d ts) (ls ++ l ∷ [])
-kept_pushed ts b d ls e l goes within is there kept =
-    let last : IsKept d ts l = record { within = within; replies = subst (λ h. AreThere ts h.replies) (sym is) there } in
-    let on : (m : Line) → IsKept b ts m → IsKept d ts m = λ m k. record {
-      within = (goes m k.within).0;
-      replies = subst (λ h. AreThere ts h.replies) (sym (goes m k.within).1) k.replies;
-    } in
-    All-from_recursion (IsKept d ts) (ls ++ l ∷ [])
-    (each-append (IsKept d ts) ls (l ∷ [])
-    (each-weaker (IsKept b ts) (IsKept d ts) on ls (recursion_from_All (IsKept b ts) ls kept))
-    (last, tt))
+or-none : {A : Type 0} (a : Option A) → option_or a None ≡ a
+or-none None = refl
+or-none (Some x) = refl
 
--- an event in a line of its own
-pub pushed_line : (g : Parts) (n : ℕ) (ts : List Tag) (b : Beside) (ls : List Line) (e : Handled) (l : Line) → IsPacked e l → All (IsKept b ts) ls
-    → events_from g n ts 0 b (ls ++ l ∷ []) ≡ events_from g n ts 0 b ls ++ event_of_handled g n ts (length (events_from g n ts 0 b ls)) e ∷ []
-pushed_line g n ts b ls e l packed kept = pushed g n ts b b ls e l (stays b) (packed.is b) kept
+first_fault-push : (es : List EventView) (e : EventView) → first_fault (es ++ e ∷ []) ≡ option_or (first_fault es) (fault_in e.stamp e.step)
+first_fault-push [] e = or-none (fault_in e.stamp e.step)
+first_fault-push (x ∷ es) e =
+    ap (λ o. option_or (fault_in x.stamp x.step) o) (first_fault-push es e)
+    ∙ or-assoc (fault_in x.stamp x.step) (first_fault es) (fault_in e.stamp e.step)
 
-pub kept_line : (b : Beside) (ts : List Tag) (ls : List Line) (e : Handled) (l : Line) → IsPacked e l → AreThere ts e.replies
-    → All (IsKept b ts) ls → All (IsKept b ts) (ls ++ l ∷ [])
-kept_line b ts ls e l packed there kept = kept_pushed ts b b ls e l (stays b) (packed.within b) (packed.is b) there kept
+or-more : (a b c : Bool) → (a || (b || c)) ≡ ((a || b) || c)
+or-more true b c = refl
+or-more false b c = refl
 
--- an event aside
-pub pushed_aside : (g : Parts) (n : ℕ) (ts : List Tag) (asides : List Handled) (cells : List Cell) (ls : List Line) (e : Handled) (l : Line)
-    → l.kind ≡ kind.Aside → index_of l.value ≡ length asides → All (IsKept (record { asides = asides; cells = cells }) ts) ls
-    → events_from g n ts 0 (record { asides = asides ++ e ∷ []; cells = cells }) (ls ++ l ∷ [])
-    ≡ events_from g n ts 0 (record { asides = asides; cells = cells }) ls ++
-    event_of_handled g n ts (length (events_from g n ts 0 (record { asides = asides; cells = cells }) ls)) e ∷ []
-pushed_aside g n ts asides cells ls e l is index kept =
-    let b : Beside = record { asides = asides; cells = cells } in
-    pushed g n ts b (record { asides = asides ++ e ∷ []; cells = cells }) ls e l (aside_goes b e) (aside_last asides cells e l is index) kept
+or-false : (a : Bool) → (a || false) ≡ a
+or-false true = refl
+or-false false = refl
 
-pub kept_aside : (ts : List Tag) (asides : List Handled) (cells : List Cell) (ls : List Line) (e : Handled) (l : Line)
-    → l.kind ≡ kind.Aside → index_of l.value ≡ length asides → AreThere ts e.replies
-    → All (IsKept (record { asides = asides; cells = cells }) ts) ls → All (IsKept (record { asides = asides ++ e ∷ []; cells = cells }) ts) (ls ++ l ∷ [])
-kept_aside ts asides cells ls e l is index there kept =
-    let b : Beside = record { asides = asides; cells = cells } in
-    let d : Beside = record { asides = asides ++ e ∷ []; cells = cells } in
-    let within : IsWithin d l = subst (IsThere d l) (sym is) (omega (arith, index, length-append asides (e ∷ []))) in
-    kept_pushed ts b d ls e l (aside_goes b e) within (aside_last asides cells e l is index) there kept
+any_stuck-push : (es : List EventView) (e : EventView) → any_stuck (es ++ e ∷ []) ≡ (any_stuck es || is_stuck e.step)
+any_stuck-push [] e = or-false (is_stuck e.step)
+any_stuck-push (x ∷ es) e = ap (λ b. is_stuck x.step || b) (any_stuck-push es e) ∙ or-more (is_stuck x.step) (any_stuck es) (is_stuck e.step)
 
--- an event in a line, with its cell beside the lines
-pub pushed_cell : (g : Parts) (n : ℕ) (ts : List Tag) (asides : List Handled) (cells : List Cell) (ls : List Line) (e : Handled) (l : Line) (c : Cell)
-    → IsPackedBeside e (length cells) l c → All (IsKept (record { asides = asides; cells = cells }) ts) ls
-    → events_from g n ts 0 (record { asides = asides; cells = cells ++ c ∷ [] }) (ls ++ l ∷ [])
-    ≡ events_from g n ts 0 (record { asides = asides; cells = cells }) ls ++
-    event_of_handled g n ts (length (events_from g n ts 0 (record { asides = asides; cells = cells }) ls)) e ∷ []
-pushed_cell g n ts asides cells ls e l c packed kept =
-    let b : Beside = record { asides = asides; cells = cells } in
-    pushed g n ts b (record { asides = asides; cells = cells ++ c ∷ [] }) ls e l (cell_goes b c) (cell_last asides cells c e l packed) kept
+-- what came to merges is kept with it, where it is to be kept
+merged_by-names : (g : Parts) (k : KeptView) (x : Payload) → keeps_names k.keeps ≡ true → merged_by g k.keeps x ≡ cons_option (merged_in g x) []
+merged_by-names g k x names = rw names refl
 
-pub kept_cell : (ts : List Tag) (asides : List Handled) (cells : List Cell) (ls : List Line) (e : Handled) (l : Line) (c : Cell)
-    → IsPackedBeside e (length cells) l c → AreThere ts e.replies
-    → All (IsKept (record { asides = asides; cells = cells }) ts) ls → All (IsKept (record { asides = asides; cells = cells ++ c ∷ [] }) ts) (ls ++ l ∷ [])
-kept_cell ts asides cells ls e l c packed there kept =
-    let b : Beside = record { asides = asides; cells = cells } in
-    let d : Beside = record { asides = asides; cells = cells ++ c ∷ [] } in
-    let last : l.to < length (cells ++ c ∷ []) = omega (arith, packed.index, length-append cells (c ∷ [])) in
-    kept_pushed ts b d ls e l (cell_goes b c) (celled-there d l l.kind packed.kind last) (cell_last asides cells c e l packed) there kept
+if-true : {A : Type 0} (b : Bool) (x y : A) → b ≡ true → (if b then x else y) ≡ x
+if-true true x y is = refl
+if-true false x y is = cc
 
--- what a record keeps, it keeps with one more line, where its position is added if its event tells
-pub AreKept-push : (g : Parts) (n : ℕ) (ts : List Tag) (b d : Beside) (ls ms : List Line) (ps qs : List ℕ) (h : Handled) (t : Bool) (k : ℕ) →
-    AreKept g n ts b ls ps
-    → All (IsKept d ts) ms → events_from g n ts 0 d ms ≡ events_from g n ts 0 b ls ++ event_of_handled g n ts (length (events_from g n ts 0 b ls)) h ∷ []
-    → t ≡ is_telling h.message.payload h.reaction.fired → k ≡ length ls → qs ≡ ps ++ told_at t k → AreKept g n ts d ms qs
-AreKept-push g n ts b d ls ms ps qs h t k kept lines events is at added =
-    let es = events_from g n ts 0 b ls in
+-- one more event is kept as it is to be
+pub AreKept-note : (g : Parts) (n : ℕ) (ts : List Tag) (hs : List Handled) (k : KeptView) (h : Handled) → AreKept g n ts hs k → HasThere ts h
+    → AreKept g n ts (hs ++ h ∷ []) (noted g k h)
+AreKept-note g n ts hs k h kept there =
+    let es = events_from g n ts 0 hs in
     let e = event_of_handled g n ts (length es) h in
-    let last : k ≡ 0 + length es = omega (arith, at, length-events_from g n ts 0 b ls) in
+    let more = pushed g n ts hs h in
     record {
-      lines = lines;
-      telling =
-          added ∙ ap (λ us. us ++ told_at t k) kept.telling ∙ ap (λ s. telling_from 0 es ++ told_at s k) is
-          ∙ ap (λ j. telling_from 0 es ++ told_at (tells e) j) last ∙ sym (telling_from-push 0 es e) ∙ ap (telling_from 0) (sym events);
+      there = each-append (HasThere ts) hs (h ∷ []) kept.there (there, tt);
+      len = omega (arith, kept.len, length-append hs (h ∷ []));
+      replied = kept.replied;
+      tellings =
+          ap (λ xs. xs ++ told_in h.message.payload h.reaction.fired) kept.tellings ∙ sym (tellings-push es e) ∙ ap tellings (sym more);
+      merged = λ names.
+          ap (λ xs. k.merged ++ xs) (merged_by-names g k h.message.payload names)
+          ∙ ap (λ xs. xs ++ cons_option (merged_in g h.message.payload) []) (kept.merged names)
+          ∙ sym (merged-push g es e) ∙ ap (merged g) (sym more);
+      events = λ all. if-true (keeps_all k.keeps) _ _ all ∙ ap (λ xs. xs ++ h ∷ []) (kept.events all);
+      replies = kept.replies;
+      fault =
+          ap (λ o. option_or o (fault_in h.stamp (full_step h.message.payload h.reaction.verdict))) kept.fault
+          ∙ sym (first_fault-push es e) ∙ ap first_fault (sym more);
+      stuck =
+          ap (λ b. b || is_stuck (full_step h.message.payload h.reaction.verdict)) kept.stuck ∙ sym (any_stuck-push es e) ∙ ap any_stuck (sym more);
     }
 
--- the line at a position, as the code reads it
-pub line_kept : (b : Beside) (ts : List Tag) (ls : List Line) (k : ℕ) (l : Line) → All (IsKept b ts) ls → slice_get ls k ≡ Some l → IsKept b ts l
-line_kept b ts ls k l kept is = each-get (IsKept b ts) ls k l (recursion_from_All (IsKept b ts) ls kept) is
+-- nothing is kept of an event that tells nothing and went well, where tellings alone are kept
+pub AreKept-pass : (g : Parts) (n : ℕ) (ts : List Tag) (hs : List Handled) (k : KeptView) (h : Handled) → AreKept g n ts hs k → HasThere ts h
+    → k.keeps ≡ keeps.Tellings → told_in h.message.payload h.reaction.fired ≡ [] → full_step h.message.payload h.reaction.verdict ≡ Went
+    → AreKept g n ts (hs ++ h ∷ []) (record k { len = k.len + 1; room = k.room - 1 })
+AreKept-pass g n ts hs k h kept there little quiet went =
+    let es = events_from g n ts 0 hs in
+    let e = event_of_handled g n ts (length es) h in
+    let more = pushed g n ts hs h in
+    record {
+      there = each-append (HasThere ts) hs (h ∷ []) kept.there (there, tt);
+      len = omega (arith, kept.len, length-append hs (h ∷ []));
+      replied = kept.replied;
+      tellings =
+          kept.tellings ∙ sym (append-nil (tellings es)) ∙ ap (λ xs. tellings es ++ xs) (sym quiet) ∙ sym (tellings-push es e) ∙ ap tellings (sym more);
+      merged = λ names. let none : false ≡ true = ap keeps_names (sym little) ∙ names in cc;
+      events = λ all. let none : false ≡ true = ap keeps_all (sym little) ∙ all in cc;
+      replies = λ all. let none : false ≡ true = ap keeps_all (sym little) ∙ all in cc;
+      fault =
+          kept.fault ∙ sym (or-none (first_fault es)) ∙ ap (λ s. option_or (first_fault es) (fault_in h.stamp s)) (sym went)
+          ∙ sym (first_fault-push es e) ∙ ap first_fault (sym more);
+      stuck =
+          kept.stuck ∙ sym (or-false (any_stuck es)) ∙ ap (λ s. any_stuck es || is_stuck s) (sym went) ∙ sym (any_stuck-push es e) ∙ ap any_stuck (sym more);
+    }
+
+-- and so with one more reply
+pub AreKept-reply : (g : Parts) (n : ℕ) (ts : List Tag) (hs : List Handled) (k : KeptView) (t : Tag) → AreKept g n ts hs k
+    → AreKept g n (ts ++ t ∷ []) hs (replied k t)
+AreKept-reply g n ts hs k t kept =
+    let same = events_from-replies g n ts (t ∷ []) 0 hs kept.there in
+    record {
+      there = there-more ts (t ∷ []) hs kept.there;
+      len = kept.len;
+      replied = omega (arith, kept.replied, length-append ts (t ∷ []));
+      tellings = kept.tellings ∙ ap tellings (sym same);
+      merged = λ names. kept.merged names ∙ ap (merged g) (sym same);
+      events = kept.events;
+      replies = λ all. if-true (keeps_all k.keeps) _ _ all ∙ ap (λ xs. xs ++ t ∷ []) (kept.replies all);
+      fault = kept.fault ∙ ap first_fault (sym same);
+      stuck = kept.stuck ∙ ap any_stuck (sym same);
+    }
+
+-- room changes nothing
+pub AreKept-room : (g : Parts) (n : ℕ) (ts : List Tag) (hs : List Handled) (k : KeptView) (room more : ℕ) → AreKept g n ts hs k
+    → AreKept g n ts hs (record k { room = room; room_for_replies = more })
+AreKept-room g n ts hs k room more kept = record {
+  there = kept.there;
+  len = kept.len;
+  replied = kept.replied;
+  tellings = kept.tellings;
+  merged = kept.merged;
+  events = kept.events;
+  replies = kept.replies;
+  fault = kept.fault;
+  stuck = kept.stuck;
+}
 
 -- an event with no replies
 pub event_alone : (g : Parts) (n : ℕ) (ts : List Tag) (k : ℕ) (h : Handled) → h.replies ≡ no_replies

@@ -1,6 +1,5 @@
 -- Events as contracts see them (docs/MACHINE.md, "The record").
-use Rattle.std.specs.Prelude.{◌≡◌, ◌<◌, ◌≤◌, ℕ, All, Bool, true, false, List, Some, option_map}
-use Rattle.std.specs.Prelude.{slice_get, unwrap_or}
+use Rattle.std.specs.Prelude.{◌≡◌, ℕ, All, List}
 use Rattle.id_tag.specs.declared.Message.{Message}
 use Rattle.id_tag.specs.declared.Tag.{Tag}
 use Rattle.id_tag.specs.declared.Value.{Value}
@@ -33,23 +32,6 @@ abbrev pub tag_of : Payload → Tag
 tag_of (Token tag port value) = tag
 tag_of (Read cell reply) = reply
 tag_of (Write cell value origin) = origin
-
--- whether the instruction of this number is marked, where there is a mark for each of the first ones
-abbrev pub is_marked : List Bool → ℕ → Bool
-is_marked marks n = unwrap_or (slice_get marks n) false
-
--- whether the message of an event names a marked instruction
-abbrev pub is_marked_in : List Bool → EventView → Bool
-is_marked_in marks e = is_marked marks (tag_of e.message.payload).instr
-
--- the message of the event at this position names a marked instruction
-abbrev pub IsMarkedAt : List Bool → List EventView → ℕ → Type 0
-IsMarkedAt marks es k = option_map (is_marked_in marks) (slice_get es k) ≡ Some true
-
--- no event from one position up to another does
-abbrev pub AreUnmarked : List Bool → List EventView → ℕ → ℕ → Type 0
-AreUnmarked marks es from to =
-    (k : ℕ) → k < to → from ≤ k → option_map (is_marked_in marks) (slice_get es k) ≡ Some false
 
 -- the value that a payload carries: a read carries none, and a signal stands for it
 abbrev pub value_of : Payload → Value

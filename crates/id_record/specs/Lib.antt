@@ -1,11 +1,10 @@
 -- What public clauses cite.
 pub mod Events
-pub mod Lines
-pub mod Spots
+pub mod Pasts
+pub mod Handlings
 pub mod Shootings
 pub mod Visits
-pub mod Ledgers
-pub mod Margins
 pub mod Tellings
+pub mod Kept
 pub mod Sends
 pub mod Records

@@ -1,6 +1,7 @@
--- The events of a record, as its lines keep them (docs/MACHINE.md, "The record").
-use Rattle.std.specs.Prelude.{ℕ, ◌+◌, ◌<◌, Bool, List, [], ◌∷◌, ◌++◌, ◌≡◌, All, drop, length}
+-- The events of a record, and what it keeps of them (docs/MACHINE.md, "The record").
+use Rattle.std.specs.Prelude.{ℕ, ◌+◌, ◌<◌, Bool, true, List, [], ◌∷◌, ◌++◌, ◌≡◌, drop, length}
 use Rattle.std.specs.Prelude.{slice_get, take}
+use Rattle.std.specs.List.{AllByRecursion}
 use Rattle.std.specs.Option.{option_map_or}
 use Rattle.id_instr.specs.declared.dests.Dest.{Dest}
 use Rattle.id_instr.specs.Graph.{Parts, arcs_on}
@@ -8,15 +9,15 @@ use Rattle.id_tag.specs.declared.Tag.{Tag}
 use Rattle.id_tag.specs.declared.Payload.{Payload}
 use Rattle.id_ops.specs.declared.Fired.{Fired}
 use Rattle.id_ops.specs.Operators.{side_of}
-use Rattle.id_record.specs.declared.line.Handled.{Handled}
-use Rattle.id_record.specs.declared.line.Replies.{Replies}
-use Rattle.id_record.specs.declared.line.Line.{Line}
+use Rattle.id_record.specs.declared.handled.Handled.{Handled}
+use Rattle.id_record.specs.declared.handled.Replies.{Replies}
+use Rattle.id_record.specs.declared.kept.Keeps.{Keeps}
 use Rattle.id_record.specs.Events.{EventView, full_step, tag_of, value_of}
-use Rattle.id_record.specs.declared.celled.Celled.{Celled}
-use Rattle.id_record.specs.Lines.{AreThere, Beside, IsKept, IsPacked, IsPackedBeside, unpacked}
+use Rattle.id_record.specs.Handlings.{HasThere}
+use Rattle.id_record.specs.Kept.{KeptView, keeps_all, keeps_names}
 use Rattle.id_valid.specs.Roles.{op_at}
 use Rattle.id_record.specs.Sends.{numbered, replies, sent}
-use Rattle.id_record.specs.Tellings.{is_telling, telling_from}
+use Rattle.id_record.specs.Tellings.{any_stuck, first_fault, merged, tellings}
 
 -- the destinations of the instruction of this number on a side
 abbrev pub dests_at : Parts → ℕ → Bool → List Dest
@@ -46,50 +47,42 @@ event_of_handled g n ts position h = record {
   step = full_step h.message.payload h.reaction.verdict;
 }
 
--- the events of these lines, from this position on, in a record with these replies
-abbrev pub events_from : Parts → ℕ → List Tag → ℕ → Beside → List Line → List EventView
-events_from g n ts position b [] = []
-events_from g n ts position b (l ∷ ls) =
-    event_of_handled g n ts position (unpacked b l) ∷ events_from g n ts (position + 1) b ls
+-- the events of these that were handled, from this position on, in a record with these replies
+abbrev pub events_from : Parts → ℕ → List Tag → ℕ → List Handled → List EventView
+events_from g n ts position [] = []
+events_from g n ts position (h ∷ hs) = event_of_handled g n ts position h ∷ events_from g n ts (position + 1) hs
 
--- what contracts see of a record: its events, the replies of all of them, how many cells its lines name, and how many
--- more lines, events aside and replies find room
+-- what contracts see of a record: how much it keeps, its events, the replies of all of them, and how many more events
+-- and replies find room
 pub record RecordView : Type 0 where
   pub element : ℕ
   pub graph : Parts
+  pub keeps : Keeps
   pub events : List EventView
   pub replies : List Tag
-  pub cells : ℕ
   pub room : ℕ
-  pub room_aside : ℕ
   pub room_for_replies : ℕ
 
--- what a record keeps: the event of each line is there, and these are the positions of the events that tell
-pub record AreKept (g : Parts) (n : ℕ) (ts : List Tag) (b : Beside) (ls : List Line) (ps : List ℕ) : Type 0 where
-  pub lines : All (IsKept b ts) ls
-  pub telling : ps ≡ telling_from 0 (events_from g n ts 0 b ls)
+-- what is kept of these that were handled: what they tell, what came to merges, all of them and their replies, as far
+-- as it is to be kept
+pub record AreKept (g : Parts) (n : ℕ) (ts : List Tag) (hs : List Handled) (k : KeptView) : Type 0 where
+  pub there : AllByRecursion (HasThere ts) hs
+  pub len : k.len ≡ length hs
+  pub replied : k.replied ≡ length ts
+  pub tellings : k.tellings ≡ tellings (events_from g n ts 0 hs)
+  pub merged : keeps_names k.keeps ≡ true → k.merged ≡ merged g (events_from g n ts 0 hs)
+  pub events : keeps_all k.keeps ≡ true → k.events ≡ hs
+  pub replies : keeps_all k.keeps ≡ true → k.replies ≡ ts
+  pub fault : k.fault ≡ first_fault (events_from g n ts 0 hs)
+  pub stuck : k.stuck ≡ any_stuck (events_from g n ts 0 hs)
 
 -- a record has room for one more event
-pub record HasPlace (r : RecordView) : Type 0 where
-  pub room : 0 < r.room
-  pub room_aside : 0 < r.room_aside
+abbrev pub HasPlace : RecordView → Type 0
+HasPlace r = 0 < r.room
 
 -- a record goes on by this event
 pub record GoesOn (r : RecordView) (h : Handled) (s : RecordView) : Type 0 where
   pub element : s.element ≡ r.element
   pub graph : s.graph ≡ r.graph
+  pub keeps : s.keeps ≡ r.keeps
   pub events : s.events ≡ r.events ++ event_of_handled r.graph r.element r.replies (length r.events) h ∷ []
-
--- an event that tells, or does not, stands in a line, and its replies are there
-pub record StandsIn (ts : List Tag) (tells : Bool) (l : Line) : Type 0 where
-  pub event : Handled
-  pub packed : IsPacked event l
-  pub replies : AreThere ts event.replies
-  pub tells_so : tells ≡ is_telling event.message.payload event.reaction.fired
-
--- and in one with a cell beside it at this index
-pub record StandsBeside (ts : List Tag) (tells : Bool) (i : ℕ) (x : Celled) : Type 0 where
-  pub event : Handled
-  pub packed : IsPackedBeside event i x.line x.cell
-  pub replies : AreThere ts event.replies
-  pub tells_so : tells ≡ is_telling event.message.payload event.reaction.fired

@@ -1,40 +1,32 @@
 //! The record of an element: what it handled, what that came to, and what it sent.
 //!
-//! Keeps: a record is a list of events; each stands in one line of few bytes, in one with a cell beside it, or whole
-//! aside. The positions of the events that tell of contexts, of structures or of the answer are kept beside. Of an
-//! element that is alone a line has 40 bytes, without stamps, and else 48.
+//! Keeps: a record is a list of events, in proofs; in memory, what they tell of contexts, of structures and of the
+//! answer, and the first fault, and as far as it is asked for what came to merges, or all events.
 //! Errors: want of memory alone, and then nothing has changed.
-//! Read first: `specs/Events.antt`, then `Record`; for lines `specs/Lines.antt`, then `line::packed`, and
-//! `specs/Shootings.antt`, then `shooting::shot_line`; for what is kept of them `specs/Ledgers.antt`.
+//! Read first: `specs/Events.antt`, then `Record`; `specs/Tellings.antt`, then `Kept`; `History`.
 //! Not here: handling a message (`id_element`), the records of several elements as one (`id_observe`).
 #![tactic(auto)]
 
-mod celled;
-mod giving;
+mod handled;
 mod history;
-mod ledger;
-mod line;
-mod margin;
-mod near;
-mod numbers;
+mod kept;
 mod outputs;
-mod passing;
+mod past;
 mod payload;
-mod reading;
 mod shooting;
-mod spot;
 mod step;
 mod telling;
-mod unpacked;
 mod visiting;
 
-pub use history::{Event, Events, Record, full_step};
-pub use line::{Handled, Handling, NO_REPLIES, Reaction, Replies};
-pub use near::Doing;
+pub use handled::{Handled, Handling, NO_REPLIES, Reaction, Replies};
+pub use history::{Event, Events, Record};
+pub use kept::Keeps;
 pub use outputs::{
     Envelope, Outputs, chosen, count_started, message, moved_to, start, token_at, token_to,
 };
+pub use past::History;
 pub use payload::{tag_of, value_of};
-pub use shooting::{Shooting, has_line};
-pub use step::{Fault, Step, Verdict};
+pub use shooting::{Doing, Shooting};
+pub use step::{Fault, Step, Verdict, full_step};
+pub use telling::{Faulted, Telling, Told, is_value_merge};
 pub use visiting::{Fate, Visiting};

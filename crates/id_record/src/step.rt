@@ -1,6 +1,10 @@
 //! What handling a message comes to (docs/MACHINE.md, "Element step").
 
-use id_tag::{Cell, Tag};
+ghost use Rattle.std.specs.Prelude.{◌≡◌};
+ghost use Rattle.id_record.specs.Events.{full_step, second_store};
+
+use crate::payload::tag_of;
+use id_tag::{Cell, Payload, Tag};
 use id_value::FaultKind;
 
 /// What went wrong in an event.
@@ -31,4 +35,34 @@ pub enum Verdict {
     Stuck,
     /// The cell of the write has the value of the store of this tag.
     Second(Tag),
+}
+
+/// What a verdict on a message says in full. Takes no memory.
+#[inline(always)]
+pub fn full_step(payload: &Payload, verdict: Verdict) -> Step
+    ensures { result ≡ full_step payload.now verdict }
+{
+    match verdict {
+        Verdict::Went => Step::Went,
+        Verdict::Failed(fault) => Step::Fault(Fault::Operator {
+            fault,
+            tag: tag_of(payload),
+        }),
+        Verdict::Stuck => Step::Stuck,
+        Verdict::Second(first) => second_store(payload, first),
+    }
+}
+
+/// What a second store comes to: its cell has the value of the store of this tag.
+fn second_store(payload: &Payload, first: Tag) -> Step
+    ensures { result ≡ second_store payload.now first }
+{
+    match *payload {
+        Payload::Write { cell, origin, .. } => Step::Fault(Fault::SecondStore {
+            cell,
+            first,
+            second: origin,
+        }),
+        Payload::Token { .. } | Payload::Read { .. } => Step::Stuck,
+    }
 }

@@ -1,40 +1,82 @@
-//! Which events tell of contexts, of structures or of the answer.
+//! What events tell of the names of a run, and what of its faults.
 
 ghost use Rattle.std.specs.Prelude.{◌≡◌};
-ghost use Rattle.id_record.specs.Tellings.{is_for_answer, is_number, is_telling, makes};
+ghost use Rattle.id_record.specs.Tellings.{came_in, fault_in, is_merged, is_value, is_value_merge, is_number, made_in};
+ghost use Rattle.id_record.specs.Tellings.{is_stuck};
 
-use crate::payload::value_of;
+use crate::payload::{tag_of, value_of};
+use crate::step::{Fault, Step};
+use id_instr::{Graph, Op, PortKind};
 use id_ops::Fired;
-use id_tag::{Payload, Value};
+use id_tag::{Context, Payload, Structure, Tag, Value};
 
-/// Whether an event of a message that says this tells, where this was fired.
-#[inline(always)]
-pub fn is_telling(payload: &Payload, fired: &Fired) -> bool
-    ensures { result ≡ is_telling payload.now fired.now }
-{
-    is_for_answer(payload) || makes(value_of(payload), fired)
+/// What an event tells: that under this tag a context was entered, a structure was made, or a value came to
+/// instruction 0.
+#[derive(Clone, Copy)]
+pub struct Telling {
+    pub tag: Tag,
+    pub told: Told,
 }
 
-/// Whether it is a token for instruction 0.
+/// What is told of a tag.
+#[derive(Clone, Copy)]
+pub enum Told {
+    /// The context that was entered.
+    Entered(Context),
+    /// The structure that was made.
+    Made(Structure),
+    /// The value that came.
+    Came(Value),
+}
+
+/// A fault, and the stamp of its event.
+#[derive(Clone, Copy)]
+pub struct Faulted {
+    pub stamp: u64,
+    pub fault: Fault,
+}
+
+/// What a token for instruction 0 tells. Takes no memory.
 #[inline(always)]
-fn is_for_answer(payload: &Payload) -> bool
-    ensures { result ≡ is_for_answer payload.now }
+pub(crate) fn came_in(payload: &Payload) -> Option<Telling>
+    ensures { result ≡ came_in payload.now }
 {
     match *payload {
-        Payload::Token { tag, .. } => tag.instr == 0,
-        Payload::Read { .. } | Payload::Write { .. } => false,
+        Payload::Token { tag, value, .. } => {
+            if tag.instr == 0 {
+                Some(Telling {
+                    tag,
+                    told: Told::Came(value),
+                })
+            } else {
+                None
+            }
+        }
+        Payload::Read { .. } | Payload::Write { .. } => None,
     }
 }
 
-/// Whether a context was entered, or a structure made, where this was fired for a message with this value.
+/// What the firing for such a message tells. Takes no memory.
 #[inline(always)]
-fn makes(value: Value, fired: &Fired) -> bool
-    ensures { result ≡ makes value fired.now }
+pub(crate) fn made_in(payload: &Payload, fired: &Fired) -> Option<Telling>
+    ensures { result ≡ made_in payload.now fired.now }
 {
     match *fired {
-        Fired::Entered(_) => true,
-        Fired::Out(Value::Structure(_)) => is_number(value),
-        _ => false,
+        Fired::Entered(context) => Some(Telling {
+            tag: tag_of(payload),
+            told: Told::Entered(context),
+        }),
+        Fired::Out(Value::Structure(structure)) => {
+            if is_number(value_of(payload)) {
+                Some(Telling {
+                    tag: tag_of(payload),
+                    told: Told::Made(structure),
+                })
+            } else {
+                None
+            }
+        }
+        _ => None,
     }
 }
 
@@ -44,4 +86,55 @@ fn is_number(value: Value) -> bool
     ensures { result ≡ is_number value }
 {
     matches!(value, Value::Int(_))
+}
+
+/// Whether it is a token for a merge of values of the source. Takes no memory.
+pub(crate) fn is_merged(graph: &Graph, payload: &Payload) -> bool
+    ensures { result ≡ is_merged graph.now payload.now }
+{
+    match *payload {
+        Payload::Token { tag, .. } => match graph.instrs().get(tag.instr as usize) {
+            Some(instr) => is_value_merge(instr.op),
+            None => false,
+        },
+        Payload::Read { .. } | Payload::Write { .. } => false,
+    }
+}
+
+/// Whether the instruction is a merge for values of the source. Takes no memory.
+pub fn is_value_merge(op: Op) -> bool
+    ensures { result ≡ is_value_merge op }
+{
+    match op {
+        Op::Merge(kind) => is_value(kind),
+        _ => false,
+    }
+}
+
+/// Whether the kind is one of values of the source.
+fn is_value(kind: PortKind) -> bool
+    ensures { result ≡ is_value kind }
+{
+    match kind {
+        PortKind::Int | PortKind::Bool | PortKind::Structure | PortKind::Structures => true,
+        PortKind::Signal | PortKind::Address | PortKind::Addresses => false,
+        PortKind::Context | PortKind::Continuation => false,
+    }
+}
+
+/// The fault of an event that came to this at this stamp, if it is one. Takes no memory.
+pub(crate) fn fault_in(stamp: u64, step: Step) -> Option<Faulted>
+    ensures { result ≡ fault_in stamp step }
+{
+    match step {
+        Step::Fault(fault) => Some(Faulted { stamp, fault }),
+        Step::Went | Step::Stuck => None,
+    }
+}
+
+/// Whether an event came to `Stuck`. Takes no memory.
+pub(crate) fn is_stuck(step: Step) -> bool
+    ensures { result ≡ is_stuck step }
+{
+    matches!(step, Step::Stuck)
 }

@@ -1,5 +1,6 @@
 //! What fetches ask for and which of them wait, as runs of whole programs show it.
 
+use crate::kept::observed;
 use crate::workers::{graph_of, run_on};
 use id_core::Open;
 use id_source::{Ask, Site};
@@ -42,7 +43,7 @@ fn is_shown<R: Abort + AllocGlobal + Threads + Wait + Sync>(
     let graph = graph_of(rt.alloc(), text)?;
     match run_on(rt, &graph, elements, elements, &Open) {
         Ok(run) => {
-            let shown = run.machine().observe(rt.alloc())?;
+            let shown = observed(rt.alloc(), run.machine())?;
             let asked = are_rows(shown.asks.as_slice(), asks);
             Ok(asked && are_rows(shown.waiting.as_slice(), waiting))
         }

@@ -2,7 +2,7 @@
 
 use crate::graphs::countdown;
 use crate::rows::{Expected, deliver, is_traced};
-use id_core::{Machine, takes_inputs};
+use id_core::{Keeps, Machine, takes_inputs};
 use id_graph::{Constant, Graph, list};
 use id_print::{Report, is_within, run_report, write_report};
 use id_source::Inputs;
@@ -122,6 +122,7 @@ fn is_printed(rt: &impl Abort, report: &Report) -> bool {
 
 /// Whether the names of the run are printed so.
 fn is_reported(rt: &impl Abort, alloc: Global, machine: &Machine<'_>) -> Result<bool, AllocError> {
+    assert!(rt; machine.keeps() != Keeps::Tellings);
     let report = run_report(alloc, machine, true)?;
     Ok(is_printed(rt, &report))
 }

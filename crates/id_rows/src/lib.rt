@@ -13,6 +13,8 @@ mod countdown;
 #[cfg(test)]
 mod graphs;
 #[cfg(test)]
+mod kept;
+#[cfg(test)]
 mod memory;
 #[cfg(test)]
 mod onward;

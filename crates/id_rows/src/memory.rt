@@ -108,11 +108,7 @@ fn a_read_or_write_that_memory_refuses_changes_nothing(rt: HostRuntime) {
 /// How many messages are in flight, and how many each of two elements has handled.
 fn counts(machine: &Machine<'_>) -> (usize, usize, usize) {
     match machine.elements() {
-        [first, second] => (
-            machine.in_flight().len(),
-            first.events().len(),
-            second.events().len(),
-        ),
+        [first, second] => (machine.in_flight().len(), first.handled(), second.handled()),
         _ => (0, 0, 0),
     }
 }

@@ -1,5 +1,6 @@
 //! A run that is delivered on past its fault: at each moment it shows no fault but the source's.
 
+use crate::kept::observed;
 use crate::rows::started;
 use crate::workers::graph_of;
 use id_core::{Machine, TakeError};
@@ -35,8 +36,8 @@ fn is_sourced(fault: &SourceFault) -> bool {
 
 /// Whether the run shows faults of the source alone, and how many.
 fn shown(alloc: Global, machine: &Machine<'_>) -> Result<(bool, usize), AllocError> {
-    let observed = machine.observe(alloc)?;
-    let faults = observed.faults.as_slice();
+    let shown = observed(alloc, machine)?;
+    let faults = shown.faults.as_slice();
     Ok((faults.iter().all(is_sourced), faults.len()))
 }
 

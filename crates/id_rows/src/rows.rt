@@ -3,8 +3,9 @@
 ghost use Rattle.std.specs.Prelude.{◌≡◌};
 
 use crate::graphs::{block, call, called_blocks, either, seven, sum_and_product};
+use crate::kept::{merged, observed};
 use id_bank::{Bank, Cells, ReadAnswer, Reader, WriteAnswer};
-use id_core::{Element, Machine, MachineError, Step, TakeError, fits, merge_records, takes_inputs};
+use id_core::{Element, Machine, MachineError, Step, TakeError, fits, takes_inputs};
 use id_flight::Queue;
 use id_graph::{Block, Constant, Graph, GraphCause, Instr, Op, Port, PortKind};
 use id_match::{Entry, Offered, Waiting};
@@ -438,23 +439,23 @@ pub(crate) fn is_traced(
     machine: &Machine<'_>,
     trace: &str,
 ) -> Result<bool, AllocError> {
-    let merged = merge_records(alloc, machine.elements())?;
+    let events = merged(alloc, machine)?;
     let mut sink = Expected {
         rest: trace.as_bytes(),
     };
-    Ok(write_trace(&merged, &mut sink).is_ok() && sink.rest.is_empty())
+    Ok(write_trace(&events, &mut sink).is_ok() && sink.rest.is_empty())
 }
 
 /// Whether the one element is traced so, and five events are merged.
 fn are_recorded(alloc: Global, machine: &Machine<'_>) -> Result<bool, AllocError> {
-    let merged = merge_records(alloc, machine.elements())?;
+    let events = merged(alloc, machine)?;
     let traced = is_traced(alloc, machine, TRACE)?;
-    Ok(traced && merged.len() == 5 && machine.elements().len() == 1)
+    Ok(traced && events.len() == 5 && machine.elements().len() == 1)
 }
 
 /// Whether 7 is observed.
 fn is_seven(alloc: Global, machine: &Machine<'_>) -> Result<bool, AllocError> {
-    let shown = machine.observe(alloc)?;
+    let shown = observed(alloc, machine)?;
     Ok(matches!(shown.answer, Some(SourceValue::Int(7))))
 }
 

@@ -2,6 +2,7 @@
 //! stuck.
 
 use crate::graphs::thrice;
+use crate::kept::observed;
 use id_compile::compile;
 use id_core::{Gate, Handling, Open, takes_inputs};
 use id_elements::{Run, RunError, Settings, run_limited};
@@ -32,22 +33,28 @@ pub(crate) fn run_on<'a, R: Abort + AllocGlobal + Threads + Wait + Sync, G: Gate
     workers: u32,
     gate: &G,
 ) -> Result<Run<'a>, RunError> {
+    run_with(rt, graph, Settings::new(elements, 1_000_000), workers, gate)
+}
+
+/// The same with these settings.
+pub(crate) fn run_with<'a, R: Abort + AllocGlobal + Threads + Wait + Sync, G: Gate + Sync>(
+    rt: &R,
+    graph: &'a Valid,
+    settings: Settings,
+    workers: u32,
+    gate: &G,
+) -> Result<Run<'a>, RunError> {
     let alloc = rt.alloc();
     let inputs = Inputs {
         values: Sequence::new(Vec::new(alloc)),
     };
     assert!(rt; takes_inputs(graph, &inputs));
-    let settings = Settings {
-        elements,
-        steps: 1_000_000,
-        order: None,
-    };
     run_limited(rt, alloc, graph, &inputs, settings, workers, gate)
 }
 
 /// Whether a run shows this answer.
 fn shows(alloc: Global, run: &Run<'_>, number: i64) -> Result<bool, AllocError> {
-    let shown = run.machine().observe(alloc)?;
+    let shown = observed(alloc, run.machine())?;
     match shown.answer {
         Some(SourceValue::Int(answer)) => Ok(answer == number),
         _ => Ok(false),

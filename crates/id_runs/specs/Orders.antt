@@ -5,6 +5,7 @@ use Rattle.id_instr.specs.Graph.{Parts}
 use Rattle.id_tag.specs.declared.Message.{Message}
 use Rattle.id_value.specs.declared.Constant.{Constant}
 use Rattle.id_value.specs.List.{Among}
+use Rattle.id_record.specs.declared.kept.Keeps.TheVariants as keeps
 use Rattle.id_core.specs.Events.{EventView}
 use Rattle.id_core.specs.Steps.{State}
 use Rattle.id_core.specs.Machines.{World, start, start_messages}
@@ -14,11 +15,12 @@ use Rattle.id_observe.specs.Firsts.{AreMergedOf}
 use Rattle.id_runs.specs.Legal.{InSomeOrder, LeadTo, IsRunOf}
 use Rattle.id_runs.specs.Accounts.{IsAccounted}
 
--- the states are those of so many elements of the graph, in order of their numbers, each of which its record leads to
+-- the states are those of so many elements of the graph, in order of their numbers, each of which its record leads to,
+-- however much is kept of that
 pub record AreReplayed (g : Parts) (count : ℕ) (ss : List State) : Type 0 where
   pub len : length ss ≡ count
   pub each : (n : ℕ) (s : State) → slice_get ss n ≡ Some s
-      → Replays (record { number = n; count = count; graph = g; state = s })
+      → Replays (record { number = n; count = count; graph = g; keeps = keeps.All; state = s })
 
 -- these events are a legal list from the start, which ends in these states with these messages in flight, in some order
 pub record IsLegalOrder (g : Parts) (vs : List Constant) (count : ℕ) (es : List EventView) (w : World) : Type 0 where

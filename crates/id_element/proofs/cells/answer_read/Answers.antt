@@ -1,8 +1,8 @@
 -- What is recorded is what was sent.
 use Rattle.std.proofs.Common.{◌∷◌, ◌++◌, [], length, refl, ap, ◌∙◌}
-use Rattle.id_record.specs.declared.line.Handled.{Handled}
+use Rattle.id_record.specs.declared.handled.Handled.{Handled}
 use Rattle.id_record.specs.declared.step.Verdict.TheVariants.{Went}
-use Rattle.id_record.specs.Lines.{no_replies}
+use Rattle.id_record.specs.Handlings.{no_replies}
 use Rattle.id_element.specs.Steps.{answer_fired}
 use Rattle.id_element.proofs.FiringsLemmas.{event_of_read}
 use Rattle.id_element.proofs.HandledLemmas.{and_none, recorded}
@@ -21,4 +21,4 @@ returns-clause-recorded c =
     (c.push.ensures.events ∙ ap (λ e. log.events ++ e ∷ [])
     (event_of_read log.graph log.element log.replies (length log.events) event c.args.answer
     (c.answer_fired-fired.ensures ∙ ap (λ t. answer_fired t c.args.answer) c.tag_of-reply.ensures) refl))
-    c.push.ensures.element c.push.ensures.graph
+    c.push.ensures.element c.push.ensures.graph c.push.ensures.keeps

@@ -49,3 +49,6 @@ returns-clause-number g c = c.answer_demand.ensures.recorded.number ∙ c.in_ok-
 
 pub returns-clause-graph : goal.returns-clause-graph
 returns-clause-graph g c = c.answer_demand.ensures.recorded.graph ∙ c.in_ok-reserve.ensures.graph
+
+pub returns-clause-keeps : goal.returns-clause-keeps
+returns-clause-keeps g c = c.answer_demand.ensures.recorded.keeps ∙ c.in_ok-reserve.ensures.keeps

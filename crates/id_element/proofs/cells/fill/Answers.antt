@@ -2,7 +2,7 @@
 use Rattle.std.proofs.Common.{◌≡◌, ◌∷◌, ◌++◌, [], List, length, refl, ap, ◌∙◌}
 use Rattle.id_tag.specs.declared.Tag.{Tag}
 use Rattle.id_ops.specs.declared.Fired.TheVariants.{Nothing}
-use Rattle.id_record.specs.declared.line.Handled.{Handled}
+use Rattle.id_record.specs.declared.handled.Handled.{Handled}
 use Rattle.id_record.specs.declared.step.Verdict.{Verdict}
 use Rattle.id_record.specs.Events.{EventView, full_step, tag_of, value_of}
 use Rattle.id_record.specs.Records.{event_of_handled}
@@ -44,4 +44,4 @@ returns-clause-recorded c =
     c.push.ensures.events ∙ rw (sent.events, sent.number, sent.replies)
     (ap (λ e. log.events ++ e ∷ []) is) in
     recorded _ _ _ _ _ refl refl refl (and_none _ _ refl) (and_none _ _ refl) events
-    (c.push.ensures.element ∙ sent.number) (c.push.ensures.graph ∙ sent.graph)
+    (c.push.ensures.element ∙ sent.number) (c.push.ensures.graph ∙ sent.graph) (c.push.ensures.keeps ∙ sent.keeps)

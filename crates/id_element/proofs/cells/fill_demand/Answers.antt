@@ -4,7 +4,7 @@ use Rattle.id_tag.specs.declared.Tag.{Tag}
 use Rattle.id_tag.specs.Plains.{message_of, tag_in, whole}
 use Rattle.id_flight.specs.Demands.{asked}
 use Rattle.id_ops.specs.declared.Fired.TheVariants.{Nothing}
-use Rattle.id_record.specs.declared.line.Replies.{Replies}
+use Rattle.id_record.specs.declared.handled.Replies.{Replies}
 use Rattle.id_record.specs.declared.step.Step.TheVariants.{Went}
 use Rattle.id_record.specs.Records.{replies_in}
 use Rattle.id_record.specs.Sends.{replies}
@@ -29,7 +29,7 @@ returns-clause-recorded c =
     subst (λ o. IsRecorded d c.visit.new.desk (record (message_of x.like) { payload = asked o x.cell (tag_in x.like) })
     c.args.stamp (out (readers_of c.args.answer.now))) (sym c.requires.is)
     (recorded_from kept d c.visit.new.desk _ c.args.stamp _ _
-    (ap (λ es. record (state_of d) { events = es }) added.events) added.number added.graph
+    (ap (λ es. record (state_of d) { events = es }) added.events) added.number added.graph added.keeps
     (ap (λ ts. out (replies_in ts r)) added.replies
     ∙ ap out (replies_in-last d.log.replies rs r c.count_replies-from.ensures refl)
     ∙ ap out c.readers_of-readers.ensures) c.visit.ensures)

@@ -53,6 +53,9 @@ returns-clause-number g c = c.fill_demand.ensures.recorded.number ∙ c.in_ok-an
 pub returns-clause-graph : goal.returns-clause-graph
 returns-clause-graph g c = c.fill_demand.ensures.recorded.graph ∙ c.in_ok-answer.ensures.graph
 
+pub returns-clause-keeps : goal.returns-clause-keeps
+returns-clause-keeps g c = c.fill_demand.ensures.recorded.keeps ∙ c.in_ok-answer.ensures.keeps
+
 pub returns-clause-memory : goal.returns-clause-memory
 returns-clause-memory g c = tt
 
@@ -80,6 +83,9 @@ returns-in_err-answer-clause-number g c = c.in_err-answer.ensures.number
 pub returns-in_err-answer-clause-graph : goal.returns-in_err-answer-clause-graph
 returns-in_err-answer-clause-graph g c = c.in_err-answer.ensures.graph
 
+pub returns-in_err-answer-clause-keeps : goal.returns-in_err-answer-clause-keeps
+returns-in_err-answer-clause-keeps g c = c.in_err-answer.ensures.keeps
+
 pub returns-in_err-answer-clause-err : goal.returns-in_err-answer-clause-err
 returns-in_err-answer-clause-err g c = on_err c.from_residual.result c.in_err-answer.ensures.err
 
@@ -99,9 +105,6 @@ fill_demand-requires-clause-short g c =
 
 pub fill_demand-requires-clause-room : goal.fill_demand-requires-clause-room
 fill_demand-requires-clause-room g c = c.in_ok-answer.ensures.room
-
-pub fill_demand-requires-clause-room_aside : goal.fill_demand-requires-clause-room_aside
-fill_demand-requires-clause-room_aside g c = c.in_ok-answer.ensures.room_aside
 
 pub fill_demand-requires-clause-room_for_replies : goal.fill_demand-requires-clause-room_for_replies
 fill_demand-requires-clause-room_for_replies g c = c.in_ok-answer.ensures.room_for_replies

@@ -44,3 +44,6 @@ returns-clause-number g c = c.answer_read.ensures.recorded.number ∙ c.in_ok-re
 
 pub returns-clause-graph : goal.returns-clause-graph
 returns-clause-graph g c = c.answer_read.ensures.recorded.graph ∙ c.in_ok-reserve.ensures.graph
+
+pub returns-clause-keeps : goal.returns-clause-keeps
+returns-clause-keeps g c = c.answer_read.ensures.recorded.keeps ∙ c.in_ok-reserve.ensures.keeps

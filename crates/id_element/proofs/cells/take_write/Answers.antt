@@ -66,3 +66,6 @@ returns-clause-number g c = c.fill.ensures.recorded.number ∙ c.in_ok-answer.en
 
 pub returns-clause-graph : goal.returns-clause-graph
 returns-clause-graph g c = c.fill.ensures.recorded.graph ∙ c.in_ok-answer.ensures.graph
+
+pub returns-clause-keeps : goal.returns-clause-keeps
+returns-clause-keeps g c = c.fill.ensures.recorded.keeps ∙ c.in_ok-answer.ensures.keeps

@@ -19,5 +19,5 @@ loop-number-preserved c =
       element = c.add_reply.ensures.element ∙ i.element;
       graph = c.add_reply.ensures.graph ∙ i.graph;
       lines = c.add_reply.ensures.room ∙ i.lines;
-      asides = c.add_reply.ensures.room_aside ∙ i.asides;
+      keeps = c.add_reply.ensures.keeps ∙ i.keeps;
     }

@@ -14,5 +14,5 @@ invariant-loop-number l = record {
   element : l.log.element ≡ l.fn.log.element;
   graph : l.log.graph ≡ l.fn.log.graph;
   lines : l.log.room ≡ l.fn.log.room;
-  asides : l.log.room_aside ≡ l.fn.log.room_aside;
+  keeps : l.log.keeps ≡ l.fn.log.keeps;
 }

@@ -12,8 +12,8 @@ deliver_drawn-requires c =
     let m = c.in_ok-machine.machine in
     record {
       count = ap (λ (x : MachineView). x.count) c.in_ok-machine.ensures;
-      elements = start_counts g vs c.args.settings.elements m c.in_ok-machine.ensures c.requires.some c.requires.few;
-      few = start_few g vs c.args.settings.elements m c.in_ok-machine.ensures c.args.settings.steps;
+      elements = start_counts g vs c.args.settings.elements c.args.settings.keeps m c.in_ok-machine.ensures c.requires.some c.requires.few;
+      few = start_few g vs c.args.settings.elements c.args.settings.keeps m c.in_ok-machine.ensures c.args.settings.steps;
     }
 
 pub returns-then-not-moves_on-clause-refused : goal.returns-then-not-moves_on-clause-refused
@@ -21,7 +21,7 @@ returns-then-not-moves_on-clause-refused c = record {
   machine = c.deliver_drawn.new.machine;
   run = run_from c.args.graph.now c.args.inputs.now.values c.args.settings.elements c.args.settings.steps c.in_ok-machine.machine c.deliver_drawn.new.machine
       c.orders_are_runs.ensures (ap (λ (x : MachineView). x.graph) c.in_ok-machine.ensures) (ap (λ (x : MachineView). x.count) c.in_ok-machine.ensures)
-      (start_accounted c.args.graph.now c.args.inputs.now.values c.args.settings.elements c.in_ok-machine.machine c.in_ok-machine.ensures)
+      (start_accounted c.args.graph.now c.args.inputs.now.values c.args.settings.elements c.args.settings.keeps c.in_ok-machine.machine c.in_ok-machine.ensures)
       c.in_ok-deliver_drawn.ensures c.replay_all.ensures;
   stuck = λ moves. (let k : false ≡ true = sym c.if-not-moves_on.true ∙ c.moves_on.ensures.1 moves in cc);
 }
@@ -31,8 +31,13 @@ returns-clause-run c =
     subst (IsRun c.args.graph.now c.args.inputs.now.values c.args.settings.elements c.args.settings.steps) (sym c.of.ensures)
     (run_from c.args.graph.now c.args.inputs.now.values c.args.settings.elements c.args.settings.steps c.in_ok-machine.machine c.deliver_drawn.new.machine
     c.orders_are_runs.ensures (ap (λ (x : MachineView). x.graph) c.in_ok-machine.ensures) (ap (λ (x : MachineView). x.count) c.in_ok-machine.ensures)
-    (start_accounted c.args.graph.now c.args.inputs.now.values c.args.settings.elements c.in_ok-machine.machine c.in_ok-machine.ensures)
+    (start_accounted c.args.graph.now c.args.inputs.now.values c.args.settings.elements c.args.settings.keeps c.in_ok-machine.machine c.in_ok-machine.ensures)
     c.in_ok-deliver_drawn.ensures c.replay_all.ensures)
 
 pub returns-clause-moves : goal.returns-clause-moves
 returns-clause-moves c = subst (λ (m : MachineView). MovesOn m.world) (sym c.of.ensures) (c.moves_on.ensures.0 c.if-not-moves_on.false)
+
+pub returns-clause-kept : goal.returns-clause-kept
+returns-clause-kept c =
+    ap (λ (m : MachineView). m.keeps) c.of.ensures
+    ∙ (c.in_ok-deliver_drawn.ensures.on.same_keeps ∙ ap (λ (m : MachineView). m.keeps) c.in_ok-machine.ensures)

@@ -13,11 +13,11 @@ resume-requires g c =
     let start = c.in_ok-start.ensures.messages in
     let es = c.in_ok-elements.field-0.elements.items in
     let left = c.in_ok-elements.field-0.left.messages in
-    machine_gathered c.args.graph.now c.args.inputs.now.values c.args.settings.elements c.args.settings.steps es left c.requires.some c.requires.few
+    machine_gathered c.args.graph.now c.args.inputs.now.values c.args.settings.elements c.args.settings.steps c.args.settings.keeps es left c.requires.some c.requires.few
     c.in_ok-elements.ensures.len c.in_ok-elements.ensures.elements (subst (All (Fits c.args.graph.now)) start c.in_ok-start.ensures.fit)
     (subst (λ (ms : List Message). IsAccounted ms (states_of es) left) start c.in_ok-elements.ensures.accounted)
 
 pub returns-clause-few : goal.returns-clause-few
 returns-clause-few g c =
     subst (λ (m : MachineView). All (λ (s : State). length s.events ≤ c.args.settings.steps) m.world.elements) (sym c.resume.ensures)
-    (few_gathered c.args.graph.now c.args.settings.elements c.args.settings.steps c.in_ok-elements.field-0.elements.items c.in_ok-elements.ensures.elements)
+    (few_gathered c.args.graph.now c.args.settings.elements c.args.settings.steps c.args.settings.keeps c.in_ok-elements.field-0.elements.items c.in_ok-elements.ensures.elements)

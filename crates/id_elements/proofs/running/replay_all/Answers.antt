@@ -6,7 +6,7 @@ use Rattle.id_elements.proofs.running.replay_all.Goals as goal
 pub loop-element-preserved : goal.loop-element-preserved
 loop-element-preserved c =
     one_more Replays c.elements-elements.result.now c.loop-element.element-index c.element-item.result c.loop-element-test.true c.element-item.is
-    c.events-events.ensures.kept c.loop-element.invariant
+    c.handled-handled.ensures.kept c.loop-element.invariant
 
 pub returns : goal.returns
 returns c =

@@ -1,4 +1,4 @@
-use Rattle.std.proofs.Common.{◌≡◌, true, false, subst, sym, ◌∙◌}
+use Rattle.std.proofs.Common.{◌≡◌, true, false, ap, subst, sym, ◌∙◌}
 use Rattle.id_core.specs.Machines.{MachineView}
 use Rattle.id_elements.specs.Runs.{IsRun, MovesOn}
 use Rattle.id_elements.proofs.RunsLemmas.{run_from}
@@ -20,3 +20,6 @@ returns-clause-run g c =
 
 pub returns-clause-moves : goal.returns-clause-moves
 returns-clause-moves g c = subst (λ (m : MachineView). MovesOn m.world) (sym c.of.ensures) (c.moves_on.ensures.0 c.if-not-moves_on.false)
+
+pub returns-clause-kept : goal.returns-clause-kept
+returns-clause-kept g c = ap (λ (m : MachineView). m.keeps) c.of.ensures ∙ (c.in_ok-finish.ensures.on.same_keeps ∙ c.in_ok-machine.ensures.kept)

@@ -1,11 +1,19 @@
-use Rattle.std.proofs.Common.{refl, subst}
+use Rattle.std.proofs.Common.{refl, sym, ap, subst, ◌∙◌}
 use Rattle.id_core.specs.Machines.{MachineView}
 use Rattle.id_print.specs.RunReports.{IsReportFrom}
+use Rattle.id_engine.proofs.KeepsLemmas.{keeps_names, keeps_trace}
 use Rattle.id_engine.proofs.PrintedLemmas.{PrintsMachine-memory, PrintsMachine-reported}
 use Rattle.id_engine.proofs.run.print_ended.Goals as goal
 
 pub returns-in-Err : goal.returns-in-Err
 returns-in-Err g c = PrintsMachine-memory _ _ _ _ _ _ _ refl c.in-Err.ensures.memory
+
+pub report_of-requires-clause-kept : goal.report_of-requires-clause-kept
+report_of-requires-clause-kept g c = λ asked is. keeps_names c.args.trace c.args.names asked (sym c.requires.kept ∙ is)
+
+pub print_run-status-requires-clause-kept : goal.print_run-status-requires-clause-kept
+print_run-status-requires-clause-kept g c =
+    λ asked. ap (λ (m : MachineView). m.keeps) c.report_of.ensures.same ∙ (c.requires.kept ∙ keeps_trace c.args.trace c.args.names asked)
 
 pub print_run-status-requires-clause-inside : goal.print_run-status-requires-clause-inside
 print_run-status-requires-clause-inside g c =

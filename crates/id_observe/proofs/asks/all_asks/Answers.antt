@@ -6,8 +6,16 @@ use Rattle.std.proofs.lemmas.Option.{slice_get_read}
 use Rattle.id_observe.specs.Paths.{events_of, path_by, structure_by}
 use Rattle.id_observe.specs.Observed.{asks_of}
 use Rattle.id_observe.proofs.ObservedLemmas.{asks_of-records}
+use Rattle.id_observe.proofs.WalksLemmas.{all-get}
+use Rattle.id_record.specs.declared.kept.Keeps.TheVariants as keeps
 use Rattle.id_element.proofs.ShortLemmas.{if_err}
 use Rattle.id_observe.proofs.asks.all_asks.Goals as goal
+
+pub events-requires : goal.events-requires
+events-requires c =
+    let es = c.args.elements.now in
+    let at : slice_get es c.loop-element.element-index ≡ Some c.element-item.result = slice_get_read es _ _ _ refl c.loop-element-test.true c.element-item.is in
+    all-get (λ e. e.keeps ≡ keeps.All) es c.loop-element.element-index c.element-item.result c.requires at
 
 pub loop-element-preserved : goal.loop-element-preserved
 loop-element-preserved c =

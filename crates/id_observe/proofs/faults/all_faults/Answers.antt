@@ -6,9 +6,16 @@ use Rattle.std.proofs.lemmas.Option.{slice_get_read}
 use Rattle.id_observe.specs.Paths.{events_of, structure_by}
 use Rattle.id_observe.specs.Sourced.{fault_of, faults_of}
 use Rattle.id_observe.specs.Paths.{path_by}
-use Rattle.id_observe.proofs.WalksLemmas.{walk-next}
+use Rattle.id_observe.proofs.WalksLemmas.{all-get, walk-next}
+use Rattle.id_record.specs.declared.kept.Keeps.TheVariants as keeps
 use Rattle.id_element.proofs.ShortLemmas.{if_err}
 use Rattle.id_observe.proofs.faults.all_faults.Goals as goal
+
+pub add_element_faults-requires : goal.add_element_faults-requires
+add_element_faults-requires c =
+    let es = c.args.elements.now in
+    let at : slice_get es c.loop-element.element-index ≡ Some c.element-item.result = slice_get_read es _ _ _ refl c.loop-element-test.true c.element-item.is in
+    all-get (λ e. e.keeps ≡ keeps.All) es c.loop-element.element-index c.element-item.result c.requires at
 
 pub loop-element-preserved : goal.loop-element-preserved
 loop-element-preserved c =

@@ -7,7 +7,7 @@ use Rattle.std.specs.Option.{option_or}
 use Rattle.std.proofs.lemmas.Option.{slice_get_read}
 use Rattle.id_observe.specs.Paths.{enter_in, maker_in, making_of, makings_of}
 use Rattle.id_observe.specs.Paths.{answers, brought, events_of}
-use Rattle.id_observe.proofs.WalksLemmas.{walk-next}
+use Rattle.id_observe.proofs.WalksLemmas.{all-get, walk-next}
 use Rattle.id_observe.proofs.PathsLemmas.{enter_in-none, enters-next, maker_in-none, makers-next}
 use Rattle.id_element.proofs.ShortLemmas.{if_err}
 use Rattle.id_observe.proofs.paths.all_records.Goals as goal
@@ -19,6 +19,12 @@ loop-element-init c = record {
   makings = c.new-3.ensures.items;
   values = c.new-4.ensures.items;
 }
+
+pub add_record-requires : goal.add_record-requires
+add_record-requires c =
+    let es = c.args.elements.now in
+    let at : slice_get es c.loop-element.element-index ≡ Some c.element-item.result = slice_get_read es _ _ _ refl c.loop-element-test.true c.element-item.is in
+    all-get (λ e. e.graph ≡ c.args.graph.now) es c.loop-element.element-index c.element-item.result c.requires at
 
 pub loop-element-preserved : goal.loop-element-preserved
 loop-element-preserved c =

@@ -1,10 +1,10 @@
 -- What is recorded is what was sent: the event is at the instruction.
 use Rattle.std.proofs.Common.{◌∷◌, ◌++◌, ◌+◌, [], length, refl, ap, ◌∙◌}
-use Rattle.id_record.specs.declared.line.Handled.{Handled}
+use Rattle.id_record.specs.declared.handled.Handled.{Handled}
 use Rattle.id_record.specs.declared.step.Verdict.TheVariants.{Went}
 use Rattle.id_tag.specs.Plains.{message_of, tag_in}
 use Rattle.id_ops.specs.Deeds.{fired_by_deed}
-use Rattle.id_record.specs.Lines.{no_replies}
+use Rattle.id_record.specs.Handlings.{no_replies}
 use Rattle.id_record.proofs.RecordsLemmas.{event_at_instr}
 use Rattle.id_element.proofs.HandledLemmas.{and_none, recorded}
 use Rattle.id_element.proofs.desk.Desk.conclude_deed.Goals as goal
@@ -25,7 +25,7 @@ returns-clause-recorded c =
     (c.push_deed.ensures.events ∙ ap (λ e. log.events ++ e ∷ [])
     (event_at_instr log.graph log.element log.replies (length log.events) event c.args.instr.now t refl c.requires.own
     refl))
-    c.push_deed.ensures.element c.push_deed.ensures.graph
+    c.push_deed.ensures.element c.push_deed.ensures.graph c.push_deed.ensures.keeps
 
 -- what is recorded is as it was required
 pub send_deed-requires-clause-room : goal.send_deed-requires-clause-room
@@ -34,11 +34,5 @@ send_deed-requires-clause-room c = c.requires.room_in_outputs
 pub send_deed-requires-clause-few : goal.send_deed-requires-clause-few
 send_deed-requires-clause-few c = c.requires.short.few
 
-pub push_deed-requires-clause-room : goal.push_deed-requires-clause-room
-push_deed-requires-clause-room c = c.requires.room
-
-pub push_deed-requires-clause-room_aside : goal.push_deed-requires-clause-room_aside
-push_deed-requires-clause-room_aside c = c.requires.room_aside
-
-pub push_deed-requires-clause-fits : goal.push_deed-requires-clause-fits
-push_deed-requires-clause-fits c = c.requires.short.line
+pub push_deed-requires : goal.push_deed-requires
+push_deed-requires c = record { room = c.requires.room }

@@ -86,6 +86,9 @@ returns-in-Apart-clause-number c = refl
 pub returns-in-Apart-clause-graph : goal.returns-in-Apart-clause-graph
 returns-in-Apart-clause-graph c = refl
 
+pub returns-in-Apart-clause-keeps : goal.returns-in-Apart-clause-keeps
+returns-in-Apart-clause-keeps c = refl
+
 pub conclude_shot-requires-clause-own_value : goal.conclude_shot-requires-clause-own_value
 conclude_shot-requires-clause-own_value c = (shot_of_none _ _ _ _ _ c.requires.came.1 c.in-Waits.is).own
 
@@ -117,9 +120,6 @@ conclude_shot-requires-in-Two-clause-makes_none c = (shot_of_two _ _ _ _ _ _ c.r
 pub conclude_shot-requires-clause-room : goal.conclude_shot-requires-clause-room
 conclude_shot-requires-clause-room c = c.requires.room
 
-pub conclude_shot-requires-clause-room_aside : goal.conclude_shot-requires-clause-room_aside
-conclude_shot-requires-clause-room_aside c = c.requires.room_aside
-
 pub conclude_shot-requires-clause-own : goal.conclude_shot-requires-clause-own
 conclude_shot-requires-clause-own c = c.requires.own
 
@@ -143,9 +143,6 @@ conclude_shot-requires-clause-numbered c = c.requires.numbered
 
 pub conclude_shot-requires-in-One-clause-room : goal.conclude_shot-requires-in-One-clause-room
 conclude_shot-requires-in-One-clause-room c = c.requires.room
-
-pub conclude_shot-requires-in-One-clause-room_aside : goal.conclude_shot-requires-in-One-clause-room_aside
-conclude_shot-requires-in-One-clause-room_aside c = c.requires.room_aside
 
 pub conclude_shot-requires-in-One-clause-own : goal.conclude_shot-requires-in-One-clause-own
 conclude_shot-requires-in-One-clause-own c = c.requires.own
@@ -171,9 +168,6 @@ conclude_shot-requires-in-One-clause-numbered c = c.requires.numbered
 pub conclude_shot-requires-in-Two-clause-room : goal.conclude_shot-requires-in-Two-clause-room
 conclude_shot-requires-in-Two-clause-room c = c.requires.room
 
-pub conclude_shot-requires-in-Two-clause-room_aside : goal.conclude_shot-requires-in-Two-clause-room_aside
-conclude_shot-requires-in-Two-clause-room_aside c = c.requires.room_aside
-
 pub conclude_shot-requires-in-Two-clause-own : goal.conclude_shot-requires-in-Two-clause-own
 conclude_shot-requires-in-Two-clause-own c = c.requires.own
 
@@ -197,9 +191,6 @@ conclude_shot-requires-in-Two-clause-numbered c = c.requires.numbered
 
 pub conclude_plain-requires-clause-room : goal.conclude_plain-requires-clause-room
 conclude_plain-requires-clause-room c = c.requires.room
-
-pub conclude_plain-requires-clause-room_aside : goal.conclude_plain-requires-clause-room_aside
-conclude_plain-requires-clause-room_aside c = c.requires.room_aside
 
 pub conclude_plain-requires-clause-own : goal.conclude_plain-requires-clause-own
 conclude_plain-requires-clause-own c = c.requires.own
@@ -228,11 +219,17 @@ returns-in-Waits-clause-number c = c.conclude_shot.ensures.recorded.number
 pub returns-in-Waits-clause-graph : goal.returns-in-Waits-clause-graph
 returns-in-Waits-clause-graph c = c.conclude_shot.ensures.recorded.graph
 
+pub returns-in-Waits-clause-keeps : goal.returns-in-Waits-clause-keeps
+returns-in-Waits-clause-keeps c = c.conclude_shot.ensures.recorded.keeps
+
 pub returns-in-One-clause-number : goal.returns-in-One-clause-number
 returns-in-One-clause-number c = c.conclude_shot-in-One.ensures.recorded.number
 
 pub returns-in-One-clause-graph : goal.returns-in-One-clause-graph
 returns-in-One-clause-graph c = c.conclude_shot-in-One.ensures.recorded.graph
+
+pub returns-in-One-clause-keeps : goal.returns-in-One-clause-keeps
+returns-in-One-clause-keeps c = c.conclude_shot-in-One.ensures.recorded.keeps
 
 pub returns-in-Two-clause-number : goal.returns-in-Two-clause-number
 returns-in-Two-clause-number c = c.conclude_shot-in-Two.ensures.recorded.number
@@ -240,8 +237,14 @@ returns-in-Two-clause-number c = c.conclude_shot-in-Two.ensures.recorded.number
 pub returns-in-Two-clause-graph : goal.returns-in-Two-clause-graph
 returns-in-Two-clause-graph c = c.conclude_shot-in-Two.ensures.recorded.graph
 
+pub returns-in-Two-clause-keeps : goal.returns-in-Two-clause-keeps
+returns-in-Two-clause-keeps c = c.conclude_shot-in-Two.ensures.recorded.keeps
+
 pub returns-in-Fires-clause-number : goal.returns-in-Fires-clause-number
 returns-in-Fires-clause-number c = c.conclude_plain.ensures.recorded.number
 
 pub returns-in-Fires-clause-graph : goal.returns-in-Fires-clause-graph
 returns-in-Fires-clause-graph c = c.conclude_plain.ensures.recorded.graph
+
+pub returns-in-Fires-clause-keeps : goal.returns-in-Fires-clause-keeps
+returns-in-Fires-clause-keeps c = c.conclude_plain.ensures.recorded.keeps

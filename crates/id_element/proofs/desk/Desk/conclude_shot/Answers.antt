@@ -1,10 +1,10 @@
 -- What is recorded is what was sent: the event is at the instruction.
 use Rattle.std.proofs.Common.{◌∷◌, ◌++◌, [], length, refl, ap, ◌∙◌}
-use Rattle.id_record.specs.declared.line.Handled.{Handled}
+use Rattle.id_record.specs.declared.handled.Handled.{Handled}
 use Rattle.id_record.specs.declared.step.Verdict.TheVariants.{Went}
 use Rattle.id_tag.specs.Plains.{message_of, tag_in}
 use Rattle.id_ops.specs.Shots.{fired_of}
-use Rattle.id_record.specs.Lines.{no_replies}
+use Rattle.id_record.specs.Handlings.{no_replies}
 use Rattle.id_record.proofs.RecordsLemmas.{event_at_instr}
 use Rattle.id_element.proofs.HandledLemmas.{and_none, recorded, shot_makes_none}
 use Rattle.id_element.proofs.desk.Desk.conclude_shot.Goals as goal
@@ -23,7 +23,7 @@ returns-clause-recorded c =
     (c.push_shot.ensures.events ∙ ap (λ e. log.events ++ e ∷ [])
     (event_at_instr log.graph log.element log.replies (length log.events) event c.args.instr.now
     (tag_in c.args.token.now) refl c.requires.own refl))
-    c.push_shot.ensures.element c.push_shot.ensures.graph
+    c.push_shot.ensures.element c.push_shot.ensures.graph c.push_shot.ensures.keeps
 
 -- what is sent and recorded is as it was required
 pub send_shot-requires-clause-room : goal.send_shot-requires-clause-room
@@ -41,14 +41,5 @@ send_shot-requires-clause-iteration c = c.requires.short.iteration
 pub push_shot-requires-clause-room : goal.push_shot-requires-clause-room
 push_shot-requires-clause-room c = c.requires.room
 
-pub push_shot-requires-clause-room_aside : goal.push_shot-requires-clause-room_aside
-push_shot-requires-clause-room_aside c = c.requires.room_aside
-
-pub push_shot-requires-clause-fits : goal.push_shot-requires-clause-fits
-push_shot-requires-clause-fits c = c.requires.short.line
-
 pub push_shot-requires-clause-own : goal.push_shot-requires-clause-own
 push_shot-requires-clause-own c = c.requires.own_value
-
-pub push_shot-requires-clause-brief : goal.push_shot-requires-clause-brief
-push_shot-requires-clause-brief c = c.requires.brief

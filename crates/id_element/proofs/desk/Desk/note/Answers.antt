@@ -1,8 +1,8 @@
 -- What is recorded is what was sent: the event is at the instruction.
 use Rattle.std.proofs.Common.{◌∷◌, ◌++◌, ◌+◌, [], length, refl, ap, ◌∙◌}
-use Rattle.id_record.specs.declared.line.Handled.{Handled}
+use Rattle.id_record.specs.declared.handled.Handled.{Handled}
 use Rattle.id_record.specs.Events.{tag_of}
-use Rattle.id_record.specs.Lines.{no_replies}
+use Rattle.id_record.specs.Handlings.{no_replies}
 use Rattle.id_record.proofs.RecordsLemmas.{event_at_instr}
 use Rattle.id_element.proofs.HandledLemmas.{recorded}
 use Rattle.id_element.proofs.desk.Desk.note.Goals as goal
@@ -22,4 +22,4 @@ returns c =
     (c.push.ensures.events ∙ ap (λ e. log.events ++ e ∷ [])
     (event_at_instr log.graph log.element log.replies (length log.events) event c.args.instr.now
     (tag_of c.args.message.now.payload) refl c.requires.own refl))
-    c.push.ensures.element c.push.ensures.graph
+    c.push.ensures.element c.push.ensures.graph c.push.ensures.keeps

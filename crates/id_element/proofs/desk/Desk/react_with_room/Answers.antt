@@ -40,11 +40,11 @@ returns-clause-number c = c.in_ok-reserve.ensures.number
 pub returns-clause-graph : goal.returns-clause-graph
 returns-clause-graph c = c.in_ok-reserve.ensures.graph
 
+pub returns-clause-keeps : goal.returns-clause-keeps
+returns-clause-keeps c = c.in_ok-reserve.ensures.keeps
+
 pub returns-clause-room : goal.returns-clause-room
 returns-clause-room c = c.in_ok-reserve.ensures.room
-
-pub returns-clause-room_aside : goal.returns-clause-room_aside
-returns-clause-room_aside c = c.in_ok-reserve.ensures.room_aside
 
 pub returns-clause-memory : goal.returns-clause-memory
 returns-clause-memory c = tt
@@ -62,9 +62,6 @@ returns-in_err-reserve-clause-state c = on_ok _ c.from_residual.result c.from_re
 pub returns-in_err-reserve-clause-room : goal.returns-in_err-reserve-clause-room
 returns-in_err-reserve-clause-room c = on_ok _ c.from_residual.result c.from_residual.ensures.0
 
-pub returns-in_err-reserve-clause-room_aside : goal.returns-in_err-reserve-clause-room_aside
-returns-in_err-reserve-clause-room_aside c = on_ok _ c.from_residual.result c.from_residual.ensures.0
-
 pub returns-in_err-reserve-clause-room_in_outputs : goal.returns-in_err-reserve-clause-room_in_outputs
 returns-in_err-reserve-clause-room_in_outputs c = on_ok _ c.from_residual.result c.from_residual.ensures.0
 
@@ -79,9 +76,6 @@ returns-in_err-reaction-clause-state c = on_ok _ c.from_residual-in_err-reaction
 
 pub returns-in_err-reaction-clause-room : goal.returns-in_err-reaction-clause-room
 returns-in_err-reaction-clause-room c = on_ok _ c.from_residual-in_err-reaction.result c.from_residual-in_err-reaction.ensures.0
-
-pub returns-in_err-reaction-clause-room_aside : goal.returns-in_err-reaction-clause-room_aside
-returns-in_err-reaction-clause-room_aside c = on_ok _ c.from_residual-in_err-reaction.result c.from_residual-in_err-reaction.ensures.0
 
 pub returns-in_err-reaction-clause-room_in_outputs : goal.returns-in_err-reaction-clause-room_in_outputs
 returns-in_err-reaction-clause-room_in_outputs c = on_ok _ c.from_residual-in_err-reaction.result c.from_residual-in_err-reaction.ensures.0

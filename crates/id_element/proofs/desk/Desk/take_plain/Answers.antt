@@ -70,6 +70,9 @@ returns-clause-number g c = c.take_short.ensures.number
 pub returns-clause-graph : goal.returns-clause-graph
 returns-clause-graph g c = c.take_short.ensures.graph
 
+pub returns-clause-keeps : goal.returns-clause-keeps
+returns-clause-keeps g c = c.take_short.ensures.keeps
+
 -- after an error all is as it was
 pub returns-in_err-stamp-clause-step : goal.returns-in_err-stamp-clause-step
 returns-in_err-stamp-clause-step g c = if_err _ c.from_residual.result c.from_residual.ensures.0
@@ -116,11 +119,17 @@ returns-in_err-stamp-clause-number g c = refl
 pub returns-in_err-stamp-clause-graph : goal.returns-in_err-stamp-clause-graph
 returns-in_err-stamp-clause-graph g c = refl
 
+pub returns-in_err-stamp-clause-keeps : goal.returns-in_err-stamp-clause-keeps
+returns-in_err-stamp-clause-keeps g c = refl
+
 pub returns-in_default-clause-number : goal.returns-in_default-clause-number
 returns-in_default-clause-number g c = refl
 
 pub returns-in_default-clause-graph : goal.returns-in_default-clause-graph
 returns-in_default-clause-graph g c = refl
+
+pub returns-in_default-clause-keeps : goal.returns-in_default-clause-keeps
+returns-in_default-clause-keeps g c = refl
 
 pub returns-in_default-clause-step : goal.returns-in_default-clause-step
 returns-in_default-clause-step g c = λ h. absurd h

@@ -59,6 +59,9 @@ returns-clause-number g c = c.conclude_reacted.ensures.number ∙ c.in_ok-reserv
 pub returns-clause-graph : goal.returns-clause-graph
 returns-clause-graph g c = c.conclude_reacted.ensures.graph ∙ c.in_ok-reserve.ensures.graph
 
+pub returns-clause-keeps : goal.returns-clause-keeps
+returns-clause-keeps g c = c.conclude_reacted.ensures.keeps ∙ c.in_ok-reserve.ensures.keeps
+
 pub returns-clause-memory : goal.returns-clause-memory
 returns-clause-memory g c = tt
 
@@ -77,6 +80,9 @@ returns-in_err-reserve-clause-number g c = c.in_err-reserve.ensures.number
 
 pub returns-in_err-reserve-clause-graph : goal.returns-in_err-reserve-clause-graph
 returns-in_err-reserve-clause-graph g c = c.in_err-reserve.ensures.graph
+
+pub returns-in_err-reserve-clause-keeps : goal.returns-in_err-reserve-clause-keeps
+returns-in_err-reserve-clause-keeps g c = c.in_err-reserve.ensures.keeps
 
 pub returns-in_err-reserve-clause-memory : goal.returns-in_err-reserve-clause-memory
 returns-in_err-reserve-clause-memory g c = err_if _ c.from_residual.result c.from_residual.ensures.1
@@ -98,6 +104,9 @@ returns-in_err-reacted-clause-number g c = c.in_ok-reserve.ensures.number
 pub returns-in_err-reacted-clause-graph : goal.returns-in_err-reacted-clause-graph
 returns-in_err-reacted-clause-graph g c = c.in_ok-reserve.ensures.graph
 
+pub returns-in_err-reacted-clause-keeps : goal.returns-in_err-reacted-clause-keeps
+returns-in_err-reacted-clause-keeps g c = c.in_ok-reserve.ensures.keeps
+
 pub returns-in_err-reacted-clause-memory : goal.returns-in_err-reacted-clause-memory
 returns-in_err-reacted-clause-memory g c = err_if _ c.from_residual-in_err-reacted.result c.from_residual-in_err-reacted.ensures.1
 
@@ -111,9 +120,6 @@ returns-in_err-reacted-clause-err g c =
 -- there is room, and the rest is as it was required
 pub conclude_reacted-requires-clause-room : goal.conclude_reacted-requires-clause-room
 conclude_reacted-requires-clause-room g c = c.in_ok-reserve.ensures.room
-
-pub conclude_reacted-requires-clause-room_aside : goal.conclude_reacted-requires-clause-room_aside
-conclude_reacted-requires-clause-room_aside g c = c.in_ok-reserve.ensures.room_aside
 
 pub conclude_reacted-requires-clause-room_in_outputs : goal.conclude_reacted-requires-clause-room_in_outputs
 conclude_reacted-requires-clause-room_in_outputs g c = le_trans c.requires.few c.in_ok-reserve.ensures.room_in_outputs

@@ -90,9 +90,6 @@ returns-in_err-reaction-clause-err_outputs g c = on_err c.from_residual.result c
 pub conclude-requires-clause-room : goal.conclude-requires-clause-room
 conclude-requires-clause-room g c = c.in_ok-reaction.ensures.room
 
-pub conclude-requires-clause-room_aside : goal.conclude-requires-clause-room_aside
-conclude-requires-clause-room_aside g c = c.in_ok-reaction.ensures.room_aside
-
 pub conclude-requires-clause-room_in_outputs : goal.conclude-requires-clause-room_in_outputs
 conclude-requires-clause-room_in_outputs g c = c.in_ok-reaction.ensures.room_in_outputs
 
@@ -132,11 +129,17 @@ returns-clause-number g c = c.conclude.ensures.recorded.number ∙ c.in_ok-react
 pub returns-clause-graph : goal.returns-clause-graph
 returns-clause-graph g c = c.conclude.ensures.recorded.graph ∙ c.in_ok-reaction.ensures.graph
 
+pub returns-clause-keeps : goal.returns-clause-keeps
+returns-clause-keeps g c = c.conclude.ensures.recorded.keeps ∙ c.in_ok-reaction.ensures.keeps
+
 pub returns-in_err-reaction-clause-number : goal.returns-in_err-reaction-clause-number
 returns-in_err-reaction-clause-number g c = c.in_err-reaction.ensures.number
 
 pub returns-in_err-reaction-clause-graph : goal.returns-in_err-reaction-clause-graph
 returns-in_err-reaction-clause-graph g c = c.in_err-reaction.ensures.graph
+
+pub returns-in_err-reaction-clause-keeps : goal.returns-in_err-reaction-clause-keeps
+returns-in_err-reaction-clause-keeps g c = c.in_err-reaction.ensures.keeps
 
 pub returns-clause-memory : goal.returns-clause-memory
 returns-clause-memory g c = tt

@@ -15,11 +15,11 @@ pub invariant_of-self-2 : goal.invariant_of-self-2
 invariant_of-self-2 g c =
     let d = c.self.inside.desk in
     let m = demanded c.args.demand.now in
-    let old : ElementView = record { number = d.log.element; count = c.self.inside.count; graph = d.log.graph; state = state_of d } in
+    let old : ElementView = record { number = d.log.element; count = c.self.inside.count; graph = d.log.graph; keeps = d.log.keeps; state = state_of d } in
     let is_for : IsFor d.log.graph c.self.inside.count d.log.element m =
     rw (ap (λ v. v.graph) c.self.view_is, ap (λ v. v.count) c.self.view_is, ap (λ v. v.number) c.self.view_is) c.requires in
     let does = c.in_ok-handled.ensures in
-    rw (does.number, does.graph) (
+    rw (does.number, does.graph, does.keeps) (
       IsKept-demand old m c.self.inside.went (state_of c.take_demand.new.desk) c.in_ok-handled.handled is_for does.left does.last_left c.self.invariant.0
           (λ e. does.step (cc)) (λ e. does.state (cc)) (λ e. does.apart (cc)),
       c.self.invariant.1,
@@ -38,8 +38,8 @@ returns-clause-state g c = λ h.
     let m = demanded c.args.demand.now in
     let later = state_after d.log.graph d.log.element (state_of d) m in
     let after : state_of c.take_demand.new.desk ≡ later = c.in_ok-handled.ensures.state (cc) in
-    rw (c.in_ok-handled.ensures.number, c.in_ok-handled.ensures.graph, after)
-    (subst (λ (v : ElementView). record { number = d.log.element; count = c.self.inside.count; graph = d.log.graph; state = later } ≡
+    rw (c.in_ok-handled.ensures.number, c.in_ok-handled.ensures.graph, c.in_ok-handled.ensures.keeps, after)
+    (subst (λ (v : ElementView). record { number = d.log.element; count = c.self.inside.count; graph = d.log.graph; keeps = d.log.keeps; state = later } ≡
     record v { state = state_after v.graph v.number v.state m }) c.self.view_is refl)
 
 -- and the outputs are its outputs
@@ -51,7 +51,7 @@ returns-clause-outputs g c = λ h.
 
 -- after an error all is as it was
 pub invariant_of-self : goal.invariant_of-self
-invariant_of-self g c = rw (c.in_err-handled.ensures.number, c.in_err-handled.ensures.graph, c.in_err-handled.ensures.err) c.self.invariant
+invariant_of-self g c = rw (c.in_err-handled.ensures.number, c.in_err-handled.ensures.graph, c.in_err-handled.ensures.keeps, c.in_err-handled.ensures.err) c.self.invariant
 
 pub returns-in_err-handled-clause-step : goal.returns-in_err-handled-clause-step
 returns-in_err-handled-clause-step g c = not_ok c.from_residual.result _ c.from_residual.ensures.0
@@ -73,7 +73,7 @@ returns-in_err-handled-clause-fits g c = on_ok _ c.from_residual.result c.from_r
 
 pub returns-in_err-handled-clause-err : goal.returns-in_err-handled-clause-err
 returns-in_err-handled-clause-err g c = on_err c.from_residual.result
-    (rw (c.in_err-handled.ensures.number, c.in_err-handled.ensures.graph, c.in_err-handled.ensures.err) c.self.view_is)
+    (rw (c.in_err-handled.ensures.number, c.in_err-handled.ensures.graph, c.in_err-handled.ensures.keeps, c.in_err-handled.ensures.err) c.self.view_is)
 
 pub returns-in_err-handled-clause-err_outputs : goal.returns-in_err-handled-clause-err_outputs
 returns-in_err-handled-clause-err_outputs g c = on_err c.from_residual.result c.in_err-handled.ensures.err_outputs
@@ -85,7 +85,7 @@ returns-clause-step g c = λ h.
     ap (λ (v : ElementView). step_of v.graph v.number v.state m) (sym c.self.view_is) ∙ c.in_ok-handled.ensures.step (cc)
 
 pub returns-clause-apart : goal.returns-clause-apart
-returns-clause-apart g c = λ h. rw (c.in_ok-handled.ensures.apart (cc), c.in_ok-handled.ensures.number, c.in_ok-handled.ensures.graph) c.self.view_is
+returns-clause-apart g c = λ h. rw (c.in_ok-handled.ensures.apart (cc), c.in_ok-handled.ensures.number, c.in_ok-handled.ensures.graph, c.in_ok-handled.ensures.keeps) c.self.view_is
 
 pub returns-clause-apart_outputs : goal.returns-clause-apart_outputs
 returns-clause-apart_outputs g c = λ h. c.in_ok-handled.ensures.apart_outputs (cc)

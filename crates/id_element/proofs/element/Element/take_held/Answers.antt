@@ -19,6 +19,7 @@ invariant_of-self-2 g c =
       number = c.self.inside.desk.log.element;
       count = c.self.inside.count;
       graph = c.self.inside.desk.log.graph;
+      keeps = c.self.inside.desk.log.keeps;
       state = state_of c.self.inside.desk;
     } in
     let is_for : IsFor c.self.inside.desk.log.graph c.self.inside.count c.self.inside.desk.log.element c.args.message.now =
@@ -30,7 +31,7 @@ invariant_of-self-2 g c =
     let goes : IsTrue c.still_went-self-inside.result ↔ (IsTrue c.self.inside.went ×
     (step_of c.self.inside.desk.log.graph c.self.inside.desk.log.element (state_of c.self.inside.desk) c.args.message.now ≡ Went)) =
     rw (← c.graph-graph.ensures, ← c.graph.ensures.value, ← c.in_ok-verdict.ensures.step, ← c.full_step-step.ensures) c.still_went-self-inside.ensures in
-    rw (stepped, c.in_ok-verdict.ensures.number, c.in_ok-verdict.ensures.graph) (
+    rw (stepped, c.in_ok-verdict.ensures.number, c.in_ok-verdict.ensures.graph, c.in_ok-verdict.ensures.keeps) (
       IsKept-take old c.args.message.now c.self.inside.went c.still_went-self-inside.result is_for c.in_ok-verdict.ensures.left
           c.in_ok-verdict.ensures.last_left goes c.self.invariant.0,
       c.self.invariant.1,
@@ -59,8 +60,8 @@ returns-clause-state g c =
     let later = state_after d.log.graph d.log.element (state_of d) m in
     let after : state_of c.take.new.desk ≡ later =
     c.in_ok-verdict.ensures.state ∙ ap (λ g. state_after g d.log.element (state_of d) m) (c.graph.ensures.value ∙ c.graph-graph.ensures) in
-    rw (c.in_ok-verdict.ensures.number, c.in_ok-verdict.ensures.graph, after)
-    (subst (λ (v : ElementView). record { number = d.log.element; count = c.self.inside.count; graph = d.log.graph; state = later }
+    rw (c.in_ok-verdict.ensures.number, c.in_ok-verdict.ensures.graph, c.in_ok-verdict.ensures.keeps, after)
+    (subst (λ (v : ElementView). record { number = d.log.element; count = c.self.inside.count; graph = d.log.graph; keeps = d.log.keeps; state = later }
     ≡ record v { state = state_after v.graph v.number v.state m }) c.self.view_is refl)
 
 pub returns-clause-outputs : goal.returns-clause-outputs
@@ -74,12 +75,12 @@ returns-clause-outputs g c =
 
 -- after an error all is as it was
 pub invariant_of-self : goal.invariant_of-self
-invariant_of-self g c = rw (c.in_err-verdict.ensures.number, c.in_err-verdict.ensures.graph, c.in_err-verdict.ensures.err) c.self.invariant
+invariant_of-self g c = rw (c.in_err-verdict.ensures.number, c.in_err-verdict.ensures.graph, c.in_err-verdict.ensures.keeps, c.in_err-verdict.ensures.err) c.self.invariant
 
 pub returns-in_err-verdict-clause-err : goal.returns-in_err-verdict-clause-err
 returns-in_err-verdict-clause-err g c =
     on_err c.from_residual.result
-    (rw (c.in_err-verdict.ensures.number, c.in_err-verdict.ensures.graph, c.in_err-verdict.ensures.err) c.self.view_is)
+    (rw (c.in_err-verdict.ensures.number, c.in_err-verdict.ensures.graph, c.in_err-verdict.ensures.keeps, c.in_err-verdict.ensures.err) c.self.view_is)
 
 pub returns-in_err-verdict-clause-err_outputs : goal.returns-in_err-verdict-clause-err_outputs
 returns-in_err-verdict-clause-err_outputs g c = on_err c.from_residual.result c.in_err-verdict.ensures.err_outputs

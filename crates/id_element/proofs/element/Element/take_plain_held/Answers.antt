@@ -19,7 +19,7 @@ invariant_of-self-2 g c =
     let d = c.self.inside.desk in
     let m = message_of c.args.token.now in
     let s = c.in_ok-short.short in
-    let old : ElementView = record { number = d.log.element; count = c.self.inside.count; graph = d.log.graph; state = state_of d } in
+    let old : ElementView = record { number = d.log.element; count = c.self.inside.count; graph = d.log.graph; keeps = d.log.keeps; state = state_of d } in
     let is_for : IsFor d.log.graph c.self.inside.count d.log.element m =
     rw (ap (λ v. v.graph) c.self.view_is, ap (λ v. v.count) c.self.view_is, ap (λ v. v.number) c.self.view_is) c.requires in
     let graph = c.graph.ensures.value ∙ c.graph-graph.ensures in
@@ -28,7 +28,7 @@ invariant_of-self-2 g c =
     let after : IsHandled s → state_of c.take_plain.new.self ≡ state_after d.log.graph d.log.element (state_of d) m =
     λ h. c.in_ok-short.ensures.state h ∙ ap (λ g. state_after g d.log.element (state_of d) m) graph in
     let same : s ≡ Apart → state_of c.take_plain.new.self ≡ state_of d = λ e. c.in_ok-short.ensures.apart (cc) in
-    rw (c.in_ok-short.ensures.number, c.in_ok-short.ensures.graph) (
+    rw (c.in_ok-short.ensures.number, c.in_ok-short.ensures.graph, c.in_ok-short.ensures.keeps) (
       IsKept-short old c.args.token.now c.self.inside.went c.note_short.new.went (state_of c.take_plain.new.self) is_for c.in_ok-short.ensures.left
           c.in_ok-short.ensures.last_left c.self.invariant.0 s comes after same c.note_short.ensures.handled c.note_short.ensures.apart,
       c.self.invariant.1,
@@ -50,8 +50,8 @@ returns-clause-state g c = λ handled.
     let graph = c.graph.ensures.value ∙ c.graph-graph.ensures in
     let after : state_of c.take_plain.new.self ≡ later =
     c.in_ok-short.ensures.state handled ∙ ap (λ g. state_after g d.log.element (state_of d) m) graph in
-    rw (c.in_ok-short.ensures.number, c.in_ok-short.ensures.graph, after)
-    (subst (λ (v : ElementView). record { number = d.log.element; count = c.self.inside.count; graph = d.log.graph; state = later } ≡
+    rw (c.in_ok-short.ensures.number, c.in_ok-short.ensures.graph, c.in_ok-short.ensures.keeps, after)
+    (subst (λ (v : ElementView). record { number = d.log.element; count = c.self.inside.count; graph = d.log.graph; keeps = d.log.keeps; state = later } ≡
     record v { state = state_after v.graph v.number v.state m }) c.self.view_is refl)
 
 -- and the outputs are its outputs
@@ -66,7 +66,7 @@ returns-clause-outputs g c = λ handled.
 
 -- after an error all is as it was
 pub invariant_of-self : goal.invariant_of-self
-invariant_of-self g c = rw (c.in_err-short.ensures.number, c.in_err-short.ensures.graph, c.in_err-short.ensures.err) c.self.invariant
+invariant_of-self g c = rw (c.in_err-short.ensures.number, c.in_err-short.ensures.graph, c.in_err-short.ensures.keeps, c.in_err-short.ensures.err) c.self.invariant
 
 pub returns-in_err-short-clause-step : goal.returns-in_err-short-clause-step
 returns-in_err-short-clause-step g c = if_err _ c.from_residual.result c.from_residual.ensures.0
@@ -88,7 +88,7 @@ returns-in_err-short-clause-apart_outputs g c = not_ok c.from_residual.result _ 
 
 pub returns-in_err-short-clause-err : goal.returns-in_err-short-clause-err
 returns-in_err-short-clause-err g c =
-    on_err c.from_residual.result (rw (c.in_err-short.ensures.number, c.in_err-short.ensures.graph, c.in_err-short.ensures.err) c.self.view_is)
+    on_err c.from_residual.result (rw (c.in_err-short.ensures.number, c.in_err-short.ensures.graph, c.in_err-short.ensures.keeps, c.in_err-short.ensures.err) c.self.view_is)
 
 pub returns-in_err-short-clause-err_outputs : goal.returns-in_err-short-clause-err_outputs
 returns-in_err-short-clause-err_outputs g c = on_err c.from_residual.result c.in_err-short.ensures.err_outputs
@@ -103,7 +103,7 @@ returns-clause-step g c = λ handled.
     ∙ ap (λ (v : ElementView). step_of v.graph v.number v.state m) c.self.view_is
 
 pub returns-clause-apart : goal.returns-clause-apart
-returns-clause-apart g c = λ is. rw (c.in_ok-short.ensures.apart is, c.in_ok-short.ensures.number, c.in_ok-short.ensures.graph) c.self.view_is
+returns-clause-apart g c = λ is. rw (c.in_ok-short.ensures.apart is, c.in_ok-short.ensures.number, c.in_ok-short.ensures.graph, c.in_ok-short.ensures.keeps) c.self.view_is
 
 pub returns-clause-apart_outputs : goal.returns-clause-apart_outputs
 returns-clause-apart_outputs g c = c.in_ok-short.ensures.apart_outputs

@@ -28,4 +28,5 @@ returns-clause-same g c =
       number = refl;
       count = refl;
       graph = refl;
+      keeps = refl;
     })

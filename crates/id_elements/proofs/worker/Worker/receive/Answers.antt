@@ -14,4 +14,5 @@ returns-in-Some-clause-same g c =
       number = refl;
       count = refl;
       graph = refl;
+      keeps = refl;
     })

@@ -1,37 +1,27 @@
--- What a message says is what the message of its line says.
-use Rattle.std.proofs.Common.{◌≡◌, Some, length, ap, ◌∙◌, arith}
-use Rattle.std.specs.Prelude.{option_map}
-use Rattle.id_record.specs.Ledgers.{bare_of, stamps_of, with_stamps}
-use Rattle.id_record.specs.Lines.{unpacked}
-use Rattle.id_record.proofs.LedgersLemmas.{payload-unstamped, within-unstamped}
-use Rattle.id_record.proofs.RecordsLemmas.{length-events_from, events_from-get, line_kept}
+-- What the message of an event says, where all are kept.
+use Rattle.std.proofs.Common.{◌≡◌, Some, true, length, sym, ap, ◌∙◌, arith}
+use Rattle.std.specs.Prelude.{option_map, slice_get}
+use Rattle.id_record.specs.Kept.{keeps_all}
+use Rattle.id_record.proofs.RecordsLemmas.{events_from-get, length-events_from}
 use Rattle.id_record.proofs.history.Record.payload.Goals as goal
 
-pub unstamped-line-requires : goal.unstamped-line-requires
-unstamped-line-requires c =
+pub event-requires : goal.event-requires
+event-requires c =
     let r = c.self.inside in
-    omega (arith, length-events_from r.graph.now r.element r.replies.items 0 r.margin.beside r.lines.items, ap (λ v. length v.events) c.self.view_is)
-
-pub payload-requires : goal.payload-requires
-payload-requires c =
-    let r = c.self.inside in
-    let d = r.margin.beside in
-    let m = c.unstamped-line.result in
-    let stamps = c.unstamped-line.ensures in
-    let kept = line_kept d r.replies.items r.lines.items c.args.position (with_stamps (bare_of m) stamps.0) c.self.invariant.lines stamps.1 in
-    within-unstamped d (bare_of m) stamps.0 (stamps_of m) kept.within
+    let all : keeps_all r.kept.keeps ≡ true = ap keeps_all (ap (λ v. v.keeps) c.self.view_is ∙ c.requires.keeps) in
+    omega (
+      arith,
+      c.requires.position,
+      ap length (c.self.invariant.events all),
+      length-events_from r.graph.now r.element r.replies 0 r.handled,
+      ap (λ v. length v.events) c.self.view_is,
+    )
 
 pub returns : goal.returns
 returns c =
     let r = c.self.inside in
-    let d = r.margin.beside in
-    let m = c.unstamped-line.result in
-    let stamps = c.unstamped-line.ensures in
-    let l = with_stamps (bare_of m) stamps.0 in
-    let kept = line_kept d r.replies.items r.lines.items c.args.position l c.self.invariant.lines stamps.1 in
-    let says : (unpacked d l).message.payload ≡ (unpacked d m).message.payload = payload-unstamped d (bare_of m) stamps.0 (stamps_of m) kept.within in
-    rw (c.payload.ensures, ← ap (λ v. v.events) c.self.view_is)
-    (
-    ap (option_map (λ e. e.message.payload)) (events_from-get r.graph.now r.element r.replies.items 0 d r.lines.items c.args.position l stamps.1)
-    ∙ ap Some says
-    )
+    let k = c.args.position in
+    let all : keeps_all r.kept.keeps ≡ true = ap keeps_all (ap (λ v. v.keeps) c.self.view_is ∙ c.requires.keeps) in
+    let there : slice_get r.handled k ≡ Some c.event.result.now = sym (ap (λ hs. slice_get hs k) (c.self.invariant.events all)) ∙ c.event.ensures in
+    ap (λ v. option_map (λ e. e.message.payload) (slice_get v.events k)) (sym c.self.view_is)
+    ∙ ap (option_map (λ e. e.message.payload)) (events_from-get r.graph.now r.element r.replies 0 r.handled k c.event.result.now there)

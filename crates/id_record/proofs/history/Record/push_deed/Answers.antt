@@ -1,62 +1,35 @@
--- The record goes on by one event, in a line of its own.
-use Rattle.std.proofs.lemmas.Grind.{common_steps}
-use Rattle.std.proofs.Common.{refl, arith}
+-- Nothing is to be kept of the event, and the record goes on by it.
+use Rattle.std.proofs.Common.{◌≡◌, refl, ap, ◌∙◌, arith}
+use Rattle.id_record.specs.declared.kept.Keeps.TheVariants.{Tellings}
+use Rattle.id_record.specs.Handlings.{HasThere}
 use Rattle.id_record.specs.Shootings.{doing}
-use Rattle.id_record.proofs.TellingsLemmas.{tells-doing}
+use Rattle.id_record.proofs.RecordsLemmas.{AreKept-pass, pushed}
+use Rattle.id_record.proofs.TellingsLemmas.{not_zero, deed-silent}
 use Rattle.id_record.proofs.history.Record.push_deed.Goals as goal
 
-pub add_line-requires-clause-stands : goal.add_line-requires-clause-stands
-add_line-requires-clause-stands c = record {
-  event = doing c.args.event;
-  packed = c.in-Some.ensures;
-  replies = omega arith;
-  tells_so = tells-doing c.args.event;
-}
+pub invariant_of-self : goal.invariant_of-self
+invariant_of-self c =
+    let r = c.self.inside in
+    let h = doing c.args.event in
+    let there : HasThere r.replies h = omega arith in
+    let little : r.kept.keeps ≡ Tellings = ap (λ v. v.keeps) c.self.view_is ∙ c.keeps_little.ensures c.if-keeps_little.true in
+    rw (c.push.ensures, c.done.ensures, c.pass.ensures)
+    (AreKept-pass r.graph.now r.element r.replies r.handled r.kept h c.self.invariant there little (deed-silent c.args.event (not_zero c.args.event.token.now.instr c.if-event-ne0.true)) refl)
 
-pub returns-else-not-add_line-clause-element : goal.returns-else-not-add_line-clause-element
-returns-else-not-add_line-clause-element c =
-    (c.if-not-add_line.ensures.goes_on refl (doing c.args.event) c.in-Some.ensures).element
-
-pub returns-else-not-add_line-clause-graph : goal.returns-else-not-add_line-clause-graph
-returns-else-not-add_line-clause-graph c =
-    (c.if-not-add_line.ensures.goes_on refl (doing c.args.event) c.in-Some.ensures).graph
-
-pub returns-else-not-add_line-clause-events : goal.returns-else-not-add_line-clause-events
-returns-else-not-add_line-clause-events c =
-    (c.if-not-add_line.ensures.goes_on refl (doing c.args.event) c.in-Some.ensures).events
-
-pub deed_line-requires : goal.deed_line-requires
-deed_line-requires c = grind (arith, common_steps)
-
-pub add_line-requires-clause-place : goal.add_line-requires-clause-place
-add_line-requires-clause-place c = grind (arith, common_steps)
-
-pub push_deed_aside-requires-clause-place : goal.push_deed_aside-requires-clause-place
-push_deed_aside-requires-clause-place c = grind (arith, common_steps)
-
-pub push_deed_aside-requires-clause-fits : goal.push_deed_aside-requires-clause-fits
-push_deed_aside-requires-clause-fits c = grind (arith, common_steps)
-
-pub push_deed_beside-requires-clause-place : goal.push_deed_beside-requires-clause-place
-push_deed_beside-requires-clause-place c = grind (arith, common_steps)
-
-pub push_deed_beside-requires-clause-fits : goal.push_deed_beside-requires-clause-fits
-push_deed_beside-requires-clause-fits c = grind (arith, common_steps)
-
-pub returns-then-not-add_line-clause-element : goal.returns-then-not-add_line-clause-element
-returns-then-not-add_line-clause-element c = grind (arith, common_steps)
-
-pub returns-then-not-add_line-clause-graph : goal.returns-then-not-add_line-clause-graph
-returns-then-not-add_line-clause-graph c = grind (arith, common_steps)
-
-pub returns-then-not-add_line-clause-events : goal.returns-then-not-add_line-clause-events
-returns-then-not-add_line-clause-events c = grind (arith, common_steps)
-
-pub returns-in-None-clause-element : goal.returns-in-None-clause-element
-returns-in-None-clause-element c = grind (arith, common_steps)
-
-pub returns-in-None-clause-graph : goal.returns-in-None-clause-graph
-returns-in-None-clause-graph c = grind (arith, common_steps)
-
-pub returns-in-None-clause-events : goal.returns-in-None-clause-events
-returns-in-None-clause-events c = grind (arith, common_steps)
+pub returns-then-event-ne0 : goal.returns-then-event-ne0
+returns-then-event-ne0 c =
+    let r = c.self.inside in
+    record {
+      element = ap (λ v. v.element) c.self.view_is;
+      graph = ap (λ v. v.graph) c.self.view_is;
+      keeps = ap (λ k. k.keeps) c.pass.ensures ∙ ap (λ v. v.keeps) c.self.view_is;
+      events =
+          rw (
+            ← ap (λ v. v.events) c.self.view_is,
+            ← ap (λ v. v.graph) c.self.view_is,
+            ← ap (λ v. v.element) c.self.view_is,
+            c.push.ensures,
+            c.done.ensures,
+          )
+          (pushed r.graph.now r.element r.replies r.handled (doing c.args.event));
+    }
