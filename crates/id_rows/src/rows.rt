@@ -514,17 +514,27 @@ fn give(
     element.take(&message, &mut outputs)
 }
 
-/// What a fresh element answers to the second of two messages.
+/// How many events an element has recorded, and the stamp of the last of them.
+fn recorded(element: &Element<'_>) -> (usize, Option<u64>) {
+    let events = element.events();
+    match events.len() {
+        0 => (0, None),
+        count => (count, Some(events.event(count - 1).stamp)),
+    }
+}
+
+/// What a fresh element answers to the second of two messages, and what it has recorded then.
 fn second_taken(
     rt: &impl Abort,
     alloc: Global,
     graph: &Valid,
     first: Message,
     second: Message,
-) -> Result<Step, TakeError> {
+) -> (Result<Step, TakeError>, (usize, Option<u64>)) {
     let mut element = Element::new(alloc, 0, 1, graph);
     let _ = give(rt, alloc, graph, &mut element, first);
-    give(rt, alloc, graph, &mut element, second)
+    let answer = give(rt, alloc, graph, &mut element, second);
+    (answer, recorded(&element))
 }
 
 #[test]
@@ -535,13 +545,16 @@ fn an_element_takes_what_fits(rt: HostRuntime) -> Result<(), Fail> {
     let late = signal(main_tag(1), u64::MAX - 1);
     let last = signal(main_tag(1), u64::MAX);
     let table = [
-        (early, one, Ok(Step::Went)),
-        (one, one, Ok(Step::Stuck)),
-        (early, last, Err(TakeError::StampEnd)),
-        (late, one, Err(TakeError::StampEnd)),
+        (early, one, Ok(Step::Went), (2, Some(2))),
+        (one, one, Ok(Step::Stuck), (2, Some(2))),
+        (early, last, Err(TakeError::StampEnd), (1, Some(1))),
+        (late, one, Err(TakeError::StampEnd), (1, Some(u64::MAX))),
+        (last, last, Err(TakeError::StampEnd), (0, None)),
     ];
-    for (first, second, wanted) in table {
-        assert!(rt; second_taken(&rt, rt.alloc(), &graph, first, second) == wanted);
+    for (first, second, wanted, record) in table {
+        let taken = second_taken(&rt, rt.alloc(), &graph, first, second);
+        assert!(rt; taken.0 == wanted);
+        assert!(rt; taken.1 == record);
     }
     Ok(())
 }
