@@ -517,10 +517,11 @@ fn give(
 /// How many events an element has recorded, and the stamp of the last of them.
 fn recorded(element: &Element<'_>) -> (usize, Option<u64>) {
     let events = element.events();
-    match events.len() {
-        0 => (0, None),
-        count => (count, Some(events.event(count - 1).stamp)),
+    let count = events.len();
+    if count == 0 {
+        return (0, None);
     }
+    (count, Some(events.event(count - 1).stamp))
 }
 
 /// What a fresh element answers to the second of two messages, and what it has recorded then.
