@@ -17,7 +17,8 @@ coded_world =
 -- a machine as the tuple of its fields
 abbrev pub coded_machine : Coded MachineView
 coded_machine =
-    code_by (Parts × (ℕ × (Keeps × World))) (coded× coded_graph (coded× coded_ℕ (coded× coded_keeps coded_world)))
+    code_by (Parts × (ℕ × (Keeps × World)))
+    (coded× coded_graph (coded× coded_ℕ (coded× coded_keeps coded_world)))
     (λ m. (m.graph, (m.count, (m.keeps, m.world))))
     (λ p. record { graph = p.0; count = p.1.0; keeps = p.1.1.0; world = p.1.1.1 })
     (λ _. refl)

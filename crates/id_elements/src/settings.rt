@@ -20,7 +20,8 @@ impl Settings {
     ghost use Rattle.std.specs.Prelude.{◌≡◌, None};
     ghost use Rattle.id_record.specs.declared.kept.Keeps.TheVariants as keeps;
 
-    /// So many elements, each of which may handle so many messages, in the order that threads give. All events are kept.
+    /// So many elements, each of which may handle so many messages, in the order that threads give. All events are
+    /// kept.
     pub fn new(elements: u32, steps: u64) -> Settings
         ensures { result ≡ record { elements = elements; steps = steps; order = None; keeps = keeps.All } }
     {

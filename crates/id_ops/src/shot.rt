@@ -65,6 +65,7 @@ impl Target {
 
 impl Shot {
     /// The same as any firing. Takes no memory.
+    #[inline(always)]
     pub fn fired(self) -> Fired
         ensures { result ≡ fired_of self }
     {

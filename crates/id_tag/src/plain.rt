@@ -455,6 +455,7 @@ impl PlainToken {
     ghost use Rattle.id_tag.specs.Plains.{message_of, tag_in};
 
     /// The same as any message. Takes no memory.
+    #[inline(always)]
     pub fn message(&self) -> Message
         ensures { result ≡ message_of self.now }
     {
