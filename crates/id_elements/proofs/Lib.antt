@@ -5,3 +5,4 @@ pub mod GatheredLemmas
 pub mod RunsLemmas
 pub mod FinishLemmas
 pub mod DrawnLemmas
+pub mod SendLemmas

@@ -4,6 +4,8 @@ ghost use Rattle.std.specs.Prelude.{◌≡◌, ◌<◌, ◌≤◌, ◌+◌, ◌-
 ghost use Rattle.std.specs.Prelude.{◌↔◌, [], ℕ, All, IfOk, IfErr, List, OnOk};
 ghost use Rattle.std.specs.Prelude.{length, slice_index_or, vec_len, Err, IsTrue};
 ghost use Rattle.std.specs.List.{sum_by};
+ghost use denote.Param.Send.{IsSend};
+ghost use Rattle.id_inbox.specs.contracts.door.Door as the_door;
 ghost use Rattle.id_tag.specs.declared.Message.{Message};
 ghost use Rattle.id_element.specs.Fits.{Fits};
 ghost use Rattle.id_core.specs.Machines.{TakesInputs, start_messages};
@@ -65,12 +67,28 @@ fn work_all<R: Threads + Wait + Sync, G: Gate + Sync>(
         → IsSameWithin steps (slice_index_or workers.old i d) (slice_index_or workers.new i d) }
 {
     let count = workers.len();
+    // For the proof that a worker may go to another thread (proofs/SendLemmas.antt).
+    doors_cross();
     thread::for_each_mut(
         rt,
         workers,
         count,
         &|index, worker| { work_below(rt, index, limit, worker, steps, shared, gate) },
     );
+}
+
+/// Says in a clause that a value of this type may go to another thread. Does nothing.
+#[inline(always)]
+fn may_cross<T: Send>()
+    ensures { IsSend T.row }
+{}
+
+/// The same of a door.
+#[inline(always)]
+fn doors_cross()
+    ensures { IsSend the_door.the_row }
+{
+    may_cross::<Door>();
 }
 
 /// The workers, one for each inbox.
