@@ -18,7 +18,7 @@ use Rattle.id_source.specs.declared.Fact.{Fact}
 use Rattle.id_source.specs.Computed.{AreFacts, HasMoreFacts}
 use Rattle.id_pieces.specs.Rows.{size}
 use Rattle.id_sink.specs.declared.sink.PrintError.{PrintError}
-use Rattle.id_sink.specs.Told.{Told, Prints}
+use Rattle.id_sink.specs.Told.{SinkView, Prints}
 use Rattle.id_sink.specs.Texts.{place_text}
 use Rattle.id_compile.specs.declared.compiled.CompileError.{CompileError}
 use Rattle.id_compile.specs.declared.compiled.CompileError.TheVariants as compiler
@@ -257,12 +257,12 @@ pub data IsRefusedText (text : List ℕ) : EngineError → Type 0 where
   by_write : IsRefusedText text engine.Write
 
 -- the line of the refusal is printed, whole or up to a failed write
-pub record IsPrintedLine (text : List ℕ) (r : Refusal) (old new : Option Told) : Type 0 where
+pub record IsPrintedLine (text : List ℕ) (r : Refusal) (old new : SinkView) : Type 0 where
   pub written : Result (Unit {0}) PrintError
   pub printed : Prints old new (refusal_text text r) written
 
 -- the line of a refusal for the error is printed, and this is the status after it
-pub record IsToldRefusal (text : List ℕ) (words : List (List ℕ)) (e : EngineError) (old new : Option Told)
+pub record IsToldRefusal (text : List ℕ) (words : List (List ℕ)) (e : EngineError) (old new : SinkView)
     (status : ℕ) : Type 0 where
   pub refusal : Refusal
   pub tells : Tells words e refusal

@@ -1,6 +1,7 @@
 -- Lemmas on specs/OneAnswer.antt: a quiet run shows exactly what is so of its source, and the sources of one text mean the
 -- same, so that no two runs of it differ.
-use Rattle.std.proofs.Common.{◌≡◌, ℕ, Bool, true, false, List, [], ◌∷◌, ◌++◌, Option, Some, None, refl, sym, ap, subst, ◌∙◌}
+use Rattle.std.proofs.Common.{◌≡◌, ◌+◌, ℕ, Bool, true, false, List, [], ◌∷◌, ◌++◌, Option, Some, None, IfSome, refl, sym, ap, subst, ◌∙◌}
+use Rattle.std.specs.Io.KnownBytes.{Appends}
 use Rattle.std.specs.Prelude.{All, IsTrue, Ok}
 use Rattle.id_value.specs.List.{Among}
 use Rattle.id_value.proofs.AmongLemmas.{Among-from_at}
@@ -27,7 +28,7 @@ use Rattle.id_runs.specs.Legal.{IsSameBut}
 use Rattle.id_laws.specs.Determinate.{RunOf, end_of}
 use Rattle.id_laws.specs.Laws.{IsComplete, IsSound, QuietIsComplete, Soundness}
 use Rattle.id_laws.proofs.StampsLemmas.{none_left}
-use Rattle.id_sink.specs.Told.{Told}
+use Rattle.id_sink.specs.Told.{GoesOut, SinkView, Told}
 use Rattle.id_print.specs.declared.helds.Held.{Held}
 use Rattle.id_print.specs.declared.helds.Held.TheVariants.{Array, Cell}
 use Rattle.id_print.specs.Names.{AreHeld, HeldBefore, IsPut, NameBefore, WaitBefore}
@@ -35,7 +36,7 @@ use Rattle.id_print.specs.Reports.{asked}
 use Rattle.id_print.specs.Texts.{quiet_text}
 use Rattle.id_print.specs.Traces.{trace_text}
 use Rattle.id_print.proofs.NamesLemmas.{NamesRise-Rises, Rises-sorted, asks_told, helds_told, names_told}
-use Rattle.id_engine.specs.OneAnswer.{Answered, OneAnswer, ShowOne, report_of}
+use Rattle.id_engine.specs.OneAnswer.{Answered, OneAnswer, SameLeft, ShowOne, report_of}
 use Rattle.id_engine.specs.OneProgram.{MeanTheSame}
 use Rattle.id_engine.specs.Runs.{Ran}
 use Rattle.id_engine.proofs.AlikeLemmas.{IsQuietly, at_fault, quietly, rising_same}
@@ -247,12 +248,29 @@ module _ (sound : Soundness) (complete : QuietIsComplete) (text : List ℕ) (wor
       (says sound complete text words b 0 h refl).free f.0 (((mean_the_same 0 1 h k).faults f.0).0 f.1)
 
 -- where no trace is asked for, the report is all that goes out
-told_whole : (text : List ℕ) (words : List (List ℕ)) (b : Bool) (count steps : ℕ) (old : Told) (new : Option Told)
-    → (h : Ran text words count false steps b (Some old) new 0)
-    → new ≡ Some (record { bytes = old.bytes ++ h.output; failures = old.failures })
-told_whole text words b count steps old new h =
-    (h.printed).told.all ∙ ap (λ (es : List EventView). Some (record { bytes = old.bytes ++ (trace_text es ++ h.output); failures = old.failures }))
-    ((h.traced).unasked refl)
+out_whole : (text : List ℕ) (words : List (List ℕ)) (b : Bool) (count steps : ℕ) (old new : SinkView)
+    → (h : Ran text words count false steps b old new 0) → GoesOut old new h.output 0
+out_whole text words b count steps old new h =
+    let P : List EventView → Type 0 = λ es. GoesOut old new (trace_text es ++ h.output) 0 in
+    subst P ((h.traced).unasked refl) (h.printed).printed
+
+-- what two sinks that told this tell where the same went out
+same_told : (old new other : Option Told) (out : List ℕ) → IfSome old (λ a. new ≡ Some (record { bytes = a.bytes ++ out; failures = a.failures + 0 }))
+    → IfSome old (λ a. other ≡ Some (record { bytes = a.bytes ++ out; failures = a.failures + 0 })) → IfSome old (λ _. new ≡ other)
+same_told None new other out h k = tt
+same_told (Some a) new other out h k = h ∙ sym k
+
+same_contents : (old new other : Option (List ℕ)) (out : List ℕ) → Appends old new out → Appends old other out → IfSome old (λ _. new ≡ other)
+same_contents None new other out h k = tt
+same_contents (Some a) None other out h k = absurd h
+same_contents (Some a) (Some b) None out h k = absurd k
+same_contents (Some a) (Some b) (Some c) out h k = ap Some (h ∙ sym k)
+
+same_left : (old new other : SinkView) (out : List ℕ) → GoesOut old new out 0 → GoesOut old other out 0 → SameLeft old new other
+same_left old new other out h k = record {
+  told = same_told old.told new.told other.told out h.told k.told;
+  contents = same_contents old.contents new.contents other.contents out h.contents k.contents;
+}
 
 pub OneAnswer-laws : Soundness → QuietIsComplete → OneAnswer
 OneAnswer-laws sound complete = record {
@@ -260,9 +278,9 @@ OneAnswer-laws sound complete = record {
   shown = λ text words b c h k. both_show sound complete text words b c h k;
   no_fault = λ text words b c h k. no_fault sound complete text words b c h k;
   told = λ text words b count n steps m old new other h k.
-      let x : Answered text words b 0 = record { count = count; steps = steps; trace = false; old = Some old; new = new; result = Ok tt; ran = h } in
-      let y : Answered text words b 0 = record { count = n; steps = m; trace = false; old = Some old; new = other; result = Ok tt; ran = k } in
+      let x : Answered text words b 0 = record { count = count; steps = steps; trace = false; old = old; new = new; result = Ok tt; ran = h } in
+      let y : Answered text words b 0 = record { count = n; steps = m; trace = false; old = old; new = other; result = Ok tt; ran = k } in
       let same : h.output ≡ k.output = same_bytes text b h.output k.output (both_show sound complete text words b b x y) in
-      told_whole text words b count steps old new h ∙ (ap (λ ys. Some (record { bytes = old.bytes ++ ys; failures = old.failures })) same
-      ∙ sym (told_whole text words b n m old other k));
+      let P : List ℕ → Type 0 = λ out. GoesOut old other out 0 in
+      same_left old new other h.output (out_whole text words b count steps old new h) (subst P (sym same) (out_whole text words b n m old other k));
 }

@@ -1,5 +1,5 @@
 -- A run that is printed (specs/Reports.antt).
-use Rattle.std.proofs.Common.{◌≡◌, ◌++◌, ℕ, Bool, List, Option, Result, Ok, Err, refl, sym, subst, ◌∙◌}
+use Rattle.std.proofs.Common.{◌≡◌, ◌++◌, ℕ, Bool, List, Result, Ok, Err, refl, sym, subst, ◌∙◌}
 use Rattle.std.specs.Prelude.{IsErrAnd}
 use Rattle.id_check.specs.declared.checked.Checked.{Checked}
 use Rattle.id_value.specs.declared.Constant.{Constant}
@@ -11,7 +11,7 @@ use Rattle.id_core.specs.Machines.{World, MachineView}
 use Rattle.id_laws.specs.Laws.{QuietIsComplete, Soundness}
 use Rattle.id_print.specs.declared.run_reports.Report.{Report}
 use Rattle.id_sink.specs.declared.sink.PrintError.{PrintError}
-use Rattle.id_sink.specs.Told.{Told, Prints}
+use Rattle.id_sink.specs.Told.{SinkView, Prints}
 use Rattle.id_print.specs.Reports.{report_text}
 use Rattle.id_print.specs.Traces.{trace_text}
 use Rattle.id_compile.specs.declared.error.EngineError.{EngineError}
@@ -28,7 +28,7 @@ use Rattle.id_engine.proofs.RunLemmas.{IsTrueOf-run}
 
 -- ---- what is printed of a machine
 
-module _ (text : List ℕ) (b : Bool) (es : List EventView) (r : Report) (old new : Option Told) where
+module _ (text : List ℕ) (b : Bool) (es : List EventView) (r : Report) (old new : SinkView) where
   pub PrintsEvents-whole : (u : Result (Unit {0}) PrintError) (n : ℕ) → Prints old new (trace_text es ++ report_text text b r) u → u ≡ Ok tt →
       n ≡ status_of r.ending
       → PrintsEvents text b es r old new (Ok n)
@@ -47,14 +47,14 @@ module _ (text : List ℕ) (b : Bool) (es : List EventView) (r : Report) (old ne
   PrintsRun-events t w result traced (front_out e printed) = cut e (record { events = es; traced = traced; printed = printed })
 
 -- memory was refused before the machine's report was there
-pub PrintsMachine-memory : (m : MachineView) (text : List ℕ) (t b : Bool) (old : Option Told) (result : Result ℕ EngineError)
+pub PrintsMachine-memory : (m : MachineView) (text : List ℕ) (t b : Bool) (old : SinkView) (result : Result ℕ EngineError)
     (x : EngineError) → IsErrAnd result (λ e. e ≡ x) → x ≡ Memory → PrintsMachine m text t b old old result
 PrintsMachine-memory m text t b old (Ok n) x h is = absurd h
 PrintsMachine-memory m text t b old (Err e) x h is = let why : e ≡ Memory = h ∙ is in
     subst (λ (y : EngineError). PrintsMachine m text t b old old (Err y)) (sym why) (out_of_memory refl)
 
 -- a report of a machine that is the same is printed
-pub PrintsMachine-reported : (m n : MachineView) (text : List ℕ) (t b : Bool) (old new : Option Told) (result : Result ℕ EngineError) (r : Report) → n ≡ m
+pub PrintsMachine-reported : (m n : MachineView) (text : List ℕ) (t b : Bool) (old new : SinkView) (result : Result ℕ EngineError) (r : Report) → n ≡ m
     → IsReportFrom n b r → PrintsRun text t b n.world r old new result → PrintsMachine m text t b old new result
 PrintsMachine-reported m n text t b old new result r same from prints =
     subst (λ (x : MachineView). PrintsMachine x text t b old new result) same (reported r from prints)
@@ -64,7 +64,7 @@ PrintsMachine-reported m n text t b old new result r same from prints =
 module _ (P : Checked) (vs : List Constant) (text : List ℕ) (count : ℕ) (t : Bool) (steps : ℕ) (b : Bool) where
   -- its machine is printed
   pub RunsSo-machine : (g : Parts) (m : MachineView) → Soundness → QuietIsComplete → AreInputs P vs → Schemas P g → AreAllowed count steps
-      → IsRun g vs count steps m → MovesOn m.world → (old new : Option Told) (result : Result ℕ EngineError) → PrintsMachine m text t b old new result
+      → IsRun g vs count steps m → MovesOn m.world → (old new : SinkView) (result : Result ℕ EngineError) → PrintsMachine m text t b old new result
       → RunsSo P vs text count t steps b old new result
   RunsSo-machine g m sound complete inputs schemas allowed k moves old new result (reported r from prints) =
       ran g m r allowed schemas (IsTrueOf-run (source P vs) g count steps inputs schemas m b r sound complete k from)

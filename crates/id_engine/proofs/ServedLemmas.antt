@@ -1,6 +1,6 @@
 -- Requests, and how a refused one is served (specs/Asked.antt, specs/Served.antt).
 use Rattle.std.proofs.Common.{◌≡◌, ◌≢◌, ℕ, List, [], Option, Result, refl, sym, ap, subst, ◌∙◌}
-use Rattle.id_sink.specs.Told.{Told}
+use Rattle.id_sink.specs.Told.{SinkView}
 use Rattle.id_args.specs.declared.request.Request.{Request}
 use Rattle.id_compile.specs.declared.error.EngineError.{EngineError}
 use Rattle.id_compile.specs.declared.error.EngineError.TheVariants.{Compile, MissingInput, UnknownInput, RepeatedInput}
@@ -43,7 +43,7 @@ told_inside text ws Memory r t h = plain_inside text r _ tt t
 told_inside text ws Write r t h = plain_inside text r _ tt t
 
 -- an error is told by its line and its status
-pub Serves-error : (text : List ℕ) (r : Request) (out out' err err' : Option Told) (e : EngineError) (n : ℕ) →
+pub Serves-error : (text : List ℕ) (r : Request) (out out' err err' : SinkView) (e : EngineError) (n : ℕ) →
     (e ≡ Write → ShowsFront (command_of r) text out out') → (e ≡ Write → IsRunFront text r out out')
     → (e ≢ Write → out' ≡ out) → IsRefusedRequest text r e → IsToldRefusal text (words_of r) e err err' n → Serves text r out out' err err' n
 Serves-error text r out out' err err' (Compile x) n front made silent why told = let d : Compile x ≢ Write = λ h. absurd cc in refused _ d why (silent d) told
@@ -62,7 +62,7 @@ Serves-error text r out out' err err' Memory n front made silent why told = let 
 Serves-error text r out out' err err' Write n front made silent why told = cut (front refl) (made refl) told
 
 -- a source's fault is refused
-pub Drives-unread : (told : Option (Result (List ℕ) SourceFault)) (r : Request) (out err err' : Option Told) (fault : SourceFault) (x : Cause) (n : ℕ) →
+pub Drives-unread : (told : Option (Result (List ℕ) SourceFault)) (r : Request) (out err err' : SinkView) (fault : SourceFault) (x : Cause) (n : ℕ) →
     IsUnread told fault
     → x ≡ source_cause fault → n ≡ (row_of x).2 → IsPrintedLine [] (plain x) err err' → Drives told r out out err err' n
 Drives-unread told r out err err' fault x n h is status printed =

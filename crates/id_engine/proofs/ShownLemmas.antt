@@ -6,7 +6,7 @@ use Rattle.id_sink.specs.declared.sink.PrintError.{PrintError}
 use Rattle.id_print.specs.declared.within.Ending.{Ending}
 use Rattle.id_print.specs.declared.within.Ending.TheVariants.{Quiet, Stopped, Fault}
 use Rattle.id_print.specs.declared.run_reports.Report.{Report}
-use Rattle.id_sink.specs.Told.{Told, Prints}
+use Rattle.id_sink.specs.Told.{SinkView, Prints}
 use Rattle.id_print.specs.Reports.{asked, ending_text, report_text}
 use Rattle.id_engine.specs.Commands.{Check, List_graph, Draw_graph, Facts, Run, Shows, accepted, listed, drawn, facts}
 use Rattle.id_engine.specs.Commands.{quiet, fault, stopped, traced, HasShown, ShowsAll, ShowsFront, IsListingOf}
@@ -64,13 +64,13 @@ Shows-traced P ws vs text false b r g count w es i schemas trace legal h =
     (Shows-from_report P ws vs text b r r.ending i h)
 
 -- an accepted text is said to be so
-pub HasShown-accepted : (text : List ℕ) (old new : Option Told) (result : Result (Unit {0}) PrintError) → HasProgram text →
+pub HasShown-accepted : (text : List ℕ) (old new : SinkView) (result : Result (Unit {0}) PrintError) → HasProgram text →
     Prints old new (codes "ok\n") result → HasShown Check text old new 0 result
 HasShown-accepted text old new result h printed = record
     { program = h.program; is_program = h.is_program; output = codes "ok\n"; shows = accepted; printed = printed }
 
 -- a printed listing of a graph of the text's program is shown
-pub HasShown-listed : (text bytes : List ℕ) (old new : Option Told) (result : Result (Unit {0}) PrintError) → IsListingOf text bytes →
+pub HasShown-listed : (text bytes : List ℕ) (old new : SinkView) (result : Result (Unit {0}) PrintError) → IsListingOf text bytes →
     Prints old new bytes result → HasShown List_graph text old new 0 result
 HasShown-listed text bytes old new result h printed = record {
   program = h.program;
@@ -81,7 +81,7 @@ HasShown-listed text bytes old new result h printed = record {
 }
 
 -- a printed picture of a graph of the text's program is shown
-pub HasShown-drawn : (text bytes : List ℕ) (old new : Option Told) (result : Result (Unit {0}) PrintError) → IsPictureOf text bytes →
+pub HasShown-drawn : (text bytes : List ℕ) (old new : SinkView) (result : Result (Unit {0}) PrintError) → IsPictureOf text bytes →
     Prints old new bytes result → HasShown Draw_graph text old new 0 result
 HasShown-drawn text bytes old new result h printed = record {
   program = h.program;
@@ -92,7 +92,7 @@ HasShown-drawn text bytes old new result h printed = record {
 }
 
 -- printed facts of a round of the text's program are shown
-pub HasShown-facts : (text : List ℕ) (ws : List (List ℕ)) (round : ℕ) (fs : List Fact) (old new : Option Told) (result : Result (Unit {0}) PrintError) →
+pub HasShown-facts : (text : List ℕ) (ws : List (List ℕ)) (round : ℕ) (fs : List Fact) (old new : SinkView) (result : Result (Unit {0}) PrintError) →
     AreFactsOf text ws round fs → Prints old new (facts_text text fs) result → HasShown (Facts round ws) text old new 0 result
 HasShown-facts text ws round fs old new result h printed = record
     { program = h.program; is_program = h.is_program; output = facts_text text fs; shows = facts h.are_inputs h.are; printed = printed }
@@ -114,7 +114,7 @@ ends_text count steps m text b r (Fault f) honest moves from ends = ends_fault f
 -- ---- what is said of a run that is printed
 
 -- what a run prints is what the command shows
-shown_of : (text : List ℕ) (ws : List (List ℕ)) (count : ℕ) (t : Bool) (steps : ℕ) (b : Bool) (old new : Option Told) (status : ℕ)
+shown_of : (text : List ℕ) (ws : List (List ℕ)) (count : ℕ) (t : Bool) (steps : ℕ) (b : Bool) (old new : SinkView) (status : ℕ)
     (result : Result (Unit {0}) PrintError) → HasRun text ws count t steps b old new status result → HasShown (Run b t ws) text old new status result
 shown_of text ws count t steps b old new status result h =
     record { program = h.program; is_program = h.is_program; output = trace_text h.events ++ h.output; shows = h.shows; printed = h.printed }
@@ -125,7 +125,7 @@ module _ (text : List ℕ) (ws : List (List ℕ)) (P : Checked) (is : IsProgramO
   has : HasInputs text ws
   has = record { program = P; is_program = is; small = small; inputs = vs; are_inputs = are }
 
-  module _ (count : ℕ) (t : Bool) (steps : ℕ) (b : Bool) (old new : Option Told) where
+  module _ (count : ℕ) (t : Bool) (steps : ℕ) (b : Bool) (old new : SinkView) where
     HasRun-from : (result : Result (Unit {0}) PrintError) (g : Parts) (m : MachineView) (r : Report) → Schemas P g → IsTrueOf (source P vs) b r →
         IsReportOfRun g vs count steps m b r
         → HasPrinted text t b m.world r old new result → HasRun text ws count t steps b old new (status_of r.ending) result

@@ -1,6 +1,6 @@
 -- What is printed of what a request asks for, before an error is told (specs/Served.antt).
-use Rattle.std.specs.Prelude.{◌≡◌, ◌≢◌, ℕ, List, Option, Result, Err, IfErr, IfOk}
-use Rattle.id_sink.specs.Told.{Told}
+use Rattle.std.specs.Prelude.{◌≡◌, ◌≢◌, ℕ, List, Result, Err, IfErr, IfOk}
+use Rattle.id_sink.specs.Told.{SinkView}
 use Rattle.id_args.specs.declared.request.Request.{Request}
 use Rattle.id_args.specs.declared.request.Request.TheVariants as asks
 use Rattle.id_compile.specs.declared.error.EngineError.{EngineError}
@@ -11,7 +11,7 @@ use Rattle.id_engine.specs.Served.{command_of, IsRefusedRequest, IsRun, IsRunFro
 
 -- what a request asks for of a text is printed with this result: whole, or up to a failed write, or it is refused
 -- before the first byte
-pub record PrintsAsked (text : List ℕ) (r : Request) (old new : Option Told) (result : Result ℕ EngineError) :
+pub record PrintsAsked (text : List ℕ) (r : Request) (old new : SinkView) (result : Result ℕ EngineError) :
     Type 0 where
   pub shown : IfOk result (ShowsAll (command_of r) text old new)
   pub taken : IfOk result (λ _. IsTaken text r)

@@ -22,7 +22,7 @@ use Rattle.id_core.specs.Firsts.{AreMergedOf}
 use Rattle.id_core.specs.Machines.{World}
 use Rattle.id_runs.specs.Orders.{IsLegalOrder}
 use Rattle.id_sink.specs.declared.sink.PrintError.{PrintError}
-use Rattle.id_sink.specs.Told.{Told, Prints}
+use Rattle.id_sink.specs.Told.{SinkView, Prints}
 use Rattle.id_print.specs.declared.helds.Held.{Held}
 use Rattle.id_print.specs.Names.{AreHeld, AreSomeHeld}
 use Rattle.id_print.specs.Texts.{quiet_text, stopped_text, fault_text, facts_text}
@@ -77,7 +77,7 @@ pub data Shows (P : Checked) (text : List ℕ) : Command → ℕ → List ℕ �
       Shows P text (Run b true ws) status (trace_text es ++ output)
 
 -- what a command shows of the text's program, with this status, is printed with this result
-pub record HasShown (c : Command) (text : List ℕ) (old new : Option Told) (status : ℕ)
+pub record HasShown (c : Command) (text : List ℕ) (old new : SinkView) (status : ℕ)
     (result : Result (Unit {0}) PrintError) : Type 0 where
   pub program : Checked
   pub is_program : IsProgramOf text program
@@ -86,11 +86,11 @@ pub record HasShown (c : Command) (text : List ℕ) (old new : Option Told) (sta
   pub printed : Prints old new output result
 
 -- all of it is printed
-abbrev pub ShowsAll : Command → List ℕ → Option Told → Option Told → ℕ → Type 0
+abbrev pub ShowsAll : Command → List ℕ → SinkView → SinkView → ℕ → Type 0
 ShowsAll c text old new status = HasShown c text old new status (Ok tt)
 
 -- a front of it is printed, and then a write failed
-pub record ShowsFront (c : Command) (text : List ℕ) (old new : Option Told) : Type 0 where
+pub record ShowsFront (c : Command) (text : List ℕ) (old new : SinkView) : Type 0 where
   pub status : ℕ
   pub error : PrintError
   pub shown : HasShown c text old new status (Err error)

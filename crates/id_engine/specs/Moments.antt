@@ -1,5 +1,5 @@
 -- *At every moment*: what a run of the program shows while it goes on (docs/PROMISES.md, "The run").
-use Rattle.std.specs.Prelude.{◌≡◌, ℕ, Bool, List, ◌++◌, Option, Result}
+use Rattle.std.specs.Prelude.{◌≡◌, ℕ, Bool, List, ◌++◌, Result}
 use Rattle.id_instr.specs.Graph.{Parts}
 use Rattle.id_value.specs.declared.Constant.{Constant}
 use Rattle.id_source.specs.Sources.{source}
@@ -9,7 +9,7 @@ use Rattle.id_core.specs.Machines.{World, start}
 use Rattle.id_runs.specs.Legal.{LeadTo}
 use Rattle.id_laws.specs.Laws.{IsSound}
 use Rattle.id_sink.specs.declared.sink.PrintError.{PrintError}
-use Rattle.id_sink.specs.Told.{Told}
+use Rattle.id_sink.specs.Told.{SinkView}
 use Rattle.id_engine.specs.Runs.{HasRun}
 
 -- the machine is in this state after a front of the events, from its start with these inputs
@@ -21,7 +21,7 @@ pub record IsMoment (g : Parts) (vs : List Constant) (count : ℕ) (es : List Ev
 
 -- *At every moment*: of a run for which `engine` answers, whatever its status and its order
 pub record AtEveryMoment (text : List ℕ) (words : List (List ℕ)) (count : ℕ) (t : Bool) (steps : ℕ) (b : Bool)
-    (old new : Option Told) (status : ℕ) (result : Result (Unit {0}) PrintError) : Type 0 where
+    (old new : SinkView) (status : ℕ) (result : Result (Unit {0}) PrintError) : Type 0 where
   -- each front of its events, by stamp, and at one stamp by element, leads to a state
   pub reached : (h : HasRun text words count t steps b old new status result) (front rest : List EventView)
       → AreMergedOf (h.machine).world.elements (front ++ rest)
@@ -34,5 +34,5 @@ pub record AtEveryMoment (text : List ℕ) (words : List (List ℕ)) (count : �
 -- so it is with each run of the program
 abbrev pub AllMoments : Type 0
 AllMoments = (text : List ℕ) (words : List (List ℕ)) (count : ℕ) (t : Bool) (steps : ℕ) (b : Bool)
-    (old new : Option Told) (status : ℕ) (result : Result (Unit {0}) PrintError)
+    (old new : SinkView) (status : ℕ) (result : Result (Unit {0}) PrintError)
     → AtEveryMoment text words count t steps b old new status result

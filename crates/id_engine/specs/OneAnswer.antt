@@ -1,10 +1,10 @@
 -- *One answer*: what the runs of one text have in common (docs/PROMISES.md, "The run").
-use Rattle.std.specs.Prelude.{◌≡◌, ℕ, Bool, false, List, Option, Some, Result}
+use Rattle.std.specs.Prelude.{◌≡◌, ℕ, Bool, false, List, Option, IfSome, Result}
 use Rattle.id_source.specs.declared.Ask.{Ask}
 use Rattle.id_source.specs.declared.NameValue.{NameValue}
 use Rattle.id_source.specs.declared.SourceValue.{SourceValue}
 use Rattle.id_sink.specs.declared.sink.PrintError.{PrintError}
-use Rattle.id_sink.specs.Told.{Told}
+use Rattle.id_sink.specs.Told.{SinkView}
 use Rattle.id_print.specs.declared.helds.Held.{Held}
 use Rattle.id_print.specs.Texts.{quiet_text}
 use Rattle.id_print.specs.Reports.{asked}
@@ -16,8 +16,8 @@ pub record Answered (text : List ℕ) (words : List (List ℕ)) (b : Bool) (stat
   pub count : ℕ
   pub steps : ℕ
   pub trace : Bool
-  pub old : Option Told
-  pub new : Option Told
+  pub old : SinkView
+  pub new : SinkView
   pub result : Result (Unit {0}) PrintError
   pub ran : HasRun text words count trace steps b old new status result
 
@@ -35,6 +35,12 @@ pub record ShowOne (text : List ℕ) (b c : Bool) (xs ys : List ℕ) : Type 0 wh
   pub one : xs ≡ quiet_text text answer (asked b names) helds waits
   pub other : ys ≡ quiet_text text answer (asked c names) helds waits
 
+-- two sinks that showed this before show the same after: what they tell, where it told, and their bytes, where those
+-- were known
+pub record SameLeft (old new other : SinkView) : Type 0 where
+  pub told : IfSome old.told (λ _. new.told ≡ other.told)
+  pub contents : IfSome old.contents (λ _. new.contents ≡ other.contents)
+
 -- *One answer*: all runs of one text on one list of words that fall quiet have the same report, but that names may be
 -- left out; where one falls quiet, none ends at a fault
 pub record OneAnswer : Type 0 where
@@ -44,7 +50,7 @@ pub record OneAnswer : Type 0 where
       (k : Answered text words c 0) → ShowOne text b c (report_of h) (report_of k)
   pub no_fault : (text : List ℕ) (words : List (List ℕ)) (b c : Bool) → Answered text words b 0
       → Answered text words c 1 → ⊥
-  -- so two calls of `engine` that print no trace, with status 0, leave sinks that told the same with the same told
-  pub told : (text : List ℕ) (words : List (List ℕ)) (b : Bool) (count n steps m : ℕ) (old : Told)
-      (new other : Option Told) → Ran text words count false steps b (Some old) new 0
-      → Ran text words n false m b (Some old) other 0 → new ≡ other
+  -- so two calls of `engine` that print no trace, with status 0, leave sinks that showed the same showing the same
+  pub told : (text : List ℕ) (words : List (List ℕ)) (b : Bool) (count n steps m : ℕ) (old new other : SinkView)
+      → Ran text words count false steps b old new 0 → Ran text words n false m b old other 0
+      → SameLeft old new other

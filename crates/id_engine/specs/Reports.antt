@@ -1,6 +1,6 @@
 -- The report of a run of a text's program, and how it is printed.
 use Rattle.std.specs.Prelude.{◌≡◌, ◌≤◌, ◌<◌, ◌⊎◌, ℕ, Bool, IsTrue, List, ◌++◌}
-use Rattle.std.specs.Prelude.{Option, IfSome, Result, Ok, Err}
+use Rattle.std.specs.Prelude.{IfSome, Result, Ok, Err}
 use Rattle.id_check.specs.declared.checked.Checked.{Checked}
 use Rattle.id_value.specs.declared.Constant.{Constant}
 use Rattle.id_source.specs.Sources.{Source, source}
@@ -18,7 +18,7 @@ use Rattle.id_print.specs.declared.within.Ending.{Ending}
 use Rattle.id_print.specs.declared.within.Ending.TheVariants.{Quiet, Stopped, Fault}
 use Rattle.id_print.specs.declared.run_reports.Report.{Report}
 use Rattle.id_sink.specs.declared.sink.PrintError.{PrintError}
-use Rattle.id_sink.specs.Told.{Told, Prints}
+use Rattle.id_sink.specs.Told.{SinkView, Prints}
 use Rattle.id_print.specs.RunReports.{IsReportFrom}
 use Rattle.id_print.specs.Within.{ReportWithin}
 use Rattle.id_print.specs.Reports.{report_text}
@@ -73,7 +73,7 @@ pub record IsReportOfRun (g : Parts) (vs : List Constant) (count steps : ℕ) (m
   pub from : IsReportFrom m b r
 
 -- a machine's trace, where it is asked for, and the report are printed with this result
-pub record HasPrinted (text : List ℕ) (t b : Bool) (w : World) (r : Report) (old new : Option Told)
+pub record HasPrinted (text : List ℕ) (t b : Bool) (w : World) (r : Report) (old new : SinkView)
     (result : Result (Unit {0}) PrintError) : Type 0 where
   pub events : List EventView
   pub traced : IsTraceOf t w events
@@ -81,13 +81,13 @@ pub record HasPrinted (text : List ℕ) (t b : Bool) (w : World) (r : Report) (o
 
 -- they are printed whole, and this is the status; or a write failed; or memory was refused before the first byte
 pub data PrintsRun (text : List ℕ) (t b : Bool) (w : World) (r : Report)
-    (old new : Option Told) : Result ℕ EngineError → Type 0 where
+    (old new : SinkView) : Result ℕ EngineError → Type 0 where
   whole : HasPrinted text t b w r old new (Ok tt) → PrintsRun text t b w r old new (Ok (status_of r.ending))
   cut : (e : PrintError) → HasPrinted text t b w r old new (Err e) → PrintsRun text t b w r old new (Err Write)
   unprinted : new ≡ old → PrintsRun text t b w r old new (Err Memory)
 
 -- these events and the report are printed whole, and this is the status; or a write failed
-pub data PrintsEvents (text : List ℕ) (b : Bool) (es : List EventView) (r : Report) (old new : Option Told) :
+pub data PrintsEvents (text : List ℕ) (b : Bool) (es : List EventView) (r : Report) (old new : SinkView) :
     Result ℕ EngineError → Type 0 where
   all_out : Prints old new (trace_text es ++ report_text text b r) (Ok tt)
       → PrintsEvents text b es r old new (Ok (status_of r.ending))
@@ -109,7 +109,7 @@ IsUnallowed count steps e = e ≡ Memory
 
 -- a run of a program with its inputs is printed, or it is refused before the first byte
 pub data RunsSo (P : Checked) (vs : List Constant) (text : List ℕ) (count : ℕ) (t : Bool) (steps : ℕ) (b : Bool)
-    (old new : Option Told) : Result ℕ EngineError → Type 0 where
+    (old new : SinkView) : Result ℕ EngineError → Type 0 where
   ran : {result : Result ℕ EngineError} (g : Parts) (m : MachineView) (r : Report) → AreAllowed count steps
       → Schemas P g → IsTrueOf (source P vs) b r → IsReportOfRun g vs count steps m b r
       → PrintsRun text t b m.world r old new result → RunsSo P vs text count t steps b old new result
@@ -121,7 +121,7 @@ abbrev pub AreReportsWithin : MachineView → Bool → ℕ → Type 0
 AreReportsWithin m b size = (r : Report) → IsReportFrom m b r → ReportWithin size r
 
 -- a report of the machine is printed, or memory was refused before the first byte
-pub data PrintsMachine (m : MachineView) (text : List ℕ) (t b : Bool) (old new : Option Told) :
+pub data PrintsMachine (m : MachineView) (text : List ℕ) (t b : Bool) (old new : SinkView) :
     Result ℕ EngineError → Type 0 where
   reported : {result : Result ℕ EngineError} (r : Report) → IsReportFrom m b r
       → PrintsRun text t b m.world r old new result → PrintsMachine m text t b old new result

@@ -1,5 +1,5 @@
 -- Runs of the engine: how they end, and what is printed of them (docs/PROMISES.md, "The run").
-use Rattle.std.specs.Prelude.{◌≡◌, ◌≢◌, ℕ, Bool, IsTrue, IsFalse, List, [], ◌++◌, All, Option, Result}
+use Rattle.std.specs.Prelude.{◌≡◌, ◌≢◌, ℕ, Bool, IsTrue, IsFalse, List, [], ◌++◌, All, Result}
 use Rattle.std.specs.Prelude.{Ok, Err, if◌then◌else◌}
 use Rattle.id_check.specs.declared.checked.Checked.{Checked}
 use Rattle.id_instr.specs.Graph.{Parts}
@@ -17,7 +17,7 @@ use Rattle.id_core.specs.Machines.{MachineView, World, IsQuiet}
 use Rattle.id_core.specs.Observed.{answer, faults, names, waiting}
 use Rattle.id_elements.specs.Runs.{IsHeldBack, IsRun, MovesOn}
 use Rattle.id_sink.specs.declared.sink.PrintError.{PrintError}
-use Rattle.id_sink.specs.Told.{Told, Prints}
+use Rattle.id_sink.specs.Told.{SinkView, Prints}
 use Rattle.id_print.specs.declared.helds.Held.{Held}
 use Rattle.id_print.specs.Names.{IsOrderOf, IsSortedOf, HeldBefore, WaitBefore, held_lines}
 use Rattle.id_print.specs.Texts.{quiet_text, stopped_text, fault_text}
@@ -60,7 +60,7 @@ pub data Ends (g : Parts) (count steps : ℕ) (w : World) (text : List ℕ) (b :
 -- many messages, is printed with this result, its trace before its report where that is asked for. The trace is a
 -- legal list of events that ends so (`IsRun`, `legal`), and what is printed is what the command shows of the program
 pub record HasRun (text : List ℕ) (words : List (List ℕ)) (count : ℕ) (t : Bool) (steps : ℕ) (b : Bool)
-    (old new : Option Told) (status : ℕ) (result : Result (Unit {0}) PrintError) : Type 0 where
+    (old new : SinkView) (status : ℕ) (result : Result (Unit {0}) PrintError) : Type 0 where
   pub program : Checked
   pub is_program : IsProgramOf text program
   pub graph : Parts
@@ -78,13 +78,13 @@ pub record HasRun (text : List ℕ) (words : List (List ℕ)) (count : ℕ) (t :
   pub printed : Prints old new (trace_text events ++ output) result
 
 -- all of it is printed
-abbrev pub Ran : List ℕ → List (List ℕ) → ℕ → Bool → ℕ → Bool → Option Told → Option Told → ℕ
+abbrev pub Ran : List ℕ → List (List ℕ) → ℕ → Bool → ℕ → Bool → SinkView → SinkView → ℕ
     → Type 0
 Ran text words count t steps b old new status = HasRun text words count t steps b old new status (Ok tt)
 
 -- a front of it is printed, and then a write failed
 pub record RanFront (text : List ℕ) (words : List (List ℕ)) (count : ℕ) (t : Bool) (steps : ℕ) (b : Bool)
-    (old new : Option Told) : Type 0 where
+    (old new : SinkView) : Type 0 where
   pub status : ℕ
   pub error : PrintError
   pub ran : HasRun text words count t steps b old new status (Err error)

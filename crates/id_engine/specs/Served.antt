@@ -2,7 +2,7 @@
 use Rattle.std.specs.Prelude.{◌≡◌, ◌≢◌, ℕ, List, [], map, Option, Result, Ok, Err, IfOk, IfErr}
 use Rattle.std.specs.Prelude.{string_bytes}
 use Rattle.id_sink.specs.declared.sink.PrintError.{PrintError}
-use Rattle.id_sink.specs.Told.{Told, Prints}
+use Rattle.id_sink.specs.Told.{SinkView, Prints}
 use Rattle.id_args.specs.declared.request.Request.{Request}
 use Rattle.id_args.specs.declared.request.Request.TheVariants as asks
 use Rattle.id_args.specs.declared.request.Unasked.{Unasked}
@@ -54,7 +54,7 @@ IsTaken text (asks.Run file inputs count trace steps order names) =
 IsTaken text (asks.Facts file rounds inputs) = AreTakenFacts text (map (λ w. w.now) inputs.items) rounds
 
 -- a request to run the text is run
-abbrev pub IsRun : List ℕ → Request → Option Told → Option Told → ℕ → Type 0
+abbrev pub IsRun : List ℕ → Request → SinkView → SinkView → ℕ → Type 0
 IsRun text (asks.Check file) out out' status = Unit {0}
 IsRun text (asks.Graph file) out out' status = Unit {0}
 IsRun text (asks.Draw file) out out' status = Unit {0}
@@ -63,7 +63,7 @@ IsRun text (asks.Run file inputs count trace steps order names) out out' status 
 IsRun text (asks.Facts file rounds inputs) out out' status = Unit {0}
 
 -- and of a run that was cut short by a failed write, a front is out
-abbrev pub IsRunFront : List ℕ → Request → Option Told → Option Told → Type 0
+abbrev pub IsRunFront : List ℕ → Request → SinkView → SinkView → Type 0
 IsRunFront text (asks.Check file) out out' = Unit {0}
 IsRunFront text (asks.Graph file) out out' = Unit {0}
 IsRunFront text (asks.Draw file) out out' = Unit {0}
@@ -81,7 +81,7 @@ IsRefusedRequest text (asks.Run file inputs count trace steps order names) e =
 IsRefusedRequest text (asks.Facts file rounds inputs) e = AreRefusedFacts text (map (λ w. w.now) inputs.items) rounds e
 
 -- the request is served: what it asks for is printed whole, or one line says why not
-pub data Serves (text : List ℕ) (r : Request) (out out' err err' : Option Told) : ℕ → Type 0 where
+pub data Serves (text : List ℕ) (r : Request) (out out' err err' : SinkView) : ℕ → Type 0 where
   done : {status : ℕ} → ShowsAll (command_of r) text out out' status → IsTaken text r
       → IsRun text r out out' status → err' ≡ err →
       Serves text r out out' err err' status
@@ -95,7 +95,7 @@ pub data Serves (text : List ℕ) (r : Request) (out out' err err' : Option Told
       Serves text r out out' err err' status
 
 -- a request is done with what the source tells of its file: the text is served, or its fault is refused
-pub data Drives (told : Option (Result (List ℕ) SourceFault)) (r : Request) (out out' err err' : Option Told) : ℕ
+pub data Drives (told : Option (Result (List ℕ) SourceFault)) (r : Request) (out out' err err' : SinkView) : ℕ
     → Type 0 where
   served : {status : ℕ} (text : List ℕ) → IsToldText told text → Serves text r out out' err err' status
       → Drives told r out out' err err' status
@@ -104,18 +104,18 @@ pub data Drives (told : Option (Result (List ℕ) SourceFault)) (r : Request) (o
       Drives told r out out' err err' (row_of (source_cause fault)).2
 
 -- help is printed whole, or a write of it failed
-pub data HasHelped (text : List ℕ) (out out' err err' : Option Told) : ℕ → Type 0 where
+pub data HasHelped (text : List ℕ) (out out' err err' : SinkView) : ℕ → Type 0 where
   whole : Prints out out' text (Ok tt) → err' ≡ err → HasHelped text out out' err err' 0
   cut : (e : PrintError) → Prints out out' text (Err e) → IsPrintedLine [] (plain cause.Write) err err'
       → HasHelped text out out' err err' 5
 
 -- the text is printed to standard error, whole or up to a failed write
-pub record IsSaid (text : List ℕ) (err err' : Option Told) : Type 0 where
+pub record IsSaid (text : List ℕ) (err err' : SinkView) : Type 0 where
   pub written : Result (Unit {0}) PrintError
   pub printed : Prints err err' text written
 
 -- words that ask for nothing are answered: by help, by the text that says why not, or by want of memory
-abbrev pub Answers : Option Told → Option Told → Option Told → Option Told → Unasked → ℕ → Type 0
+abbrev pub Answers : SinkView → SinkView → SinkView → SinkView → Unasked → ℕ → Type 0
 Answers out out' err err' (Help text) status = HasHelped (string_bytes text) out out' err err' status
 Answers out out' err err' (Refused text) status = (out' ≡ out) × IsSaid (string_bytes text) err err'
     × (status ≡ 4)
@@ -125,7 +125,7 @@ Answers out out' err err' Memory status = (out' ≡ out) × IsPrintedLine [] (pl
 -- the words are served, with what the source tells of each name: what they ask for is done, or it is answered why they
 -- ask for nothing
 pub record ServesWords (words : List (List ℕ)) (told : List ℕ → Option (Result (List ℕ) SourceFault))
-    (out out' err err' : Option Told) (status : ℕ) : Type 0 where
+    (out out' err err' : SinkView) (status : ℕ) : Type 0 where
   pub asked : Result Request Unasked
   pub read : AskFor (words_read words) asked
   pub done : IfOk asked (λ r. Drives (told (file_of r)) r out out' err err' status)
@@ -133,6 +133,6 @@ pub record ServesWords (words : List (List ℕ)) (told : List ℕ → Option (Re
 
 -- words that were had are served, and of words that could not be had it is answered why
 abbrev pub AnswersWords : Result (List (List ℕ)) Unasked → (List ℕ → Option (Result (List ℕ) SourceFault))
-    → Option Told → Option Told → Option Told → Option Told → ℕ → Type 0
+    → SinkView → SinkView → SinkView → SinkView → ℕ → Type 0
 AnswersWords (Ok words) told out out' err err' status = ServesWords words told out out' err err' status
 AnswersWords (Err u) told out out' err err' status = Answers out out' err err' u status

@@ -1,6 +1,6 @@
 -- *Status told*: what the status of a run tells that has enough steps (docs/PROMISES.md, "The run").
 use Rattle.std.specs.Prelude.{◌≡◌, ◌⊎◌, ◌↔◌, ◌<◌, ◌≤◌, ◌-◌, ◌*◌, ◌^◌, ℕ, Bool}
-use Rattle.std.specs.Prelude.{List, Option, Result, length}
+use Rattle.std.specs.Prelude.{List, Result, length}
 use Rattle.id_instr.specs.Graph.{Parts}
 use Rattle.id_source.specs.declared.Path.{Path}
 use Rattle.id_source.specs.declared.SourceFault.{SourceFault}
@@ -9,7 +9,7 @@ use Rattle.id_source.specs.Rounds.{Faulty, FaultFree}
 use Rattle.id_laws.specs.Determinate.{RunOf}
 use Rattle.id_laws.specs.Bounded.{AreActive, messages_at_once}
 use Rattle.id_sink.specs.declared.sink.PrintError.{PrintError}
-use Rattle.id_sink.specs.Told.{Told}
+use Rattle.id_sink.specs.Told.{SinkView}
 use Rattle.id_engine.specs.Alike.{IsPrinted}
 use Rattle.id_engine.specs.Runs.{HasRun}
 
@@ -37,6 +37,6 @@ pub record StatusTold : Type 0 where
       → IsPrinted S r steps text b status bytes → TellsFaults S status
   -- and so that of each run of the program, whatever of it was printed
   pub of_program : (text : List ℕ) (words : List (List ℕ)) (count steps status : ℕ) (t b : Bool)
-      (old new : Option Told) (result : Result (Unit {0}) PrintError) → steps < 2 ^ 64 - 1
+      (old new : SinkView) (result : Result (Unit {0}) PrintError) → steps < 2 ^ 64 - 1
       → (h : HasRun text words count t steps b old new status result)
       → AreEnough (source h.program h.inputs) h.graph steps → TellsFaults (source h.program h.inputs) status

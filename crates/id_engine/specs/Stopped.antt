@@ -1,5 +1,5 @@
 -- *Stopped short*: what a run shows that stops at its steps (docs/PROMISES.md, "The run").
-use Rattle.std.specs.Prelude.{◌<◌, ◌-◌, ◌*◌, ◌^◌, ℕ, Bool, List, Option, Result, length}
+use Rattle.std.specs.Prelude.{◌<◌, ◌-◌, ◌*◌, ◌^◌, ℕ, Bool, List, Result, length}
 use Rattle.id_value.specs.List.{Among, AllDiffer}
 use Rattle.id_instr.specs.Graph.{Parts}
 use Rattle.id_source.specs.declared.Path.{Path}
@@ -7,7 +7,7 @@ use Rattle.id_source.specs.Sources.{Source, AreInputs, source}
 use Rattle.id_laws.specs.Determinate.{RunOf}
 use Rattle.id_laws.specs.Bounded.{IsActive, messages_at_once}
 use Rattle.id_sink.specs.declared.sink.PrintError.{PrintError}
-use Rattle.id_sink.specs.Told.{Told}
+use Rattle.id_sink.specs.Told.{SinkView}
 use Rattle.id_engine.specs.Alike.{IsPrinted}
 use Rattle.id_engine.specs.Runs.{HasRun}
 
@@ -25,7 +25,7 @@ pub record StoppedShort : Type 0 where
       → (r : RunOf S) (steps : ℕ) (text : List ℕ) (b : Bool)
       (bytes : List ℕ) → steps < 2 ^ 64 - 1 → IsPrinted S r steps text b 3 bytes → NeedsMore S r.graph steps
   -- and so each run of the program, whatever of it was printed
-  pub of_program : (text : List ℕ) (words : List (List ℕ)) (count steps : ℕ) (t b : Bool) (old new : Option Told)
+  pub of_program : (text : List ℕ) (words : List (List ℕ)) (count steps : ℕ) (t b : Bool) (old new : SinkView)
       (result : Result (Unit {0}) PrintError) → steps < 2 ^ 64 - 1
       → (h : HasRun text words count t steps b old new 3 result)
       → NeedsMore (source h.program h.inputs) h.graph steps

@@ -1,11 +1,11 @@
 -- Lemmas on specs/Traces.antt.
-use Rattle.std.proofs.Common.{◌≡◌, ℕ, ◌+◌, List, [], ◌∷◌, ◌++◌, take, drop, Option, Some, Result, Ok, Err, IsErr, refl, sym, ap, ◌∙◌, append_assoc}
+use Rattle.std.proofs.Common.{◌≡◌, ℕ, ◌+◌, List, [], ◌∷◌, ◌++◌, take, drop, Some, Result, Ok, Err, IsErr, refl, sym, ap, ◌∙◌, append_assoc}
 use Rattle.std.specs.Prelude.{slice_get}
 use Rattle.std.proofs.lemmas.List.{append-nil, take_more, take-append-drop}
 use Rattle.std.proofs.lemmas.Option.{slice_get_within, get_or_from_slice_get}
 use Rattle.id_record.specs.Events.{EventView}
 use Rattle.id_sink.specs.declared.sink.PrintError.{PrintError}
-use Rattle.id_sink.specs.Told.{Told, Prints}
+use Rattle.id_sink.specs.Told.{SinkView, Prints}
 use Rattle.id_print.specs.Traces.{line_text, trace_text}
 use Rattle.id_sink.proofs.SinkLemmas.{Prints-stop, Prints-then}
 use Rattle.id_sink.proofs.TextsLemmas.{same_text}
@@ -28,14 +28,14 @@ trace_text-cut : (xs : List EventView) (i : ℕ) → trace_text xs ≡ trace_tex
 trace_text-cut xs i = ap trace_text (sym (take-append-drop i xs)) ∙ trace_text-append (take i xs) (drop i xs)
 
 -- one more line is printed
-pub Prints-line : (xs : List EventView) (i : ℕ) (x : EventView) (old mid new : Option Told) (u : Unit {0}) (r : Result (Unit {0}) PrintError) →
+pub Prints-line : (xs : List EventView) (i : ℕ) (x : EventView) (old mid new : SinkView) (u : Unit {0}) (r : Result (Unit {0}) PrintError) →
     slice_get xs i ≡ Some x →
     Prints old mid (trace_text (take i xs)) (Ok u) → Prints mid new (line_text x) r → Prints old new (trace_text (take (i + 1) xs)) r
 Prints-line xs i x old mid new u r at k l =
     same_text old new _ _ _ (sym (trace_text-more xs i x at)) (Prints-then old mid new _ _ u r k l)
 
 -- a line is cut short
-pub Prints-line_stop : (xs : List EventView) (i : ℕ) (x : EventView) (old mid new : Option Told) (u : Unit {0}) (e : PrintError)
+pub Prints-line_stop : (xs : List EventView) (i : ℕ) (x : EventView) (old mid new : SinkView) (u : Unit {0}) (e : PrintError)
     (r : Result (Unit {0}) PrintError) → slice_get xs i ≡ Some x →
     Prints old mid (trace_text (take i xs)) (Ok u) → Prints mid new (line_text x) (Err e) → IsErr r → Prints old new (trace_text xs) r
 Prints-line_stop xs i x old mid new u e r at k l w =

@@ -420,7 +420,7 @@ pub(crate) struct Expected<'a> {
 impl Sink for Expected<'_> {
     ghost use Rattle.std.specs.Prelude.{None};
 
-    ghost told = { λ _. None };
+    ghost told = { λ _. record { told = None; contents = None } };
 
     fn write(&mut self, bytes: &[u8]) -> Result<usize, SinkFault> {
         match self.rest.strip_prefix(bytes) {

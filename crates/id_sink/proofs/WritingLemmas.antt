@@ -1,8 +1,10 @@
 -- Lemmas on specs/Writing.antt: a write that is made again.
-use Rattle.std.proofs.Common.{◌≡◌, ℕ, zero, suc, ◌+◌, ◌≤◌, List, Option, Some, None, Result, refl, ap, subst, ◌∙◌, arith}
+use Rattle.std.proofs.Common.{◌≡◌, ℕ, zero, suc, ◌+◌, ◌≤◌, List, Option, Some, None, IfSome, Result, refl, ap, subst, ◌∙◌, arith}
+use Rattle.std.specs.Prelude.{option_map}
+use Rattle.std.specs.Io.KnownBytes.{WriteAppends}
 use Rattle.id_sink.specs.declared.sink.SinkFault.{SinkFault}
 use Rattle.id_sink.specs.Told.{AfterWrite, after_write}
-use Rattle.id_sink.specs.Writing.{Outlook, cuts_of, within, Tells, IsAnswered, IsAttemptOf, IsAttempt, IsWritten, told_of}
+use Rattle.id_sink.specs.Writing.{Outlook, cuts_of, within, Tells, IsAnswered, IsAttemptOf, IsAttempt, IsWritten, DeviceView, told_of}
 
 -- so many writes were cut short, and nothing else came
 pub record IsCut (o : Outlook) (new : Option Outlook) (cuts : ℕ) : Type 0 where
@@ -57,9 +59,13 @@ pub AreCut-end : (old new : Option Outlook) (bytes : List ℕ) (k : ℕ) (a : Re
 AreCut-end None new bytes k a far c = tt
 AreCut-end (Some o) new bytes k a far c = absurd (omega (arith, far, c.left))
 
--- a sink over a device tells what the device told
-pub AfterWrite-from_written : (old new : Option Outlook) (bytes : List ℕ) (a : Result ℕ SinkFault) → IsWritten old new bytes a →
-    AfterWrite (told_of old) (told_of new) bytes a
-AfterWrite-from_written None new bytes a h = tt
-AfterWrite-from_written (Some o) None bytes a h = absurd h.tells
-AfterWrite-from_written (Some o) (Some p) bytes a h = ap Some h.tells
+told_after : (old new : Option Outlook) (bytes : List ℕ) (a : Result ℕ SinkFault) → IsWritten old new bytes a →
+    IfSome (option_map (λ o. o.told) old) (λ t. option_map (λ o. o.told) new ≡ Some (after_write t bytes a))
+told_after None new bytes a h = tt
+told_after (Some o) None bytes a h = absurd h.tells
+told_after (Some o) (Some p) bytes a h = ap Some h.tells
+
+-- a sink over a device tells what the device told, and its bytes are the device's
+pub AfterWrite-from_written : (old new : DeviceView) (bytes : List ℕ) (a : Result ℕ SinkFault) → IsWritten old.outlook new.outlook bytes a →
+    WriteAppends old.contents new.contents a bytes → AfterWrite (told_of old) (told_of new) bytes a
+AfterWrite-from_written old new bytes a h k = record { told = told_after old.outlook new.outlook bytes a h; contents = k }

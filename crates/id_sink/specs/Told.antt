@@ -1,6 +1,7 @@
--- What a sink tells of its writes (docs/PROMISES.md, "Printing").
-use Rattle.std.specs.Prelude.{◌≡◌, ℕ, zero, suc, ◌+◌, List, [], ◌++◌, take, Option, None, Some, Result}
-use Rattle.std.specs.Prelude.{Ok, Err, ◌∷◌}
+-- What a sink tells of its writes, and what is known of the bytes that it was given (docs/PROMISES.md, "Printing").
+use Rattle.std.specs.Prelude.{◌≡◌, ℕ, zero, suc, ◌+◌, List, [], ◌++◌, take, Option, Some, Result}
+use Rattle.std.specs.Prelude.{Ok, Err, ◌∷◌, IfSome}
+use Rattle.std.specs.Io.KnownBytes.{Appends, WriteAppends}
 use Rattle.id_sink.specs.declared.sink.SinkFault.{SinkFault}
 use Rattle.id_sink.specs.declared.sink.PrintError.{PrintError}
 
@@ -8,6 +9,11 @@ use Rattle.id_sink.specs.declared.sink.PrintError.{PrintError}
 pub record Told : Type 0 where
   pub bytes : List ℕ
   pub failures : ℕ
+
+-- what a sink shows: what it told so far, and all bytes that stand where it puts them, each where it is known
+pub record SinkView : Type 0 where
+  pub told : Option Told
+  pub contents : Option (List ℕ)
 
 -- a write that takes none of some bytes is a failure
 abbrev pub failures_of : ℕ → List ℕ → ℕ
@@ -27,32 +33,28 @@ abbrev pub after_write : Told → List ℕ → Result ℕ SinkFault → Told
 after_write a bytes (Ok n) = took a bytes n
 after_write a bytes (Err e) = record { bytes = a.bytes; failures = a.failures + 1 }
 
--- a sink that told something before a write tells what follows from its answer
-abbrev pub AfterWrite : Option Told → Option Told → List ℕ → Result ℕ SinkFault → Type 0
-AfterWrite None new bytes answer = Unit {0}
-AfterWrite (Some a) new bytes answer = new ≡ Some (after_write a bytes answer)
+-- a sink that told something before a write tells what follows from its answer, and known bytes grow by those that the
+-- write took, and by no others
+pub record AfterWrite (old new : SinkView) (bytes : List ℕ) (answer : Result ℕ SinkFault) : Type 0 where
+  pub told : IfSome old.told (λ a. new.told ≡ Some (after_write a bytes answer))
+  pub contents : WriteAppends old.contents new.contents answer bytes
 
--- the whole text went out, and no write failed
-pub record PrintsAll (old : Told) (new : Option Told) (text : List ℕ) : Type 0 where
-  pub all : new ≡ Some (record { bytes = old.bytes ++ text; failures = old.failures })
+-- these bytes went out, and n writes failed: the sink tells it, where it told, and known bytes grow by these
+pub record GoesOut (old new : SinkView) (out : List ℕ) (n : ℕ) : Type 0 where
+  pub told : IfSome old.told (λ a. new.told ≡ Some (record { bytes = a.bytes ++ out; failures = a.failures + n }))
+  pub contents : Appends old.contents new.contents out
 
 -- a front of the text went out, and then a write failed
-pub record PrintsFront (old : Told) (new : Option Told) (text : List ℕ) : Type 0 where
+pub record PrintsFront (old new : SinkView) (text : List ℕ) : Type 0 where
   pub front : List ℕ
-  pub rest : List ℕ
-  pub parts : text ≡ front ++ rest
-  pub failed : new ≡ Some (record { bytes = old.bytes ++ front; failures = old.failures + 1 })
+  pub parts : (rest : List ℕ) × (text ≡ front ++ rest)
+  pub failed : GoesOut old new front 1
 
--- at an Ok the whole text went out, and at an Err a front of it and then a write failed
-abbrev pub PrintsBy : Told → Option Told → List ℕ → Result (Unit {0}) PrintError → Type 0
-PrintsBy old new text (Ok u) = PrintsAll old new text
+-- at an Ok the whole text went out and no write failed, and at an Err a front of it went out and then a write failed
+abbrev pub PrintsBy : SinkView → SinkView → List ℕ → Result (Unit {0}) PrintError → Type 0
+PrintsBy old new text (Ok u) = GoesOut old new text 0
 PrintsBy old new text (Err e) = PrintsFront old new text
 
--- the same of a sink that may tell nothing
-abbrev pub PrintsFrom : Option Told → Option Told → List ℕ → Result (Unit {0}) PrintError → Type 0
-PrintsFrom None new text answer = Unit {0}
-PrintsFrom (Some old) new text answer = PrintsBy old new text answer
-
 -- the text is printed: the whole of it at an Ok, and at an Err a front of it before a write that failed
-pub record Prints (old new : Option Told) (text : List ℕ) (answer : Result (Unit {0}) PrintError) : Type 0 where
-  pub told : PrintsFrom old new text answer
+pub record Prints (old new : SinkView) (text : List ℕ) (answer : Result (Unit {0}) PrintError) : Type 0 where
+  pub printed : PrintsBy old new text answer

@@ -1,8 +1,9 @@
 -- What a device tells of what is written to it (docs/PROMISES.md, "The edge").
 use Rattle.std.specs.Prelude.{◌≡◌, ℕ, zero, suc, min, List, [], length, Option, None, Some, Result}
-use Rattle.std.specs.Prelude.{Ok, Err, OnOk, IfSome}
+use Rattle.std.specs.Prelude.{Ok, Err, OnOk, IfSome, option_map}
+use Rattle.std.specs.Io.KnownBytes.{Keeps}
 use Rattle.id_sink.specs.declared.sink.SinkFault.{SinkFault}
-use Rattle.id_sink.specs.Told.{Told, after_write}
+use Rattle.id_sink.specs.Told.{SinkView, Told, after_write}
 
 -- what a device told so far; how many of its next writes in a row a signal cuts short, and how many bytes the one after
 -- them has room for, or that it fails; and what comes of sending on what the device holds back
@@ -55,17 +56,19 @@ abbrev pub IsSentAs : Option Outlook → Option Outlook → Result (Unit {0}) Si
 IsSentAs None new answer = Unit {0}
 IsSentAs (Some o) new answer = (answer ≡ o.sends) × Tells new o.told
 
--- what a device shows: its outlook and the bytes that it holds back, where it tells them
+-- what a device shows: its outlook, the bytes that it holds back, and all bytes that were written to it, held back or
+-- not, each where it is known
 pub record DeviceView : Type 0 where
   pub outlook : Option Outlook
   pub held : Option (List ℕ)
+  pub contents : Option (List ℕ)
 
--- sending on came to this answer, and where that is good nothing is held back
+-- sending on came to this answer, and where that is good nothing is held back; known bytes stay as they were
 pub record IsSentOn (old new : DeviceView) (answer : Result (Unit {0}) SinkFault) : Type 0 where
   pub outlook : IsSentAs old.outlook new.outlook answer
   pub none_held : OnOk answer (IfSome old.held (λ _. new.held ≡ Some []))
+  pub contents : Keeps old.contents new.contents
 
--- what a sink over the device tells
-abbrev pub told_of : Option Outlook → Option Told
-told_of None = None
-told_of (Some o) = Some o.told
+-- what a sink over the device shows: what the device told, and its bytes
+abbrev pub told_of : DeviceView → SinkView
+told_of v = record { told = option_map (λ o. o.told) v.outlook; contents = v.contents }

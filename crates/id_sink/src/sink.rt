@@ -1,7 +1,7 @@
 //! Where printed bytes go.
 
-ghost use Rattle.std.specs.Prelude.{◌≡◌, ◌≤◌, length, IfOk, List, ℕ, Option};
-ghost use Rattle.id_sink.specs.Told.{Told, AfterWrite, Prints};
+ghost use Rattle.std.specs.Prelude.{◌≡◌, ◌≤◌, length, IfOk};
+ghost use Rattle.id_sink.specs.Told.{SinkView, AfterWrite, Prints};
 
 /// A write that failed.
 #[derive(Clone, Copy)]
@@ -13,8 +13,9 @@ pub struct PrintError;
 
 /// Something that takes bytes.
 pub trait Sink {
-    /// The bytes that it said it took and how many of its writes failed, where it tells them.
-    ghost told: { Self → Option Told };
+    /// The bytes that it said it took and how many of its writes failed, where it tells them; and all bytes that stand
+    /// where it puts them, where those are known.
+    ghost told: { Self → SinkView };
 
     /// Takes bytes from the front of `bytes`, and says how many. A write that takes none of some
     /// bytes failed, as one that answers an error.

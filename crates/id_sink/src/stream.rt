@@ -13,26 +13,21 @@ use std::io::{BufWriter, ErrorKind, Stderr, Stdout, Write};
 
 /// Something that takes bytes, and may hold them back.
 pub trait Device {
-    ghost use Rattle.std.specs.Prelude.{List, None, Option, ℕ};
-
-    /// What it told so far, what comes next, and what it holds back, where it tells them.
+    /// What it told so far and what comes next, what it holds back, and all bytes that were written to it, held back or
+    /// not, each where it is known.
     ghost view: { Self → DeviceView };
-
-    /// All bytes that were written to it, held back or not, where those are known.
-    ghost contents: { Self → Option (List ℕ) } = { λ _. None };
 
     /// One write: how many bytes it took from the front of these, or that it failed, or nothing where a signal cut it
     /// short.
     fn attempt(&mut self, bytes: &[u8]) -> Option<Result<usize, SinkFault>>
         ensures bound { IfSome result (λ answer. IfOk answer (λ n. n ≤ length bytes.now)) }
         ensures outlook { IsAttempt (view self.old).outlook (view self.new).outlook bytes.now result }
-        ensures bytes { MatchOption result (Keeps (contents self.old) (contents self.new))
-            (λ answer. WriteAppends (contents self.old) (contents self.new) answer bytes.now) };
+        ensures bytes { MatchOption result (Keeps (view self.old).contents (view self.new).contents)
+            (λ answer. WriteAppends (view self.old).contents (view self.new).contents answer bytes.now) };
 
     /// Sends on all that it holds back.
     fn send_on(&mut self) -> Result<(), SinkFault>
-        ensures sent { IsSentOn (view self.old) (view self.new) result }
-        ensures bytes { Keeps (contents self.old) (contents self.new) };
+        ensures { IsSentOn (view self.old) (view self.new) result };
 }
 
 /// A writer of the system that holds nothing back: a standard stream of the process.
@@ -46,9 +41,7 @@ impl Unheld for Stderr {}
 impl<W: Unheld> Device for W {
     ghost use Rattle.std.specs.Prelude.{None, Some, []};
 
-    ghost view = { λ _. record { outlook = None; held = Some [] } };
-
-    ghost contents = { W.contents };
+    ghost view = { λ writer. record { outlook = None; held = Some []; contents = W.contents writer } };
 
     #[inline(always)]
     fn attempt(&mut self, bytes: &[u8]) -> Option<Result<usize, SinkFault>> {
@@ -64,9 +57,11 @@ impl<W: Unheld> Device for W {
 impl<W: Write + Drop, A: Allocator> Device for BufWriter<W, A> {
     ghost use Rattle.std.specs.Prelude.{None, Some};
 
-    ghost view = { λ buffer. record { outlook = None; held = Some (writer_buffer buffer) } };
-
-    ghost contents = { writer_contents W.contents };
+    ghost view = { λ buffer. record {
+      outlook = None;
+      held = Some (writer_buffer buffer);
+      contents = writer_contents W.contents buffer;
+    } };
 
     #[inline(always)]
     fn attempt(&mut self, bytes: &[u8]) -> Option<Result<usize, SinkFault>>
@@ -81,9 +76,16 @@ impl<W: Write + Drop, A: Allocator> Device for BufWriter<W, A> {
     }
 
     fn send_on(&mut self) -> Result<(), SinkFault>
-        ensures sent { IsSentOn (record { outlook = None; held = Some (writer_buffer self.old) })
-            (record { outlook = None; held = Some (writer_buffer self.new) }) result }
-        ensures bytes { Keeps (writer_contents W.contents self.old) (writer_contents W.contents self.new) }
+        ensures { IsSentOn (record {
+          outlook = None;
+          held = Some (writer_buffer self.old);
+          contents = writer_contents W.contents self.old;
+        })
+            (record {
+              outlook = None;
+              held = Some (writer_buffer self.new);
+              contents = writer_contents W.contents self.new;
+            }) result }
     {
         match self.flush() {
             Ok(()) => Ok(()),
@@ -92,14 +94,14 @@ impl<W: Write + Drop, A: Allocator> Device for BufWriter<W, A> {
     }
 }
 
-/// A device as a sink, which tells what the device told.
+/// A device as a sink, which tells what the device told, and knows its bytes where the device does.
 #[derive(Drop)]
 pub struct Stream<D: Device + Drop> {
     pub writer: D,
 }
 
 impl<D: Device + Drop> Sink for Stream<D> {
-    ghost told = { λ stream. told_of (D.view stream.writer).outlook };
+    ghost told = { λ stream. told_of (D.view stream.writer) };
 
     #[inline(always)]
     fn write(&mut self, bytes: &[u8]) -> Result<usize, SinkFault> {
@@ -116,7 +118,7 @@ const TRIES: u64 = u64::MAX;
 pub fn write_some<D: Device>(device: &mut D, bytes: &[u8]) -> Result<usize, SinkFault>
     ensures bound { IfOk result (λ n. n ≤ length bytes.now) }
     ensures outlook { IsWritten (D.view device.old).outlook (D.view device.new).outlook bytes.now result }
-    ensures bytes { WriteAppends (D.contents device.old) (D.contents device.new) result bytes.now }
+    ensures bytes { WriteAppends (D.view device.old).contents (D.view device.new).contents result bytes.now }
 {
     let mut cuts = 0;
     while cuts < TRIES {

@@ -21,7 +21,10 @@ struct Telling<'a, R: Abort> {
 impl<R: Abort> Sink for Telling<'_, R> {
     ghost use Rattle.std.specs.Prelude.{Some};
 
-    ghost told = { λ s. Some (record { bytes = s.bytes.items; failures = s.failures }) };
+    ghost told = { λ s. record {
+      told = Some (record { bytes = s.bytes.items; failures = s.failures });
+      contents = Some s.bytes.items;
+    } };
 
     fn write(&mut self, bytes: &[u8]) -> Result<usize, SinkFault> {
         if bytes.len() > self.room {
@@ -196,7 +199,7 @@ impl Write for Halting {
 impl Device for Halting {
     ghost use Rattle.std.specs.Prelude.{None};
 
-    ghost view = { λ _. record { outlook = None; held = None } };
+    ghost view = { λ _. record { outlook = None; held = None; contents = None } };
 
     fn attempt(&mut self, bytes: &[u8]) -> Option<Result<usize, SinkFault>> {
         match self.write(bytes) {
@@ -346,7 +349,7 @@ struct Sparing<'a, R: Abort> {
 impl<R: Abort> Sink for Sparing<'_, R> {
     ghost use Rattle.std.specs.Prelude.{None};
 
-    ghost told = { λ _. None };
+    ghost told = { λ _. record { told = None; contents = None } };
 
     fn write(&mut self, bytes: &[u8]) -> Result<usize, SinkFault> {
         if self.room == 0 {

@@ -10,5 +10,5 @@ returns g c = record {
   answered = c.answer_words-status.ensures;
   settled = c.settle-settled.ensures.settled;
   sent = c.send_on.result;
-  sent_on = c.send_on.ensures.sent;
+  sent_on = c.send_on.ensures;
 }
