@@ -1,6 +1,6 @@
 -- What a device tells of what is written to it (docs/PROMISES.md, "The edge").
 use Rattle.std.specs.Prelude.{◌≡◌, ℕ, zero, suc, min, List, [], length, Option, None, Some, Result}
-use Rattle.std.specs.Prelude.{Ok, Err, OnOk, IfSome, option_map}
+use Rattle.std.specs.Prelude.{Ok, Err, OnOk, option_map}
 use Rattle.std.specs.Io.KnownBytes.{Keeps}
 use Rattle.id_sink.specs.declared.sink.SinkFault.{SinkFault}
 use Rattle.id_sink.specs.Told.{SinkView, Told, after_write}
@@ -56,17 +56,17 @@ abbrev pub IsSentAs : Option Outlook → Option Outlook → Result (Unit {0}) Si
 IsSentAs None new answer = Unit {0}
 IsSentAs (Some o) new answer = (answer ≡ o.sends) × Tells new o.told
 
--- what a device shows: its outlook, the bytes that it holds back, and all bytes that were written to it, held back or
--- not, each where it is known
+-- what a device shows: its outlook, where it tells one, the bytes that it holds back, and all bytes that were written
+-- to it, held back or not, where they are known
 pub record DeviceView : Type 0 where
   pub outlook : Option Outlook
-  pub held : Option (List ℕ)
+  pub held : List ℕ
   pub contents : Option (List ℕ)
 
 -- sending on came to this answer, and where that is good nothing is held back; known bytes stay as they were
 pub record IsSentOn (old new : DeviceView) (answer : Result (Unit {0}) SinkFault) : Type 0 where
   pub outlook : IsSentAs old.outlook new.outlook answer
-  pub none_held : OnOk answer (IfSome old.held (λ _. new.held ≡ Some []))
+  pub none_held : OnOk answer (new.held ≡ [])
   pub contents : Keeps old.contents new.contents
 
 -- what a sink over the device shows: what the device told, and its bytes

@@ -13,8 +13,8 @@ use std::io::{BufWriter, ErrorKind, Stderr, Stdout, Write};
 
 /// Something that takes bytes, and may hold them back.
 pub trait Device {
-    /// What it told so far and what comes next, what it holds back, and all bytes that were written to it, held back or
-    /// not, each where it is known.
+    /// What it told so far and what comes next, where it tells that; what it holds back; and all bytes that were
+    /// written to it, held back or not, where those are known.
     ghost view: { Self → DeviceView };
 
     /// One write: how many bytes it took from the front of these, or that it failed, or nothing where a signal cut it
@@ -39,9 +39,9 @@ impl Unheld for Stderr {}
 
 /// It tells nothing of what comes.
 impl<W: Unheld> Device for W {
-    ghost use Rattle.std.specs.Prelude.{None, Some, []};
+    ghost use Rattle.std.specs.Prelude.{None, []};
 
-    ghost view = { λ writer. record { outlook = None; held = Some []; contents = W.contents writer } };
+    ghost view = { λ writer. record { outlook = None; held = []; contents = W.contents writer } };
 
     #[inline(always)]
     fn attempt(&mut self, bytes: &[u8]) -> Option<Result<usize, SinkFault>> {
@@ -55,11 +55,11 @@ impl<W: Unheld> Device for W {
 
 /// A buffer before a writer, which tells what it holds back, and nothing of what comes.
 impl<W: Write + Drop, A: Allocator> Device for BufWriter<W, A> {
-    ghost use Rattle.std.specs.Prelude.{None, Some};
+    ghost use Rattle.std.specs.Prelude.{None};
 
     ghost view = { λ buffer. record {
       outlook = None;
-      held = Some (writer_buffer buffer);
+      held = writer_buffer buffer;
       contents = writer_contents W.contents buffer;
     } };
 
@@ -78,12 +78,12 @@ impl<W: Write + Drop, A: Allocator> Device for BufWriter<W, A> {
     fn send_on(&mut self) -> Result<(), SinkFault>
         ensures { IsSentOn (record {
           outlook = None;
-          held = Some (writer_buffer self.old);
+          held = writer_buffer self.old;
           contents = writer_contents W.contents self.old;
         })
             (record {
               outlook = None;
-              held = Some (writer_buffer self.new);
+              held = writer_buffer self.new;
               contents = writer_contents W.contents self.new;
             }) result }
     {

@@ -197,9 +197,9 @@ impl Write for Halting {
 
 /// The same as a device.
 impl Device for Halting {
-    ghost use Rattle.std.specs.Prelude.{None};
+    ghost use Rattle.std.specs.Prelude.{None, []};
 
-    ghost view = { λ _. record { outlook = None; held = None; contents = None } };
+    ghost view = { λ _. record { outlook = None; held = []; contents = None } };
 
     fn attempt(&mut self, bytes: &[u8]) -> Option<Result<usize, SinkFault>> {
         match self.write(bytes) {
