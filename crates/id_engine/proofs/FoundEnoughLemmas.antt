@@ -1,6 +1,6 @@
 -- Lemmas on specs/AtOnce.antt: what a reader finds of a text's rounds and of a graph bounds each run of the text, so that
 -- its status tells of faults.
-use Rattle.std.proofs.Common.{◌≡◌, inl, inr, ◌⊎◌, ℕ, ◌-◌, ◌*◌, ◌^◌, ◌≤◌, ◌<◌, Bool, List, length, Option, Result, sym, subst, ◌∙◌}
+use Rattle.std.proofs.Common.{◌≡◌, inl, inr, ◌⊎◌, ℕ, ◌-◌, ◌*◌, ◌^◌, ◌≤◌, ◌<◌, Bool, List, length, Result, sym, subst, ◌∙◌}
 use Rattle.id_value.specs.List.{Among}
 use Rattle.id_value.specs.declared.Constant.{Constant}
 use Rattle.id_check.specs.declared.checked.Checked.{Checked}
@@ -15,7 +15,7 @@ use Rattle.id_laws.specs.Bounded.{Bounded, IsActive, IsActiveBy, index_has, loop
 use Rattle.id_laws.specs.Determinate.{RunOf}
 use Rattle.id_laws.specs.Ended.{AreAllFacts}
 use Rattle.id_laws.specs.Laws.{QuietIsComplete, Soundness}
-use Rattle.id_sink.specs.Told.{Told}
+use Rattle.id_sink.specs.Told.{SinkView}
 use Rattle.id_sink.specs.declared.sink.PrintError.{PrintError}
 use Rattle.id_engine.specs.AtOnce.{AreFoundEnough, AtOnce}
 use Rattle.id_engine.specs.OneProgram.{AreAlike, MeanTheSame}
@@ -47,7 +47,7 @@ tells_too S T status m t = record {
 }
 
 module _ (bounded : Bounded) (sound : Soundness) (complete : QuietIsComplete) (text : List ℕ) (words : List (List ℕ)) where
-  module _ (count steps status : ℕ) (t b : Bool) (old new : Option Told) (result : Result (Unit {0}) PrintError)
+  module _ (count steps status : ℕ) (t b : Bool) (old new : SinkView) (result : Result (Unit {0}) PrintError)
       (h : HasRun text words count t steps b old new status result) where
     its_source : Source
     its_source = source h.program h.inputs

@@ -266,7 +266,8 @@ same_contents (Some a) None other out h k = absurd h
 same_contents (Some a) (Some b) None out h k = absurd k
 same_contents (Some a) (Some b) (Some c) out h k = ap Some (h ∙ sym k)
 
-same_left : (old new other : SinkView) (out : List ℕ) → GoesOut old new out 0 → GoesOut old other out 0 → SameLeft old new other
+-- so two sinks to which the same went out
+pub same_left : (old new other : SinkView) (out : List ℕ) → GoesOut old new out 0 → GoesOut old other out 0 → SameLeft old new other
 same_left old new other out h k = record {
   told = same_told old.told new.told other.told out h.told k.told;
   contents = same_contents old.contents new.contents other.contents out h.contents k.contents;

@@ -1,6 +1,6 @@
 -- Lemmas on specs/OneRound.antt: the sources of one text mean the same, a round is one list, and each line of a round
 -- has a byte, so that a round with more facts has more bytes.
-use Rattle.std.proofs.Common.{◌≡◌, inl, inr, ◌⊎◌, ℕ, suc, ◌+◌, ◌<◌, ◌≤◌, List, [], ◌∷◌, ◌++◌, length, Option, Some, Result, refl, sym, ap, subst, ◌∙◌, arith, length-append}
+use Rattle.std.proofs.Common.{◌≡◌, inl, inr, ◌⊎◌, ℕ, suc, ◌+◌, ◌<◌, ◌≤◌, List, [], ◌∷◌, ◌++◌, length, Result, refl, sym, ap, subst, ◌∙◌, arith, length-append}
 use Rattle.std.specs.Prelude.{Ok, codes}
 use Rattle.std.proofs.lemmas.Bool.{cases_lt}
 use Rattle.id_value.specs.List.{Among}
@@ -16,15 +16,17 @@ use Rattle.id_source.specs.Sources.{Source, source}
 use Rattle.id_laws.specs.Ended.{AreAllFacts}
 use Rattle.id_laws.proofs.EndedLemmas.{ended_facts}
 use Rattle.id_sink.specs.Texts.{ask_text, point_text, point_value_text, shape_text}
-use Rattle.id_sink.specs.Told.{Told}
+use Rattle.id_sink.specs.Told.{GoesOut, SinkView}
 use Rattle.id_sink.specs.declared.sink.PrintError.{PrintError}
 use Rattle.id_print.specs.Texts.{fact_text, facts_text, put_text}
 use Rattle.id_compile.specs.Programs.{IsProgramOf}
 use Rattle.id_engine.specs.Commands.{AreFactsOf, Facts, HasShown, Shows, ShowsAll}
 use Rattle.id_engine.specs.Commands.Shows.{facts}
+use Rattle.id_engine.specs.OneAnswer.{SameLeft}
 use Rattle.id_engine.specs.OneProgram.{MeanTheSame}
 use Rattle.id_engine.specs.OneRound.{IsRoundText, OneRound}
 use Rattle.id_engine.proofs.ChainLemmas.{later}
+use Rattle.id_engine.proofs.OneAnswerLemmas.{same_left}
 use Rattle.id_engine.proofs.OneProgramLemmas.{MeanTheSame-text}
 use Rattle.id_engine.proofs.RisingLemmas.{FactsRise-Rises, behind, fact_strict, first_before, one_list, rest_rises}
 
@@ -59,7 +61,7 @@ one_facts text words n fs gs h k =
 -- ---- one text
 
 -- what a call has printed, or a front of it, is the text of a round
-pub round_text : (text : List ℕ) (words : List (List ℕ)) (n : ℕ) (old new : Option Told) (result : Result (Unit {0}) PrintError)
+pub round_text : (text : List ℕ) (words : List (List ℕ)) (n : ℕ) (old new : SinkView) (result : Result (Unit {0}) PrintError)
     → (h : HasShown (Facts n words) text old new 0 result) → IsRoundText text words n h.output
 round_text text words n old new result h = by h.output h.shows
   where
@@ -67,18 +69,19 @@ round_text text words n old new result h = by h.output h.shows
     by _ (facts {vs = vs} {fs = fs} inputs are) =
         record { list = fs; are = record { program = h.program; is_program = h.is_program; inputs = vs; are_inputs = inputs; are = are }; is = refl }
 
-one_text : (text : List ℕ) (words : List (List ℕ)) (n : ℕ) (old new before after : Option Told) (result other : Result (Unit {0}) PrintError)
+one_text : (text : List ℕ) (words : List (List ℕ)) (n : ℕ) (old new before after : SinkView) (result other : Result (Unit {0}) PrintError)
     → (h : HasShown (Facts n words) text old new 0 result) → (k : HasShown (Facts n words) text before after 0 other) → h.output ≡ k.output
 one_text text words n old new before after result other h k =
     let x = round_text text words n old new result h in
     let y = round_text text words n before after other k in
     x.is ∙ (ap (facts_text text) (one_facts text words n x.list y.list x.are y.are) ∙ sym y.is)
 
-one_told : (text : List ℕ) (words : List (List ℕ)) (n : ℕ) (old : Told) (new other : Option Told)
-    → ShowsAll (Facts n words) text (Some old) new 0 → ShowsAll (Facts n words) text (Some old) other 0 → new ≡ other
+one_told : (text : List ℕ) (words : List (List ℕ)) (n : ℕ) (old new other : SinkView)
+    → ShowsAll (Facts n words) text old new 0 → ShowsAll (Facts n words) text old other 0 → SameLeft old new other
 one_told text words n old new other h k =
-    let same : h.output ≡ k.output = one_text text words n (Some old) new (Some old) other (Ok tt) (Ok tt) h k in
-    (h.printed).told.all ∙ (ap (λ bytes. Some (record { bytes = old.bytes ++ bytes; failures = old.failures })) same ∙ sym (k.printed).told.all)
+    let same : h.output ≡ k.output = one_text text words n old new old other (Ok tt) (Ok tt) h k in
+    let P : List ℕ → Type 0 = λ out. GoesOut old other out 0 in
+    same_left old new other h.output (h.printed).printed (subst P (sym same) (k.printed).printed)
 
 -- ---- what the bytes say
 

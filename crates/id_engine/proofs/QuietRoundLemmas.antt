@@ -1,5 +1,5 @@
 -- Lemmas on specs/LastRound.antt: a quiet run has shown all that its source has but values at finitely many paths.
-use Rattle.std.proofs.Common.{◌≡◌, inl, ℕ, suc, Bool, List, Option, Result, refl, sym, ap, subst}
+use Rattle.std.proofs.Common.{◌≡◌, inl, ℕ, suc, Bool, List, Result, refl, sym, ap, subst}
 use Rattle.std.specs.Prelude.{All}
 use Rattle.id_source.specs.declared.Fact.{Fact}
 use Rattle.id_source.specs.Computed.{AreFacts}
@@ -13,7 +13,7 @@ use Rattle.id_laws.specs.Bounded.{IsAtEnd, RestIsTheEnd, something_on}
 use Rattle.id_laws.specs.Determinate.{RunOf, end_of}
 use Rattle.id_laws.specs.Laws.{IsComplete, QuietIsComplete}
 use Rattle.id_laws.proofs.StampsLemmas.{none_left}
-use Rattle.id_sink.specs.Told.{Told}
+use Rattle.id_sink.specs.Told.{SinkView}
 use Rattle.id_sink.specs.declared.sink.PrintError.{PrintError}
 use Rattle.id_print.specs.Texts.{facts_text}
 use Rattle.id_engine.specs.LastRound.{AddsNone, HasAll, LastRound}
@@ -53,7 +53,7 @@ same_next : (S : Source) (n : ℕ) (fs gs : List Fact) → HasAll S n → AreFac
 same_next S n fs gs all h k =
     one_list_of S n (suc n) fs gs h k (λ f r. inl r) (λ f r. all f (record { round = suc n; there = r }))
 
-module _ (rest : RestIsTheEnd) (complete : QuietIsComplete) (text : List ℕ) (words : List (List ℕ)) (count steps : ℕ) (t b : Bool) (old new : Option Told)
+module _ (rest : RestIsTheEnd) (complete : QuietIsComplete) (text : List ℕ) (words : List (List ℕ)) (count steps : ℕ) (t b : Bool) (old new : SinkView)
     (result : Result (Unit {0}) PrintError) (h : HasRun text words count t steps b old new 0 result) where
   last_of_program : (n : ℕ) × HasAll (source h.program h.inputs) n × AddsNone text words n
   last_of_program =

@@ -1,7 +1,7 @@
 -- *At once*: how many messages the instructions of a program may have in one iteration of one context, whatever their
 -- numbers, and what a reader of its rounds knows by it (docs/PROMISES.md, "The run").
 use Rattle.std.specs.Prelude.{◌≡◌, ◌<◌, ◌≤◌, ◌-◌, ◌*◌, ◌^◌, ◌+◌, ℕ, zero, suc, Bool}
-use Rattle.std.specs.Prelude.{List, length, Option, Result}
+use Rattle.std.specs.Prelude.{List, length, Result}
 use Rattle.id_check.specs.declared.checked.Checked.{Checked}
 use Rattle.id_check.specs.Programs.{rows}
 use Rattle.id_instr.specs.Graph.{Parts}
@@ -13,7 +13,7 @@ use Rattle.id_laws.specs.Bounded.{messages_at_once}
 use Rattle.id_laws.specs.ByBlock.{messages_in_row}
 use Rattle.id_laws.specs.Ended.{AreActiveBy}
 use Rattle.id_sink.specs.declared.sink.PrintError.{PrintError}
-use Rattle.id_sink.specs.Told.{Told}
+use Rattle.id_sink.specs.Told.{SinkView}
 use Rattle.id_print.specs.Texts.{facts_text}
 use Rattle.id_engine.specs.Commands.{AreFactsOf}
 use Rattle.id_engine.specs.Runs.{HasRun}
@@ -48,13 +48,13 @@ pub record AtOnce : Type 0 where
   -- each graph that the schemas give a program may have as many messages at once as its rows say
   pub number : (P : Checked) (g : Parts) → Schemas P g → messages_at_once g ≡ messages_of_program P
   -- so what a reader finds to be enough is enough for each run of the text on the words: its status tells of faults
-  pub told : (text : List ℕ) (words : List (List ℕ)) (count steps status : ℕ) (t b : Bool) (old new : Option Told)
+  pub told : (text : List ℕ) (words : List (List ℕ)) (count steps status : ℕ) (t b : Bool) (old new : SinkView)
       (result : Result (Unit {0}) PrintError) → steps < 2 ^ 64 - 1 → AreFoundEnough text words steps
       → (h : HasRun text words count t steps b old new status result)
       → TellsFaults (source h.program h.inputs) status
   -- and two runs for which it is enough have one status
-  pub same : (text : List ℕ) (words : List (List ℕ)) (count steps status : ℕ) (t b : Bool) (old new : Option Told)
-      (result : Result (Unit {0}) PrintError) (n m other : ℕ) (u c : Bool) (before after : Option Told)
+  pub same : (text : List ℕ) (words : List (List ℕ)) (count steps status : ℕ) (t b : Bool) (old new : SinkView)
+      (result : Result (Unit {0}) PrintError) (n m other : ℕ) (u c : Bool) (before after : SinkView)
       (outcome : Result (Unit {0}) PrintError) → steps < 2 ^ 64 - 1 → m < 2 ^ 64 - 1
       → AreFoundEnough text words steps → AreFoundEnough text words m
       → HasRun text words count t steps b old new status result

@@ -1,12 +1,13 @@
 -- *One round*: what the rounds of one text have in common (docs/PROMISES.md, "The run").
-use Rattle.std.specs.Prelude.{◌≡◌, ℕ, suc, List, Option, Some, Result}
+use Rattle.std.specs.Prelude.{◌≡◌, ℕ, suc, List, Result}
 use Rattle.id_source.specs.declared.Fact.{Fact}
 use Rattle.id_source.specs.Sources.{source}
 use Rattle.id_laws.specs.Ended.{AreAllFacts}
 use Rattle.id_sink.specs.declared.sink.PrintError.{PrintError}
-use Rattle.id_sink.specs.Told.{Told}
+use Rattle.id_sink.specs.Told.{SinkView}
 use Rattle.id_print.specs.Texts.{facts_text}
 use Rattle.id_engine.specs.Commands.{AreFactsOf, Facts, HasShown, ShowsAll}
+use Rattle.id_engine.specs.OneAnswer.{SameLeft}
 
 -- the bytes are those of a round of the text, on the inputs that the words give
 pub record IsRoundText (text : List ℕ) (words : List (List ℕ)) (n : ℕ) (bytes : List ℕ) : Type 0 where
@@ -17,18 +18,18 @@ pub record IsRoundText (text : List ℕ) (words : List (List ℕ)) (n : ℕ) (by
 -- *One round*: a round of a text on some words is one list, and so are its bytes
 pub record OneRound : Type 0 where
   -- what a call of `facts_text` prints is the text of such a list, whatever of it went out
-  pub listed : (text : List ℕ) (words : List (List ℕ)) (n : ℕ) (old new : Option Told)
+  pub listed : (text : List ℕ) (words : List (List ℕ)) (n : ℕ) (old new : SinkView)
       (result : Result (Unit {0}) PrintError) → (h : HasShown (Facts n words) text old new 0 result)
       → IsRoundText text words n h.output
   pub facts : (text : List ℕ) (words : List (List ℕ)) (n : ℕ) (fs gs : List Fact) → AreFactsOf text words n fs
       → AreFactsOf text words n gs → fs ≡ gs
-  pub bytes : (text : List ℕ) (words : List (List ℕ)) (n : ℕ) (old new before after : Option Told)
+  pub bytes : (text : List ℕ) (words : List (List ℕ)) (n : ℕ) (old new before after : SinkView)
       (result other : Result (Unit {0}) PrintError) → (h : HasShown (Facts n words) text old new 0 result)
       → (k : HasShown (Facts n words) text before after 0 other) → h.output ≡ k.output
-  -- so two calls of `facts_text` that print the whole of it leave sinks that told the same with the same told
-  pub told : (text : List ℕ) (words : List (List ℕ)) (n : ℕ) (old : Told) (new other : Option Told)
-      → ShowsAll (Facts n words) text (Some old) new 0 → ShowsAll (Facts n words) text (Some old) other 0
-      → new ≡ other
+  -- so two calls of `facts_text` that print the whole of it leave sinks that showed the same showing the same
+  pub told : (text : List ℕ) (words : List (List ℕ)) (n : ℕ) (old new other : SinkView)
+      → ShowsAll (Facts n words) text old new 0 → ShowsAll (Facts n words) text old other 0
+      → SameLeft old new other
   -- two rounds of a text on some words with the same bytes have the same facts
   pub read : (text : List ℕ) (words : List (List ℕ)) (n m : ℕ) (fs gs : List Fact) → AreFactsOf text words n fs
       → AreFactsOf text words m gs → facts_text text fs ≡ facts_text text gs → fs ≡ gs
