@@ -5,6 +5,7 @@ pub mod Helds
 pub mod Names
 pub mod RunReports
 pub mod Within
+pub mod Telling
 pub mod Texts
 pub mod Reports
 -- For use inside.

@@ -4,5 +4,6 @@ pub mod Texts
 pub mod Within
 pub mod Reading
 pub mod Writing
+pub mod Telling
 -- For use inside.
 pub mod Cursors
