@@ -17,6 +17,7 @@ pub mod SameGraphsLemmas
 pub mod OneProgramLemmas
 pub mod OneAnswerLemmas
 pub mod ChainLemmas
+pub mod InputsToldLemmas
 pub mod OneRoundLemmas
 pub mod AtOnceLemmas
 pub mod FoundEnoughLemmas

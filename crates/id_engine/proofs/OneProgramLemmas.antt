@@ -295,7 +295,7 @@ inputs_to P Q a words vs h = let same : wanted P ≡ wanted Q = same_wanted P Q 
 }
 
 -- lists as long as each other with the same members are one
-same_list : (vs us : List Constant) → length vs ≡ length us → ((n : ℕ) → n < length vs → slice_get vs n ≡ slice_get us n) → vs ≡ us
+pub same_list : (vs us : List Constant) → length vs ≡ length us → ((n : ℕ) → n < length vs → slice_get vs n ≡ slice_get us n) → vs ≡ us
 same_list [] [] e h = refl
 same_list [] (u ∷ us) e h = absurd (omega (arith, e))
 same_list (v ∷ vs) [] e h = absurd (omega (arith, e))

@@ -1,20 +1,29 @@
 -- Lemmas on specs/OneRound.antt: the sources of one text mean the same, a round is one list, and each line of a round
 -- has a byte, so that a round with more facts has more bytes.
-use Rattle.std.proofs.Common.{◌≡◌, inl, inr, ◌⊎◌, ℕ, suc, ◌+◌, ◌<◌, ◌≤◌, List, [], ◌∷◌, ◌++◌, length, Result, refl, sym, ap, subst, ◌∙◌, arith, length-append}
+use Rattle.std.proofs.Common.{◌≡◌, inl, inr, ◌⊎◌, ℕ, zero, suc, ◌+◌, ◌<◌, ◌≤◌, ◌^◌, List, [], ◌∷◌, ◌++◌, length, Result, refl, sym, ap, subst, ◌∙◌, arith, length-append}
 use Rattle.std.specs.Prelude.{Ok, codes}
 use Rattle.std.proofs.lemmas.Bool.{cases_lt}
+use Rattle.std.proofs.lemmas.List.{length-map}
 use Rattle.id_value.specs.List.{Among}
 use Rattle.id_value.specs.declared.Constant.{Constant}
+use Rattle.id_value.specs.declared.Constant.TheVariants as constant
+use Rattle.id_text.proofs.LexesLemmas.{within}
+use Rattle.id_tree.specs.Distinct.{HasPlace}
+use Rattle.id_tree.proofs.StartsLemmas.{Program-starts, StartsAt-within}
+use Rattle.id_table.specs.Rows.{at}
 use Rattle.id_check.specs.declared.checked.Checked.{Checked}
+use Rattle.id_check.specs.Programs.{rows, tree}
 use Rattle.id_source.specs.declared.Fact.{Fact}
 use Rattle.id_source.specs.declared.Fact.TheVariants as fact
 use Rattle.id_source.specs.Computed.{AreFacts}
-use Rattle.id_source.specs.Inputs.{AreInputsOf}
+use Rattle.id_source.specs.Inputs.{AreInputsOf, wanted, wanted_of}
 use Rattle.id_source.specs.Orders.{FactBefore, Rises}
 use Rattle.id_source.specs.Rounds.{Rounds}
-use Rattle.id_source.specs.Sources.{Source, source}
+use Rattle.id_source.specs.Sources.{AreInputs, Source, main_params, source}
+use Rattle.id_source.proofs.InputsLemmas.{are-inputs}
 use Rattle.id_laws.specs.Ended.{AreAllFacts}
 use Rattle.id_laws.proofs.EndedLemmas.{ended_facts}
+use Rattle.id_laws.proofs.Wholes.{are_whole}
 use Rattle.id_sink.specs.Texts.{ask_text, point_text, point_value_text, shape_text}
 use Rattle.id_sink.specs.Told.{GoesOut, SinkView}
 use Rattle.id_sink.specs.declared.sink.PrintError.{PrintError}
@@ -27,7 +36,8 @@ use Rattle.id_engine.specs.OneProgram.{MeanTheSame}
 use Rattle.id_engine.specs.OneRound.{IsRoundText, OneRound}
 use Rattle.id_engine.proofs.ChainLemmas.{later}
 use Rattle.id_engine.proofs.OneAnswerLemmas.{same_left}
-use Rattle.id_engine.proofs.OneProgramLemmas.{MeanTheSame-text}
+use Rattle.id_engine.proofs.InputsToldLemmas.{AreTold, inputs_told, whole_told}
+use Rattle.id_engine.proofs.OneProgramLemmas.{AreAlike-text, MeanTheSame-text, inputs_to}
 use Rattle.id_engine.proofs.RisingLemmas.{FactsRise-Rises, behind, fact_strict, first_before, one_list, rest_rises}
 
 -- ---- one list
@@ -153,13 +163,18 @@ same_facts : (S : Source) (text : List ℕ) (n m : ℕ) (fs gs : List Fact) → 
 same_facts S text n m fs gs low h k e =
     (part_of text gs fs (FactsRise-Rises fs h.rise) (FactsRise-Rises gs k.rise) (λ f l. k.all f (later S n m f low (h.only f l)))).all (ap length e)
 
-read_back : (text : List ℕ) (words : List (List ℕ)) (n m : ℕ) (fs gs : List Fact) → AreFactsOf text words n fs → AreFactsOf text words m gs
-    → facts_text text fs ≡ facts_text text gs → fs ≡ gs
-read_back text words n m fs gs h k e = by (cases_lt m n)
+-- whichever of the two comes first
+same_round : (S : Source) (text : List ℕ) (n m : ℕ) (fs gs : List Fact) → AreFacts S n fs → AreFacts S m gs → facts_text text fs ≡ facts_text text gs → fs ≡ gs
+same_round S text n m fs gs h k e = by (cases_lt m n)
   where
     by : (m < n) ⊎ (n ≤ m) → fs ≡ gs
-    by (inl less) = sym (same_facts (source h.program h.inputs) text m n gs fs (omega (arith, less)) (there text words n m fs gs h k) h.are (sym e))
-    by (inr most) = same_facts (source h.program h.inputs) text n m fs gs most h.are (there text words n m fs gs h k) e
+    by (inl less) = sym (same_facts S text m n gs fs (omega (arith, less)) k h (sym e))
+    by (inr most) = same_facts S text n m fs gs most h k e
+
+read_back : (text : List ℕ) (words : List (List ℕ)) (n m : ℕ) (fs gs : List Fact) → AreFactsOf text words n fs → AreFactsOf text words m gs
+    → facts_text text fs ≡ facts_text text gs → fs ≡ gs
+read_back text words n m fs gs h k e =
+    same_round (source h.program h.inputs) text n m fs gs h.are (there text words n m fs gs h k) e
 
 -- a round to which the next one adds no bytes has all facts
 pub all_facts : (text : List ℕ) (words : List (List ℕ)) (n : ℕ) (fs gs : List Fact) → (h : AreFactsOf text words n fs) → AreFactsOf text words (suc n) gs
@@ -169,6 +184,55 @@ all_facts text words n fs gs h k e =
     let same : fs ≡ gs = read_back text words n (suc n) fs gs h k e in
     ended_facts S n fs h.are (subst (AreFacts S (suc n)) (sym same) (there text words n (suc n) fs gs h k))
 
+-- ---- on any words
+
+-- the things of a text's program stand in it
+placed_in : (text : List ℕ) (P : Checked) → IsProgramOf text P → (q : ℕ) → HasPlace (tree P) q → q ≤ length text
+placed_in text P h q p = StartsAt-within (length text) h.tokens (within h.lexes) q (Program-starts (h.accepts).derives q p)
+
+-- words give one input for each parameter of `main`, each of which its text tells
+given_inputs : (P : Checked) (words : List (List ℕ)) (vs : List Constant) → AreInputsOf P words vs → AreInputs P vs
+given_inputs P words vs h = are-inputs P (wanted P) words vs refl (record { taken = h.all_taken; enough = h.enough; values = h.values })
+
+given_many : (P : Checked) (words : List (List ℕ)) (vs : List Constant) → AreInputsOf P words vs → length vs ≡ length (main_params P)
+given_many P words vs h = h.enough ∙ length-map (main_params P) (λ b. wanted_of P (at (rows P) b).node)
+
+given_told : (text : List ℕ) (P : Checked) (words : List (List ℕ)) (vs : List Constant) → AreInputsOf P words vs → AreTold (source P vs) text
+given_told text P words vs h b (constant.Int n) i = whole_told n ((are_whole (source P vs) (given_inputs P words vs h)).inputs b (constant.Int n) i)
+given_told text P words vs h b (constant.Bool c) i = tt
+
+-- round 0 has no facts, and what has no bytes neither
+none_first : (S : Source) (fs : List Fact) → AreFacts S 0 fs → fs ≡ []
+none_first S [] h = refl
+none_first S (f ∷ fs) h = absurd (h.only f (inl refl))
+
+no_bytes : (text : List ℕ) (fs : List Fact) → facts_text text fs ≡ [] → fs ≡ []
+no_bytes text [] e = refl
+no_bytes text (f ∷ fs) e = absurd (omega (arith, ap length e, longer text f fs))
+
+-- past round 0 the bytes tell the inputs, and so they are those of one source
+read_any : (text : List ℕ) (P : Checked) (words other : List (List ℕ)) (vs us : List Constant) (n m : ℕ) (fs gs : List Fact) → length text < 2 ^ 64
+    → IsProgramOf text P → AreInputsOf P words vs → AreInputsOf P other us → AreFacts (source P vs) n fs → AreFacts (source P us) m gs
+    → facts_text text fs ≡ facts_text text gs → fs ≡ gs
+read_any text P words other vs us zero m fs gs small is given also h k e =
+    let none : fs ≡ [] = none_first (source P vs) fs h in
+    none ∙ sym (no_bytes text gs (sym e ∙ ap (facts_text text) none))
+read_any text P words other vs us (suc n) zero fs gs small is given also h k e =
+    let none : gs ≡ [] = none_first (source P us) gs k in
+    no_bytes text fs (e ∙ ap (facts_text text) none) ∙ sym none
+read_any text P words other vs us (suc n) (suc m) fs gs small is given also h k e =
+    let one : vs ≡ us = inputs_told text small P (placed_in text P is) vs us n m fs gs h k e (given_told text P words vs given)
+    (given_told text P other us also) (given_many P words vs given) (given_many P other us also) in
+    same_round (source P us) text (suc n) (suc m) fs gs (subst (λ ws. AreFacts (source P ws) (suc n) fs) one h) k e
+
+any_words : (text : List ℕ) (words other : List (List ℕ)) (n m : ℕ) (fs gs : List Fact) → length text < 2 ^ 64 → AreFactsOf text words n fs
+    → AreFactsOf text other m gs → facts_text text fs ≡ facts_text text gs → fs ≡ gs
+any_words text words other n m fs gs small h k e =
+    let P = h.program in
+    let also : AreInputsOf P other k.inputs = inputs_to k.program P (AreAlike-text text k.program P k.is_program h.is_program) other k.inputs k.are_inputs in
+    read_any text P words other h.inputs k.inputs n m fs gs small h.is_program h.are_inputs also h.are
+    (facts_there text other P k.inputs h.is_program also m gs k) e
+
 pub OneRound-text : OneRound
 OneRound-text = record {
   listed = round_text;
@@ -176,5 +240,6 @@ OneRound-text = record {
   bytes = one_text;
   told = one_told;
   read = read_back;
+  any_words = any_words;
   ended = all_facts;
 }

@@ -1,5 +1,5 @@
 -- *One round*: what the rounds of one text have in common (docs/PROMISES.md, "The run").
-use Rattle.std.specs.Prelude.{◌≡◌, ℕ, suc, List, Result}
+use Rattle.std.specs.Prelude.{◌≡◌, ◌<◌, ◌^◌, ℕ, suc, List, length, Result}
 use Rattle.id_source.specs.declared.Fact.{Fact}
 use Rattle.id_source.specs.Sources.{source}
 use Rattle.id_laws.specs.Ended.{AreAllFacts}
@@ -33,7 +33,11 @@ pub record OneRound : Type 0 where
   -- two rounds of a text on some words with the same bytes have the same facts
   pub read : (text : List ℕ) (words : List (List ℕ)) (n m : ℕ) (fs gs : List Fact) → AreFactsOf text words n fs
       → AreFactsOf text words m gs → facts_text text fs ≡ facts_text text gs → fs ≡ gs
-  -- so a round that adds no bytes to the round before it has all facts of the text's source
+  -- so have two rounds on any words, if the text has fewer than 2 ^ 64 bytes
+  pub any_words : (text : List ℕ) (words other : List (List ℕ)) (n m : ℕ) (fs gs : List Fact)
+      → length text < 2 ^ 64 → AreFactsOf text words n fs → AreFactsOf text other m gs
+      → facts_text text fs ≡ facts_text text gs → fs ≡ gs
+  -- a round that adds no bytes to the round before it has all facts of the text's source
   pub ended : (text : List ℕ) (words : List (List ℕ)) (n : ℕ) (fs gs : List Fact)
       → (h : AreFactsOf text words n fs) → AreFactsOf text words (suc n) gs
       → facts_text text fs ≡ facts_text text gs → AreAllFacts (source h.program h.inputs) fs
