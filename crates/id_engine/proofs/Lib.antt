@@ -18,6 +18,10 @@ pub mod OneProgramLemmas
 pub mod OneAnswerLemmas
 pub mod ChainLemmas
 pub mod InputsToldLemmas
+pub mod BracesLemmas
+pub mod LoopRowsLemmas
+pub mod NumbersLemmas
+pub mod ToldFactsLemmas
 pub mod OneRoundLemmas
 pub mod AtOnceLemmas
 pub mod FoundEnoughLemmas

@@ -1,6 +1,7 @@
 -- Lemmas on specs/OneRound.antt: the sources of one text mean the same, a round is one list, and each line of a round
--- has a byte, so that a round with more facts has more bytes.
-use Rattle.std.proofs.Common.{◌≡◌, inl, inr, ◌⊎◌, ℕ, zero, suc, ◌+◌, ◌<◌, ◌≤◌, ◌^◌, List, [], ◌∷◌, ◌++◌, length, Result, refl, sym, ap, subst, ◌∙◌, arith, length-append}
+-- has a byte, so that a round with more facts has more bytes; past round 0 the lines tell the inputs, and each tells its
+-- fact.
+use Rattle.std.proofs.Common.{◌≡◌, inl, inr, ◌⊎◌, ℕ, zero, suc, ◌+◌, ◌<◌, ◌≤◌, ◌^◌, true, List, [], ◌∷◌, ◌++◌, length, Result, refl, sym, ap, subst, ◌∙◌, arith, length-append}
 use Rattle.std.specs.Prelude.{Ok, codes}
 use Rattle.std.proofs.lemmas.Bool.{cases_lt}
 use Rattle.std.proofs.lemmas.List.{length-map}
@@ -10,7 +11,9 @@ use Rattle.id_value.specs.declared.Constant.TheVariants as constant
 use Rattle.id_text.proofs.LexesLemmas.{within}
 use Rattle.id_tree.specs.Distinct.{HasPlace}
 use Rattle.id_tree.proofs.StartsLemmas.{Program-starts, StartsAt-within}
+use Rattle.id_table.specs.declared.row.Row.{Row}
 use Rattle.id_table.specs.Rows.{at}
+use Rattle.id_table.specs.Tables.{is_loop}
 use Rattle.id_check.specs.declared.checked.Checked.{Checked}
 use Rattle.id_check.specs.Programs.{rows, tree}
 use Rattle.id_source.specs.declared.Fact.{Fact}
@@ -23,11 +26,13 @@ use Rattle.id_source.specs.Sources.{AreInputs, Source, main_params, source}
 use Rattle.id_source.proofs.InputsLemmas.{are-inputs}
 use Rattle.id_laws.specs.Ended.{AreAllFacts}
 use Rattle.id_laws.proofs.EndedLemmas.{ended_facts}
-use Rattle.id_laws.proofs.Wholes.{are_whole}
-use Rattle.id_sink.specs.Texts.{ask_text, point_text, point_value_text, shape_text}
+use Rattle.id_laws.proofs.Wholes.{AreWhole, are_whole, wholes}
+use Rattle.id_sink.specs.Texts.{ask_text, has_brace, point_text, point_value_text, shape_text}
 use Rattle.id_sink.specs.Told.{GoesOut, SinkView}
 use Rattle.id_sink.specs.declared.sink.PrintError.{PrintError}
+use Rattle.id_print.specs.Telling.{FactIsTold}
 use Rattle.id_print.specs.Texts.{fact_text, facts_text, put_text}
+use Rattle.id_print.proofs.TellingLemmas.{fact_told}
 use Rattle.id_compile.specs.Programs.{IsProgramOf}
 use Rattle.id_engine.specs.Commands.{AreFactsOf, Facts, HasShown, Shows, ShowsAll}
 use Rattle.id_engine.specs.Commands.Shows.{facts}
@@ -36,7 +41,11 @@ use Rattle.id_engine.specs.OneProgram.{MeanTheSame}
 use Rattle.id_engine.specs.OneRound.{IsRoundText, OneRound}
 use Rattle.id_engine.proofs.ChainLemmas.{later}
 use Rattle.id_engine.proofs.OneAnswerLemmas.{same_left}
+use Rattle.id_engine.proofs.BracesLemmas.{Loops, Program-loops, braces_there}
 use Rattle.id_engine.proofs.InputsToldLemmas.{AreTold, inputs_told, whole_told}
+use Rattle.id_engine.proofs.LoopRowsLemmas.{loop_rows}
+use Rattle.id_engine.proofs.NumbersLemmas.{IsLoopAt}
+use Rattle.id_engine.proofs.ToldFactsLemmas.{round_told}
 use Rattle.id_engine.proofs.OneProgramLemmas.{AreAlike-text, MeanTheSame-text, inputs_to}
 use Rattle.id_engine.proofs.RisingLemmas.{FactsRise-Rises, behind, fact_strict, first_before, one_list, rest_rises}
 
@@ -233,6 +242,32 @@ any_words text words other n m fs gs small h k e =
     read_any text P words other h.inputs k.inputs n m fs gs small h.is_program h.are_inputs also h.are
     (facts_there text other P k.inputs h.is_program also m gs k) e
 
+-- ---- line by line
+
+-- the loops of a text's program stand at its `{`
+loops_in : (text : List ℕ) (P : Checked) → IsProgramOf text P → (q : ℕ) → IsLoopAt P q → has_brace text q ≡ true
+loops_in text P h q l =
+    let B : ℕ → Type 0 = λ x. has_brace text x ≡ true in
+    let tree_is : Loops B (tree P) = Program-loops B (h.accepts).derives (braces_there text h.tokens h.lexes) in
+    let R : List Row → Type 0 = λ r. (i : ℕ) → i < length r → is_loop (at r i).node ≡ true → B (at r i).place in
+    let rows_are : R (rows P) = subst R (sym P.tabled) (loop_rows B (tree P) tree_is) in
+    subst B l.here (rows_are l.row (l.stands).within (ap is_loop (l.stands).node))
+
+-- the facts of a round are told
+pub facts_are_told : (text : List ℕ) (words : List (List ℕ)) (n : ℕ) (fs : List Fact) → n < 2 ^ 64 → AreFactsOf text words n fs
+    → (f : Fact) → Among f fs → FactIsTold text f
+facts_are_told text words n fs few h f a =
+    let S = source h.program h.inputs in
+    let are : AreWhole S = are_whole S (given_inputs h.program words h.inputs h.are_inputs) in
+    round_told text S n few (placed_in text h.program h.is_program) (loops_in text h.program h.is_program)
+    (λ p e i x. wholes S are x) f ((h.are).only f a)
+
+-- so each line tells its fact
+one_line : (text : List ℕ) (words other : List (List ℕ)) (n m : ℕ) (fs gs : List Fact) (f g : Fact) → length text < 2 ^ 64 → n < 2 ^ 64 → m < 2 ^ 64
+    → AreFactsOf text words n fs → AreFactsOf text other m gs → Among f fs → Among g gs → fact_text text f ≡ fact_text text g → f ≡ g
+one_line text words other n m fs gs f g small few less h k a b e =
+    fact_told text small f g (facts_are_told text words n fs few h f a) (facts_are_told text other m gs less k g b) e
+
 pub OneRound-text : OneRound
 OneRound-text = record {
   listed = round_text;
@@ -241,5 +276,6 @@ OneRound-text = record {
   told = one_told;
   read = read_back;
   any_words = any_words;
+  line = one_line;
   ended = all_facts;
 }

@@ -1,11 +1,12 @@
 -- *One round*: what the rounds of one text have in common (docs/PROMISES.md, "The run").
 use Rattle.std.specs.Prelude.{◌≡◌, ◌<◌, ◌^◌, ℕ, suc, List, length, Result}
+use Rattle.id_value.specs.List.{Among}
 use Rattle.id_source.specs.declared.Fact.{Fact}
 use Rattle.id_source.specs.Sources.{source}
 use Rattle.id_laws.specs.Ended.{AreAllFacts}
 use Rattle.id_sink.specs.declared.sink.PrintError.{PrintError}
 use Rattle.id_sink.specs.Told.{SinkView}
-use Rattle.id_print.specs.Texts.{facts_text}
+use Rattle.id_print.specs.Texts.{fact_text, facts_text}
 use Rattle.id_engine.specs.Commands.{AreFactsOf, Facts, HasShown, ShowsAll}
 use Rattle.id_engine.specs.OneAnswer.{SameLeft}
 
@@ -37,6 +38,10 @@ pub record OneRound : Type 0 where
   pub any_words : (text : List ℕ) (words other : List (List ℕ)) (n m : ℕ) (fs gs : List Fact)
       → length text < 2 ^ 64 → AreFactsOf text words n fs → AreFactsOf text other m gs
       → facts_text text fs ≡ facts_text text gs → fs ≡ gs
+  -- each line tells its fact, where the text has fewer than 2 ^ 64 bytes and the rounds' numbers are below that
+  pub line : (text : List ℕ) (words other : List (List ℕ)) (n m : ℕ) (fs gs : List Fact) (f g : Fact)
+      → length text < 2 ^ 64 → n < 2 ^ 64 → m < 2 ^ 64 → AreFactsOf text words n fs
+      → AreFactsOf text other m gs → Among f fs → Among g gs → fact_text text f ≡ fact_text text g → f ≡ g
   -- a round that adds no bytes to the round before it has all facts of the text's source
   pub ended : (text : List ℕ) (words : List (List ℕ)) (n : ℕ) (fs gs : List Fact)
       → (h : AreFactsOf text words n fs) → AreFactsOf text words (suc n) gs
