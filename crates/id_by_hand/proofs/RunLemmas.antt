@@ -7,6 +7,7 @@ use Rattle.id_source.specs.Inputs.{AreInputsOf}
 use Rattle.id_value.specs.declared.Constant.{Constant}
 use Rattle.id_core.specs.Machines.{IsQuiet, MachineView, World, delivered, run, start}
 use Rattle.id_core.specs.Observed.{answer}
+use Rattle.id_record.specs.declared.kept.Keeps.TheVariants.{All}
 use Rattle.id_instr.specs.Graph.{Parts}
 use Rattle.id_laws.specs.Laws.{QuietIsComplete}
 use Rattle.id_pieces.specs.Schemas.{Schemas}
@@ -35,7 +36,7 @@ IsLater-deliver old mid new k h step = record {
 
 -- what a later machine shows as its answer, where it is quiet, is the source's
 pub is_answer : (S : Source) (g : Parts) (count : ℕ) (old new : MachineView) (o : Option SourceValue) → QuietIsComplete → AreInputs S.checked S.inputs
-    → Schemas S.checked g → old ≡ record { graph = g; count = count; world = start g S.inputs count } → IsLater old new → IsQuiet new.world
+    → Schemas S.checked g → old ≡ record { graph = g; count = count; keeps = All; world = start g S.inputs count } → IsLater old new → IsQuiet new.world
     → o ≡ answer new.graph new.world → IsAnswer S o
 is_answer S g count old new o complete inputs schemas at_start later quiet shown =
     let ks = later.positions in
@@ -45,7 +46,7 @@ is_answer S g count old new o complete inputs schemas at_start later quiet shown
 
 -- so is the answer that was given, where the machine was found quiet
 pub answered : {E : Type 0} (S : Source) (g : Parts) (count : ℕ) (old new : MachineView) (r : Result (Option SourceValue) E) → QuietIsComplete
-    → AreInputs S.checked S.inputs → Schemas S.checked g → old ≡ record { graph = g; count = count; world = start g S.inputs count } → IsLater old new
+    → AreInputs S.checked S.inputs → Schemas S.checked g → old ≡ record { graph = g; count = count; keeps = All; world = start g S.inputs count } → IsLater old new
     → OnOk r (IsQuiet new.world) → IfOk r (λ o. o ≡ answer new.graph new.world) → IfOk r (IsAnswer S)
 answered S g count old new (Ok o) complete inputs schemas at_start later quiet shown =
     is_answer S g count old new o complete inputs schemas at_start later quiet shown
