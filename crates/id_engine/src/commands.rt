@@ -258,8 +258,8 @@ fn facts_of_prepared(alloc: Global, prepared: &Prepared, round: u32) -> Result<R
 
 /// *One round*, a law: all calls of `facts_text` on one text, the same words and the same number print the same facts
 /// in the same bytes; two rounds with the same bytes have the same facts, on any words; each line tells its fact; and
-/// where a round adds no bytes to the round before it these are all facts of the text's source (docs/PROMISES.md, "The
-/// run"). Takes no memory.
+/// where a round adds no bytes to the round before it these are all facts of the text's source
+/// (docs/PROMISES.md, "The run"). Takes no memory.
 pub fn one_round()
     ensures { OneRound }
 {}
