@@ -1,0 +1,5 @@
+pub mod OrderLemmas
+pub mod FollowLemmas
+pub mod DeliverLemmas
+pub mod VerdictLemmas
+pub mod GivenLemmas

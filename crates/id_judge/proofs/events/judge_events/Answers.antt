@@ -1,0 +1,60 @@
+-- The events so far lead to where the machine is; the next follows, or is the first that cannot.
+use Rattle.std.proofs.Common.{◌≡◌, Option, [], Ok, Some, length, slice_get, take, refl, sym, ap, subst, ◌∙◌, arith}
+use Rattle.std.specs.Prelude.{IfSome}
+use Rattle.std.proofs.lemmas.Option.{slice_get_read}
+use Rattle.id_core.specs.Machines.{World, start}
+use Rattle.id_runs.specs.Legal.{LeadTo, no_more}
+use Rattle.id_judge.specs.Benches.{world_in}
+use Rattle.id_judge.specs.Verdicts.{IsCause}
+use Rattle.id_judge.specs.declared.verdict.Cause.{Cause}
+use Rattle.id_judge.proofs.VerdictLemmas.{first_is, legal_is, next_lead}
+use Rattle.id_judge.proofs.events.judge_events.Goals as goal
+use Rattle.id_judge.proofs.events.judge_events.Goals.{After-follow}
+
+-- the next event of the list
+next_is : (c : After-follow) → slice_get c.args.events.now c.loop-position.position ≡ Some c.index-events-position.result
+next_is c =
+    slice_get_read c.args.events.now (length c.args.events.now) c.loop-position.position c.index-events-position.result refl
+    c.loop-position-test.true c.index-events-position.is
+
+pub loop-position-init : goal.loop-position-init
+loop-position-init c =
+    let g = c.args.graph.now in
+    let from = start g c.args.inputs.now.values c.args.count in
+    let h = c.in_ok-bench.ensures in
+    (h.bench, h.graph, h.count, subst (λ (w : World). LeadTo g c.args.count from [] w) (sym h.world) no_more)
+
+pub returns-in-Some-clause-verdict : goal.returns-in-Some-clause-verdict
+returns-in-Some-clause-verdict c =
+    let b = c.loop-position.bench in
+    let n = length b.elements in
+    let v = c.index-events-position.result in
+    let why : IsCause b.graph n (world_in b) v c.in-Some.cause =
+    subst (λ (o : Option Cause). IfSome o (IsCause b.graph n (world_in b) v)) c.in-Some.is c.in_ok-cause.ensures.cause in
+    first_is c.args.graph.now b.graph c.args.inputs.now.values c.args.count n c.args.events.now c.loop-position.position v (world_in b) c.in-Some.cause
+    c.loop-position.invariant.1 c.loop-position.invariant.2 (next_is (goal.at.returns-in-Some-clause-verdict c).After-follow)
+    c.loop-position.invariant.3 why
+
+pub loop-position-preserved : goal.loop-position-preserved
+loop-position-preserved c =
+    let b = c.loop-position.bench in
+    let h = c.in_ok-cause.ensures in
+    let graph = c.loop-position.invariant.1 in
+    let many = c.loop-position.invariant.2 in (
+      h.bench (ap (λ o. Ok o) c.in_default.is),
+      h.graph (ap (λ o. Ok o) c.in_default.is) ∙ graph,
+      h.count (ap (λ o. Ok o) c.in_default.is) ∙ many,
+      next_lead c.args.graph.now b.graph c.args.inputs.now.values c.args.count (length b.elements) c.args.events.now c.loop-position.position
+          c.index-events-position.result (world_in b) (world_in c.follow.new.bench) graph many (next_is (goal.at.loop-position-preserved c).After-follow)
+          c.loop-position.invariant.3 (h.follows (ap (λ o. Ok o) c.in_default.is)),
+    )
+
+pub returns-clause-verdict : goal.returns-clause-verdict
+returns-clause-verdict c =
+    let g = c.args.graph.now in
+    let b = c.loop-position.bench in
+    let es = c.args.events.now in
+    let from = start g c.args.inputs.now.values c.args.count in
+    let end : c.loop-position.position ≡ length es = omega (arith, c.loop-position-test.false, c.loop-position.auto.position-end) in
+    legal_is g b.graph c.args.inputs.now.values c.args.count (length b.elements) es (world_in b) c.in_ok-machine.machine c.loop-position.invariant.1
+    c.loop-position.invariant.2 (subst (λ i. LeadTo g c.args.count from (take i es) (world_in b)) end c.loop-position.invariant.3) c.in_ok-machine.ensures

@@ -1,0 +1,20 @@
+-- The last message stands where one was taken out.
+use Rattle.std.proofs.Common.{◌≡◌, ◌∷◌, List, Some, slice_get, subst}
+use Rattle.id_tag.specs.declared.Message.{Message}
+use Rattle.id_runs.specs.Legal.{InSomeOrder}
+use Rattle.id_judge.proofs.OrderLemmas.{taken_first}
+use Rattle.id_judge.proofs.pool.Pool.take.Goals as goal
+
+pub returns-in_ok-insert : goal.returns-in_ok-insert
+returns-in_ok-insert c = λ m at.
+    subst (λ (ms : List Message). slice_get ms c.args.position ≡ Some m → InSomeOrder ms (m ∷ c.swap_remove-taken.new.self.items)) c.self.view_is
+    (taken_first c.self.inside.messages.items c.swap_remove-taken.new.self.items c.args.position c.swap_remove-taken.result m
+    c.swap_remove-taken.ensures.value c.swap_remove-taken.ensures.items)
+    at
+
+pub returns-else-position-len : goal.returns-else-position-len
+returns-else-position-len c = λ m at.
+    subst (λ (ms : List Message). slice_get ms c.args.position ≡ Some m → InSomeOrder ms (m ∷ c.swap_remove-taken.new.self.items)) c.self.view_is
+    (taken_first c.self.inside.messages.items c.swap_remove-taken.new.self.items c.args.position c.swap_remove-taken.result m
+    c.swap_remove-taken.ensures.value c.swap_remove-taken.ensures.items)
+    at

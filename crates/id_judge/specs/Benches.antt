@@ -1,0 +1,70 @@
+-- A machine whose messages in flight stand in no order.
+use Rattle.std.specs.Prelude.{◌≡◌, ◌≢◌, ℕ, ◌-◌, IsTrue, Option, None, Some, List, [], ◌∷◌}
+use Rattle.std.specs.Prelude.{◌++◌, length, slice_get}
+use Rattle.id_instr.specs.Graph.{Parts}
+use Rattle.id_tag.specs.declared.Message.{Message}
+use Rattle.id_tag.specs.Routes.{route_of}
+use Rattle.id_record.specs.declared.kept.Keeps.TheVariants as keeps
+use Rattle.id_core.specs.Events.{EventView}
+use Rattle.id_core.specs.Replays.{ElementView}
+use Rattle.id_core.specs.Steps.{is_ended}
+use Rattle.id_core.specs.Machines.{IsMachine, World, world_of}
+use Rattle.id_runs.specs.Legal.{InSomeOrder}
+use Rattle.id_judge.specs.declared.verdict.Cause.{Cause}
+use Rattle.id_judge.specs.declared.verdict.Cause.TheVariants.{NotInFlight, OtherElement, NoStamp, OtherStamp}
+use Rattle.id_judge.specs.declared.verdict.Cause.TheVariants.{OtherOutcome}
+use Rattle.id_judge.specs.Verdicts.{Follows}
+
+-- the graph, the elements, what is in flight, and what was sent and is not yet in flight
+pub record BenchView : Type 0 where
+  pub graph : Parts
+  pub elements : List ElementView
+  pub flight : List Message
+  pub sent : List Message
+
+-- its state
+abbrev pub world_in : BenchView → World
+world_in b = world_of b.elements b.flight
+
+-- it is a machine whose elements keep all events, and all that was sent is in flight
+pub record IsBench (b : BenchView) : Type 0 where
+  pub machine : IsMachine b.graph keeps.All b.elements b.flight
+  pub none : b.sent ≡ []
+
+-- the number of the element that a message is for
+abbrev pub number_for : BenchView → Message → ℕ
+number_for b m = route_of m.payload (length b.elements)
+
+-- no stamp is left for the message
+abbrev pub IsEnded : BenchView → Message → Type 0
+IsEnded b m = (e : ElementView) × (slice_get b.elements (number_for b m) ≡ Some e) × IsTrue (is_ended e.state m)
+
+-- the message left what is in flight, where what was sent stands behind the others
+pub record Replaces (m : Message) (b c : BenchView) : Type 0 where
+  pub others : List Message
+  pub out : InSomeOrder b.flight (m ∷ others)
+  pub flight : c.flight ≡ others ++ b.sent
+
+-- this is the last event that the element of a message has recorded
+pub record IsLast (b : BenchView) (m : Message) (v : EventView) : Type 0 where
+  pub element : ElementView
+  pub there : slice_get b.elements (number_for b m) ≡ Some element
+  pub last : slice_get element.state.events (length element.state.events - 1) ≡ Some v
+
+-- the message was delivered: an event of it followed, which is the last one that its element has recorded
+pub record Delivers (b : BenchView) (m : Message) (c : BenchView) : Type 0 where
+  pub event : EventView
+  pub of : event.message ≡ m
+  pub follows : Follows b.graph (length b.elements) (world_in b) event (world_in c)
+  pub same_graph : c.graph ≡ b.graph
+  pub same_count : length c.elements ≡ length b.elements
+  pub recorded : IsLast c m event
+
+-- in what the event that came of a message differs from the one that is given
+abbrev pub Differs : EventView → EventView → Option Cause → Type 0
+Differs v given None = v ≡ given
+Differs v given (Some OtherStamp) = v.stamp ≢ given.stamp
+Differs v given (Some OtherOutcome) = (v.stamp ≡ given.stamp) × (v ≢ given)
+Differs v given (Some NotInFlight) = ⊥
+Differs v given (Some OtherElement) = ⊥
+Differs v given (Some NoStamp) = ⊥

@@ -1,0 +1,4 @@
+-- What public clauses cite.
+pub mod Verdicts
+pub mod Benches
+pub mod Codes

@@ -1,0 +1,220 @@
+//! A machine whose messages in flight stand in no order.
+
+ghost use Rattle.std.specs.Prelude.{◌≡◌, ◌<◌, ◌≤◌, ◌++◌, [], length, map, replicate, slice_get};
+ghost use Rattle.std.specs.Prelude.{Some, None, Ok, Err, IfOk, IfSome, OnOk};
+ghost use Rattle.id_element.specs.declared.step.TakeError.TheVariants.{StampEnd};
+ghost use Rattle.id_element.specs.Steps.{fresh};
+ghost use Rattle.id_record.specs.declared.kept.Keeps.TheVariants as keeps;
+ghost use Rattle.id_core.specs.Machines.{AllKeep, AreElements, TakesInputs, start};
+ghost use Rattle.id_record.specs.Events.{EventView};
+ghost use Rattle.id_tag.specs.declared.Message.{Message};
+ghost use Rattle.id_judge.specs.Benches.{Delivers, Differs, IsBench, IsEnded, IsLast, Replaces};
+ghost use Rattle.id_judge.specs.Benches.{world_in};
+ghost use Rattle.id_judge.specs.Verdicts.{Follows, IsCause, told};
+
+use crate::given::{Given, is_given};
+use crate::pool::Pool;
+use crate::verdict::Cause;
+use id_core::{Element, Event, Keeps, Machine, TakeError, start_flight};
+use id_flight::Queue;
+use id_source::Inputs;
+use id_tag::{Message, route};
+use id_valid::Valid;
+use std::alloc::{AllocError, Global};
+use std::marker::Model;
+
+/// The elements of a machine, what is in flight, and room for what an event sends.
+#[derive(Drop)]
+pub struct Bench<'a> {
+    graph: &'a Valid,
+    elements: Vec<Element<'a>>,
+    flight: Pool,
+    sent: Queue,
+}
+
+impl<'a> Model for Bench<'a> {
+    ghost use Rattle.id_judge.specs.Benches.{BenchView};
+    ghost use Rattle.id_judge.specs.Codes.{coded_bench};
+
+    ghost Value = { BenchView };
+
+    ghost coded = { coded_bench };
+
+    ghost view = { λ b. record {
+      graph = b.graph.now;
+      elements = b.elements.items;
+      flight = b.flight;
+      sent = b.sent.messages;
+    } };
+}
+
+/// The machine of so many elements at its start.
+pub fn start_bench<'a>(
+    alloc: Global,
+    graph: &'a Valid,
+    inputs: &Inputs,
+    count: u32,
+) -> Result<Bench<'a>, AllocError>
+    requires inputs { TakesInputs graph.now inputs.now.values }
+    requires at_least_one { 0 < count }
+    requires at_most_64 { count ≤ 64 }
+    ensures bench { IfOk result IsBench }
+    ensures graph { IfOk result (λ b. b.graph ≡ graph.now) }
+    ensures count { IfOk result (λ b. length b.elements ≡ count) }
+    ensures world { IfOk result (λ b. world_in b ≡ start graph.now inputs.now.values count) }
+{
+    let elements = fresh_elements(alloc, graph, count)?;
+    let mut sent = start_flight(alloc, graph, inputs)?;
+    let mut flight = Pool::new(alloc);
+    send(&mut flight, &mut sent)?;
+    Ok(Bench {
+        graph,
+        elements,
+        flight,
+        sent,
+    })
+}
+
+/// The elements at the start, each of which keeps all events.
+fn fresh_elements<'a>(
+    alloc: Global,
+    graph: &'a Valid,
+    count: u32,
+) -> Result<Vec<Element<'a>>, AllocError>
+    requires at_least_one { 0 < count }
+    requires at_most_64 { count ≤ 64 }
+    ensures len { IfOk result (λ es. length es.items ≡ count) }
+    ensures elements { IfOk result (λ es. AreElements graph.now count es.items) }
+    ensures kept { IfOk result (λ es. AllKeep keeps.All es.items) }
+    ensures states { IfOk result (λ es. map (λ e. e.state) es.items ≡ replicate count fresh) }
+{
+    let mut elements = Vec::with_capacity(alloc, count as usize)?;
+    for number in 0..count {
+        elements.push_reserved(Element::new(alloc, number, count, graph));
+    }
+    Ok(elements)
+}
+
+/// Moves what was sent to what is in flight.
+fn send(flight: &mut Pool, sent: &mut Queue) -> Result<(), AllocError>
+    ensures flight { OnOk result (flight.new ≡ flight.old ++ sent.old.messages) }
+    ensures sent { OnOk result (sent.new.messages ≡ []) }
+{
+    while !sent.is_empty() {
+        let message = sent.message(0);
+        flight.add(message)?;
+        sent.drop_front();
+    }
+    Ok(())
+}
+
+/// Takes out the message at a position, and moves what was sent to what is in flight.
+fn replace(bench: &mut Bench<'_>, position: usize) -> Result<(), AllocError>
+    requires { position < length bench.old.flight }
+    ensures graph { bench.new.graph ≡ bench.old.graph }
+    ensures elements { bench.new.elements ≡ bench.old.elements }
+    ensures flight { OnOk result ((m : Message) → slice_get bench.old.flight position ≡ Some m
+        → Replaces m bench.old bench.new) }
+    ensures sent { OnOk result (bench.new.sent ≡ []) }
+{
+    bench.flight.take(position)?;
+    send(&mut bench.flight, &mut bench.sent)
+}
+
+/// Delivers the message at a position: it leaves, its element handles it, and what is sent is in flight.
+fn deliver(bench: &mut Bench<'_>, position: usize, message: &Message) -> Result<(), TakeError>
+    requires bench { IsBench bench.old }
+    requires there { slice_get bench.old.flight position ≡ Some message.now }
+    ensures bench { OnOk result (IsBench bench.new) }
+    ensures delivers { OnOk result (Delivers bench.old message.now bench.new) }
+    ensures end { result ≡ Err StampEnd → IsEnded bench.old message.now }
+{
+    let number = route(message, bench.elements.len() as u32) as usize;
+    match bench.elements[number].take(message, &mut bench.sent) {
+        Ok(_) => match replace(bench, position) {
+            Ok(()) => Ok(()),
+            Err(_) => Err(TakeError::Memory),
+        },
+        Err(error) => Err(error),
+    }
+}
+
+/// Lets an event follow, or says why it cannot.
+pub fn follow(bench: &mut Bench<'_>, given: &Given) -> Result<Option<Cause>, AllocError>
+    requires { IsBench bench.old }
+    ensures bench { result ≡ Ok None → IsBench bench.new }
+    ensures graph { result ≡ Ok None → bench.new.graph ≡ bench.old.graph }
+    ensures count { result ≡ Ok None → length bench.new.elements ≡ length bench.old.elements }
+    ensures follows { result ≡ Ok None
+        → Follows bench.old.graph (length bench.old.elements) (world_in bench.old) given.now (world_in bench.new) }
+    ensures cause { IfOk result (λ o. IfSome o
+        (IsCause bench.old.graph (length bench.old.elements) (world_in bench.old) given.now)) }
+{
+    let message = &given.message;
+    let Some(position) = bench.flight.find(message) else {
+        return Ok(Some(Cause::NotInFlight));
+    };
+    let number = route(message, bench.elements.len() as u32);
+    if given.element != number {
+        return Ok(Some(Cause::OtherElement));
+    }
+    match deliver(bench, position, message) {
+        Ok(()) => Ok(difference(bench, given)),
+        Err(TakeError::StampEnd) => Ok(Some(Cause::NoStamp)),
+        Err(TakeError::Memory) => Err(AllocError),
+    }
+}
+
+/// The last event that the element of a message has recorded.
+fn last_event<'b>(bench: &'b Bench<'_>, message: &Message) -> Event<'b>
+    requires bench { IsBench bench.now }
+    requires recorded { (v : EventView) × IsLast bench.now message.now v }
+    ensures { (v : EventView) → IsLast bench.now message.now v → told result ≡ v }
+{
+    let number = route(message, bench.elements.len() as u32) as usize;
+    let events = bench.elements[number].events();
+    events.event(events.len() - 1)
+}
+
+/// In what the event that was delivered differs from the one that was given, where they are of the same message and
+/// element.
+fn difference(bench: &Bench<'_>, given: &Given) -> Option<Cause>
+    requires bench { IsBench bench.now }
+    requires recorded { (v : EventView) × IsLast bench.now given.now.message v }
+    ensures { (v : EventView) → IsLast bench.now given.now.message v → Differs v given.now result }
+{
+    let event = last_event(bench, &given.message);
+    if event.stamp != given.stamp {
+        return Some(Cause::OtherStamp);
+    }
+    if is_given(&event, given) {
+        return None;
+    }
+    Some(Cause::OtherOutcome)
+}
+
+/// The machine, with what is in flight in the order in which it stands.
+pub fn end_bench<'a>(alloc: Global, bench: Bench<'a>) -> Result<Machine<'a>, AllocError>
+    requires { IsBench bench }
+    ensures { IfOk result (λ m. m ≡ record {
+      graph = bench.entry.graph;
+      count = length bench.entry.elements;
+      keeps = keeps.All;
+      world = world_in bench.entry;
+    }) }
+{
+    let queue = queue_of(alloc, &bench.flight)?;
+    Ok(Machine::resume(alloc, bench.graph, Keeps::All, bench.elements, queue))
+}
+
+/// Messages in a queue, in the order in which they stand.
+fn queue_of(alloc: Global, flight: &Pool) -> Result<Queue, AllocError>
+    ensures { IfOk result (λ q. q.messages ≡ flight.now) }
+{
+    let mut queue = Queue::new(alloc);
+    for position in 0..flight.len() {
+        let message = flight.message(position);
+        queue.push_back(message)?;
+    }
+    Ok(queue)
+}
