@@ -5,7 +5,7 @@ ghost use Rattle.std.specs.Prelude.{◌≡◌};
 use crate::graphs::{block, call, called_blocks, either, seven, sum_and_product};
 use crate::kept::{merged, observed};
 use id_bank::{Bank, Cells, ReadAnswer, Reader, WriteAnswer};
-use id_core::{Element, Machine, MachineError, Step, TakeError, fits, takes_inputs};
+use id_core::{Element, Keeps, Machine, MachineError, Step, TakeError, fits, takes_inputs};
 use id_flight::Queue;
 use id_graph::{Block, Constant, Graph, GraphCause, Instr, Op, Port, PortKind};
 use id_match::{Entry, Offered, Waiting};
@@ -514,8 +514,11 @@ fn give(
     element.take(&message, &mut outputs)
 }
 
-/// How many events an element has recorded, and the stamp of the last of them.
+/// How many events an element that keeps all has recorded, and the stamp of the last of them.
 fn recorded(element: &Element<'_>) -> (usize, Option<u64>) {
+    let Keeps::All = element.keeps() else {
+        return (usize::MAX, None);
+    };
     let events = element.events();
     let count = events.len();
     if count == 0 {
