@@ -34,7 +34,7 @@ use Rattle.id_print.specs.declared.helds.Held.TheVariants.{Array, Cell}
 use Rattle.id_print.specs.Names.{AreHeld, HeldBefore, IsPut, NameBefore, WaitBefore}
 use Rattle.id_print.specs.Reports.{asked}
 use Rattle.id_print.specs.Texts.{quiet_text}
-use Rattle.id_print.specs.Traces.{trace_text}
+use Rattle.id_trace.specs.Traces.{trace_text}
 use Rattle.id_print.proofs.NamesLemmas.{NamesRise-Rises, Rises-sorted, asks_told, helds_told, names_told}
 use Rattle.id_engine.specs.OneAnswer.{Answered, OneAnswer, SameLeft, ShowOne, report_of}
 use Rattle.id_engine.specs.OneProgram.{MeanTheSame}

@@ -13,7 +13,7 @@ use Rattle.id_print.specs.declared.run_reports.Report.{Report}
 use Rattle.id_sink.specs.declared.sink.PrintError.{PrintError}
 use Rattle.id_sink.specs.Told.{SinkView, Prints}
 use Rattle.id_print.specs.Reports.{report_text}
-use Rattle.id_print.specs.Traces.{trace_text}
+use Rattle.id_trace.specs.Traces.{trace_text}
 use Rattle.id_compile.specs.declared.error.EngineError.{EngineError}
 use Rattle.id_compile.specs.declared.error.EngineError.TheVariants.{Memory, Write}
 use Rattle.id_print.specs.RunReports.{IsReportFrom}

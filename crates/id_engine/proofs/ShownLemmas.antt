@@ -41,7 +41,7 @@ use Rattle.id_engine.proofs.AnsweredLemmas.{late_unallowed, refused_unallowed}
 use Rattle.id_core.specs.Events.{EventView}
 use Rattle.id_pieces.specs.Schemas.{Schemas}
 use Rattle.id_pieces.specs.Rows.{size}
-use Rattle.id_print.specs.Traces.{trace_text}
+use Rattle.id_trace.specs.Traces.{trace_text}
 use Rattle.id_engine.specs.Runs.Ends.{quiet as ends_quiet, fault as ends_fault, stopped as ends_stopped}
 
 -- the text of a report that is so is what a run shows

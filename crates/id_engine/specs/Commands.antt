@@ -27,7 +27,7 @@ use Rattle.id_print.specs.declared.helds.Held.{Held}
 use Rattle.id_print.specs.Names.{AreHeld, AreSomeHeld}
 use Rattle.id_print.specs.Texts.{quiet_text, stopped_text, fault_text, facts_text}
 use Rattle.id_print.specs.Reports.{asked}
-use Rattle.id_print.specs.Traces.{trace_text}
+use Rattle.id_trace.specs.Traces.{trace_text}
 use Rattle.id_compile.specs.Programs.{IsProgramOf}
 
 -- a command: say that the text is accepted, print its graph, print the picture of its graph, print the facts of a

@@ -22,7 +22,7 @@ use Rattle.id_sink.specs.Told.{SinkView, Prints}
 use Rattle.id_print.specs.RunReports.{IsReportFrom}
 use Rattle.id_print.specs.Within.{ReportWithin}
 use Rattle.id_print.specs.Reports.{report_text}
-use Rattle.id_print.specs.Traces.{trace_text}
+use Rattle.id_trace.specs.Traces.{trace_text}
 use Rattle.id_print.specs.Names.{AreHeld, AreSomeHeld}
 use Rattle.id_source.specs.Computed.{HasMoreFacts}
 use Rattle.id_compile.specs.declared.error.EngineError.{EngineError}

@@ -22,7 +22,7 @@ use Rattle.id_print.specs.declared.helds.Held.{Held}
 use Rattle.id_print.specs.Names.{IsOrderOf, IsSortedOf, HeldBefore, WaitBefore, held_lines}
 use Rattle.id_print.specs.Texts.{quiet_text, stopped_text, fault_text}
 use Rattle.id_print.specs.Reports.{asked}
-use Rattle.id_print.specs.Traces.{trace_text}
+use Rattle.id_trace.specs.Traces.{trace_text}
 use Rattle.id_compile.specs.Programs.{IsProgramOf}
 use Rattle.id_engine.specs.Commands.{Run, Shows}
 

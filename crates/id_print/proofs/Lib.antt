@@ -1,4 +1,3 @@
-pub mod TracesLemmas
 pub mod HeldsLemmas
 pub mod NamesLemmas
 pub mod PartlyLemmas

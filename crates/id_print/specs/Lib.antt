@@ -1,5 +1,4 @@
 -- What public clauses cite.
-pub mod Traces
 pub mod Endings
 pub mod Helds
 pub mod Names

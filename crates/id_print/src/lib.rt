@@ -1,10 +1,11 @@
-//! What the program prints: reports of runs, traces, the lines of names, structures, facts and faults.
+//! What the program prints: reports of runs, the lines of names, structures, facts and faults.
 //!
 //! Keeps: a failed write ends a text at once, so what went out is a front of it.
 //! Errors: `PrintError`, only where a write failed; of a report that is put in order, want of memory.
 //! Read first: `specs/Endings.antt`, `specs/Names.antt`, `specs/RunReports.antt`, then `run_report`;
-//! `specs/Texts.antt`, then `report` and `write_report`; `specs/Traces.antt`, then `write_trace`.
-//! Not here: sinks and the texts of values (`id_sink`), runs (`id_elements`), refusals (`id_compile`).
+//! `specs/Texts.antt`, then `report` and `write_report`.
+//! Not here: sinks and the texts of values (`id_sink`), traces (`id_trace`), runs (`id_elements`), refusals
+//! (`id_compile`).
 #![tactic(auto)]
 
 mod facts;
@@ -13,7 +14,6 @@ mod names;
 mod reports;
 mod rows;
 mod run_reports;
-mod trace;
 mod within;
 
 pub use facts::{facts_within, write_facts};
@@ -22,5 +22,4 @@ pub use id_sink::{PrintError, Sink, SinkFault, put, put_number, put_place};
 pub use reports::{report, write_fault, write_report};
 pub use rows::write_round;
 pub use run_reports::{Report, is_within, run_report};
-pub use trace::write_trace;
 pub use within::Ending;

@@ -9,9 +9,10 @@ use id_core::{Element, Keeps, Machine, MachineError, Step, TakeError, fits, take
 use id_flight::Queue;
 use id_graph::{Block, Constant, Graph, GraphCause, Instr, Op, Port, PortKind};
 use id_match::{Entry, Offered, Waiting};
-use id_print::{Sink, SinkFault, write_trace};
+use id_print::{Sink, SinkFault};
 use id_source::{Inputs, SourceValue};
 use id_tag::{Cell, Context, Message, Payload, Sender, Structure, Tag, Value, route};
+use id_trace::write_trace;
 use id_valid::{InvalidCause, Valid, validate};
 use id_value::Sequence;
 use std::alloc::{AllocError, Global};

@@ -5,7 +5,8 @@
 //! Errors: `SourceFault`, of a read; `SinkFault` and `PrintError`, only where a write failed.
 //! Read first: `Sink`, `specs/Told.antt`, then `specs/Texts.antt`; `specs/Reading.antt`, then `read_text`;
 //! `specs/Writing.antt`, then `write_some`.
-//! Not here: whole lines, reports, facts and traces (`id_print`), the words and streams of the process (`idc`).
+//! Not here: whole lines, reports and facts (`id_print`), traces (`id_trace`), the words and streams of the process
+//! (`idc`).
 #![tactic(auto)]
 
 mod cursor;

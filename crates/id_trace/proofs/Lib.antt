@@ -1,0 +1,2 @@
+-- For use inside.
+pub mod TracesLemmas
