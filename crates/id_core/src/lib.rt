@@ -18,4 +18,4 @@ pub use id_element::{Element, Gate, Handling, Open, TakeError, fits};
 pub use id_observe::{CellValue, Holdings, Merged, Observed, merge_records, observe_records};
 pub use id_record::{Event, Events, Fault, Keeps, Outputs, Step};
 pub use in_flight::InFlight;
-pub use machine::{MAX_ELEMENTS, Machine, MachineError, start_flight};
+pub use machine::{MAX_ELEMENTS, Machine, MachineError, fresh_elements, start_flight};

@@ -315,8 +315,8 @@ fn give_back(elements: &mut [Element<'_>], alloc: Global)
     }
 }
 
-/// The elements at the start.
-fn fresh_elements<'a>(
+/// So many elements of a graph that have handled nothing and keep so much of their events.
+pub fn fresh_elements<'a>(
     alloc: Global,
     graph: &'a Valid,
     count: u32,

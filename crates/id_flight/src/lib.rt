@@ -8,11 +8,9 @@
 #![tactic(auto)]
 
 mod demand;
-mod letter;
 mod parcel;
 mod queue;
 mod row;
 
 pub use demand::Demand;
-pub use letter::Letter;
 pub use queue::Queue;

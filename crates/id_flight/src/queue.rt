@@ -5,7 +5,6 @@ ghost use Rattle.id_flight.specs.declared.parcel.Parcel.{Parcel};
 ghost use Rattle.id_flight.specs.Parcels.{IsWithin, unpacked};
 
 use crate::demand::Demand;
-use crate::letter::{Letter, letter_of, opened};
 use crate::parcel::{
     Parcel, context_in, demand_in, packed, packed_plain, packed_read, packed_write, parcel_aside,
     plain_in, unpack,
@@ -91,15 +90,6 @@ impl Queue {
     {
         let parcel = self.parcels.at(position);
         unpack(self.asides.as_slice(), parcel)
-    }
-
-    /// The letter of the message at a position, from 0. Takes memory only where no parcel keeps the message.
-    #[inline(always)]
-    pub fn letter(&self, alloc: Global, position: usize) -> Result<Letter, AllocError>
-        requires { position < length self.now.messages }
-        ensures { IfOk result (λ l. slice_get self.now.messages position ≡ Some l) }
-    {
-        letter_of(alloc, self.asides.as_slice(), self.parcels.at(position))
     }
 
     /// The plain token at a position, from 0, where a parcel keeps one there. Takes no memory.
@@ -205,18 +195,6 @@ impl Queue {
         self.parcels.push_back_reserved(parcel);
     }
 
-    /// Adds the message of a letter at the end, for which there is room. Takes no memory.
-    #[inline(always)]
-    pub fn push_letter_reserved(&mut self, letter: Letter)
-        requires { 0 < self.old.room }
-        ensures messages { self.new.messages ≡ self.old.messages ++ letter ∷ [] }
-        ensures room { self.old.room ≤ self.new.room + 1 }
-    {
-        self.room -= 1;
-        let parcel = opened(&mut self.asides, letter);
-        self.parcels.push_back_reserved(parcel);
-    }
-
     /// Adds a plain token at the end, for which there is room. Takes no memory.
     #[inline(always)]
     pub fn push_plain_reserved(&mut self, token: &PlainToken)
@@ -309,7 +287,7 @@ impl Queue {
 
 /// A parcel for the message, which stands aside where it does not fit. Takes no memory.
 #[inline(always)]
-pub(crate) fn parcel_for(asides: &mut Vec<Message>, message: Message) -> Parcel
+fn parcel_for(asides: &mut Vec<Message>, message: Message) -> Parcel
     requires { vec_len asides.old < vec_capacity asides.old }
     ensures is { unpacked asides.new.items result ≡ message }
     ensures within { IsWithin asides.new.items result }

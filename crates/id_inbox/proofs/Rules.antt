@@ -7,8 +7,9 @@ use lib.ListN.{get_elem?}
 use Rattle.crossbeam_queue.specs.Fifo.{Pushes, Pops, Forks, Merges, Learns}
 use Rattle.crossbeam_queue.proofs.Lists.{at_set, at_snoc}
 use Rattle.id_tag.specs.declared.Message.{Message}
+use Rattle.id_flight.specs.Queues.{QueueView}
 use Rattle.id_inbox.specs.declared.hand.Hand.{Hand}
-use Rattle.id_inbox.specs.Hands.{new_hand, spent_hand, kept_of, both_of, sending, taking, IdleIsEmpty, IsBalanced, KnowsAll}
+use Rattle.id_inbox.specs.Hands.{new_hand, spent_hand, kept_of, both_of, sending, taking, IdleIsEmpty, IsBalanced, KnowsAll, weight_in}
 
 -- the total after a change of one pass
 total_set : (f : Hand → ℕ) (views : List Hand) (port : ℕ) (v w : Hand) → get_elem? views port ≡ some v → sum_by f (set views port w) + f v ≡ sum_by f views + f w
@@ -33,32 +34,43 @@ idle_set views port w mine others j u e none = ⊎_elim (λ (x : (j ≡ port) ×
 total_snoc : (f : Hand → ℕ) (views : List Hand) (w : Hand) → sum_by f (views ++ w ∷ []) ≡ sum_by f views + f w
 total_snoc f views w = omega (arith, sum_by-append f views (w ∷ []), sum_by-cons f w [])
 
-pub sends : (n port : ℕ) (v : Hand) (x : Message) → 0 < v.parts → Pushes IsBalanced n port v x (λ w. w ≡ sending v x)
+-- one letter more, at the end and at the front
+weight_snoc : (f : Message → ℕ) (items : List QueueView) (x : QueueView)
+    → weight_in f (items ++ x ∷ []) ≡ weight_in f items + sum_by f x.messages
+weight_snoc f items x =
+    let g : QueueView → ℕ = λ q. sum_by f q.messages in
+    omega (arith, sum_by-append g items (x ∷ []), sum_by-cons g x [])
+
+weight_first : (f : Message → ℕ) (x : QueueView) (items : List QueueView)
+    → weight_in f (x ∷ items) ≡ sum_by f x.messages + weight_in f items
+weight_first f x items = sum_by-cons (λ (q : QueueView). sum_by f q.messages) x items
+
+pub sends : (n port : ℕ) (v : Hand) (x : QueueView) → 0 < v.parts → Pushes IsBalanced n port v x (λ w. w ≡ sending v x.messages)
 sends n port v x some_part items views room h at = (
-  sending v x,
+  sending v x.messages,
   (
-    (let s = total_set (λ u. u.parts) views port v (sending v x) at in let p = h.0 in omega arith),
+    (let s = total_set (λ u. u.parts) views port v (sending v x.messages) at in let p = h.0 in omega arith),
     (λ f.
-        let s = total_set (λ u. sum_by f u.sent) views port v (sending v x) at in
-        let t = total_set (λ u. sum_by f u.taken) views port v (sending v x) at in
+        let s = total_set (λ u. sum_by f u.sent) views port v (sending v x.messages) at in
+        let t = total_set (λ u. sum_by f u.taken) views port v (sending v x.messages) at in
         let p = h.1 f in
-        omega (arith, sum_by-append f v.sent (x ∷ []), sum_by-append f items (x ∷ []), s, t, p)),
-    idle_set views port (sending v x) (λ none. absurd (omega arith)) h.2,
+        omega (arith, sum_by-append f v.sent x.messages, weight_snoc f items x, s, t, p)),
+    idle_set views port (sending v x.messages) (λ none. absurd (omega arith)) h.2,
   ),
   refl,
 )
 
-pub takes : (port : ℕ) (v : Hand) → 0 < v.parts → Pops IsBalanced port v (λ x w. w ≡ taking v x)
+pub takes : (port : ℕ) (v : Hand) → 0 < v.parts → Pops IsBalanced port v (λ x w. w ≡ taking v x.messages)
 takes port v some_part x items views h at = (
-  taking v x,
+  taking v x.messages,
   (
-    (let s = total_set (λ u. u.parts) views port v (taking v x) at in let p = h.0 in omega arith),
+    (let s = total_set (λ u. u.parts) views port v (taking v x.messages) at in let p = h.0 in omega arith),
     (λ f.
-        let s = total_set (λ u. sum_by f u.sent) views port v (taking v x) at in
-        let t = total_set (λ u. sum_by f u.taken) views port v (taking v x) at in
+        let s = total_set (λ u. sum_by f u.sent) views port v (taking v x.messages) at in
+        let t = total_set (λ u. sum_by f u.taken) views port v (taking v x.messages) at in
         let p = h.1 f in
-        omega (arith, sum_by-append f v.taken (x ∷ []), sum_by-cons f x items, sum_by-cons f x [], s, t, p)),
-    idle_set views port (taking v x) (λ none. absurd (omega arith)) h.2,
+        omega (arith, sum_by-append f v.taken x.messages, weight_first f x items, s, t, p)),
+    idle_set views port (taking v x.messages) (λ none. absurd (omega arith)) h.2,
   ),
   refl,
 )

@@ -4,6 +4,7 @@ use Rattle.std.specs.List.{sum_by}
 use mathlib.Core.Option.{some}
 use lib.ListN.{get_elem?}
 use Rattle.id_tag.specs.declared.Message.{Message}
+use Rattle.id_flight.specs.Queues.{QueueView}
 use Rattle.id_inbox.specs.declared.hand.Hand.{Hand}
 
 -- the hand of a door with so many parts, which has sent and taken these messages, in order
@@ -30,19 +31,23 @@ kept_of v = hand (v.parts - 1) v.sent v.taken
 abbrev pub both_of : Hand → Hand → Hand
 both_of v w = hand (v.parts + w.parts) (v.sent ++ w.sent) (v.taken ++ w.taken)
 
--- a hand after a push of a message
-abbrev pub sending : Hand → Message → Hand
-sending v m = hand v.parts (v.sent ++ m ∷ []) v.taken
+-- a hand after a push of a letter with these messages
+abbrev pub sending : Hand → List Message → Hand
+sending v ms = hand v.parts (v.sent ++ ms) v.taken
 
--- a hand after a pop that found a message
-abbrev pub taking : Hand → Message → Hand
-taking v m = hand v.parts v.sent (v.taken ++ m ∷ [])
+-- a hand after a pop that found a letter with these messages
+abbrev pub taking : Hand → List Message → Hand
+taking v ms = hand v.parts v.sent (v.taken ++ ms)
+
+-- what these letters hold, however messages are weighed
+abbrev pub weight_in : (Message → ℕ) → List QueueView → ℕ
+weight_in f letters = sum_by (λ (q : QueueView). sum_by f q.messages) letters
 
 -- however messages are weighed, what all doors have sent weighs as much as what they have taken and the queue holds
-abbrev pub IsEven : List Message → List Hand → Type 0
+abbrev pub IsEven : List QueueView → List Hand → Type 0
 IsEven items views =
     (f : Message → ℕ)
-    → sum_by (λ v. sum_by f v.sent) views ≡ sum_by (λ v. sum_by f v.taken) views + sum_by f items
+    → sum_by (λ v. sum_by f v.sent) views ≡ sum_by (λ v. sum_by f v.taken) views + weight_in f items
 
 -- a door with no part has sent and taken nothing
 abbrev pub IdleIsEmpty : List Hand → Type 0
@@ -50,9 +55,10 @@ IdleIsEmpty views = (port : ℕ) (v : Hand) → get_elem? views port ≡ some v 
     → (v.sent ≡ []) × (v.taken ≡ [])
 
 -- the rule: all parts together are 1024, no message is lost or doubled, and a door with no part has done nothing
-abbrev pub IsBalanced : List Message → List Hand → Type 0
+abbrev pub IsBalanced : List QueueView → List Hand → Type 0
 IsBalanced items views = (sum_by (λ v. v.parts) views ≡ 1024) × IsEven items views × IdleIsEmpty views
 
 -- a door with all parts knows the whole: what it has sent weighs as much as what it has taken and the queue holds
-abbrev pub KnowsAll : Hand → List Message → Type 0
-KnowsAll v items = v.parts ≡ 1024 → (f : Message → ℕ) → sum_by f v.sent ≡ sum_by f v.taken + sum_by f items
+abbrev pub KnowsAll : Hand → List QueueView → Type 0
+KnowsAll v items =
+    v.parts ≡ 1024 → (f : Message → ℕ) → sum_by f v.sent ≡ sum_by f v.taken + weight_in f items

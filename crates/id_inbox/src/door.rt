@@ -4,12 +4,12 @@ ghost use Rattle.std.specs.Prelude.{◌≡◌};
 
 use crate::hand::{Cut, Fair, Hand, Sends, Takes};
 use crossbeam_queue::{RuledSegQueue, SegPass};
-use id_flight::Letter;
+use id_flight::Queue;
 use std::alloc::{AllocError, Global};
 use std::marker::Model;
 use std::sync::{Arc, Wait};
 
-type Line = RuledSegQueue<Letter, Hand, Fair>;
+type Line = RuledSegQueue<Queue, Hand, Fair>;
 
 // An inbox, which several doors own.
 struct Inbox {
@@ -27,7 +27,7 @@ impl Drop for Inbox {
 #[derive(Drop)]
 pub struct Door {
     inbox: Arc<Inbox>,
-    pass: SegPass<Letter, Hand>,
+    pass: SegPass<Queue, Hand>,
 }
 
 impl Model for Door {
@@ -55,12 +55,12 @@ impl Door {
         Ok(Door { inbox, pass })
     }
 
-    /// Sends the message of a letter. The letter comes back where there is no memory for a block of the queue, and then
-    /// nothing has changed.
-    pub fn push<R: Wait>(&mut self, rt: &R, letter: Letter) -> Result<(), Letter>
+    /// Sends the messages of a letter, all at once. The letter comes back where there is no memory for a block of the
+    /// queue, or its places are used up, and then nothing has changed.
+    pub fn push<R: Wait>(&mut self, rt: &R, letter: Queue) -> Result<(), Queue>
         requires { 0 < self.old.hand.parts }
         ensures { MatchResult result
-            (λ _. self.new ≡ record self.old { hand = sending self.old.hand letter })
+            (λ _. self.new ≡ record self.old { hand = sending self.old.hand letter.messages })
             (λ back. (back ≡ letter) × (self.new ≡ self.old)) }
     {
         self.inbox
@@ -70,11 +70,11 @@ impl Door {
 
     /// Takes the letter that was sent first, if the inbox was found to have one. Where it was not, and the door has all
     /// parts, what it has sent is what it has taken. Takes no memory.
-    pub fn pop<R: Wait>(&mut self, rt: &R) -> Option<Letter>
+    pub fn pop<R: Wait>(&mut self, rt: &R) -> Option<Queue>
         requires { 0 < self.old.hand.parts }
         ensures { MatchOption result
             ((self.new ≡ self.old) × KnowsAll self.old.hand [])
-            (λ letter. self.new ≡ record self.old { hand = taking self.old.hand letter }) }
+            (λ letter. self.new ≡ record self.old { hand = taking self.old.hand letter.messages }) }
     {
         self.inbox.line.pop_as::<Takes, R>(rt, &mut self.pass)
     }

@@ -3,7 +3,7 @@ ghost use Rattle.std.specs.Prelude.{◌≡◌, ◌<◌, ℕ, All, IfOk, OnOk, le
 ghost use Rattle.id_inbox.specs.Doors.{DoorView};
 
 use crate::door::Door;
-use id_flight::Letter;
+use id_flight::Queue;
 use id_instr::Port;
 use id_tag::{Cell, Context, Message, Payload, Sender, Structure, Tag, Value};
 use std::alloc::{AllocError, Global};
@@ -80,9 +80,17 @@ fn write() -> Message {
     message(payload, 10)
 }
 
+/// The letter of one message.
+fn letter_of(alloc: Global, message: &Message) -> Result<Queue, AllocError> {
+    let mut letter = Queue::new(alloc);
+    letter.push_back(*message)?;
+    Ok(letter)
+}
+
 /// The message that comes out of a letter.
-fn posted(alloc: Global, message: &Message) -> Result<Message, Fail> {
-    Ok(Letter::new(alloc, message)?.message())
+fn posted(alloc: Global, message: &Message) -> Result<Option<Message>, Fail> {
+    let mut letter = letter_of(alloc, message)?;
+    Ok(letter.pop_front())
 }
 
 /// Sends a message through a door.
@@ -96,7 +104,7 @@ fn send<R: Wait>(
     ensures queue { door.new.queue ≡ door.old.queue }
     ensures parts { door.new.hand.parts ≡ door.old.hand.parts }
 {
-    let letter = Letter::new(alloc, message)?;
+    let letter = letter_of(alloc, message)?;
     match door.push(rt, letter) {
         Ok(()) => Ok(()),
         Err(_) => Err(AllocError),
@@ -109,8 +117,8 @@ fn take<R: Wait>(rt: &R, door: &mut Door) -> Option<Message>
     ensures queue { door.new.queue ≡ door.old.queue }
     ensures parts { door.new.hand.parts ≡ door.old.hand.parts }
 {
-    let letter = door.pop(rt)?;
-    Some(letter.message())
+    let mut letter = door.pop(rt)?;
+    letter.pop_front()
 }
 
 #[test]
@@ -128,7 +136,7 @@ fn a_letter_keeps_its_message(rt: HostRuntime) -> Result<(), Fail> {
         token(Value::Signal, 0x1_0000_0000),
     ];
     for message in &messages {
-        assert!(rt; posted(rt.alloc(), message)? == *message);
+        assert!(rt; posted(rt.alloc(), message)? == Some(*message));
     }
     Ok(())
 }
@@ -154,7 +162,7 @@ fn a_door_and_its_twin_share_an_inbox(rt: HostRuntime) -> Result<(), Fail> {
 
 #[test]
 fn letters_and_doors_cross_threads(rt: HostRuntime) -> Result<(), Fail> {
-    crosses(Letter::new(rt.alloc(), &start())?);
+    crosses(letter_of(rt.alloc(), &start())?);
     crosses(Door::open(rt.alloc())?);
     Ok(())
 }

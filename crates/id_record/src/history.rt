@@ -83,7 +83,8 @@ impl<'a> Model for Events<'a> {
 }
 
 impl<'a> Record<'a> {
-    ghost use Rattle.std.specs.Prelude.{◌≡◌, ◌≢◌, ◌<◌, ◌≤◌, ◌+◌, ◌++◌, ◌∷◌, [], length};
+    ghost use Rattle.std.specs.Prelude.{◌≡◌, ◌≢◌, ◌<◌, ◌≤◌, ◌+◌, ◌++◌, ◌∷◌, []};
+    ghost use Rattle.std.specs.Prelude.{length};
     ghost use Rattle.std.specs.Prelude.{option_map, slice_get, true, Some, OnOk};
     ghost use Rattle.id_record.specs.declared.kept.Keeps.TheVariants as keeps;
     ghost use Rattle.id_record.specs.Handlings.{AreThere, handled};

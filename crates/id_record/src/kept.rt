@@ -1,6 +1,7 @@
 //! What a record keeps of its events: what they tell, always; the rest as far as it is asked for.
 
-ghost use Rattle.std.specs.Prelude.{◌≡◌, ◌<◌, ◌≤◌, ◌+◌, ◌-◌, ◌||◌, ◌++◌, ◌∷◌, [], if◌then◌else◌};
+ghost use Rattle.std.specs.Prelude.{◌≡◌, ◌<◌, ◌≤◌, ◌+◌, ◌-◌, ◌||◌, ◌++◌, ◌∷◌, []};
+ghost use Rattle.std.specs.Prelude.{if◌then◌else◌};
 ghost use Rattle.std.specs.Prelude.{IsTrue, OnOk, vec_capacity, vec_len};
 ghost use Rattle.std.specs.List.{cons_option};
 ghost use Rattle.std.specs.Option.{option_or};
@@ -69,7 +70,8 @@ pub struct Kept {
 const MANY: usize = 32;
 
 impl Model for Kept {
-    ghost use Rattle.std.specs.Prelude.{◌≡◌, ◌≤◌, ◌<◌, ◌+◌, ◌-◌, ◌*◌, ◌^◌, true, vec_len, vec_capacity};
+    ghost use Rattle.std.specs.Prelude.{◌≡◌, ◌≤◌, ◌<◌, ◌+◌, ◌-◌, ◌*◌, ◌^◌};
+    ghost use Rattle.std.specs.Prelude.{true, vec_len, vec_capacity};
     ghost use Rattle.id_record.specs.Kept.{KeptView, keeps_all, keeps_names};
 
     ghost Value = { KeptView };
@@ -97,7 +99,8 @@ impl Model for Kept {
 }
 
 impl Kept {
-    ghost use Rattle.std.specs.Prelude.{◌≡◌, ◌<◌, ◌≤◌, ◌+◌, ◌-◌, [], None, Some, false, OnOk, length, slice_get};
+    ghost use Rattle.std.specs.Prelude.{◌≡◌, ◌<◌, ◌≤◌, ◌+◌, ◌-◌, [], None, Some};
+    ghost use Rattle.std.specs.Prelude.{false, OnOk, length, slice_get};
     ghost use Rattle.id_record.specs.Kept.{noted, replied};
 
     /// Nothing of no event, of which so much will be kept. Takes no memory.
