@@ -1,5 +1,5 @@
 -- A run in the order that a seed gives (specs/Runs.antt).
-use Rattle.std.proofs.Common.{◌≡◌, ℕ, ◌+◌, ◌-◌, ◌*◌, ◌<◌, ◌≤◌, List, [], ◌∷◌, All, length, replicate, sym, ap, subst, ◌∙◌, arith, length-append, get_or}
+use Rattle.std.proofs.Common.{◌≡◌, ℕ, ◌+◌, ◌-◌, ◌*◌, ◌<◌, ◌≤◌, List, [], ◌∷◌, ◌++◌, All, length, replicate, refl, sym, ap, subst, ◌∙◌, arith, length-append, get_or}
 use Rattle.std.specs.List.{flat_map, sum_by}
 use Rattle.std.proofs.lemmas.List.{length-replicate}
 use Rattle.std.proofs.lemmas.List.Elements.{All-replicate}
@@ -10,12 +10,13 @@ use Rattle.id_instr.specs.Graph.{Parts}
 use Rattle.id_value.specs.declared.Constant.{Constant}
 use Rattle.id_tag.specs.Routes.{route_of}
 use Rattle.id_record.specs.declared.kept.Keeps.{Keeps}
-use Rattle.id_core.specs.Events.{EventView}
+use Rattle.id_core.specs.Events.{AllWent, EventView}
 use Rattle.id_core.specs.Steps.{State, event_of, fresh, outputs_of, state_after}
 use Rattle.id_core.specs.Machines.{World, MachineView, delivered, start, start_messages, taken_from}
+use Rattle.id_core.specs.Machines as machines
 use Rattle.id_runs.specs.Accounts.{IsAccounted, sent_of, taken_of}
-use Rattle.id_elements.specs.Runs.{AreHeldBefore, HasCount, IsFree}
-use Rattle.id_elements.proofs.FinishLemmas.{IsFree-within, before_removed, counts_on, delivered-free, goes_on, held_on, within_on}
+use Rattle.id_elements.specs.Runs.{AreHeldBefore, HasCount, HasWent, IsByPositions, IsDelivered, IsFree, StopAtFaults}
+use Rattle.id_elements.proofs.FinishLemmas.{IsFree-within, before_removed, counts_on, delivered-free, goes_on, held_on, stop_where_went, within_on}
 
 -- ---- how many messages were handled
 
@@ -73,6 +74,27 @@ module _ (steps count k : ℕ) (old new : MachineView) (same : old.count ≡ cou
   pub within_upto : (from : ℕ) → from ≤ k → from ≤ length new.world.flight
   within_upto from le = let w = within_on steps count k old new same f is in omega (arith, w, le)
 
+-- ---- where it has come to
+
+-- no delivery yet
+pub delivered_none : (g : Parts) (count : ℕ) (w : World) → IsDelivered g count w w
+delivered_none g count w = record { positions = []; is = refl }
+
+run_push : (g : Parts) (count : ℕ) (ks : List ℕ) (k : ℕ) (w : World) → machines.run g count (ks ++ k ∷ []) w ≡ delivered g count (machines.run g count ks w) k
+run_push g count [] k w = refl
+run_push g count (j ∷ js) k w = run_push g count js k (delivered g count w j)
+
+-- one delivery more
+pub delivered_more : (a b c : MachineView) (k : ℕ) → IsDelivered a.graph a.count a.world b.world → b.graph ≡ a.graph → b.count ≡ a.count
+    → c ≡ record b { world = delivered b.graph b.count b.world k } → IsDelivered a.graph a.count a.world c.world
+delivered_more a b c k d same_graph same_count is = record {
+  positions = d.positions ++ k ∷ [];
+  is = ap (λ (m : MachineView). m.world) is
+      ∙ (ap (λ (g : Parts). delivered g b.count b.world k) same_graph
+      ∙ (ap (λ (n : ℕ). delivered a.graph n b.world k) same_count
+      ∙ (ap (λ (w : World). delivered a.graph a.count w k) d.is ∙ sym (run_push a.graph a.count d.positions k a.world))));
+}
+
 -- ---- the start
 
 module _ (g : Parts) (vs : List Constant) (count : ℕ) (keeps : Keeps) (m : MachineView)
@@ -87,6 +109,14 @@ module _ (g : Parts) (vs : List Constant) (count : ℕ) (keeps : Keeps) (m : Mac
   start_few steps = subst (λ (x : MachineView). All (λ (s : State). length s.events ≤ steps) x.world.elements) (sym is)
       (All-replicate (λ (s : State). length s.events ≤ steps) count fresh (omega arith))
 
+  -- nothing was handled, so every event went well, and none came behind a fault
+  pub start_went : HasWent m.world
+  start_went = subst (λ (x : MachineView). HasWent x.world) (sym is)
+      (All-replicate (λ (s : State). AllWent s.events) count fresh (λ k d lt. absurd (omega arith)))
+
+  pub start_stops : StopAtFaults m.world
+  start_stops = stop_where_went m.world start_went
+
   -- each start message is left, and nothing was sent
   pub start_accounted : IsAccounted (start_messages g vs) m.world.elements m.world.flight
   start_accounted = subst (λ (x : MachineView). IsAccounted (start_messages g vs) x.world.elements x.world.flight) (sym is) at
@@ -98,3 +128,10 @@ module _ (g : Parts) (vs : List Constant) (count : ℕ) (keeps : Keeps) (m : Mac
           let t : taken_of f (replicate count fresh) ≡ count * 0 =
           sum_by-replicate (λ (s : State). sum_by (λ (v : EventView). f v.message) s.events) count fresh in
           omega (arith, s, t)
+
+  -- and deliveries from there are a run by positions
+  pub start_delivered : (w : World) → IsDelivered m.graph m.count m.world w → IsByPositions g vs count w
+  start_delivered w d = record {
+    positions = d.positions;
+    is = d.is ∙ ap (λ (x : MachineView). machines.run x.graph x.count d.positions x.world) is;
+  }

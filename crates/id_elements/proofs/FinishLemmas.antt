@@ -3,6 +3,8 @@ use Rattle.std.proofs.Common.{◌≡◌, ◌≢◌, ℕ, zero, suc, ◌+◌, ◌
 use Rattle.std.specs.Prelude.{slice_get, slice_set, option_map}
 use Rattle.std.specs.List.{remove, sum_by}
 use Rattle.std.proofs.lemmas.Bool.{cases_eq}
+use Rattle.std.proofs.lemmas.List.Elements.{All-append, All-cons, All-take}
+use Rattle.std.proofs.Math.Seq.{take-append_seam}
 use Rattle.std.proofs.lemmas.List.Sums.{sum_by-append, sum_by-set}
 use Rattle.std.proofs.lemmas.Option.{get_or_from_slice_get, slice_get-get_or, slice_get_within}
 use Rattle.id_instr.specs.Graph.{Parts}
@@ -16,8 +18,8 @@ use Rattle.id_core.specs.Machines.{World, MachineView, delivered, event_at, even
 use Rattle.id_element.specs.Replays.{ElementView}
 use Rattle.id_value.proofs.PlacesLemmas.{set-here, set-elsewhere, slice_get-image}
 use Rattle.id_runs.specs.Accounts.{IsAccounted}
-use Rattle.id_elements.specs.Runs.{AreHeldBefore, GoesOn, HasCount, HasWent, IsFree, IsHeldBack}
-use Rattle.id_elements.specs.Workers.{sent_in, weight_taken}
+use Rattle.id_elements.specs.Runs.{AreHeldBefore, GoesOn, HasCount, HasWent, IsFree, IsHeldBack, StopAtFaults}
+use Rattle.id_elements.specs.Workers.{StopsAtFault, sent_in, weight_taken}
 use Rattle.id_elements.proofs.WorkersLemmas.{sent_after, taken_after, weight_removed}
 
 abbrev pub IsHeldAt : ℕ → ℕ → World → ℕ → Type 0
@@ -278,6 +280,67 @@ failed_on steps count k old new x same f is step_is bad went =
     last : (es : List EventView) (v : EventView) → get_or (es ++ v ∷ []) (length es) v ≡ v
     last [] v = refl
     last (x ∷ xs) v = last xs v
+
+-- ---- no element handles a message behind a fault
+
+-- where every event went well, none came behind a fault
+stops_where_went : (es : List EventView) → AllWent es → StopsAtFault es
+stops_where_went es all = All-take (λ (v : EventView). v.step ≡ Went) (length es - 1) es all
+
+pub stop_where_went : (w : World) → HasWent w → StopAtFaults w
+stop_where_went w went n d lt = stops_where_went (get_or w.elements n d).events (went n d lt)
+
+before_last : (es : List EventView) (v : EventView) → take (length (es ++ v ∷ []) - 1) (es ++ v ∷ []) ≡ es
+before_last es v =
+    let long = length-append es (v ∷ []) in
+    let n : length (es ++ v ∷ []) - 1 ≡ length es = omega (arith, long) in
+    ap (λ (k : ℕ). take k (es ++ v ∷ [])) n ∙ take-append_seam es (v ∷ [])
+
+-- one event more
+stops_more : (es : List EventView) (v : EventView) → AllWent es → StopsAtFault (es ++ v ∷ [])
+stops_more es v all = subst AllWent (sym (before_last es v)) all
+
+went_more : (es : List EventView) (v : EventView) → AllWent es → v.step ≡ Went → AllWent (es ++ v ∷ [])
+went_more es v all went = All-append (λ (u : EventView). u.step ≡ Went) es (v ∷ []) all
+    (All-cons (λ (u : EventView). u.step ≡ Went) v [] went (λ k d lt. absurd (omega arith)))
+
+-- what holds of the states but for one, and of that, holds of all
+all_set : (P : State → Type 0) (ss : List State) (n : ℕ) (s : State) → All P ss → P s → All P (slice_set ss n s)
+all_set P ss n s all mine k d lt = cases (cases_eq k n)
+  where
+    cases : (k ≡ n) ⊎ (k ≡ n → ⊥) → P (get_or (slice_set ss n s) k d)
+    cases (inl is) =
+        let here : n < length ss = (let long = length-set ss n s in omega (arith, lt, long, is)) in
+        subst P (sym (ap (λ (j : ℕ). get_or (slice_set ss n s) j d) is ∙ get_or-set_same ss n s d here)) mine
+    cases (inr other) = subst P (sym (get_or-set_other ss n k s d other)) (all k d (omega (arith, lt, length-set ss n s)))
+
+module _ (steps count k : ℕ) (old new : MachineView) (x : Step) (same : old.count ≡ count) (f : IsFree count steps old.world k)
+    (is : new ≡ record old { world = delivered old.graph old.count old.world k })
+    (step_is : (event_of old.graph (route_of f.message.payload count) f.state f.message).step ≡ x) (went : HasWent old.world) where
+  abbrev place : ℕ
+  place = route_of f.message.payload count
+
+  abbrev event : EventView
+  event = event_of old.graph place f.state f.message
+
+  after_is : new.world ≡ to old.graph count steps old.world k f
+  after_is = ap (λ (m : MachineView). m.world) is ∙ (ap (λ (c : ℕ). delivered old.graph c old.world k) same ∙ delivered-free old.graph count steps old.world k f)
+
+  before_it : AllWent f.state.events
+  before_it = subst (λ (s : State). AllWent s.events) (get_or_from_slice_get old.world.elements place f.state f.state f.element)
+      (went place f.state (slice_get_within old.world.elements place f.state f.element))
+
+  -- a delivery behind which every event went well keeps it so, where its own event does
+  pub went_on : x ≡ Went → HasWent new.world
+  went_on good = subst HasWent (sym after_is)
+      (all_set (λ (s : State). AllWent s.events) old.world.elements place (next old.graph count steps old.world k f) went
+      (went_more f.state.events event before_it (step_is ∙ good)))
+
+  -- and whatever its event is, none came behind a fault
+  pub stop_on : StopAtFaults new.world
+  stop_on = subst StopAtFaults (sym after_is)
+      (all_set (λ (s : State). StopsAtFault s.events) old.world.elements place (next old.graph count steps old.world k f)
+      (stop_where_went old.world went) (stops_more f.state.events event before_it))
 
 -- ---- one delivery after others
 

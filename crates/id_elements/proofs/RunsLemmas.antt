@@ -33,8 +33,8 @@ use Rattle.std.proofs.lemmas.Bool.{cases_eq}
 use Rattle.std.proofs.lemmas.Option.{get_or_from_slice_get, slice_get-get_or}
 use Rattle.id_elements.proofs.FinishLemmas.{upto}
 use Rattle.id_elements.specs.Gathered.{AreGathered, states_of}
-use Rattle.id_elements.specs.Runs.{AllMove, HasWent, IsFinished, IsHeldBack, IsRun, MovesOn}
-use Rattle.id_elements.specs.Workers.{sent_in}
+use Rattle.id_elements.specs.Runs.{AllMove, HasWent, IsFinished, IsHeldBack, IsRun, MovesOn, StopAtFaults}
+use Rattle.id_elements.specs.Workers.{StopsAtFault, sent_in}
 
 -- ---- what is gathered
 
@@ -49,6 +49,16 @@ few_gathered g count most keeps es all n d lt = go es n d lt (λ k e l. (all k e
   where
     go : (es : List ElementView) (n : ℕ) (d : State) → n < length (states_of es)
         → ((k : ℕ) (e : ElementView) → k < length es → length (get_or es k e).state.events ≤ most) → length (get_or (states_of es) n d).events ≤ most
+    go [] n d lt each = absurd (omega arith)
+    go (x ∷ xs) zero d lt each = each 0 x (omega arith)
+    go (x ∷ xs) (suc n) d lt each = go xs n d (omega arith) (λ k e l. each (suc k) e (omega arith))
+
+-- nor behind a fault
+pub stops_gathered : (g : Parts) (count most : ℕ) (keeps : Keeps) (es : List ElementView) → AreGathered g count most keeps 0 es → All (λ (s : State). StopsAtFault s.events) (states_of es)
+stops_gathered g count most keeps es all n d lt = go es n d lt (λ k e l. (all k e l).stops)
+  where
+    go : (es : List ElementView) (n : ℕ) (d : State) → n < length (states_of es)
+        → ((k : ℕ) (e : ElementView) → k < length es → StopsAtFault (get_or es k e).state.events) → StopsAtFault (get_or (states_of es) n d).events
     go [] n d lt each = absurd (omega arith)
     go (x ∷ xs) zero d lt each = each 0 x (omega arith)
     go (x ∷ xs) (suc n) d lt each = go xs n d (omega arith) (λ k e l. each (suc k) e (omega arith))
@@ -191,9 +201,9 @@ went_from m es is = (
 
 -- a machine that has come to an end from what workers have left is a run
 pub run_from : (g : Parts) (vs : List Constant) (count steps : ℕ) (a m : MachineView) → OrdersAreRuns → a.graph ≡ g → a.count ≡ count
-    → IsAccounted (start_messages g vs) a.world.elements a.world.flight → IsFinished steps a m → AreReplayed m.graph m.count m.world.elements
+    → IsAccounted (start_messages g vs) a.world.elements a.world.flight → StopAtFaults a.world → IsFinished steps a m → AreReplayed m.graph m.count m.world.elements
     → IsRun g vs count steps m
-run_from g vs count steps a m law graph_is count_is accounted done replayed =
+run_from g vs count steps a m law graph_is count_is accounted stops done replayed =
     let on = done.on in
     let g_is : m.graph ≡ g = on.same_graph ∙ graph_is in
     let c_is : m.count ≡ count = on.same_count ∙ count_is in
@@ -204,11 +214,22 @@ run_from g vs count steps a m law graph_is count_is accounted done replayed =
       graph_is = g_is;
       count_is = c_is;
       few = on.few;
+      stops = done.stops stops;
       order = law.order g count m.world.elements r;
       legal = law.legal g vs count m.world r k;
       runs = law.runs g vs count m.world r k;
       honest = λ went. subst (λ (c : ℕ). All (IsHeldBack c steps m.world) m.world.flight) c_is (done.honest went);
     }
+
+-- ---- what is said of a result under a condition
+
+pub if_so : {A E : Type 0} (P : A → Type 0) (Q : Type 0) (r : Result A E) → IfOk r P → IfOk r (λ x. Q → P x)
+if_so P Q (Ok x) h = λ _. h
+if_so P Q (Err e) h = tt
+
+pub if_never : {A E : Type 0} (P : A → Type 0) (Q : Type 0) (r : Result A E) → (Q → ⊥) → IfOk r (λ x. Q → P x)
+if_never P Q (Ok x) never = λ q. absurd (never q)
+if_never P Q (Err e) never = tt
 
 -- ---- all events
 

@@ -116,7 +116,9 @@ Door-send δ d = record { owned = d.owned; leaving = λ k x w. tt }
 
 -- each of its parts, where a door may
 Parts-send : IsSend the_door.the_row → (κ : NamedLft) → AllSend (shape (the_worker_inside.the_type κ)).fields
-Parts-send d κ = search (tt, plain_send, Vec-send, d, Element-send, Flight-send, Queue-send) depth 30
+Parts-send d κ =
+    let letters = Vec-send the_queue.the_row Queue-send in
+    search (tt, plain_send, Vec-send, d, Element-send, Flight-send, Queue-send, letters) depth 30
 
 WorkerInside-send : IsSend the_door.the_row → (κ : NamedLft) → IsSend (the_worker_inside.the_row κ)
 WorkerInside-send d κ =

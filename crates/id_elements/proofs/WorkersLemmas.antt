@@ -1,13 +1,16 @@
 -- Each step of a worker keeps its accounts (specs/Workers.antt).
-use Rattle.std.proofs.Common.{◌≡◌, ℕ, zero, suc, ◌+◌, ◌<◌, ◌≤◌, List, [], ◌∷◌, ◌++◌, All, length, set, get_or, drop, refl, sym, ap, subst, ◌∙◌, arith, ⊎_elim, length-set, length-append}
-use Rattle.std.specs.Prelude.{Bool, Some, slice_get, OnErr, OnOk, Result, Ok, Err}
+use Rattle.std.proofs.Common.{◌≡◌, ℕ, zero, suc, ◌+◌, ◌-◌, ◌<◌, ◌≤◌, List, [], ◌∷◌, ◌++◌, All, length, map, set, get_or, take, refl, sym, ap, subst, ◌∙◌, arith, ⊎_elim, length-set, length-append}
+use Rattle.std.specs.Prelude.{Bool, false, IsTrue, Some, slice_get, Ok, Err}
 use Rattle.std.specs.declared.alloc.AllocError.{AllocError}
 use Rattle.std.specs.List.{remove, sum_by}
 use Rattle.std.proofs.lemmas.Grind.{flat_map-append}
-use Rattle.std.proofs.lemmas.List.Elements.{All-append, All-cons, All-drop, All-take}
-use Rattle.std.proofs.lemmas.List.Sums.{sum_by-append, sum_by-cons, sum_by-remove, sum_by_push}
+use Rattle.std.proofs.lemmas.List.{get_or-set_same}
+use Rattle.std.proofs.lemmas.List.Edits.{length-remove}
+use Rattle.std.proofs.lemmas.List.Elements.{All-append, All-drop, All-nil, All-push, All-take}
+use Rattle.std.proofs.lemmas.List.Sums.{sum_by-append, sum_by-cons, sum_by-remove, sum_by-set, sum_by_push}
 use Rattle.std.proofs.lemmas.Option.{get_or_from_slice_get, slice_get_within}
-use Rattle.std.proofs.lemmas.Bool.{cases_lt}
+use Rattle.std.proofs.lemmas.Bool.{cases_lt, false≢true}
+use Rattle.std.proofs.Math.Seq.{take-append_seam}
 use Rattle.std.specs.Global.{Global}
 use Rattle.crossbeam_queue.specs.SegTies.{SegId}
 use Rattle.id_instr.specs.Graph.{Parts}
@@ -15,18 +18,20 @@ use Rattle.id_tag.specs.Routes.{route_of}
 use Rattle.id_tag.proofs.RoutesLemmas.{route_of_below}
 use Rattle.id_tag.specs.declared.Message.{Message}
 use Rattle.id_tag.specs.declared.Payload.{Payload}
+use Rattle.id_flight.specs.Queues.{QueueView}
 use Rattle.id_inbox.specs.Doors.{DoorView}
-use Rattle.id_inbox.specs.Hands.{sending, taking}
+use Rattle.id_inbox.specs.Hands.{sending, weight_in}
 use Rattle.id_record.specs.declared.kept.Keeps.{Keeps}
-use Rattle.id_record.specs.Events.{EventView}
-use Rattle.id_element.specs.Fits.{Fits, IsFor}
+use Rattle.id_record.specs.declared.step.Step.TheVariants.{Went}
+use Rattle.id_record.specs.Events.{AllWent, EventView}
+use Rattle.id_element.specs.Fits.{Fits}
 use Rattle.id_element.specs.Steps.{State, event_of, outputs_of, state_after}
-use Rattle.id_element.specs.declared.step.TakeError.{TakeError}
 use Rattle.id_element.specs.Replays.{ElementView}
 use Rattle.id_elements.specs.Doors.{HaveParts, queues_of}
-use Rattle.id_elements.specs.Passing.{AreFor, Gives, IsGiven, IsPassed, IsRouted, IsStayed, Passes}
-use Rattle.id_elements.specs.Workers.{AreWorkers, IsKept, IsSame, IsSameWithin, IsWorker, WorkerView, sent_in, weight_taken}
+use Rattle.id_elements.specs.Passing.{AreFor, AreRouted, IsGiven, IsSentOn}
+use Rattle.id_elements.specs.Workers.{AreWorkers, IsKept, IsSame, IsSameWithin, IsWorker, StopsAtFault, WorkerView, sent_in, weight_taken}
 use Rattle.id_elements.proofs.DoorsLemmas.{parts_set, queues_set, sent_by-set, taken_by-set}
+use Rattle.id_elements.proofs.PassingLemmas.{before_last}
 
 -- ---- lists
 
@@ -39,21 +44,55 @@ weight_removed f ms k m at =
     omega (arith, sum_by-remove f ms k m lt, e)
 
 -- what holds of each of some messages holds of each without one
-pub All-removed : (P : Message → Type 0) (ms : List Message) (k : ℕ) → All P ms → All P (remove ms k)
+All-removed : (P : Message → Type 0) (ms : List Message) (k : ℕ) → All P ms → All P (remove ms k)
 All-removed P ms k all = All-append P _ _ (All-take P k ms all) (All-drop P (suc k) ms all)
 
--- what is first and what is behind it
-pub weight_first : (f : Message → ℕ) (ms : List Message) (m : Message) → slice_get ms 0 ≡ Some m → sum_by f ms ≡ f m + sum_by f (drop 1 ms)
-weight_first f [] m at = absurd cc
-weight_first f (x ∷ xs) m at = let e : f x ≡ f m = (let is : x ≡ m = cc in ap f is) in omega (arith, sum_by-cons f x xs, e)
+-- what letters weigh
+weight_letters : (f : Message → ℕ) (ls : List QueueView) → sum_by (sum_by f) (map (λ (q : QueueView). q.messages) ls) ≡ weight_in f ls
+weight_letters f [] = refl
+weight_letters f (q ∷ qs) =
+    let rest = weight_letters f qs in
+    omega (arith, rest, sum_by-cons (sum_by f) q.messages (map (λ (x : QueueView). x.messages) qs), sum_by-cons (λ (x : QueueView). sum_by f x.messages) q qs)
 
--- what holds of each holds of the one at a place
-pub All-at : (P : Message → Type 0) (ms : List Message) (k : ℕ) (m : Message) → slice_get ms k ≡ Some m → All P ms → P m
-All-at P ms k m at all = subst P (get_or_from_slice_get ms k m m at) (all k m (slice_get_within ms k m at))
+length_letters : (ls : List QueueView) → length (map (λ (q : QueueView). q.messages) ls) ≡ length ls
+length_letters [] = refl
+length_letters (q ∷ qs) = ap suc (length_letters qs)
 
--- and of one more
-pub All-push : (P : Message → Type 0) (ms : List Message) (m : Message) → All P ms → P m → All P (ms ++ m ∷ [])
-All-push P ms m all mine = All-append P ms (m ∷ []) all (All-cons P m [] mine (λ k d lt. absurd (omega arith)))
+-- ---- messages that are for an element
+
+AreFor-both : (e : ElementView) (ms : List Message) → AreRouted e.count e.number ms → All (Fits e.graph) ms → AreFor e ms
+AreFor-both e ms routed fits k d lt = record { routed = routed k d lt; fits = fits k d lt }
+
+fits_for : (e : ElementView) (ms : List Message) → AreFor e ms → All (Fits e.graph) ms
+fits_for e ms are k d lt = (are k d lt).fits
+
+routed_for : (e : ElementView) (ms : List Message) → AreFor e ms → AreRouted e.count e.number ms
+routed_for e ms are k d lt = (are k d lt).routed
+
+-- all are for the only element
+routed_to_only : (p : Payload) → route_of p 1 ≡ 0
+routed_to_only p = let lt = route_of_below p 1 (omega arith) in omega (arith, lt)
+
+AreFor-only : (e : ElementView) (ms : List Message) → e.count ≡ 1 → e.number ≡ 0 → All (Fits e.graph) ms → AreFor e ms
+AreFor-only e ms one first fits k d lt = record {
+  routed = ap (λ (n : ℕ). route_of (get_or ms k d).payload n) one ∙ (routed_to_only (get_or ms k d).payload ∙ sym first);
+  fits = fits k d lt;
+}
+
+-- ---- a worker
+
+-- the worker that has these
+abbrev pub worker_of : Bool → List DoorView → ElementView → List Message → List Message → List Message → List Message → List QueueView → WorkerView
+worker_of goes ds e own came back stray ls = record {
+  goes = goes;
+  doors = ds;
+  element = e;
+  own = own;
+  came = came;
+  back = back;
+  stray = stray;
+  letters = map (λ (q : QueueView). q.messages) ls;
+}
 
 -- ---- an element handles a message of its own
 
@@ -68,226 +107,236 @@ sent_after g n s m = flat_map-append (λ (v : EventView). v.outputs) s.events (e
 pub taken_after : (f : Message → ℕ) (g : Parts) (n : ℕ) (s : State) (m : Message) → weight_taken f (state_after g n s m) ≡ weight_taken f s + f m
 taken_after f g n s m = sum_by_push (λ (v : EventView). f v.message) s.events (event_of g n s m)
 
--- the accounts stay square
-pub IsKept-passed : (ds : List DoorView) (e e' : ElementView) (own own' out out' stray : List Message) (k : ℕ)
-    → IsKept (record { doors = ds; element = e; own = own; out = out; stray = stray }) → IsPassed k own e out own' e' out'
-    → IsKept (record { doors = ds; element = e'; own = own'; out = out'; stray = stray })
-IsKept-passed ds e e' own own' out out' stray k kept p =
-    let g = e.graph in
-    let n = e.number in
-    let m = p.message in
-    let graph_is : e'.graph ≡ g = ap (λ (x : ElementView). x.graph) p.element_is in
-    let state_is : e'.state ≡ state_after g n e.state m = ap (λ (x : ElementView). x.state) p.element_is in
-    let sent_is : sent_in e'.state ≡ sent_in e.state ++ outputs_of g n e.state m = ap sent_in state_is ∙ sent_after g n e.state m in
-    record {
-      parts = kept.parts;
-      count = ap (λ (x : ElementView). x.count) p.element_is ∙ kept.count;
-      number = subst (λ (x : ℕ). x < length ds) (sym (ap (λ (x : ElementView). x.number) p.element_is)) kept.number;
-      own = subst (λ (x : ElementView). AreFor x own') (sym p.element_is)
-          (subst (AreFor e) (sym p.own_is) (All-removed (IsFor g e.count n) own k kept.own));
-      out = subst (λ (x : Parts). All (Fits x) out') (sym graph_is)
-          (subst (All (Fits g)) (sym p.out_is) (All-append (Fits g) out (outputs_of g n e.state m) kept.out p.fits));
-      sent = subst (λ (x : Parts). All (Fits x) (sent_in e'.state)) (sym graph_is)
-          (subst (All (Fits g)) (sym sent_is) (All-append (Fits g) (sent_in e.state) (outputs_of g n e.state m) kept.sent p.fits));
-      square = λ f.
-          let a : sum_by f (sent_in e'.state) ≡ sum_by f (sent_in e.state ++ outputs_of g n e.state m) = ap (sum_by f) sent_is in
-          let b : weight_taken f e'.state ≡ weight_taken f e.state + f m = ap (weight_taken f) state_is ∙ taken_after f g n e.state m in
-          let c : sum_by f own' ≡ sum_by f (remove own k) = ap (sum_by f) p.own_is in
-          let d : sum_by f out' ≡ sum_by f (out ++ outputs_of g n e.state m) = ap (sum_by f) p.out_is in
-          let r = weight_removed f own k m p.there in
-          let s = kept.square f in
-          omega (arith, sum_by-append f (sent_in e.state) (outputs_of g n e.state m), sum_by-append f out (outputs_of g n e.state m), a, b, c, d, r, s);
-    }
+-- an element that has handled nothing, or whose events all went well, may handle one more
+stops_after : (es : List EventView) (v : EventView) → AllWent es → StopsAtFault (es ++ v ∷ [])
+stops_after es v went = subst AllWent (before_last (es ++ v ∷ []) es v refl) went
 
--- it is the same element, and has handled one message more
-pub IsSame-passed : (ds : List DoorView) (e e' : ElementView) (own own' out out' stray : List Message) (k : ℕ) → IsPassed k own e out own' e' out'
-    → IsSame (record { doors = ds; element = e; own = own; out = out; stray = stray }) (record { doors = ds; element = e'; own = own'; out = out'; stray = stray })
-IsSame-passed ds e e' own own' out out' stray k p = record {
-  queues = refl;
-  number = ap (λ (x : ElementView). x.number) p.element_is;
-  count = ap (λ (x : ElementView). x.count) p.element_is;
-  graph = ap (λ (x : ElementView). x.graph) p.element_is;
-  keeps = ap (λ (x : ElementView). x.keeps) p.element_is;
-}
+module _ (k : ℕ) (own : List Message) (e : ElementView) (own' : List Message) (e' : ElementView) (b : Bool) (p : IsGiven k own e own' e' b) where
+  -- it is the same element
+  pub number_given : e'.number ≡ e.number
+  number_given = ap (λ (x : ElementView). x.number) p.element_is
 
-pub handled_one : (k : ℕ) (own : List Message) (e : ElementView) (out own' : List Message) (e' : ElementView) (out' : List Message)
-    → IsPassed k own e out own' e' out' → length e'.state.events ≡ length e.state.events + 1
-handled_one k own e out own' e' out' p =
-    ap (λ (x : ElementView). length x.state.events) p.element_is
-    ∙ length-append e.state.events (event_of e.graph e.number e.state p.message ∷ [])
+  pub count_given : e'.count ≡ e.count
+  count_given = ap (λ (x : ElementView). x.count) p.element_is
 
--- the same, where it may have been an error, after which nothing has changed
-module _ (ds : List DoorView) (e e' : ElementView) (own own' out out' stray : List Message) (k : ℕ) where
-  pub IsKept-pass : (r : Result Bool TakeError) → IsKept (record { doors = ds; element = e; own = own; out = out; stray = stray })
-      → Passes k own e out own' e' out' r → IsKept (record { doors = ds; element = e'; own = own'; out = out'; stray = stray })
-  IsKept-pass (Ok b) kept p = IsKept-passed ds e e' own own' out out' stray k kept p.passed
-  IsKept-pass (Err x) kept p =
-      subst IsKept (λ i. record { doors = ds; element = sym p.same_element i; own = sym p.same_own i; out = sym p.same_out i; stray = stray }) kept
+  -- its own has lost one message, and got those that were sent
+  pub length_given : length own' + 1 ≡ length own + length (outputs_of e.graph e.number e.state p.message)
+  length_given =
+      let sent = outputs_of e.graph e.number e.state p.message in
+      let a : length own' ≡ length (remove own k ++ sent) = ap length p.own_is in
+      let r = length-remove own k (slice_get_within own k p.message p.there) in
+      omega (arith, a, r, length-append (remove own k) sent)
 
-  pub IsElement-pass : (r : Result Bool TakeError) → Passes k own e out own' e' out' r → (e.number ≡ e'.number) × (e.count ≡ e'.count)
-  IsElement-pass (Ok b) p = (sym (ap (λ (x : ElementView). x.number) p.passed.element_is), sym (ap (λ (x : ElementView). x.count) p.passed.element_is))
-  IsElement-pass (Err x) p = (sym (ap (λ (x : ElementView). x.number) p.same_element), sym (ap (λ (x : ElementView). x.count) p.same_element))
+  before_sent : (rest : ℕ) → rest ≡ length own - 1 → take rest own' ≡ remove own k
+  before_sent rest is =
+      let sent = outputs_of e.graph e.number e.state p.message in
+      let r = length-remove own k (slice_get_within own k p.message p.there) in
+      let at : rest ≡ length (remove own k) = omega (arith, r, is) in
+      ap (λ (n : ℕ). take n own') at ∙ ap (λ ms. take (length (remove own k)) ms) p.own_is ∙ take-append_seam (remove own k) sent
 
--- ---- the only element handles a message
+  fits_given : AreFor e own → All (Fits e.graph) own'
+  fits_given are =
+      let sent = outputs_of e.graph e.number e.state p.message in
+      subst (All (Fits e.graph)) (sym p.own_is) (All-append (Fits e.graph) (remove own k) sent
+      (All-removed (Fits e.graph) own k (fits_for e own are)) p.fits)
 
--- all messages are for it
-routed_to_only : (p : Payload) → route_of p 1 ≡ 0
-routed_to_only p = let lt = route_of_below p 1 (omega arith) in omega (arith, lt)
+module _ (goes : Bool) (ds : List DoorView) (e : ElementView) (own came back stray : List Message) (ls : List QueueView) (on : IsTrue goes)
+    (kept : IsKept (worker_of goes ds e own came back stray ls))
+    (k : ℕ) (own1 : List Message) (e' : ElementView) (b : Bool) (p : IsGiven k own e own1 e' b) where
+  -- wherever the messages of its own have gone
+  IsKept-moved : (goes' : Bool) (own' back' : List Message) (ls' : List QueueView)
+      → ((f : Message → ℕ) → sum_by f own' + sum_by f back' + weight_in f ls' ≡ sum_by f own1 + sum_by f back + weight_in f ls)
+      → length ls' ≡ length ls → (IsTrue goes' → AreFor e own') → (IsTrue goes' → back' ≡ []) → (IsTrue goes' → IsTrue b)
+      → IsKept (worker_of goes' ds e' own' came back' stray ls')
+  IsKept-moved goes' own' back' ls' moved long are none went =
+      let g = e.graph in
+      let n = e.number in
+      let m = p.message in
+      let state_is : e'.state ≡ state_after g n e.state m = ap (λ (x : ElementView). x.state) p.element_is in
+      let events_are : e'.state.events ≡ e.state.events ++ event_of g n e.state m ∷ [] = ap (λ (s : State). s.events) state_is in
+      let sent_is : sent_in e'.state ≡ sent_in e.state ++ outputs_of g n e.state m = ap sent_in state_is ∙ sent_after g n e.state m in
+      let all_went : AllWent e.state.events = kept.went on in
+      record {
+        parts = kept.parts;
+        count = ap (λ (x : ElementView). x.count) p.element_is ∙ kept.count;
+        number = subst (λ (x : ℕ). x < length ds) (sym (ap (λ (x : ElementView). x.number) p.element_is)) kept.number;
+        letters = length_letters ls' ∙ long ∙ sym (length_letters ls) ∙ kept.letters;
+        own = λ so. subst (λ (x : ElementView). AreFor x own') (sym p.element_is) (are so);
+        back = none;
+        went = λ so. subst AllWent (sym events_are)
+            (All-push (λ (v : EventView). v.step ≡ Went) e.state.events (event_of g n e.state m) all_went (p.went.0 (went so)));
+        stops = subst StopsAtFault (sym events_are) (stops_after e.state.events (event_of g n e.state m) all_went);
+        sent = subst (λ (x : Parts). All (Fits x) (sent_in e'.state)) (sym (ap (λ (x : ElementView). x.graph) p.element_is))
+            (subst (All (Fits g)) (sym sent_is) (All-append (Fits g) (sent_in e.state) (outputs_of g n e.state m) kept.sent p.fits));
+        square = λ f.
+            let a : sum_by f (sent_in e'.state) ≡ sum_by f (sent_in e.state ++ outputs_of g n e.state m) = ap (sum_by f) sent_is in
+            let w : weight_taken f e'.state ≡ weight_taken f e.state + f m = ap (weight_taken f) state_is ∙ taken_after f g n e.state m in
+            let c : sum_by f own1 ≡ sum_by f (remove own k ++ outputs_of g n e.state m) = ap (sum_by f) p.own_is in
+            let r = weight_removed f own k m p.there in
+            let q = moved f in
+            let s = kept.square f in
+            omega (
+              arith,
+              sum_by-append f (sent_in e.state) (outputs_of g n e.state m),
+              sum_by-append f (remove own k) (outputs_of g n e.state m),
+              weight_letters f ls,
+              weight_letters f ls',
+              a,
+              w,
+              c,
+              r,
+              q,
+              s,
+            );
+      }
 
-AreFor-only : (e : ElementView) (ms : List Message) → e.count ≡ 1 → e.number ≡ 0 → All (Fits e.graph) ms → AreFor e ms
-AreFor-only e ms one first fits k d lt = record {
-  routed = ap (λ (n : ℕ). route_of (get_or ms k d).payload n) one ∙ (routed_to_only (get_or ms k d).payload ∙ sym first);
-  fits = fits k d lt;
-}
+  -- after a fault it handles nothing more
+  pub IsKept-failed : IsKept (worker_of false ds e' own1 came back stray ls)
+  IsKept-failed = IsKept-moved false own1 back ls (λ f. refl) refl (λ so. absurd (false≢true so)) (λ so. absurd (false≢true so)) (λ so. absurd (false≢true so))
 
--- the accounts stay square
-pub IsKept-given : (ds : List DoorView) (e e' : ElementView) (own own' out stray : List Message) (k : ℕ)
-    → IsKept (record { doors = ds; element = e; own = own; out = out; stray = stray }) → e.count ≡ 1 → IsGiven k own e own' e'
-    → IsKept (record { doors = ds; element = e'; own = own'; out = out; stray = stray })
-IsKept-given ds e e' own own' out stray k kept one p =
-    let g = e.graph in
-    let n = e.number in
-    let m = p.message in
-    let first : n ≡ 0 = (let c = kept.count in let l = kept.number in omega (arith, c, l, one)) in
-    let graph_is : e'.graph ≡ g = ap (λ (x : ElementView). x.graph) p.element_is in
-    let state_is : e'.state ≡ state_after g n e.state m = ap (λ (x : ElementView). x.state) p.element_is in
-    let sent_is : sent_in e'.state ≡ sent_in e.state ++ outputs_of g n e.state m = ap sent_in state_is ∙ sent_after g n e.state m in
-    record {
-      parts = kept.parts;
-      count = ap (λ (x : ElementView). x.count) p.element_is ∙ kept.count;
-      number = subst (λ (x : ℕ). x < length ds) (sym (ap (λ (x : ElementView). x.number) p.element_is)) kept.number;
-      own = subst (λ (x : ElementView). AreFor x own') (sym p.element_is)
-          (subst (AreFor e) (sym p.own_is) (All-append (IsFor g e.count n) (remove own k) (outputs_of g n e.state m)
-          (All-removed (IsFor g e.count n) own k kept.own) (AreFor-only e (outputs_of g n e.state m) one first p.fits)));
-      out = subst (λ (x : Parts). All (Fits x) out) (sym graph_is) kept.out;
-      sent = subst (λ (x : Parts). All (Fits x) (sent_in e'.state)) (sym graph_is)
-          (subst (All (Fits g)) (sym sent_is) (All-append (Fits g) (sent_in e.state) (outputs_of g n e.state m) kept.sent p.fits));
-      square = λ f.
-          let a : sum_by f (sent_in e'.state) ≡ sum_by f (sent_in e.state ++ outputs_of g n e.state m) = ap (sum_by f) sent_is in
-          let b : weight_taken f e'.state ≡ weight_taken f e.state + f m = ap (weight_taken f) state_is ∙ taken_after f g n e.state m in
-          let c : sum_by f own' ≡ sum_by f (remove own k ++ outputs_of g n e.state m) = ap (sum_by f) p.own_is in
-          let r = weight_removed f own k m p.there in
-          let s = kept.square f in
-          omega (arith, sum_by-append f (sent_in e.state) (outputs_of g n e.state m), sum_by-append f (remove own k) (outputs_of g n e.state m), a, b, c, r, s);
-    }
+  -- what the only element sends is for it
+  pub IsKept-alone : IsTrue b → e.count ≡ 1 → IsKept (worker_of goes ds e' own1 came back stray ls)
+  IsKept-alone went one =
+      let first : e.number ≡ 0 = (let c = kept.count in let l = kept.number in omega (arith, c, l, one)) in
+      IsKept-moved goes own1 back ls (λ f. refl) refl
+      (λ so. AreFor-only e own1 one first (fits_given k own e own1 e' b p (kept.own on))) kept.back (λ so. went)
 
--- the same, where it may have been an error, after which nothing has changed
-module _ (ds : List DoorView) (e e' : ElementView) (own own' out stray : List Message) (k : ℕ) where
-  pub IsKept-give : (r : Result Bool TakeError) → IsKept (record { doors = ds; element = e; own = own; out = out; stray = stray }) → e.count ≡ 1
-      → Gives k own e own' e' r → IsKept (record { doors = ds; element = e'; own = own'; out = out; stray = stray })
-  IsKept-give (Ok b) kept one p = IsKept-given ds e e' own own' out stray k kept one p.given
-  IsKept-give (Err x) kept one p =
-      subst IsKept (λ i. record { doors = ds; element = sym p.same_element i; own = sym p.same_own i; out = out; stray = stray }) kept
+  -- what is for others was sent on
+  module _ (sent : ℕ) (own' back' : List Message) (ls' : List QueueView) where
+    pub IsKept-sent : (n : ℕ) → n ≡ e.number → IsTrue b → length own1 - sent ≡ length own - 1
+        → IsSentOn n sent own1 back ls own' back' ls' (Ok tt) → IsKept (worker_of goes ds e' own' came back' stray ls')
+    IsKept-sent n mine went from on_n =
+        let s : IsSentOn e.number sent own1 back ls own' back' ls' (Ok tt) =
+        subst (λ (x : ℕ). IsSentOn x sent own1 back ls own' back' ls' (Ok tt)) mine on_n in
+        let many : length ls ≡ e.count = sym (length_letters ls) ∙ kept.letters ∙ sym kept.count in
+        let front : AreRouted (length ls) e.number (take (length own1 - sent) own1) =
+        subst (λ (ms : List Message). AreRouted (length ls) e.number ms) (sym (before_sent k own e own1 e' b p (length own1 - sent) from))
+        (subst (λ (c : ℕ). AreRouted c e.number (remove own k)) (sym many)
+        (All-removed (λ m. route_of m.payload e.count ≡ e.number) own k (routed_for e own (kept.own on)))) in
+        let here = s.routed (kept.back on) front in
+        let fit : All (Fits e.graph) own' = s.fits e.graph (fits_given k own e own1 e' b p (kept.own on))
+        (subst (All (Fits e.graph)) (sym (kept.back on)) (All-nil (Fits e.graph))) in
+        IsKept-moved goes own' back' ls' s.weight s.count
+        (λ so. AreFor-both e own' (subst (λ (c : ℕ). AreRouted c e.number own') many here.1) fit) (λ so. here.0) (λ so. went)
 
-  pub IsElement-give : (r : Result Bool TakeError) → Gives k own e own' e' r → (e.number ≡ e'.number) × (e.count ≡ e'.count)
-  IsElement-give (Ok b) p = (sym (ap (λ (x : ElementView). x.number) p.given.element_is), sym (ap (λ (x : ElementView). x.count) p.given.element_is))
-  IsElement-give (Err x) p = (sym (ap (λ (x : ElementView). x.number) p.same_element), sym (ap (λ (x : ElementView). x.count) p.same_element))
+    -- where memory was wanting, it handles nothing more
+    pub IsKept-unsent : (n : ℕ) (x : AllocError) → IsSentOn n sent own1 back ls own' back' ls' (Err x)
+        → IsKept (worker_of false ds e' own' came back' stray ls')
+    IsKept-unsent n x s =
+        IsKept-moved false own' back' ls' s.weight s.count (λ so. absurd (false≢true so)) (λ so. absurd (false≢true so)) (λ so. absurd (false≢true so))
 
--- ---- a message stays
+-- ---- a letter
 
--- the first message to be sent has stayed with the worker
-pub IsKept-stayed : (ds : List DoorView) (e : ElementView) (own out stray : List Message) (m : Message)
-    → IsKept (record { doors = ds; element = e; own = own; out = out; stray = stray }) → slice_get out 0 ≡ Some m → IsRouted e.count out e.number
-    → IsKept (record { doors = ds; element = e; own = own ++ m ∷ []; out = drop 1 out; stray = stray })
-IsKept-stayed ds e own out stray m kept first routed =
-    let same : routed.message ≡ m = (let a = routed.there in let b = first in one_of _ _ (sym a ∙ b)) in
-    record {
-      parts = kept.parts;
-      count = kept.count;
-      number = kept.number;
-      own = All-push (IsFor e.graph e.count e.number) own m kept.own (subst (IsFor e.graph e.count e.number) same
-          (record { routed = routed.routed; fits = All-at (Fits e.graph) out 0 routed.message routed.there kept.out }));
-      out = All-drop (Fits e.graph) 1 out kept.out;
-      sent = kept.sent;
-      square = λ f. let p = kept.square f in let q = weight_first f out m first in omega (arith, p, q, sum_by_push f own m);
-    }
-  where
-    one_of : (x y : Message) → Some x ≡ Some y → x ≡ y
-    one_of x y h = cc
+module _ (goes : Bool) (ds : List DoorView) (e : ElementView) (own came back stray : List Message) (ls : List QueueView)
+    (kept : IsKept (worker_of goes ds e own came back stray ls)) where
+  -- what is left of the last one was moved to its own, or apart
+  pub IsKept-sorted : (own' came' stray' : List Message) → (AreFor e own → AreFor e own')
+      → ((f : Message → ℕ) → sum_by f own' + sum_by f stray' + sum_by f came' ≡ sum_by f own + sum_by f stray + sum_by f came)
+      → IsKept (worker_of goes ds e own' came' back stray' ls)
+  IsKept-sorted own' came' stray' are moved = record {
+    parts = kept.parts;
+    count = kept.count;
+    number = kept.number;
+    letters = kept.letters;
+    own = λ so. are (kept.own so);
+    back = kept.back;
+    went = kept.went;
+    stops = kept.stops;
+    sent = kept.sent;
+    square = λ f. let q = moved f in let s = kept.square f in omega (arith, q, s);
+  }
 
--- the first message to be sent stays with the worker
-pub IsKept-stay : (ds : List DoorView) (e : ElementView) (own out stray own' out' : List Message) (r : Result (Unit {0}) AllocError)
-    → IsKept (record { doors = ds; element = e; own = own; out = out; stray = stray }) → IsRouted e.count out e.number
-    → OnOk r (IsStayed own out own' out') → OnErr r (own' ≡ own) → OnErr r (out' ≡ out)
-    → IsKept (record { doors = ds; element = e; own = own'; out = out'; stray = stray })
-IsKept-stay ds e own out stray own' out' (Ok u) kept routed s a b =
-    subst IsKept (λ i. record { doors = ds; element = e; own = sym s.own_is i; out = sym s.out_is i; stray = stray })
-    (IsKept-stayed ds e own out stray s.message kept s.there routed)
-IsKept-stay ds e own out stray own' out' (Err x) kept routed s a b =
-    subst IsKept (λ i. record { doors = ds; element = e; own = sym a i; out = sym b i; stray = stray }) kept
-
--- ---- a message comes out of the inbox, or goes into one
-
-module _ (ds : List DoorView) (e : ElementView) (own out stray : List Message) (i : ℕ) (d d' : DoorView) (is : d ≡ get_or ds i d) (lt : i < length ds)
-    (kept : IsKept (record { doors = ds; element = e; own = own; out = out; stray = stray })) where
+module _ (goes : Bool) (ds : List DoorView) (e : ElementView) (own came back stray : List Message) (ls : List QueueView)
+    (kept : IsKept (worker_of goes ds e own came back stray ls)) (i : ℕ) (d d' : DoorView) (is : d ≡ get_or ds i d) (lt : i < length ds) where
   one_part : d'.hand.parts ≡ d.hand.parts → HaveParts 1 (set ds i d')
   one_part same = parts_set 1 ds i d' kept.parts (same ∙ (ap (λ (y : DoorView). y.hand.parts) is ∙ kept.parts i d lt))
 
-  -- this door has its part
-  pub some_part : 0 < d.hand.parts
-  some_part = let one : d.hand.parts ≡ 1 = ap (λ (y : DoorView). y.hand.parts) is ∙ kept.parts i d lt in omega arith
+  -- there is a letter for the element behind it
+  within : i < length ls
+  within = let l = kept.letters in omega (arith, l, lt, length_letters ls)
 
-  -- nothing was found
-  pub IsKept-none : d' ≡ d → IsKept (record { doors = set ds i d'; element = e; own = own; out = out; stray = stray })
-  IsKept-none h = record {
-    parts = one_part (ap (λ (y : DoorView). y.hand.parts) h);
+  -- by this door so much was sent and taken
+  IsKept-door : (came' : List Message) (ls' : List QueueView) → d'.hand.parts ≡ d.hand.parts → length ls' ≡ length ls
+      → ((f : Message → ℕ) → sum_by f d'.hand.taken + (sum_by f d.hand.sent + (sum_by f came + weight_in f ls))
+      ≡ sum_by f d.hand.taken + (sum_by f d'.hand.sent + (sum_by f came' + weight_in f ls')))
+      → IsKept (worker_of goes (set ds i d') e own came' back stray ls')
+  IsKept-door came' ls' parts long moved = record {
+    parts = one_part parts;
     count = kept.count ∙ sym (length-set ds i d');
-    number = (let k = kept.number in omega (arith, length-set ds i d'));
+    number = (let n = kept.number in omega (arith, length-set ds i d'));
+    letters = length_letters ls' ∙ long ∙ sym (length_letters ls) ∙ kept.letters ∙ sym (length-set ds i d');
     own = kept.own;
-    out = kept.out;
+    back = kept.back;
+    went = kept.went;
+    stops = kept.stops;
     sent = kept.sent;
     square = λ f.
         let s = sent_by-set f ds i d d' is lt in
         let t = taken_by-set f ds i d d' is lt in
-        let a : sum_by f d'.hand.sent ≡ sum_by f d.hand.sent = ap (λ (y : DoorView). sum_by f y.hand.sent) h in
-        let b : sum_by f d'.hand.taken ≡ sum_by f d.hand.taken = ap (λ (y : DoorView). sum_by f y.hand.taken) h in
+        let q = moved f in
         let p = kept.square f in
-        omega (arith, s, t, a, b, p);
+        omega (arith, s, t, q, p, weight_letters f ls, weight_letters f ls');
   }
 
-  -- a message was found, and kept with those for the element, or apart
-  pub IsKept-taken : (m : Message) (own' stray' : List Message) → d' ≡ record d { hand = taking d.hand m } → AreFor e own'
-      → ((f : Message → ℕ) → sum_by f own' + sum_by f stray' ≡ sum_by f own + sum_by f stray + f m)
-      → IsKept (record { doors = set ds i d'; element = e; own = own'; out = out; stray = stray' })
-  IsKept-taken m own' stray' h mine more = record {
-    parts = one_part (ap (λ (y : DoorView). y.hand.parts) h);
-    count = kept.count ∙ sym (length-set ds i d');
-    number = (let k = kept.number in omega (arith, length-set ds i d'));
-    own = mine;
-    out = kept.out;
-    sent = kept.sent;
-    square = λ f.
-        let s = sent_by-set f ds i d d' is lt in
-        let t = taken_by-set f ds i d d' is lt in
-        let a : sum_by f d'.hand.sent ≡ sum_by f d.hand.sent = ap (λ (y : DoorView). sum_by f y.hand.sent) h in
-        let b : sum_by f d'.hand.taken ≡ sum_by f (d.hand.taken ++ m ∷ []) = ap (λ (y : DoorView). sum_by f y.hand.taken) h in
-        let p = kept.square f in
-        let q = more f in
-        omega (arith, s, t, a, b, p, q, sum_by_push f d.hand.taken m);
+  -- a letter was put into an inbox, and an empty one stands in its place
+  pub IsKept-posted : (q empty : QueueView) → q ≡ get_or ls i q → empty.messages ≡ []
+      → d' ≡ record d { hand = sending d.hand q.messages } → IsKept (worker_of goes (set ds i d') e own came back stray (set ls i empty))
+  IsKept-posted q empty at none h = IsKept-door came (set ls i empty) (ap (λ (y : DoorView). y.hand.parts) h) (length-set ls i empty) (λ f.
+      let a : sum_by f d'.hand.sent ≡ sum_by f (d.hand.sent ++ q.messages) = ap (λ (y : DoorView). sum_by f y.hand.sent) h in
+      let b : sum_by f d'.hand.taken ≡ sum_by f d.hand.taken = ap (λ (y : DoorView). sum_by f y.hand.taken) h in
+      let c : sum_by f empty.messages ≡ 0 = ap (sum_by f) none in
+      let r : sum_by f q.messages ≡ sum_by f (get_or ls i q).messages = ap (λ (x : QueueView). sum_by f x.messages) at in
+      let w : weight_in f (set ls i empty) + sum_by f (get_or ls i q).messages ≡ weight_in f ls + sum_by f empty.messages =
+      sum_by-set (λ (x : QueueView). sum_by f x.messages) ls i empty q within in
+      omega (arith, a, b, c, r, w, sum_by-append f d.hand.sent q.messages))
+
+  -- it came back
+  pub IsKept-returned : (q empty s : QueueView) → q ≡ get_or ls i q → s ≡ q → d' ≡ d
+      → IsKept (worker_of goes (set ds i d') e own came back stray (set (set ls i empty) i s))
+  IsKept-returned q empty s at same h =
+      IsKept-door came (set (set ls i empty) i s) (ap (λ (y : DoorView). y.hand.parts) h)
+      (length-set (set ls i empty) i s ∙ length-set ls i empty) (λ f.
+      let a : sum_by f d'.hand.sent ≡ sum_by f d.hand.sent = ap (λ (y : DoorView). sum_by f y.hand.sent) h in
+      let b : sum_by f d'.hand.taken ≡ sum_by f d.hand.taken = ap (λ (y : DoorView). sum_by f y.hand.taken) h in
+      let c : sum_by f s.messages ≡ sum_by f q.messages = ap (λ (x : QueueView). sum_by f x.messages) same in
+      let r : sum_by f q.messages ≡ sum_by f (get_or ls i q).messages = ap (λ (x : QueueView). sum_by f x.messages) at in
+      let w : weight_in f (set ls i empty) + sum_by f (get_or ls i q).messages ≡ weight_in f ls + sum_by f empty.messages =
+      sum_by-set (λ (x : QueueView). sum_by f x.messages) ls i empty q within in
+      let there : get_or (set ls i empty) i q ≡ empty = get_or-set_same ls i empty q within in
+      let e2 : sum_by f (get_or (set ls i empty) i q).messages ≡ sum_by f empty.messages = ap (λ (x : QueueView). sum_by f x.messages) there in
+      let within2 : i < length (set ls i empty) = subst (λ (n : ℕ). i < n) (sym (length-set ls i empty)) within in
+      let w2 : weight_in f (set (set ls i empty) i s) + sum_by f (get_or (set ls i empty) i q).messages ≡ weight_in f (set ls i empty) + sum_by f s.messages =
+      sum_by-set (λ (x : QueueView). sum_by f x.messages) (set ls i empty) i s q within2 in
+      omega (arith, a, b, c, r, w, e2, w2))
+
+  -- the inboxes and the element are the same
+  pub IsSame-door : (came' : List Message) (ls' : List QueueView) → d'.queue ≡ d.queue
+      → IsSame (worker_of goes ds e own came back stray ls) (worker_of goes (set ds i d') e own came' back stray ls')
+  IsSame-door came' ls' same = record {
+    queues = queues_set ds i d d' is lt same;
+    number = refl;
+    count = refl;
+    graph = refl;
+    keeps = refl;
   }
 
-  -- the first message to be sent was put into an inbox
-  pub IsKept-posted : (m : Message) → slice_get out 0 ≡ Some m → d' ≡ record d { hand = sending d.hand m }
-      → IsKept (record { doors = set ds i d'; element = e; own = own; out = drop 1 out; stray = stray })
-  IsKept-posted m first h = record {
-    parts = one_part (ap (λ (y : DoorView). y.hand.parts) h);
-    count = kept.count ∙ sym (length-set ds i d');
-    number = (let k = kept.number in omega (arith, length-set ds i d'));
-    own = kept.own;
-    out = All-drop (Fits e.graph) 1 out kept.out;
-    sent = kept.sent;
-    square = λ f.
-        let s = sent_by-set f ds i d d' is lt in
-        let t = taken_by-set f ds i d d' is lt in
-        let a : sum_by f d'.hand.sent ≡ sum_by f (d.hand.sent ++ m ∷ []) = ap (λ (y : DoorView). sum_by f y.hand.sent) h in
-        let b : sum_by f d'.hand.taken ≡ sum_by f d.hand.taken = ap (λ (y : DoorView). sum_by f y.hand.taken) h in
-        let p = kept.square f in
-        let q = weight_first f out m first in
-        omega (arith, s, t, a, b, p, q, sum_by_push f d.hand.sent m);
-  }
+pub IsSame-after : (u v w : WorkerView) → IsSame u v → IsSame v w → IsSame u w
+IsSame-after u v w first next = record {
+  queues = next.queues ∙ first.queues;
+  number = next.number ∙ first.number;
+  count = next.count ∙ first.count;
+  graph = next.graph ∙ first.graph;
+  keeps = next.keeps ∙ first.keeps;
+}
 
-  pub queues_kept : d'.queue ≡ d.queue → queues_of (set ds i d') ≡ queues_of ds
-  queues_kept same = queues_set ds i d d' is lt same
+-- a worker with the same inboxes has as many
+pub as_many : (old new : WorkerView) → IsSame old new → length new.doors ≡ length old.doors
+as_many old new same =
+    sym (length_queues new.doors) ∙ ap length same.queues ∙ length_queues old.doors
+  where
+    length_queues : (ds : List DoorView) → length (queues_of ds) ≡ length ds
+    length_queues [] = refl
+    length_queues (d ∷ ds) = ap suc (length_queues ds)
 
 -- ---- workers of a list
 

@@ -11,7 +11,7 @@ use Rattle.id_element.specs.Replays.{ElementView}
 use Rattle.id_core.specs.Machines.{IsElement}
 use Rattle.id_runs.specs.Accounts.{sent_of, taken_of}
 use Rattle.id_elements.specs.Doors.{sent_by, taken_by}
-use Rattle.id_elements.specs.Workers.{sent_in}
+use Rattle.id_elements.specs.Workers.{StopsAtFault, sent_in}
 
 -- the states of these elements
 abbrev pub states_of : List ElementView → List State
@@ -23,12 +23,13 @@ abbrev pub IsWhole : List Message → List DoorView → List State → List Mess
 IsWhole start ds ss left = (f : Message → ℕ)
     → taken_by f ds + sum_by f start + sent_of f ss ≡ sent_by f ds + taken_of f ss + sum_by f left
 
--- the element is the one of this number, it keeps so much of its events, it has handled so many messages at most, and
--- what it sent fits the graph
+-- the element is the one of this number, it keeps so much of its events, it has handled so many messages at most, none
+-- behind a fault, and what it sent fits the graph
 pub record IsGathered (g : Parts) (count most : ℕ) (k : Keeps) (n : ℕ) (e : ElementView) : Type 0 where
   pub element : IsElement g count n e
   pub kept : e.keeps ≡ k
   pub few : length e.state.events ≤ most
+  pub stops : StopsAtFault e.state.events
   pub sent : All (Fits g) (sent_in e.state)
 
 -- so are these elements, whose numbers begin with this one

@@ -9,12 +9,14 @@ use Rattle.id_value.specs.List.{Among}
 use Rattle.id_record.specs.declared.step.Step.TheVariants.{Stuck}
 use Rattle.id_core.specs.Events.{AllWent, EventView}
 use Rattle.id_observe.specs.Firsts.{AreMergedOf}
-use Rattle.id_core.specs.Machines.{MachineView, World}
+use Rattle.id_core.specs.Machines.{MachineView, World, start}
+use Rattle.id_core.specs.Machines as machines
 use Rattle.id_core.specs.Observed.{events_of}
 use Rattle.id_core.specs.Steps.{State, is_ended}
 use Rattle.id_runs.specs.Legal.{IsRunOf}
 use Rattle.id_runs.specs.Accounts.{IsAccounted}
 use Rattle.id_runs.specs.Orders.{IsLegalOrder}
+use Rattle.id_elements.specs.Workers.{StopsAtFault}
 use Rattle.id_elements.specs.declared.settings.RunError.{RunError}
 use Rattle.id_elements.specs.declared.settings.RunError.TheVariants.{BadElements, BadSteps, Memory}
 use Rattle.id_elements.specs.declared.settings.RunError.TheVariants as error
@@ -29,17 +31,28 @@ pub record IsHeldBack (count steps : ℕ) (w : World) (m : Message) : Type 0 whe
 abbrev pub HasWent : World → Type 0
 HasWent w = All (λ s. AllWent s.events) w.elements
 
+-- no element has handled a message behind a fault of its own
+abbrev pub StopAtFaults : World → Type 0
+StopAtFaults w = All (λ s. StopsAtFault s.events) w.elements
+
 -- a run on worker threads has come to this: its elements are so many of the graph, of which each has handled so many
--- messages at most; all events, by stamp and at one stamp by element, are a legal list from the start messages that
--- ends in these elements, with what is left in flight; and where every event went well, each message left is held back
+-- messages at most, none of them behind a fault; all events, by stamp and at one stamp by element, are a legal list
+-- from the start messages that ends in these elements, with what is left in flight; and where every event went well,
+-- each message left is held back
 pub record IsRun (g : Parts) (vs : List Constant) (count steps : ℕ) (m : MachineView) : Type 0 where
   pub graph_is : m.graph ≡ g
   pub count_is : m.count ≡ count
   pub few : All (λ s. length s.events ≤ steps) m.world.elements
+  pub stops : StopAtFaults m.world
   pub order : (es : List EventView) × AreMergedOf m.world.elements es
   pub legal : (es : List EventView) → AreMergedOf m.world.elements es → IsLegalOrder g vs count es m.world
   pub runs : (es : List EventView) → AreMergedOf m.world.elements es → IsRunOf g vs count es m.world
   pub honest : HasWent m.world → All (IsHeldBack count steps m.world) m.world.flight
+
+-- it is the machine after deliveries at some positions, one after another, from its start on
+pub record IsByPositions (g : Parts) (vs : List Constant) (count : ℕ) (w : World) : Type 0 where
+  pub positions : List ℕ
+  pub is : w ≡ machines.run g count positions (start g vs count)
 
 -- none of these events was `Stuck`
 abbrev pub AllMove : List EventView → Type 0
@@ -97,7 +110,14 @@ pub record GoesOn (steps : ℕ) (old new : MachineView) : Type 0 where
   pub accounted : (start : List Message) → IsAccounted start old.world.elements old.world.flight
       → IsAccounted start new.world.elements new.world.flight
 
--- and it has come to an end: where every event went well, each message left is held back
+-- and it has come to an end: no element has handled a message behind a fault, where none had, and where every event
+-- went well, each message left is held back
 pub record IsFinished (steps : ℕ) (old new : MachineView) : Type 0 where
   pub on : GoesOn steps old new
+  pub stops : StopAtFaults old.world → StopAtFaults new.world
   pub honest : HasWent new.world → All (IsHeldBack new.count steps new.world) new.world.flight
+
+-- the machine has gone on from there by deliveries at some positions, one after another
+pub record IsDelivered (g : Parts) (count : ℕ) (old new : World) : Type 0 where
+  pub positions : List ℕ
+  pub is : new ≡ machines.run g count positions old

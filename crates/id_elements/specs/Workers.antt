@@ -1,5 +1,6 @@
 -- A worker as contracts see it, and what every worker keeps (docs/THREADS.md, "A worker").
-use Rattle.std.specs.Prelude.{◌≡◌, ◌<◌, ◌≤◌, ℕ, ◌+◌, List, [], All, length, slice_index_or}
+use Rattle.std.specs.Prelude.{◌≡◌, ◌<◌, ◌≤◌, ℕ, ◌+◌, ◌-◌, Bool, true, IsTrue, List, [], All}
+use Rattle.std.specs.Prelude.{length, replicate, slice_index_or, take}
 use Rattle.std.specs.List.{flat_map, sum_by}
 use Rattle.std.specs.Global.{Global}
 use Rattle.crossbeam_queue.specs.SegTies.{SegId}
@@ -7,12 +8,13 @@ use Rattle.id_instr.specs.Graph.{Parts}
 use Rattle.id_tag.specs.declared.Message.{Message}
 use Rattle.id_inbox.specs.Doors.{DoorView}
 use Rattle.id_record.specs.declared.kept.Keeps.{Keeps}
+use Rattle.id_record.specs.Events.{AllWent, EventView}
 use Rattle.id_element.specs.Fits.{Fits}
 use Rattle.id_element.specs.Steps.{State, fresh}
 use Rattle.id_element.specs.Replays.{ElementView}
 use Rattle.id_core.specs.Machines.{IsElement}
 use Rattle.id_elements.specs.Doors.{HaveParts, queues_of, sent_by, taken_by}
-use Rattle.id_elements.specs.Passing.{AreFor, IsRouted}
+use Rattle.id_elements.specs.Passing.{AreFor}
 
 -- all that the record of a state says that was sent
 abbrev pub sent_in : State → List Message
@@ -22,18 +24,27 @@ sent_in s = flat_map (λ v. v.outputs) s.events
 abbrev pub weight_taken : (Message → ℕ) → State → ℕ
 weight_taken f s = sum_by (λ v. f v.message) s.events
 
--- a worker: its doors, its element, what is for that, what the element sent and is not sorted yet, and what came and is
--- not for the element
+-- every event but the last one, at the most, went well: none came behind a fault
+abbrev pub StopsAtFault : List EventView → Type 0
+StopsAtFault es = AllWent (take (length es - 1) es)
+
+-- a worker: whether it may handle more, its doors, its element, what is for that, what is left of the letter that came
+-- last, what is moved from its own and back, what came and is not for the element, and what is to be sent to each
+-- element
 pub record WorkerView : Type 0 where
+  pub goes : Bool
   pub doors : List DoorView
   pub element : ElementView
   pub own : List Message
-  pub out : List Message
+  pub came : List Message
+  pub back : List Message
   pub stray : List Message
+  pub letters : List (List Message)
 
 -- what the worker has at hand
 abbrev pub weight_held : (Message → ℕ) → WorkerView → ℕ
-weight_held f w = sum_by f w.own + sum_by f w.out + sum_by f w.stray
+weight_held f w =
+    sum_by f w.own + sum_by f w.came + sum_by f w.back + sum_by f w.stray + sum_by (sum_by f) w.letters
 
 -- what was taken out of inboxes and what the element sent is what was put into inboxes, what the element took, and what
 -- is at hand
@@ -41,14 +52,18 @@ abbrev pub IsSquare : WorkerView → Type 0
 IsSquare w = (f : Message → ℕ) → taken_by f w.doors + sum_by f (sent_in w.element.state)
     ≡ sent_by f w.doors + weight_taken f w.element.state + weight_held f w
 
--- what every worker keeps: it has a door with one part to each element's inbox, what is its own is for its element,
--- what the element sent fits the graph, and the accounts are square
+-- what every worker keeps: it has a door with one part to each element's inbox, and a letter for each; where it may
+-- handle more, what is its own is for its element, and each event went well; what the element sent fits the graph, and
+-- the accounts are square
 pub record IsKept (w : WorkerView) : Type 0 where
   pub parts : HaveParts 1 w.doors
   pub count : w.element.count ≡ length w.doors
   pub number : w.element.number < length w.doors
-  pub own : AreFor w.element w.own
-  pub out : All (Fits w.element.graph) w.out
+  pub letters : length w.letters ≡ length w.doors
+  pub own : IsTrue w.goes → AreFor w.element w.own
+  pub back : IsTrue w.goes → w.back ≡ []
+  pub went : IsTrue w.goes → AllWent w.element.state.events
+  pub stops : StopsAtFault w.element.state.events
   pub sent : All (Fits w.element.graph) (sent_in w.element.state)
   pub square : IsSquare w
 
@@ -68,16 +83,15 @@ pub record IsSameWithin (most : ℕ) (old new : WorkerView) : Type 0 where
 -- the worker of an element that has handled nothing, with these doors
 abbrev pub fresh_worker : Parts → ℕ → Keeps → ℕ → List DoorView → WorkerView
 fresh_worker g count keeps number doors = record {
+  goes = true;
   doors = doors;
   element = record { number = number; count = count; graph = g; keeps = keeps; state = fresh };
   own = [];
-  out = [];
+  came = [];
+  back = [];
   stray = [];
+  letters = replicate count [];
 }
-
--- the first message that a worker has to send is for its own element
-abbrev pub IsFirstOwn : WorkerView → Type 0
-IsFirstOwn w = IsRouted w.element.count w.out w.element.number
 
 -- the worker has these inboxes, is that of the element of this number, which keeps so much of its events, and the
 -- element has handled so many messages at most

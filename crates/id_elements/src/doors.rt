@@ -1,17 +1,18 @@
 //! The doors to all inboxes.
 
-ghost use Rattle.std.specs.Prelude.{◌≡◌, ◌<◌, ◌≤◌, ◌+◌, [], All, IfOk, List, OnErr, OnOk, length};
-ghost use Rattle.std.specs.Prelude.{vec_len};
+ghost use Rattle.std.specs.Prelude.{◌≡◌, ◌<◌, ◌≤◌, ◌+◌, ◌∷◌, [], ℕ, All, IfOk, List, OnErr};
+ghost use Rattle.std.specs.Prelude.{length, vec_len, OnOk};
 ghost use Rattle.id_tag.specs.declared.Message.{Message};
+ghost use Rattle.std.specs.List.{sum_by};
 ghost use Rattle.id_element.specs.Steps.{State};
 ghost use Rattle.id_inbox.specs.Hands.{sending};
 ghost use Rattle.id_elements.specs.Doors.{AreUnused, HaveParts, IsCut, IsDrained, IsMerged, queues_of};
 ghost use Rattle.id_elements.specs.Gathered.{IsWhole};
 ghost use Rattle.id_runs.specs.Accounts.{IsAccounted};
 
-use id_flight::{Letter, Queue};
+use id_flight::Queue;
 use id_inbox::Door;
-use id_tag::route;
+use id_tag::{Message, route};
 use std::alloc::{AllocError, Global};
 use std::sync::Wait;
 
@@ -28,12 +29,14 @@ pub fn open_all(alloc: Global, count: u32) -> Result<Vec<Door>, AllocError>
     Ok(doors)
 }
 
-/// Puts a letter into an inbox.
-pub fn put<R: Wait>(rt: &R, door: &mut Door, letter: Letter) -> Result<(), AllocError>
+/// Puts a message into an inbox, in a letter of its own.
+fn put<R: Wait>(rt: &R, alloc: Global, door: &mut Door, message: Message) -> Result<(), AllocError>
     requires { 0 < door.old.hand.parts }
-    ensures ok { OnOk result (door.new ≡ record door.old { hand = sending door.old.hand letter }) }
+    ensures ok { OnOk result (door.new ≡ record door.old { hand = sending door.old.hand (message ∷ []) }) }
     ensures err { OnErr result (door.new ≡ door.old) }
 {
+    let mut letter = Queue::new(alloc);
+    letter.push_back(message)?;
     match door.push(rt, letter) {
         Ok(()) => Ok(()),
         Err(_) => Err(AllocError),
@@ -57,9 +60,9 @@ pub fn send_start<R: Wait>(
 {
     let count = doors.len() as u32;
     for position in 0..start.len() {
-        let to = route(&start.message(position), count) as usize;
-        let letter = start.letter(alloc, position)?;
-        put(rt, &mut doors[to], letter)?;
+        let message = start.message(position);
+        let to = route(&message, count) as usize;
+        put(rt, alloc, &mut doors[to], message)?;
     }
     Ok(())
 }
@@ -91,15 +94,27 @@ pub fn absorb_all(doors: &mut Vec<Door>, mut theirs: Vec<Door>)
     }
 }
 
+/// Keeps all messages of a list.
+pub fn keep_rest(left: &mut Queue, rest: Queue) -> Result<(), AllocError>
+    ensures { OnOk result ((f : Message → ℕ)
+        → sum_by f left.new.messages ≡ sum_by f left.old.messages + sum_by f rest.messages) }
+{
+    let mut rest = rest;
+    left.reserve(rest.len())?;
+    while let Some(message) = rest.pop_front() {
+        left.push_back_reserved(message);
+    }
+    Ok(())
+}
+
 /// Takes out what is left in an inbox, of which this is the one door.
 pub fn drain<R: Wait>(rt: &R, door: &mut Door, left: &mut Queue) -> Result<(), AllocError>
     requires { door.old.hand.parts ≡ 1024 }
     ensures { OnOk result (IsDrained door.old left.old.messages door.new left.new.messages) }
 {
     for _ in rt.forever() {
-        left.reserve(1)?;
         match door.pop(rt) {
-            Some(letter) => left.push_letter_reserved(letter),
+            Some(letter) => keep_rest(left, letter)?,
             None => return Ok(()),
         }
     }

@@ -1,10 +1,10 @@
 //! A run whose order a seed gives: the calling thread delivers messages that a generator draws.
 
 ghost use Rattle.std.specs.Prelude.{◌≡◌, ◌<◌, ◌≤◌, ◌⊎◌, ◌↔◌, All, length, Err, IfErr, IfOk};
-ghost use Rattle.std.specs.Prelude.{IfSome, IsFalse, OnOk};
+ghost use Rattle.std.specs.Prelude.{IfSome, IsFalse, IsTrue, OnOk};
 ghost use Rattle.id_core.specs.Machines.{TakesInputs, delivered, start};
-ghost use Rattle.id_elements.specs.Runs.{AreBadSteps, HasCount, HasWent, IsFinished, IsFree};
-ghost use Rattle.id_elements.specs.Runs.{IsRefusedRun, IsRun, MovesOn};
+ghost use Rattle.id_elements.specs.Runs.{AreBadSteps, HasCount, HasWent, IsByPositions, IsDelivered, IsFinished};
+ghost use Rattle.id_elements.specs.Runs.{IsFree, IsRefusedRun, IsRun, MovesOn, StopAtFaults};
 ghost use Rattle.id_elements.specs.declared.settings.RunError.TheVariants.{BadElements, BadSteps};
 
 use crate::ended::Run;
@@ -108,6 +108,8 @@ fn deliver(
       world = delivered machine.old.graph machine.old.count machine.old.world position;
     }) }
     ensures failed { IfOk result (λ b. IsFalse b → HasWent machine.new.world → ⊥) }
+    ensures went { IfOk result (λ b. HasWent machine.old.world
+        → (IsTrue b → HasWent machine.new.world) × StopAtFaults machine.new.world) }
 {
     match machine.deliver(position) {
         Ok(Step::Went) => Ok(true),
@@ -130,7 +132,10 @@ fn deliver_drawn(
     requires count { machine.old.count ≡ count }
     requires elements { HasCount machine.old }
     requires few { All (λ s. length s.events ≤ steps) machine.old.world.elements }
-    ensures { OnOk result (IsFinished steps machine.old machine.new) }
+    requires went { HasWent machine.old.world }
+    ensures finished { OnOk result (IsFinished steps machine.old machine.new) }
+    ensures delivered { OnOk result
+        (IsDelivered machine.old.graph machine.old.count machine.old.world machine.new.world) }
 {
     let mut from = 0usize;
     loop {
@@ -159,6 +164,7 @@ fn run_drawn<'a>(
     ensures run { IfOk result (IsRun graph.now inputs.now.values settings.elements settings.steps) }
     ensures kept { IfOk result (λ r. r.keeps ≡ settings.keeps) }
     ensures moves { IfOk result (λ r. MovesOn r.world) }
+    ensures positions { IfOk result (λ r. IsByPositions graph.now inputs.now.values settings.elements r.world) }
     ensures refused { IfErr result (IsRefusedRun graph.now inputs.now.values settings.elements settings.steps) }
 {
     id_runs::orders_are_runs();
@@ -188,6 +194,8 @@ pub fn run_in_order<'a>(
     ensures run { IfOk result (IsRun graph.now inputs.now.values settings.elements settings.steps) }
     ensures kept { IfOk result (λ r. r.keeps ≡ settings.keeps) }
     ensures moves { IfOk result (λ r. MovesOn r.world) }
+    // It delivered one message after another.
+    ensures positions { IfOk result (λ r. IsByPositions graph.now inputs.now.values settings.elements r.world) }
     ensures elements { (result ≡ Err BadElements) ↔ ((settings.elements ≡ 0) ⊎ (64 < settings.elements)) }
     ensures steps { (result ≡ Err BadSteps) ↔ AreBadSteps settings.elements settings.steps }
     ensures refused { IfErr result (IsRefusedRun graph.now inputs.now.values settings.elements settings.steps) }

@@ -7,6 +7,7 @@ ghost use Rattle.id_core.specs.Steps.{is_ended};
 ghost use Rattle.id_record.specs.Events.{AllWent};
 ghost use Rattle.id_tag.specs.Routes.{route_of};
 ghost use Rattle.id_elements.specs.Runs.{AreHeldBefore, GoesOn, HasCount, HasWent, IsFinished, IsFree, IsHeldBack};
+ghost use Rattle.id_elements.specs.Runs.{StopAtFaults};
 
 use id_core::{Element, Machine, Step, TakeError};
 use id_tag::{Message, route};
@@ -102,6 +103,8 @@ fn deliver(
     ensures bound { OnOk result (position ≤ length machine.new.world.flight) }
     ensures held { OnOk result (AreHeldBefore count steps machine.new.world position) }
     ensures failed { IfOk result (λ b. IsFalse b → HasWent machine.new.world → ⊥) }
+    ensures went { IfOk result (λ b. HasWent machine.old.world
+        → (IsTrue b → HasWent machine.new.world) × StopAtFaults machine.new.world) }
 {
     match machine.deliver(position) {
         Ok(Step::Went) => Ok(true),

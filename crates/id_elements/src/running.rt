@@ -1,10 +1,11 @@
 //! A run on worker threads.
 
-ghost use Rattle.std.specs.Prelude.{◌≡◌, ◌<◌, ◌≤◌, ◌+◌, ◌-◌, ◌++◌, ◌∷◌, ◌⊎◌};
-ghost use Rattle.std.specs.Prelude.{◌↔◌, [], ℕ, All, IfOk, IfErr, List, OnOk};
-ghost use Rattle.std.specs.Prelude.{length, slice_index_or, vec_len, Err, IsTrue};
+ghost use Rattle.std.specs.Prelude.{◌≡◌, ◌≢◌, ◌<◌, ◌≤◌, ◌+◌, ◌-◌, ◌++◌, ◌∷◌};
+ghost use Rattle.std.specs.Prelude.{◌⊎◌, ◌↔◌, [], ℕ, All, IfOk, IfErr, List, OnOk};
+ghost use Rattle.std.specs.Prelude.{length, slice_index_or, vec_len, Err, IsTrue, None};
 ghost use Rattle.std.specs.List.{sum_by};
 ghost use denote.Param.Send.{IsSend};
+ghost use Rattle.id_inbox.specs.Hands.{weight_in};
 ghost use Rattle.id_inbox.specs.contracts.door.Door as the_door;
 ghost use Rattle.id_tag.specs.declared.Message.{Message};
 ghost use Rattle.id_element.specs.Fits.{Fits};
@@ -13,11 +14,12 @@ ghost use Rattle.id_runs.specs.Accounts.{IsAccounted};
 ghost use Rattle.id_runs.specs.Orders.{AreReplayed};
 ghost use Rattle.id_elements.specs.Doors.{HaveParts, queues_of};
 ghost use Rattle.id_elements.specs.Gathered.{AreGathered, IsWhole, states_of};
-ghost use Rattle.id_elements.specs.Runs.{AllMove, AreBadSteps, HasCount, IsRefusedRun, IsRun, MovesOn};
-ghost use Rattle.id_elements.specs.Workers.{AreWorkers, IsSameWithin, WorkerView, sent_in};
+ghost use Rattle.id_elements.specs.Runs.{AllMove, AreBadSteps, HasCount, IsByPositions, IsRefusedRun, IsRun};
+ghost use Rattle.id_elements.specs.Runs.{MovesOn, StopAtFaults};
+ghost use Rattle.id_elements.specs.Workers.{AreWorkers, IsSameWithin, StopsAtFault, WorkerView, sent_in};
 ghost use Rattle.id_elements.specs.declared.settings.RunError.TheVariants.{BadElements, BadSteps};
 
-use crate::doors::{absorb_all, drain_all, open_all, send_start, split_all};
+use crate::doors::{absorb_all, drain_all, keep_rest, open_all, send_start, split_all};
 use crate::drawn::run_in_order;
 use crate::ended::Run;
 use crate::finish::finish;
@@ -111,7 +113,8 @@ fn make_workers<'a>(
     let mut workers = Vec::new(alloc);
     for number in 0..count {
         let theirs = split_all(alloc, doors)?;
-        workers.push(Worker::new(alloc, number, theirs, graph, keeps))?;
+        let worker = Worker::new(alloc, number, theirs, graph, keeps)?;
+        workers.push(worker)?;
     }
     Ok(workers)
 }
@@ -129,15 +132,13 @@ fn keep_own(left: &mut Queue, own: InFlight) -> Result<(), AllocError>
     Ok(())
 }
 
-/// Keeps what a worker had to send.
-fn keep_rest(left: &mut Queue, rest: Queue) -> Result<(), AllocError>
+/// Keeps all messages of some letters.
+fn keep_all(left: &mut Queue, mut letters: Vec<Queue>) -> Result<(), AllocError>
     ensures { OnOk result ((f : Message → ℕ)
-        → sum_by f left.new.messages ≡ sum_by f left.old.messages + sum_by f rest.messages) }
+        → sum_by f left.new.messages ≡ sum_by f left.old.messages + weight_in f letters.items) }
 {
-    let mut rest = rest;
-    left.reserve(rest.len())?;
-    while let Some(message) = rest.pop_front() {
-        left.push_back_reserved(message);
+    while let Some(letter) = letters.pop() {
+        keep_rest(left, letter)?;
     }
     Ok(())
 }
@@ -153,17 +154,20 @@ fn gather_one<'a>(
     ensures queues { OnOk result (queues_of doors.new.items ≡ queues_of doors.old.items) }
     ensures parts { OnOk result ((n : ℕ) → HaveParts n doors.old.items → HaveParts (n + 1) doors.new.items) }
     ensures elements { OnOk result (elements.new.items ≡ worker.entry.element ∷ elements.old.items) }
+    ensures stops { OnOk result (StopsAtFault worker.entry.element.state.events) }
     ensures sent { OnOk result
         (All (Fits worker.entry.element.graph) (sent_in worker.entry.element.state)) }
     ensures whole { OnOk result ((start : List Message)
         → IsWhole start doors.old.items (states_of elements.old.items) left.old.messages
         → IsWhole start doors.new.items (states_of elements.new.items) left.new.messages) }
 {
-    let (theirs, element, own, out, stray) = worker.into_parts();
+    let (theirs, element, own, came, back, stray, letters) = worker.into_parts();
     absorb_all(doors, theirs);
     keep_own(left, own)?;
-    keep_rest(left, out)?;
+    keep_rest(left, came)?;
+    keep_rest(left, back)?;
     keep_rest(left, stray)?;
+    keep_all(left, letters)?;
     elements.insert(0, element)?;
     Ok(())
 }
@@ -203,6 +207,14 @@ fn gather<'a>(
     Ok(Gathered { elements, left })
 }
 
+/// How many threads can run at one time, where that is known.
+fn processors<R: Threads>(rt: &R) -> usize {
+    match thread::available_parallelism(rt) {
+        Ok(count) => count.get(),
+        Err(_) => 1,
+    }
+}
+
 /// Lets workers run the machine from its start, and takes in what they have once they have stopped.
 fn run_workers<'a, R: Threads + Wait + Sync, G: Gate + Sync>(
     rt: &R,
@@ -225,7 +237,7 @@ fn run_workers<'a, R: Threads + Wait + Sync, G: Gate + Sync>(
     let mut doors = open_all(alloc, count)?;
     send_start(rt, alloc, &mut doors, start)?;
     let mut workers = make_workers(alloc, &mut doors, graph, settings.keeps)?;
-    let shared = Shared::new(alloc, count, start.len())?;
+    let shared = Shared::new(alloc, count, start.len(), processors(rt))?;
     work_all(
         rt,
         workers.as_mut_slice(),
@@ -260,6 +272,7 @@ fn machine_of<'a, R: Threads + Wait + Sync, G: Gate + Sync>(
     ensures kept { IfOk result (λ m. m.keeps ≡ settings.keeps) }
     ensures elements { IfOk result HasCount }
     ensures few { IfOk result (λ m. All (λ s. length s.events ≤ settings.steps) m.world.elements) }
+    ensures stops { IfOk result (λ m. StopAtFaults m.world) }
     ensures accounted { IfOk result (λ m. IsAccounted (start_messages graph.now inputs.now.values) m.world.elements
         m.world.flight) }
 {
@@ -376,6 +389,9 @@ pub fn run<'a, R: Threads + Wait + Sync, G: Gate + Sync>(
     ensures run { IfOk result (IsRun graph.now inputs.now.values settings.elements settings.steps) }
     ensures kept { IfOk result (λ r. r.keeps ≡ settings.keeps) }
     ensures moves { IfOk result (λ r. MovesOn r.world) }
+    // A seed has one message after another delivered.
+    ensures positions { IfOk result (λ r. settings.order ≢ None
+        → IsByPositions graph.now inputs.now.values settings.elements r.world) }
     ensures elements { (result ≡ Err BadElements) ↔ ((settings.elements ≡ 0) ⊎ (64 < settings.elements)) }
     ensures steps { (result ≡ Err BadSteps) ↔ AreBadSteps settings.elements settings.steps }
     ensures refused { IfErr result (IsRefusedRun graph.now inputs.now.values settings.elements settings.steps) }

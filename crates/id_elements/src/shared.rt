@@ -1,4 +1,4 @@
-//! What workers share beside inboxes: flags, a count and their seats. No claim rests on any of them: they only say when
+//! What workers share beside inboxes: flags, counts and their seats. No claim rests on any of them: they only say when
 //! workers stop and sleep (docs/THREADS.md, "Stopping" and "Sleeping").
 
 ghost use Rattle.std.specs.Prelude.{◌≡◌, IfOk};
@@ -6,54 +6,91 @@ ghost use Rattle.std.specs.Prelude.{◌≡◌, IfOk};
 use std::alloc::{AllocError, Global};
 use std::sync::Wait;
 use std::sync::atomic::{AtomicBool, AtomicU64, Ordering};
-use std::thread;
 use std::thread::Parker;
 use std::time::Duration;
+use std::{hint, thread};
 
-/// After so many looks at an empty inbox, a worker gives up on those that haven't begun.
-const PATIENCE: u32 = 100_000;
+/// So many looks at an empty inbox are a pause of some steps each, where workers are at most half of the processors:
+/// two of these often share what a third worker would need.
+const PAUSES: u32 = 200;
 
-/// After so many looks at an empty inbox, a worker sleeps.
-const LOOKS: u32 = 64;
+/// Behind those, so many looks give the processor away.
+const YIELDS: u32 = 64;
+
+/// Behind those a worker sleeps, and after so many looks more it gives up, where a worker has not begun or has given
+/// up.
+const PATIENCE: u32 = 20;
 
 /// A sleep lasts so many milliseconds at the most.
 const SLEEP: u64 = 20;
+
+/// A flag or a count, and so many bytes behind it that no other stands in its line of a processor's cache.
+#[derive(Drop)]
+struct Apart<T> {
+    value: T,
+    _behind: [u64; 15],
+}
 
 /// Where a worker sleeps.
 #[derive(Drop)]
 struct Seat {
     parker: Parker,
-    sleeps: AtomicBool,
+    sleeps: Apart<AtomicBool>,
 }
 
 /// When workers stop and sleep.
 #[derive(Drop)]
 pub struct Shared {
-    stopped: AtomicBool,
+    // Whether workers are to stop: read in each round.
+    stopped: Apart<AtomicBool>,
     refused: AtomicBool,
-    // The messages in inboxes, and those that were taken out by workers that have messages of their own since.
-    pending: AtomicU64,
+    // The letters in inboxes, and those that were taken out by workers that have messages of their own since.
+    pending: Apart<AtomicU64>,
     begun: AtomicU64,
+    gave_up: AtomicBool,
     workers: u64,
+    // After so many looks a worker yields.
+    pauses: u32,
     seats: Vec<Seat>,
 }
 
+impl<T: Drop> Apart<T> {
+    fn new(value: T) -> Apart<T> {
+        Apart {
+            value,
+            _behind: [0; 15],
+        }
+    }
+}
+
 impl Shared {
-    /// For so many workers, with so many messages in inboxes.
-    pub fn new(alloc: Global, workers: u32, pending: usize) -> Result<Shared, AllocError> {
+    /// For so many workers, with so many letters in inboxes, where so many threads can run at one time.
+    pub fn new(
+        alloc: Global,
+        workers: u32,
+        pending: usize,
+        processors: usize,
+    ) -> Result<Shared, AllocError> {
         let mut seats = Vec::with_capacity(alloc, workers as usize)?;
         for _ in 0..workers {
             seats.push(Seat {
                 parker: Parker::new(),
-                sleeps: AtomicBool::new(false),
+                sleeps: Apart::new(AtomicBool::new(false)),
             })?;
         }
+        let pauses = if workers as usize <= processors / 2 {
+            PAUSES
+        } else {
+            0
+        };
         Ok(Shared {
-            stopped: AtomicBool::new(false),
+            stopped: Apart::new(AtomicBool::new(false)),
             refused: AtomicBool::new(false),
-            pending: AtomicU64::new(pending as u64),
+            pending: Apart::new(AtomicU64::new(pending as u64)),
             begun: AtomicU64::new(0),
+            gave_up: AtomicBool::new(false),
             workers: u64::from(workers),
+            pauses,
             seats,
         })
     }
@@ -65,7 +102,7 @@ impl Shared {
 
     /// Stops all workers.
     pub fn stop(&self) {
-        self.stopped.store(true, Ordering::SeqCst);
+        self.stopped.value.store(true, Ordering::SeqCst);
         for seat in &self.seats {
             seat.parker.unpark();
         }
@@ -85,44 +122,64 @@ impl Shared {
     /// Whether workers are to stop.
     #[inline(always)]
     pub fn is_stopped(&self) -> bool {
-        self.stopped.load(Ordering::SeqCst)
+        self.stopped.value.load(Ordering::SeqCst)
     }
 
-    /// Counts a message that is about to be put into an inbox.
+    /// Counts a letter that is about to be put into an inbox.
     pub fn count_sent(&self) {
-        self.pending.fetch_add(1, Ordering::SeqCst);
+        self.pending.value.fetch_add(1, Ordering::SeqCst);
     }
 
     /// Wakes the worker of this number, if it sleeps.
     pub fn wake(&self, number: usize) {
         if let Some(seat) = self.seats.get(number) {
-            if seat.sleeps.load(Ordering::SeqCst) {
+            if seat.sleeps.value.load(Ordering::SeqCst) {
                 seat.parker.unpark();
             }
         }
     }
 
-    /// Counts messages that were taken out of an inbox by a worker that has no message of its own any more. Where none
+    /// Notes that the worker of this number, which found a letter, is not about to sleep.
+    pub fn rise(&self, number: usize) {
+        if let Some(seat) = self.seats.get(number) {
+            if seat.sleeps.value.load(Ordering::SeqCst) {
+                seat.sleeps.value.store(false, Ordering::SeqCst);
+            }
+        }
+    }
+
+    /// Counts letters that were taken out of an inbox by a worker that can handle nothing more of its own. Where none
     /// is left anywhere, all workers stop.
     pub fn count_done(&self, taken: u64) {
-        if taken > 0 && self.pending.fetch_sub(taken, Ordering::SeqCst) == taken {
+        if taken > 0 && self.pending.value.fetch_sub(taken, Ordering::SeqCst) == taken {
             self.stop();
         }
     }
 
-    /// Waits a little, where the worker of this number found its inbox empty so many times in a row. It sleeps only
-    /// where all workers have begun, since those that no thread could be made for begin when the others have ended.
-    pub fn wait<R: Wait>(&self, rt: &R, number: usize, looks: u32) {
-        let all_begun = self.begun.load(Ordering::SeqCst) >= self.workers;
-        if all_begun && looks > LOOKS {
-            self.sleep(rt, number);
-            return;
+    /// Waits a little, where the worker of this number found its inbox empty so many times in a row, and says whether
+    /// it is to look again: it gives up where it has waited long and another has not begun, or has given up, since
+    /// those that no thread could be made for begin when others have ended.
+    pub fn wait<R: Wait>(&self, rt: &R, number: usize, looks: u32) -> bool {
+        if looks <= self.pauses {
+            hint::spin_loop();
+            return true;
         }
-        if looks > PATIENCE {
-            self.stop();
-            return;
+        let yields = self.pauses.saturating_add(YIELDS);
+        if looks <= yields {
+            thread::yield_now();
+            return true;
         }
-        thread::yield_now();
+        if looks > yields.saturating_add(PATIENCE) && self.is_incomplete() {
+            self.gave_up.store(true, Ordering::SeqCst);
+            return false;
+        }
+        self.sleep(rt, number);
+        true
+    }
+
+    /// Whether some worker has not begun, or has given up.
+    fn is_incomplete(&self) -> bool {
+        self.begun.load(Ordering::SeqCst) < self.workers || self.gave_up.load(Ordering::SeqCst)
     }
 
     /// Lets the worker of this number sleep until it is woken, or for a while. The first time it only says that it is
@@ -132,11 +189,11 @@ impl Shared {
             return;
         }
         if let Some(seat) = self.seats.get(number) {
-            if seat.sleeps.load(Ordering::SeqCst) {
+            if seat.sleeps.value.load(Ordering::SeqCst) {
                 seat.parker.park_timeout(rt, Duration::from_millis(SLEEP));
-                seat.sleeps.store(false, Ordering::SeqCst);
+                seat.sleeps.value.store(false, Ordering::SeqCst);
             } else {
-                seat.sleeps.store(true, Ordering::SeqCst);
+                seat.sleeps.value.store(true, Ordering::SeqCst);
             }
         }
     }

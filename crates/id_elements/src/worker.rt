@@ -1,45 +1,55 @@
 //! A worker: an element, a door to each inbox, and the messages that are at hand.
 
-ghost use Rattle.std.specs.Prelude.{◌≡◌, ◌<◌, ◌≤◌, length};
-ghost use Rattle.id_elements.specs.Passing.{IsRouted};
+ghost use Rattle.std.specs.Prelude.{◌≡◌, [], map, replicate, IfOk};
 
-use crate::doors::put;
 use crate::hand::Hand;
-use crate::passing::{give, pass, sort, stay};
+use crate::passing::{give, send_on, sort};
 use crate::shared::Shared;
 use id_core::{InFlight, Keeps};
 use id_element::{Element, Gate, TakeError};
 use id_flight::Queue;
 use id_inbox::Door;
-use id_tag::{route, route_tag};
 use id_valid::Valid;
 use std::alloc::{AllocError, Global};
 use std::marker::Model;
+use std::mem;
 use std::sync::Wait;
 
-/// So many messages a worker handles before it looks into its inbox and whether it is to stop.
+/// So many messages a worker handles before it looks into its inbox and whether it is to stop, and so many letters it
+/// takes out at a time.
 const BURST: u32 = 64;
+
+/// A letter of so many messages is sent at once.
+const FULL: usize = 64;
+
+/// After so many bursts all letters are sent, however few messages they have.
+const BURSTS: u32 = 4;
 
 /// What works one element.
 #[derive(Drop)]
 pub struct Worker<'a> {
-    // For what goes into inboxes.
     alloc: Global,
     // That of the element, and how many elements there are.
     number: u32,
     count: u32,
+    // Whether it may handle more: each event went well, and memory sufficed.
+    goes: bool,
     doors: Vec<Door>,
     element: Element<'a>,
     // What is for the element, in order.
     own: InFlight,
-    // What the element sent and is not sorted yet, in order.
-    out: Queue,
+    // What is left of the letter that came last.
+    came: Queue,
+    // What is moved from the end of its own and back.
+    back: Queue,
     // What came and is not for the element, or does not fit.
     stray: Queue,
+    // What is to be sent to each element.
+    letters: Vec<Queue>,
 }
 
 impl<'a> Model for Worker<'a> {
-    ghost use Rattle.std.specs.Prelude.{◌≡◌};
+    ghost use Rattle.std.specs.Prelude.{◌≡◌, map};
     ghost use Rattle.id_elements.specs.Codes.{coded_worker};
     ghost use Rattle.id_elements.specs.Workers.{WorkerView, IsKept};
 
@@ -48,19 +58,25 @@ impl<'a> Model for Worker<'a> {
     ghost coded = { coded_worker };
 
     ghost view = { λ w. record {
+      goes = w.goes;
       doors = w.doors.items;
       element = w.element;
       own = w.own.messages;
-      out = w.out.messages;
+      came = w.came.messages;
+      back = w.back.messages;
       stray = w.stray.messages;
+      letters = map (λ q. q.messages) w.letters.items;
     } };
 
     ghost invariant = { λ w. IsKept (record {
+      goes = w.goes;
       doors = w.doors.items;
       element = w.element;
       own = w.own.messages;
-      out = w.out.messages;
+      came = w.came.messages;
+      back = w.back.messages;
       stray = w.stray.messages;
+      letters = map (λ q. q.messages) w.letters.items;
     }) × (w.number ≡ w.element.number) × (w.count ≡ w.element.count) };
 }
 
@@ -69,66 +85,87 @@ impl<'a> Model for Worker<'a> {
 enum Turn {
     /// It goes on.
     Goes,
-    /// It has no message of its own.
+    /// It can handle nothing more of its own.
     Empty,
     /// It stops.
     Stops,
 }
 
 impl<'a> Worker<'a> {
-    ghost use Rattle.std.specs.Prelude.{◌≡◌, ◌<◌, ◌≤◌, ◌+◌, ◌↔◌, length, vec_len, IfSome};
-    ghost use Rattle.std.specs.Prelude.{IsTrue};
+    ghost use Rattle.std.specs.Prelude.{◌≡◌, ◌<◌, ◌≤◌, ◌+◌, [], length, map, vec_len, IfOk, IfSome};
+    ghost use Rattle.std.specs.Prelude.{IsTrue, Ok, OnOk, true};
     ghost use Rattle.id_elements.specs.Doors.{AreUnused, HaveParts};
-    ghost use Rattle.id_elements.specs.Workers.{IsFirstOwn, IsKept, IsSame, IsSameWithin, fresh_worker};
+    ghost use Rattle.id_elements.specs.Workers.{IsKept, IsSame, IsSameWithin, fresh_worker};
+    ghost use Rattle.id_elements.specs.declared.worker.Turn.TheVariants.{Goes};
 
     /// The worker of this number, with a door to each inbox, whose element has handled nothing and keeps so much of its
-    /// events. Takes no memory.
+    /// events.
     pub fn new(
         alloc: Global,
         number: u32,
         doors: Vec<Door>,
         graph: &'a Valid,
         keeps: Keeps,
-    ) -> Worker<'a>
+    ) -> Result<Worker<'a>, AllocError>
         requires inbox { number < vec_len doors }
         requires few { vec_len doors ≤ 64 }
         requires parts { HaveParts 1 doors.items }
         requires unused { AreUnused doors.items }
-        ensures { result ≡ fresh_worker graph.now (vec_len doors) keeps number doors.items }
+        ensures { IfOk result (λ w. w ≡ fresh_worker graph.now (vec_len doors) keeps number doors.items) }
     {
         let count = doors.len() as u32;
-        Worker {
+        let letters = no_letters(alloc, count)?;
+        Ok(Worker {
             alloc,
             number,
             count,
+            goes: true,
             doors,
             element: Element::keeping(alloc, number, count, graph, keeps),
             own: InFlight::new(alloc, Queue::new(alloc)),
-            out: Queue::new(alloc),
+            came: Queue::new(alloc),
+            back: Queue::new(alloc),
             stray: Queue::new(alloc),
-        }
+            letters,
+        })
     }
 
-    /// What it has, once it has stopped: its doors, its element, and what is at hand.
-    pub fn into_parts(self) -> (Vec<Door>, Element<'a>, InFlight, Queue, Queue)
+    /// What it has, once it has stopped: its doors, its element, what is for that, what is left of the letter that came
+    /// last, what was moved and not moved back, what is not for the element, and what is to be sent to each element.
+    pub fn into_parts(
+        self,
+    ) -> (
+        Vec<Door>,
+        Element<'a>,
+        InFlight,
+        Queue,
+        Queue,
+        Queue,
+        Vec<Queue>,
+    )
         ensures doors { result.0.items ≡ self.entry.doors }
         ensures element { result.1 ≡ self.entry.element }
         ensures own { result.2.messages ≡ self.entry.own }
-        ensures out { result.3.messages ≡ self.entry.out }
-        ensures stray { result.4.messages ≡ self.entry.stray }
+        ensures came { result.3.messages ≡ self.entry.came }
+        ensures back { result.4.messages ≡ self.entry.back }
+        ensures stray { result.5.messages ≡ self.entry.stray }
+        ensures letters { map (λ q. q.messages) result.6.items ≡ self.entry.letters }
         ensures kept { IsKept self.entry }
     {
         let Worker {
             alloc: _,
             number: _,
             count: _,
+            goes: _,
             doors,
             element,
             own,
-            out,
+            came,
+            back,
             stray,
+            letters,
         } = self;
-        (doors, element, own, out, stray)
+        (doors, element, own, came, back, stray, letters)
     }
 
     /// How many messages its element has handled.
@@ -139,115 +176,111 @@ impl<'a> Worker<'a> {
         self.element.handled() as u64
     }
 
-    /// Takes a message out of its inbox, if it is found to have one, and says whether it was.
+    /// Takes a letter out of its inbox, if it is found to have one, and says whether it was. What is left of the last
+    /// one comes first.
     fn receive<R: Wait>(&mut self, rt: &R) -> Result<bool, AllocError>
         ensures same { IsSame self.old self.new }
         ensures state { self.new.element ≡ self.old.element }
+        ensures goes { self.new.goes ≡ self.old.goes }
     {
-        self.own.reserve(1)?;
-        self.stray.reserve(1)?;
+        self.sort_letter()?;
         match self.doors[self.number as usize].pop(rt) {
             Some(letter) => {
-                sort(
-                    &mut self.own,
-                    &mut self.stray,
-                    &self.element,
-                    self.number,
-                    self.count,
-                    letter,
-                );
+                self.came = letter;
+                self.sort_letter()?;
                 Ok(true)
             }
             None => Ok(false),
         }
     }
 
-    /// Handles the message at a position of its own, and says whether the run goes on after its event. After an error
-    /// nothing has changed.
+    /// Handles the message at a position of its own, and says whether the run goes on after its event. What is sent
+    /// goes to the end of its own, and from there to the letters for others. After an error of the element nothing has
+    /// changed.
     #[inline(always)]
     fn handle<G: Gate>(&mut self, position: usize, gate: &G) -> Result<bool, TakeError>
-        requires { position < length self.old.own }
-        ensures same { IsSame self.old self.new }
-        ensures few { length self.new.element.state.events ≤ length self.old.element.state.events + 1 }
-    {
-        pass(
-            &mut self.own,
-            &mut self.element,
-            &mut self.out,
-            position,
-            gate,
-        )
-    }
-
-    /// Whether its element is the only one, for which all messages are.
-    #[inline(always)]
-    fn is_alone(&self) -> bool
-        ensures { IsTrue result ↔ (self.now.element.count ≡ 1) }
-    {
-        self.count == 1
-    }
-
-    /// The same as `handle` where the element is the only one: what is sent goes right to the end of its own.
-    #[inline(always)]
-    fn handle_alone<G: Gate>(&mut self, position: usize, gate: &G) -> Result<bool, TakeError>
         requires there { position < length self.old.own }
-        requires alone { self.old.element.count ≡ 1 }
+        requires goes { IsTrue self.old.goes }
         ensures same { IsSame self.old self.new }
         ensures few { length self.new.element.state.events ≤ length self.old.element.state.events + 1 }
+        ensures goes { result ≡ Ok true → IsTrue self.new.goes }
     {
-        give(&mut self.own, &mut self.element, position, gate)
+        let others = self.own.len() - 1;
+        if !give(&mut self.own, &mut self.element, position, gate)? {
+            self.goes = false;
+            return Ok(false);
+        }
+        if self.count == 1 {
+            return Ok(true);
+        }
+        let sent = self.own.len() - others;
+        match send_on(
+            &mut self.own,
+            &mut self.back,
+            &mut self.letters,
+            self.number,
+            self.count,
+            sent,
+        ) {
+            Ok(()) => Ok(true),
+            Err(_) => {
+                self.goes = false;
+                Err(TakeError::Memory)
+            }
+        }
     }
 
-    /// Keeps the first message that the element sent, which is for the element itself.
-    #[inline(always)]
-    fn keep(&mut self) -> Result<(), AllocError>
-        requires own { IsFirstOwn self.old }
-        ensures same { IsSame self.old self.new }
-        ensures state { self.new.element ≡ self.old.element }
+    /// A list without messages: that of the last letter, where nothing is left of it.
+    fn empty_list(&mut self) -> Queue
+        ensures same { self.new ≡ self.old }
+        ensures empty { result.messages ≡ [] }
     {
-        stay(&mut self.own, &mut self.out)
+        if self.came.is_empty() {
+            mem::replace(&mut self.came, Queue::new(self.alloc))
+        } else {
+            Queue::new(self.alloc)
+        }
     }
 
-    /// Puts the first message that the element sent into the inbox of the element that it is for.
-    fn post<R: Wait>(&mut self, rt: &R, shared: &Shared, to: usize) -> Result<(), AllocError>
-        requires there { 0 < length self.old.out }
+    /// Puts the letter for an element into its inbox, if it has at least so many messages.
+    fn post<R: Wait>(
+        &mut self,
+        rt: &R,
+        shared: &Shared,
+        to: usize,
+        least: usize,
+    ) -> Result<(), AllocError>
         requires to { to < length self.old.doors }
         ensures same { IsSame self.old self.new }
         ensures state { self.new.element ≡ self.old.element }
+        ensures goes { self.new.goes ≡ self.old.goes }
     {
-        let letter = self.out.letter(self.alloc, 0)?;
-        shared.count_sent();
-        put(rt, &mut self.doors[to], letter)?;
-        self.out.drop_front();
-        shared.wake(to);
-        Ok(())
-    }
-
-    /// Sends the first message that the element sent, if there is one: it stays, where it is for the element itself.
-    #[inline(always)]
-    fn send<R: Wait>(&mut self, rt: &R, shared: &Shared) -> Result<(), AllocError>
-        ensures same { IsSame self.old self.new }
-        ensures state { self.new.element ≡ self.old.element }
-    {
-        if self.out.is_empty() {
+        if self.letters[to].len() < least {
             return Ok(());
         }
-        let to = route_first(&self.out, self.count);
-        if to == self.number {
-            self.keep()
-        } else {
-            self.post(rt, shared, to as usize)
+        let empty = self.empty_list();
+        let letter = mem::replace(&mut self.letters[to], empty);
+        shared.count_sent();
+        match self.doors[to].push(rt, letter) {
+            Ok(()) => {
+                shared.wake(to);
+                Ok(())
+            }
+            Err(back) => {
+                self.letters[to] = back;
+                Err(AllocError)
+            }
         }
     }
 
-    /// Sends all that the element sent.
-    #[inline(always)]
-    fn send_all<R: Wait>(&mut self, rt: &R, shared: &Shared) -> Result<(), AllocError>
+    /// Puts all letters that have at least so many messages into the inboxes that they are for.
+    fn post_all<R: Wait>(&mut self, rt: &R, shared: &Shared, least: usize) -> Result<(), AllocError>
         ensures same { IsSame self.old self.new }
         ensures state { self.new.element ≡ self.old.element }
+        ensures goes { self.new.goes ≡ self.old.goes }
     {
-        for _ in 0..self.out.len() {
-            self.send(rt, shared)?;
+        for to in 0..self.doors.len() {
+            self.post(rt, shared, to, least)?;
         }
         Ok(())
     }
@@ -268,103 +301,51 @@ impl<'a> Worker<'a> {
         if self.own.is_empty() { None } else { Some(0) }
     }
 
-    /// Handles the next message of its own, if there is one, and sends what was sent for it.
+    /// Handles the next message of its own, if there is one.
     #[inline(always)]
-    fn step<R: Wait, G: Gate>(
-        &mut self,
-        rt: &R,
-        steps: u64,
-        hand: &mut Hand,
-        shared: &Shared,
-        gate: &G,
-    ) -> Turn
+    fn step<G: Gate>(&mut self, steps: u64, hand: &mut Hand, gate: &G) -> Result<Turn, TakeError>
+        requires { IsTrue self.old.goes }
         ensures same { IsSame self.old self.new }
         ensures few { length self.new.element.state.events ≤ length self.old.element.state.events + 1 }
+        ensures goes { result ≡ Ok Goes → IsTrue self.new.goes }
     {
         match self.next(steps, hand) {
-            Some(position) => self.step_at(rt, position, shared, gate),
-            None => Turn::Empty,
+            Some(position) => {
+                if self.handle(position, gate)? {
+                    Ok(Turn::Goes)
+                } else {
+                    Ok(Turn::Stops)
+                }
+            }
+            None => Ok(Turn::Empty),
         }
-    }
-
-    /// Handles the message at a position of its own, and sends what was sent for it.
-    #[inline(always)]
-    fn step_at<R: Wait, G: Gate>(
-        &mut self,
-        rt: &R,
-        position: usize,
-        shared: &Shared,
-        gate: &G,
-    ) -> Turn
-        requires { position < length self.old.own }
-        ensures same { IsSame self.old self.new }
-        ensures few { length self.new.element.state.events ≤ length self.old.element.state.events + 1 }
-    {
-        if self.is_alone() {
-            return self.step_alone(position, shared, gate);
-        }
-        match self.handle(position, gate) {
-            Ok(goes) => self.sent(rt, shared, goes),
-            Err(error) => stopped_by(error, shared),
-        }
-    }
-
-    /// The same where its element is the only one, so that nothing is to be sent on.
-    #[inline(always)]
-    fn step_alone<G: Gate>(&mut self, position: usize, shared: &Shared, gate: &G) -> Turn
-        requires there { position < length self.old.own }
-        requires alone { self.old.element.count ≡ 1 }
-        ensures same { IsSame self.old self.new }
-        ensures few { length self.new.element.state.events ≤ length self.old.element.state.events + 1 }
-    {
-        match self.handle_alone(position, gate) {
-            Ok(true) => Turn::Goes,
-            Ok(false) => Turn::Stops,
-            Err(error) => stopped_by(error, shared),
-        }
-    }
-
-    /// Sends what was sent, and says whether the worker goes on, where the run does.
-    #[inline(always)]
-    fn sent<R: Wait>(&mut self, rt: &R, shared: &Shared, goes: bool) -> Turn
-        ensures same { IsSame self.old self.new }
-        ensures state { self.new.element ≡ self.old.element }
-    {
-        if self.send_all(rt, shared).is_err() {
-            shared.refuse();
-            return Turn::Stops;
-        }
-        if goes { Turn::Goes } else { Turn::Stops }
     }
 
     /// Handles some messages of its own, one after another, as long as its element has handled fewer than `steps`.
-    fn burst<R: Wait, G: Gate>(
-        &mut self,
-        rt: &R,
-        steps: u64,
-        hand: &mut Hand,
-        shared: &Shared,
-        gate: &G,
-    ) -> Turn
-        requires few { length self.old.element.state.events ≤ steps }
+    fn burst<G: Gate>(&mut self, steps: u64, hand: &mut Hand, gate: &G) -> Result<Turn, TakeError>
+        requires { length self.old.element.state.events ≤ steps }
         ensures { IsSameWithin steps self.old self.new }
     {
+        if !self.goes {
+            return Ok(Turn::Stops);
+        }
         for _ in 0..BURST {
             if self.handled() >= steps {
-                return Turn::Stops;
+                return Ok(Turn::Empty);
             }
-            let turn = self.step(rt, steps, hand, shared, gate);
+            let turn = self.step(steps, hand, gate)?;
             if turn != Turn::Goes {
-                return turn;
+                return Ok(turn);
             }
         }
-        Turn::Goes
+        Ok(Turn::Goes)
     }
 
-    /// Takes what is in its inbox to its own, and says whether memory sufficed. It counts what it took.
+    /// Takes what is in its inbox to its own, and says whether memory sufficed. It counts the letters that it took.
     fn receive_all<R: Wait>(&mut self, rt: &R, taken: &mut u64) -> Result<(), AllocError>
         ensures same { IsSame self.old self.new }
         ensures state { self.new.element ≡ self.old.element }
+        ensures goes { self.new.goes ≡ self.old.goes }
     {
         for _ in 0..BURST {
             if !self.receive(rt)? {
@@ -385,6 +366,7 @@ impl<'a> Worker<'a> {
         let mut hand = Hand::new();
         let mut looks = 0u32;
         let mut taken = 0u64;
+        let mut bursts = 0u32;
         for _ in rt.forever() {
             if shared.is_stopped() {
                 return;
@@ -393,45 +375,79 @@ impl<'a> Worker<'a> {
                 shared.refuse();
                 return;
             }
-            match self.burst(rt, steps, &mut hand, shared, gate) {
-                Turn::Goes => looks = 0,
-                Turn::Stops => {
-                    shared.stop();
-                    return;
+            match self.burst(steps, &mut hand, gate) {
+                Ok(Turn::Goes) => {
+                    looks = 0;
+                    bursts = bursts.saturating_add(1);
+                    let mut least = FULL;
+                    if bursts >= BURSTS {
+                        bursts = 0;
+                        least = 1;
+                    }
+                    if self.post_all(rt, shared, least).is_err() {
+                        shared.refuse();
+                        return;
+                    }
                 }
-                Turn::Empty => {
+                Ok(Turn::Empty) => {
+                    bursts = 0;
+                    if self.post_all(rt, shared, 1).is_err() {
+                        shared.refuse();
+                        return;
+                    }
                     if taken > 0 {
                         looks = 0;
+                        shared.rise(number);
                     }
                     shared.count_done(taken);
                     taken = 0;
                     looks = looks.saturating_add(1);
-                    shared.wait(rt, number, looks);
+                    if !shared.wait(rt, number, looks) {
+                        return;
+                    }
+                }
+                Ok(Turn::Stops) => {
+                    shared.stop();
+                    return;
+                }
+                Err(TakeError::StampEnd) => {
+                    shared.stop();
+                    return;
+                }
+                Err(TakeError::Memory) => {
+                    shared.refuse();
+                    return;
                 }
             }
         }
         unreachable!()
     }
-}
 
-/// What a worker does next whose element could not handle a message.
-fn stopped_by(error: TakeError, shared: &Shared) -> Turn {
-    if let TakeError::Memory = error {
-        shared.refuse();
+    /// Moves what is left of the last letter to its own.
+    fn sort_letter(&mut self) -> Result<(), AllocError>
+        ensures same { IsSame self.old self.new }
+        ensures state { self.new.element ≡ self.old.element }
+        ensures goes { self.new.goes ≡ self.old.goes }
+        ensures empty { OnOk result (self.new.came ≡ []) }
+    {
+        sort(
+            &mut self.own,
+            &mut self.stray,
+            &self.element,
+            self.number,
+            self.count,
+            &mut self.came,
+        )
     }
-    Turn::Stops
 }
 
-/// The element that the first message is for.
-#[inline(always)]
-fn route_first(out: &Queue, count: u32) -> u32
-    requires there { 0 < length out.now.messages }
-    requires count { 0 < count }
-    ensures is { IsRouted count out.now.messages result }
-    ensures below { result < count }
+/// For so many elements a letter without messages.
+fn no_letters(alloc: Global, count: u32) -> Result<Vec<Queue>, AllocError>
+    ensures { IfOk result (λ qs. map (λ q. q.messages) qs.items ≡ replicate count []) }
 {
-    match out.token(0) {
-        Some(token) => route_tag(token.tag(), count),
-        None => route(&out.message(0), count),
+    let mut letters = Vec::with_capacity(alloc, count as usize)?;
+    for _ in 0..count {
+        letters.push_reserved(Queue::new(alloc));
     }
+    Ok(letters)
 }

@@ -22,7 +22,7 @@ loop-position-preserved g c =
       whole = λ f.
           let s = sent_by-set f ds to d d' is lt in
           let t = taken_by-set f ds to d d' is lt in
-          let a : sum_by f d'.hand.sent ≡ sum_by f (d.hand.sent ++ c.in_ok-letter.letter ∷ []) = ap (λ (y : DoorView). sum_by f y.hand.sent) made in
+          let a : sum_by f d'.hand.sent ≡ sum_by f (d.hand.sent ++ c.message-message.result ∷ []) = ap (λ (y : DoorView). sum_by f y.hand.sent) made in
           let b : sum_by f d'.hand.taken ≡ sum_by f d.hand.taken = ap (λ (y : DoorView). sum_by f y.hand.taken) made in
           let w = i.whole f in
           omega (
@@ -32,7 +32,7 @@ loop-position-preserved g c =
             a,
             b,
             w,
-            sum_by_push f d.hand.sent c.in_ok-letter.letter,
-            weight_take f c.args.start.now.messages c.loop-position.position c.in_ok-letter.letter c.in_ok-letter.ensures,
+            sum_by_push f d.hand.sent c.message-message.result,
+            weight_take f c.args.start.now.messages c.loop-position.position c.message-message.result c.message-message.ensures,
           );
     }

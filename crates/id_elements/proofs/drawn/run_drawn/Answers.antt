@@ -1,7 +1,7 @@
 use Rattle.std.proofs.Common.{◌≡◌, true, false, ap, subst, sym, ◌∙◌}
 use Rattle.id_core.specs.Machines.{MachineView}
-use Rattle.id_elements.specs.Runs.{IsRun, MovesOn}
-use Rattle.id_elements.proofs.DrawnLemmas.{start_accounted, start_counts, start_few}
+use Rattle.id_elements.specs.Runs.{IsByPositions, IsRun, MovesOn}
+use Rattle.id_elements.proofs.DrawnLemmas.{start_accounted, start_counts, start_delivered, start_few, start_stops, start_went}
 use Rattle.id_elements.proofs.RunsLemmas.{run_from}
 use Rattle.id_elements.proofs.drawn.run_drawn.Goals as goal
 
@@ -14,6 +14,7 @@ deliver_drawn-requires c =
       count = ap (λ (x : MachineView). x.count) c.in_ok-machine.ensures;
       elements = start_counts g vs c.args.settings.elements c.args.settings.keeps m c.in_ok-machine.ensures c.requires.some c.requires.few;
       few = start_few g vs c.args.settings.elements c.args.settings.keeps m c.in_ok-machine.ensures c.args.settings.steps;
+      went = start_went g vs c.args.settings.elements c.args.settings.keeps m c.in_ok-machine.ensures;
     }
 
 pub returns-then-not-moves_on-clause-refused : goal.returns-then-not-moves_on-clause-refused
@@ -22,7 +23,8 @@ returns-then-not-moves_on-clause-refused c = record {
   run = run_from c.args.graph.now c.args.inputs.now.values c.args.settings.elements c.args.settings.steps c.in_ok-machine.machine c.deliver_drawn.new.machine
       c.orders_are_runs.ensures (ap (λ (x : MachineView). x.graph) c.in_ok-machine.ensures) (ap (λ (x : MachineView). x.count) c.in_ok-machine.ensures)
       (start_accounted c.args.graph.now c.args.inputs.now.values c.args.settings.elements c.args.settings.keeps c.in_ok-machine.machine c.in_ok-machine.ensures)
-      c.in_ok-deliver_drawn.ensures c.replay_all.ensures;
+      (start_stops c.args.graph.now c.args.inputs.now.values c.args.settings.elements c.args.settings.keeps c.in_ok-machine.machine c.in_ok-machine.ensures)
+      c.in_ok-deliver_drawn.ensures.finished c.replay_all.ensures;
   stuck = λ moves. (let k : false ≡ true = sym c.if-not-moves_on.true ∙ c.moves_on.ensures.1 moves in cc);
 }
 
@@ -32,7 +34,8 @@ returns-clause-run c =
     (run_from c.args.graph.now c.args.inputs.now.values c.args.settings.elements c.args.settings.steps c.in_ok-machine.machine c.deliver_drawn.new.machine
     c.orders_are_runs.ensures (ap (λ (x : MachineView). x.graph) c.in_ok-machine.ensures) (ap (λ (x : MachineView). x.count) c.in_ok-machine.ensures)
     (start_accounted c.args.graph.now c.args.inputs.now.values c.args.settings.elements c.args.settings.keeps c.in_ok-machine.machine c.in_ok-machine.ensures)
-    c.in_ok-deliver_drawn.ensures c.replay_all.ensures)
+    (start_stops c.args.graph.now c.args.inputs.now.values c.args.settings.elements c.args.settings.keeps c.in_ok-machine.machine c.in_ok-machine.ensures)
+    c.in_ok-deliver_drawn.ensures.finished c.replay_all.ensures)
 
 pub returns-clause-moves : goal.returns-clause-moves
 returns-clause-moves c = subst (λ (m : MachineView). MovesOn m.world) (sym c.of.ensures) (c.moves_on.ensures.0 c.if-not-moves_on.false)
@@ -40,4 +43,10 @@ returns-clause-moves c = subst (λ (m : MachineView). MovesOn m.world) (sym c.of
 pub returns-clause-kept : goal.returns-clause-kept
 returns-clause-kept c =
     ap (λ (m : MachineView). m.keeps) c.of.ensures
-    ∙ (c.in_ok-deliver_drawn.ensures.on.same_keeps ∙ ap (λ (m : MachineView). m.keeps) c.in_ok-machine.ensures)
+    ∙ (c.in_ok-deliver_drawn.ensures.finished.on.same_keeps ∙ ap (λ (m : MachineView). m.keeps) c.in_ok-machine.ensures)
+
+pub returns-clause-positions : goal.returns-clause-positions
+returns-clause-positions c =
+    subst (λ (m : MachineView). IsByPositions c.args.graph.now c.args.inputs.now.values c.args.settings.elements m.world) (sym c.of.ensures)
+    (start_delivered c.args.graph.now c.args.inputs.now.values c.args.settings.elements c.args.settings.keeps c.in_ok-machine.machine c.in_ok-machine.ensures
+    c.deliver_drawn.new.machine.world c.in_ok-deliver_drawn.ensures.delivered)

@@ -31,6 +31,7 @@ loop-worker-preserved c =
             element = subst (λ (k : ℕ). IsElement c.args.graph.now c.args.settings.elements k c.in-Some.worker.element) is mine.element;
             kept = mine.kept;
             few = mine.few;
+            stops = g.stops;
             sent = subst (λ (h : Parts). All (Fits h) (sent_in c.in-Some.worker.element.state)) mine.element.graph g.sent;
           }) gathered);
       len = (let k = i.len in rw g.elements (omega arith));

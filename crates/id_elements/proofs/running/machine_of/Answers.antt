@@ -5,7 +5,8 @@ use Rattle.id_core.specs.Steps.{State}
 use Rattle.id_element.specs.Fits.{Fits}
 use Rattle.id_runs.specs.Accounts.{IsAccounted}
 use Rattle.id_elements.specs.Gathered.{states_of}
-use Rattle.id_elements.proofs.RunsLemmas.{few_gathered, machine_gathered}
+use Rattle.id_elements.specs.Runs.{StopAtFaults}
+use Rattle.id_elements.proofs.RunsLemmas.{few_gathered, machine_gathered, stops_gathered}
 use Rattle.id_elements.proofs.running.machine_of.Goals as goal
 
 pub resume-requires : goal.resume-requires
@@ -21,3 +22,8 @@ pub returns-clause-few : goal.returns-clause-few
 returns-clause-few g c =
     subst (λ (m : MachineView). All (λ (s : State). length s.events ≤ c.args.settings.steps) m.world.elements) (sym c.resume.ensures)
     (few_gathered c.args.graph.now c.args.settings.elements c.args.settings.steps c.args.settings.keeps c.in_ok-elements.field-0.elements.items c.in_ok-elements.ensures.elements)
+
+pub returns-clause-stops : goal.returns-clause-stops
+returns-clause-stops g c =
+    subst (λ (m : MachineView). StopAtFaults m.world) (sym c.resume.ensures)
+    (stops_gathered c.args.graph.now c.args.settings.elements c.args.settings.steps c.args.settings.keeps c.in_ok-elements.field-0.elements.items c.in_ok-elements.ensures.elements)

@@ -1,32 +1,42 @@
-use Rattle.std.proofs.Common.{◌<◌, length, set, ap, refl, sym, subst}
-use Rattle.id_tag.specs.declared.Message.{Message}
+use Rattle.std.proofs.Common.{◌≡◌, ◌<◌, ◌∙◌, length, set, ap, subst}
+use Rattle.id_flight.specs.Queues.{QueueView}
 use Rattle.id_inbox.specs.Doors.{DoorView}
-use Rattle.std.specs.Prelude.{List}
-use Rattle.id_elements.specs.Workers.{IsKept}
-use Rattle.id_elements.proofs.WorkersLemmas.{IsKept-posted, queues_kept}
+use Rattle.id_inbox.specs.Hands.{sending}
+use Rattle.id_elements.proofs.WorkersLemmas.{IsKept-posted, IsKept-returned, IsSame-door}
 use Rattle.id_elements.proofs.worker.Worker.post.Goals as goal
 
-pub invariant_of-self-2 : goal.invariant_of-self-2
-invariant_of-self-2 g c =
-    let w = c.self.inside in
-    let lt : c.args.to < length w.doors.items = rw (← c.self.view_is) at c.requires.to in (
-      subst (λ (out : List Message). IsKept (record { doors = set w.doors.items c.args.to c.put.new.door; element = w.element; own = w.own.messages; out = out; stray = w.stray.messages }))
-          (sym c.drop_front.ensures)
-          (IsKept-posted w.doors.items w.element w.own.messages w.out.messages w.stray.messages c.args.to c.index_mut.result.now c.put.new.door
-          c.index_mut.ensures.value lt c.self.invariant.0 c.in_ok-letter.letter c.in_ok-letter.ensures c.in_ok-put.ensures.ok),
-      c.self.invariant.1,
-      c.self.invariant.2,
+-- the letter was put into the inbox
+pub invariant_of-self : goal.invariant_of-self
+invariant_of-self g c =
+    let w = c.self-2.inside in
+    let d = c.index_mut-2.result.now in
+    let lt : c.args.to < length w.doors.items = rw (← c.self-2.view_is ∙ c.empty_list-empty.ensures.same) at c.requires.to in (
+      IsKept-posted w.goes w.doors.items w.element w.own.messages w.came.messages w.back.messages w.stray.messages w.letters.items c.self-2.invariant.0
+          c.args.to d c.push.new.self c.index_mut-2.ensures.value lt c.index_mut.result.now c.replace-letter.new.dest c.index_mut.ensures.value
+          (ap (λ (q : QueueView). q.messages) c.replace-letter.ensures.after ∙ c.empty_list-empty.ensures.empty)
+          (subst (λ (q : QueueView). c.push.new.self ≡ record d { hand = sending d.hand q.messages }) c.replace-letter.ensures.value c.in-Ok.ensures),
+      c.self-2.invariant.1,
+      c.self-2.invariant.2,
     )
 
-pub returns-clause-same : goal.returns-clause-same
-returns-clause-same g c =
-    let w = c.self.inside in
-    let lt : c.args.to < length w.doors.items = rw (← c.self.view_is) at c.requires.to in
-    rw (← c.self.view_is) (record {
-      queues = queues_kept w.doors.items w.element w.own.messages w.out.messages w.stray.messages c.args.to c.index_mut.result.now c.put.new.door
-          c.index_mut.ensures.value lt c.self.invariant.0 (ap (λ (d : DoorView). d.queue) c.in_ok-put.ensures.ok);
-      number = refl;
-      count = refl;
-      graph = refl;
-      keeps = refl;
-    })
+-- it came back
+pub invariant_of-self-in-Err : goal.invariant_of-self-in-Err
+invariant_of-self-in-Err g c =
+    let w = c.self-2.inside in
+    let d = c.index_mut-2.result.now in
+    let lt : c.args.to < length w.doors.items = rw (← c.self-2.view_is ∙ c.empty_list-empty.ensures.same) at c.requires.to in (
+      IsKept-returned w.goes w.doors.items w.element w.own.messages w.came.messages w.back.messages w.stray.messages w.letters.items c.self-2.invariant.0
+          c.args.to d c.push.new.self c.index_mut-2.ensures.value lt c.index_mut.result.now c.replace-letter.new.dest c.in-Err.back c.index_mut.ensures.value
+          (c.in-Err.ensures.0 ∙ c.replace-letter.ensures.value) c.in-Err.ensures.1,
+      c.self-2.invariant.1,
+      c.self-2.invariant.2,
+    )
+
+pub returns-in-Ok-clause-same : goal.returns-in-Ok-clause-same
+returns-in-Ok-clause-same g c =
+    let w = c.self-2.inside in
+    let at = c.self-2.view_is ∙ c.empty_list-empty.ensures.same in
+    let lt : c.args.to < length w.doors.items = rw (← at) at c.requires.to in
+    rw (← at) (IsSame-door w.goes w.doors.items w.element w.own.messages w.came.messages w.back.messages w.stray.messages w.letters.items c.self-2.invariant.0
+    c.args.to c.index_mut-2.result.now c.push.new.self c.index_mut-2.ensures.value lt w.came.messages
+    (set w.letters.items c.args.to c.replace-letter.new.dest) (ap (λ (d : DoorView). d.queue) c.in-Ok.ensures))

@@ -6,4 +6,5 @@ abbrev pub invariant-loop : goal.invariant-loop
 invariant-loop g l = record {
   same : IsSame l.fn.self l.self;
   state : l.self.element ≡ l.fn.self.element;
+  goes : l.self.goes ≡ l.fn.self.goes;
 }

@@ -1,7 +1,7 @@
 use Rattle.std.proofs.Common.{◌≡◌, ℕ, ◌+◌, ◌≤◌, length}
 use Rattle.std.specs.List.{sum_by}
 use Rattle.id_tag.specs.declared.Message.{Message}
-use Rattle.id_elements.proofs.running.keep_rest.Given as goal
+use Rattle.id_elements.proofs.doors.keep_rest.Given as goal
 
 abbrev pub invariant-loop-message : goal.invariant-loop-message
 invariant-loop-message l = record {
