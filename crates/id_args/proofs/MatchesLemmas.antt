@@ -24,7 +24,7 @@ use Rattle.id_args.specs.declared.request.Unasked.TheVariants.{Help, Refused, Me
 use Rattle.id_args.specs.Commands.{program_app}
 use Rattle.id_args.specs.declared.request.Request.{Request}
 use Rattle.id_args.specs.declared.request.Request.TheVariants as asks
-use Rattle.id_args.specs.Requests.{AskFor, HasFile, HasNumber, HasOrder, IsNumber, IsRequestOf, input_words, is_set}
+use Rattle.id_args.specs.Requests.{AskFor, HasFile, HasNumber, HasOrder, HasTrace, IsNumber, IsRequestOf, input_words, is_set}
 use Rattle.id_args.specs.Matches.{Gives, IsNumberOf, Tells}
 
 true_false : true ≡ false → ⊥
@@ -119,13 +119,14 @@ names_differ : (a b : Text) → bytes_eq a b ≡ false → bytes_eq b b ≡ true
 names_differ a b apart same e = true_false (sym same ∙ (ap (λ t. bytes_eq t b) (sym e) ∙ apart))
 
 -- a request of another command is none
-pub only_four : (name : Text) (rows : List Row) → (name ≡ codes "check" → ⊥) → (name ≡ codes "graph" → ⊥) → (name ≡ codes "run" → ⊥)
-    → (name ≡ codes "facts" → ⊥) → (r : Request) → IsRequestOf name rows r → ⊥
-only_four name rows check graph run facts (asks.Check file) h = check h.0
-only_four name rows check graph run facts (asks.Graph file) h = graph h.0
-only_four name rows check graph run facts (asks.Draw file) h = graph h.0
-only_four name rows check graph run facts (asks.Run file inputs count trace steps order names) h = run h.0
-only_four name rows check graph run facts (asks.Facts file rounds inputs) h = facts h.0
+pub only_five : (name : Text) (rows : List Row) → (name ≡ codes "check" → ⊥) → (name ≡ codes "graph" → ⊥) → (name ≡ codes "run" → ⊥)
+    → (name ≡ codes "facts" → ⊥) → (name ≡ codes "judge" → ⊥) → (r : Request) → IsRequestOf name rows r → ⊥
+only_five name rows check graph run facts judge (asks.Check file) h = check h.0
+only_five name rows check graph run facts judge (asks.Graph file) h = graph h.0
+only_five name rows check graph run facts judge (asks.Draw file) h = graph h.0
+only_five name rows check graph run facts judge (asks.Run file inputs count trace steps order names) h = run h.0
+only_five name rows check graph run facts judge (asks.Facts file rounds inputs) h = facts h.0
+only_five name rows check graph run facts judge (asks.Judge file trace inputs count names) h = judge h.0
 
 -- each request has a file
 pub no_file : (name : Text) (rows : List Row) → ((file : Text) → HasFile rows file → ⊥) → (r : Request) → IsRequestOf name rows r → ⊥
@@ -134,6 +135,7 @@ no_file name rows none (asks.Graph file) h = none file.now h.1
 no_file name rows none (asks.Draw file) h = none file.now h.1
 no_file name rows none (asks.Run file inputs count trace steps order names) h = none file.now h.1
 no_file name rows none (asks.Facts file rounds inputs) h = none file.now h.1
+no_file name rows none (asks.Judge file trace inputs count names) h = none file.now h.1
 
 -- what a request to run has, else it is none
 pub no_run : (rows : List Row) → ((count steps : ℕ) (order : Option ℕ) → HasNumber 32 (codes "elements") rows count → HasNumber 64 (codes "steps") rows steps
@@ -143,6 +145,7 @@ no_run rows none (asks.Graph file) h = names_differ (codes "run") (codes "graph"
 no_run rows none (asks.Draw file) h = names_differ (codes "run") (codes "graph") refl refl h.0
 no_run rows none (asks.Run file inputs count trace steps order names) h = none count steps order h.3 h.5 h.6
 no_run rows none (asks.Facts file rounds inputs) h = names_differ (codes "run") (codes "facts") refl refl h.0
+no_run rows none (asks.Judge file trace inputs count names) h = names_differ (codes "run") (codes "judge") refl refl h.0
 
 -- a request for facts has a round
 pub no_facts : (rows : List Row) → ((rounds : ℕ) → HasNumber 32 (codes "ROUNDS") rows rounds → ⊥) → (r : Request)
@@ -152,6 +155,17 @@ no_facts rows none (asks.Graph file) h = names_differ (codes "facts") (codes "gr
 no_facts rows none (asks.Draw file) h = names_differ (codes "facts") (codes "graph") refl refl h.0
 no_facts rows none (asks.Run file inputs count trace steps order names) h = names_differ (codes "facts") (codes "run") refl refl h.0
 no_facts rows none (asks.Facts file rounds inputs) h = none rounds h.2
+no_facts rows none (asks.Judge file trace inputs count names) h = names_differ (codes "facts") (codes "judge") refl refl h.0
+
+-- a request to judge has a trace and a number of elements
+pub no_judge : (rows : List Row) → ((file : Text) (count : ℕ) → HasTrace rows file → HasNumber 32 (codes "elements") rows count → ⊥) → (r : Request)
+    → IsRequestOf (codes "judge") rows r → ⊥
+no_judge rows none (asks.Check file) h = names_differ (codes "judge") (codes "check") refl refl h.0
+no_judge rows none (asks.Graph file) h = names_differ (codes "judge") (codes "graph") refl refl h.0
+no_judge rows none (asks.Draw file) h = names_differ (codes "judge") (codes "graph") refl refl h.0
+no_judge rows none (asks.Run file inputs count trace steps order names) h = names_differ (codes "judge") (codes "run") refl refl h.0
+no_judge rows none (asks.Facts file rounds inputs) h = names_differ (codes "judge") (codes "facts") refl refl h.0
+no_judge rows none (asks.Judge file trace inputs count names) h = none trace.now count h.2 h.4
 
 -- the input words are the values that the getter gives
 pub input_words-read : (f : Found) (given : Option (List Text)) → given ≡ option_map raw_values (matched_of f (codes "INPUT"))

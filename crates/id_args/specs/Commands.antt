@@ -57,6 +57,10 @@ rounds_rule = record (new_rule (codes "ROUNDS")) {
   parser = Some (Signed (pos 0) (pos 10000));
 }
 
+-- the file of a trace, which has to be there
+abbrev pub trace_rule : Rule
+trace_rule = record (new_rule (codes "TRACE")) { required = true }
+
 -- a command with these arguments
 abbrev pub command_shape : Text → List Rule → Shape
 command_shape name rules = record (new_shape name) { rules = rules }
@@ -78,6 +82,13 @@ run_shape = command_shape (codes "run") run_rules
 abbrev pub facts_shape : Shape
 facts_shape = command_shape (codes "facts") (file_rule ∷ rounds_rule ∷ inputs_rule ∷ [])
 
+-- the arguments of `judge`
+abbrev pub judge_rules : List Rule
+judge_rules = file_rule ∷ trace_rule ∷ inputs_rule ∷ elements_rule ∷ flag_rule (codes "names") ∷ []
+
+abbrev pub judge_shape : Shape
+judge_shape = command_shape (codes "judge") judge_rules
+
 -- the program without its commands, one of which has to be named
 abbrev pub bare_shape : Shape
 bare_shape = record (new_shape (codes "idc")) {
@@ -90,7 +101,7 @@ bare_shape = record (new_shape (codes "idc")) {
 abbrev pub program_app : App
 program_app = record {
   top = record bare_shape { is_leaf = false };
-  subs = check_shape ∷ graph_shape ∷ run_shape ∷ facts_shape ∷ [];
+  subs = check_shape ∷ graph_shape ∷ run_shape ∷ facts_shape ∷ judge_shape ∷ [];
 }
 
 -- the command has this shape, and none of its arguments is one of its subcommands' too

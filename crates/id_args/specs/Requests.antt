@@ -44,6 +44,10 @@ HasOrder rows (Some seed) = HasNumber 64 (codes "order") rows seed
 abbrev pub HasFile : List Row → Text → Type 0
 HasFile rows file = first_of (codes "FILE") rows ≡ Some file
 
+-- the trace is that of the words
+abbrev pub HasTrace : List Row → Text → Type 0
+HasTrace rows file = first_of (codes "TRACE") rows ≡ Some file
+
 -- the input words, in order
 abbrev pub input_words : List Row → List Text
 input_words rows = unwrap_or (all_of (codes "INPUT") rows) []
@@ -62,6 +66,10 @@ IsRequestOf name rows (asks.Run file inputs count trace steps order names) =
 IsRequestOf name rows (asks.Facts file rounds inputs) =
     (name ≡ codes "facts") × HasFile rows file.now × HasNumber 32 (codes "ROUNDS") rows rounds
     × (map (λ w. w.now) inputs.items ≡ input_words rows)
+IsRequestOf name rows (asks.Judge file trace inputs count names) =
+    (name ≡ codes "judge") × HasFile rows file.now × HasTrace rows trace.now
+    × (map (λ w. w.now) inputs.items ≡ input_words rows) × HasNumber 32 (codes "elements") rows count
+    × (names ≡ is_set (codes "names") rows)
 
 -- ---- what words ask for
 

@@ -33,9 +33,10 @@ macro_rules! with_statuses {
   0  the run is quiet, or what was asked for is done
   1  the run stopped at a fault, which is printed
   2  the text or an input is refused
-  3  the run stopped at the step limit, or there are too many facts
+  3  the run stopped at the step limit, or messages are left, or there are too many facts
   4  the command line is refused
-  5  the file can't be read, memory ran out, or a write failed
+  5  a file can't be read, memory ran out, or a write failed
+  6  the trace is none of a run
 
 Example:
   idc run examples/sum.id --steps 1000"
@@ -50,11 +51,11 @@ ghost use Rattle.clap.specs.Simple.{Shape};
 ghost use Rattle.clap.specs.Words.{app_of, found_of, kind_of, rows_of, rule_of, subcommand_rows_of};
 ghost use Rattle.id_args.specs.Commands.{AreCommands, IsCommand, bare_shape, check_shape, command_shape};
 ghost use Rattle.id_args.specs.Commands.{elements_rule, facts_shape, file_rule, flag_rule, graph_shape};
-ghost use Rattle.id_args.specs.Commands.{inputs_rule, number_rule, order_rule, program_app, rounds_rule};
-ghost use Rattle.id_args.specs.Commands.{run_rules, run_shape, steps_rule};
+ghost use Rattle.id_args.specs.Commands.{inputs_rule, judge_rules, judge_shape, number_rule, order_rule};
+ghost use Rattle.id_args.specs.Commands.{program_app, rounds_rule, run_rules, run_shape, steps_rule, trace_rule};
 ghost use Rattle.id_args.specs.Matches.{Gives, IsAsked, IsAskedIn, IsNumberOf, IsOrderOf, IsRefusal, Tells};
-ghost use Rattle.id_args.specs.Requests.{AskFor, HasFile, IsRequestOf, IsUnread, IsUnreadWords, end_in_help};
-ghost use Rattle.id_args.specs.Requests.{input_words, is_help, is_set, words_read};
+ghost use Rattle.id_args.specs.Requests.{AskFor, HasFile, HasTrace, IsRequestOf, IsUnread, IsUnreadWords};
+ghost use Rattle.id_args.specs.Requests.{end_in_help, input_words, is_help, is_set, words_read};
 
 mod request;
 #[cfg(test)]
@@ -83,6 +84,10 @@ const OVERVIEW: &str = with_statuses!(
 
 Options of graph:
       --dot           Prints it in the language of Graphviz
+
+Options of judge:
+      --elements <N>  How many elements the machine had, from 1 to 64 [default: 1]
+      --names         Prints the value of each name
 
 "
 );
@@ -181,6 +186,16 @@ fn rounds_argument<'a>(alloc: Global) -> Arg<'a>
         .help("How often the rules are used")
 }
 
+/// The argument that names the file of a trace.
+fn trace_argument<'a>(alloc: Global) -> Arg<'a>
+    ensures rule { rule_of result ≡ trace_rule }
+    ensures local { result.global ≡ false }
+{
+    Arg::new(alloc, "TRACE").required(true).help(
+        "The events of a run, a line each, as run prints them with --trace",
+    )
+}
+
 /// A command with these arguments.
 fn command_with<'a>(
     alloc: Global,
@@ -252,6 +267,29 @@ fn facts_command<'a>(alloc: Global) -> Result<Command<'a>, AllocError>
     command_with(alloc, "facts", about, arguments)
 }
 
+/// The arguments of `judge`.
+fn judge_arguments<'a>(alloc: Global) -> Result<Vec<Arg<'a>>, AllocError>
+    ensures rules { IfOk result (λ v. map rule_of v.items ≡ judge_rules) }
+    ensures local { IfOk result (λ v. All (λ a. a.global ≡ false) v.items) }
+{
+    let arguments = vec![in alloc;
+        file_argument(alloc),
+        trace_argument(alloc),
+        inputs_argument(alloc),
+        elements_option(alloc),
+        flag(alloc, "names", "Prints the value of each name"),
+    ]?;
+    Ok(arguments)
+}
+
+/// The command `judge`.
+fn judge_command<'a>(alloc: Global) -> Result<Command<'a>, AllocError>
+    ensures { IfOk result (IsCommand judge_shape) }
+{
+    let about = "Says whether a trace is one of a run of a program, and prints what that run shows";
+    command_with(alloc, "judge", about, judge_arguments(alloc)?)
+}
+
 /// Puts a command behind these, unless it could not be made.
 fn put<'a>(
     commands: &mut Vec<Command<'a>>,
@@ -271,7 +309,8 @@ fn put_all<'a>(alloc: Global, commands: &mut Vec<Command<'a>>) -> Result<(), All
     put(commands, check_command(alloc))?;
     put(commands, graph_command(alloc))?;
     put(commands, run_command(alloc))?;
-    put(commands, facts_command(alloc))
+    put(commands, facts_command(alloc))?;
+    put(commands, judge_command(alloc))
 }
 
 /// The command line without its commands.
@@ -497,6 +536,45 @@ fn facts_request<'a>(
     }))
 }
 
+/// What the words of `judge` ask for of this file and this trace, if they say on how many elements.
+fn judge_request<'a>(
+    alloc: Global,
+    file: &'a str,
+    trace: &'a str,
+    matches: &ArgMatches<'a>,
+) -> Result<Option<Request<'a>>, AllocError>
+    requires file { HasFile (rows_of (found_of matches.now)) file.now }
+    requires trace { HasTrace (rows_of (found_of matches.now)) trace.now }
+    ensures { IfOk result (IsAsked (codes "judge") (rows_of (found_of matches.now))) }
+{
+    let Some(elements) = number_of(matches, "elements") else {
+        return Ok(None);
+    };
+    let inputs = inputs_of(alloc, matches)?;
+    Ok(Some(Request::Judge {
+        file,
+        trace,
+        inputs,
+        count: elements,
+        names: has_flag(matches, "names"),
+    }))
+}
+
+/// What the words of `judge` ask for of this file, if they name a trace and say what else it needs.
+fn judge_request_of<'a>(
+    alloc: Global,
+    file: &'a str,
+    matches: &ArgMatches<'a>,
+) -> Result<Option<Request<'a>>, AllocError>
+    requires { HasFile (rows_of (found_of matches.now)) file.now }
+    ensures { IfOk result (IsAsked (codes "judge") (rows_of (found_of matches.now))) }
+{
+    match matches.get_str("TRACE") {
+        Some(trace) => judge_request(alloc, file, trace, matches),
+        None => Ok(None),
+    }
+}
+
 /// What the words of a command ask for of this file, if there is such a command, and they say what else it needs.
 fn request_of_file<'a>(
     alloc: Global,
@@ -512,6 +590,7 @@ fn request_of_file<'a>(
         "graph" => Ok(Some(graph_request(file, matches))),
         "run" => run_request(alloc, file, matches),
         "facts" => facts_request(alloc, file, matches),
+        "judge" => judge_request_of(alloc, file, matches),
         _ => Ok(None),
     }
 }

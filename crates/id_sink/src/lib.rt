@@ -19,7 +19,9 @@ mod texts;
 pub use cursor::{Cursor, Series, Spot};
 pub use line::Piece;
 pub use sink::{PrintError, Sink, SinkFault, put};
-pub use source::{Disk, Folder, ReadFault, Source, SourceFault, SystemFolder, read_text};
+pub use source::{
+    Disk, Folder, ReadFault, Source, SourceFault, SystemFolder, read_text, source_fault,
+};
 pub use stream::{Device, Stream, write_some};
 pub use texts::{
     put_ask, put_at, put_bounds, put_cell, put_content, put_filled, put_index, put_int, put_long,

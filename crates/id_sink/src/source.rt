@@ -2,7 +2,7 @@
 
 ghost use Rattle.std.specs.Prelude.{◌≡◌, ◌↔◌, take, IfOk, IfSome, List, Option, Result, ℕ};
 ghost use Rattle.std.specs.IoError.{error_kind};
-ghost use Rattle.id_sink.specs.Reading.{IsFrontOf, IsRead, IsReadOf, IsTextOf, fault_for, told_text};
+ghost use Rattle.id_sink.specs.Reading.{AreRead, IsFrontOf, IsRead, IsReadOf, IsTextOf, fault_for, told_text};
 
 use id_text::MAX_BYTES;
 use std::alloc::Global;
@@ -22,16 +22,25 @@ pub enum SourceFault {
     Memory,
 }
 
-/// Something that has texts under names.
+/// Something that has texts, and bytes, under names.
 pub trait Source {
+    ghost use Rattle.id_sink.specs.declared.source.ReadFault.{ReadFault};
     ghost use Rattle.id_sink.specs.declared.source.SourceFault.{SourceFault};
 
     /// The text that a read of this name would give, or why there is none, where it tells that.
     ghost told: { Self → List ℕ → Option (Result (List ℕ) SourceFault) };
 
+    /// The bytes of this name, or why they can't be read, where it tells that.
+    ghost told_bytes: { Self → List ℕ → Option (Result (List ℕ) ReadFault) };
+
     /// The text of this name. Want of memory can stand in the place of any answer.
     fn read(&mut self, alloc: Global, name: &str) -> Result<String, SourceFault>
-        ensures { IsRead (told self.old name.now) result };
+        ensures text { IsRead (told self.old name.now) result }
+        ensures kept { (n : List ℕ) → told_bytes self.new n ≡ told_bytes self.old n };
+
+    /// All bytes of this name, whatever they are. Want of memory can stand in the place of any answer.
+    fn read_bytes(&mut self, alloc: Global, name: &str) -> Result<Vec<u8>, ReadFault>
+        ensures { AreRead (told_bytes self.old name.now) result };
 }
 
 /// Why the bytes of a name weren't read.
@@ -57,6 +66,7 @@ pub trait Folder {
     /// At most so many bytes of this name, from the front. Want of memory can stand in the place of any answer.
     fn front(&mut self, alloc: Global, name: &str, most: usize) -> Result<Vec<u8>, ReadFault>
         ensures told { IsFrontOf (told self.old name.now) most result }
+        ensures kept { (n : List ℕ) → told self.new n ≡ told self.old n }
         ensures known { IfOk result (λ v. IfSome (known self.old name.now) (λ bytes. v.items ≡ take most bytes)) };
 }
 
@@ -97,7 +107,7 @@ impl<R: Read + Drop> Folder for Opened<R> {
     }
 }
 
-/// A folder's bytes as texts.
+/// A folder's bytes as texts, and as they are.
 #[derive(Drop)]
 pub struct Disk<F: Folder + Drop> {
     pub folder: F,
@@ -106,8 +116,14 @@ pub struct Disk<F: Folder + Drop> {
 impl<F: Folder + Drop> Source for Disk<F> {
     ghost told = { λ disk name. told_text (F.told disk.folder name) };
 
+    ghost told_bytes = { λ disk name. F.told disk.folder name };
+
     fn read(&mut self, alloc: Global, name: &str) -> Result<String, SourceFault> {
         read_text(alloc, &mut self.folder, name)
+    }
+
+    fn read_bytes(&mut self, alloc: Global, name: &str) -> Result<Vec<u8>, ReadFault> {
+        all_bytes(alloc, &mut self.folder, name)
     }
 }
 
@@ -120,10 +136,26 @@ pub fn read_text<F: Folder>(
 ) -> Result<String, SourceFault>
     ensures told { IsRead (told_text (F.told folder.old name.now)) result }
     ensures known { IfSome (F.known folder.old name.now) (λ bytes. IsReadOf bytes result) }
+    ensures kept { (n : List ℕ) → F.told folder.new n ≡ F.told folder.old n }
 {
     match folder.front(alloc, name, MAX_BYTES + 1) {
         Ok(bytes) => text_of(bytes),
         Err(fault) => Err(source_fault(fault)),
+    }
+}
+
+/// All bytes of this name. More than memory can have are told as `File`.
+fn all_bytes<F: Folder>(alloc: Global, folder: &mut F, name: &str) -> Result<Vec<u8>, ReadFault>
+    ensures { AreRead (F.told folder.old name.now) result }
+{
+    match folder.front(alloc, name, usize::MAX) {
+        Ok(bytes) => {
+            if bytes.len() == usize::MAX {
+                return Err(ReadFault::File);
+            }
+            Ok(bytes)
+        }
+        Err(fault) => Err(fault),
     }
 }
 
@@ -141,7 +173,7 @@ fn text_of(bytes: Vec<u8>) -> Result<String, SourceFault>
 }
 
 /// Why there is no text where bytes can't be read.
-fn source_fault(fault: ReadFault) -> SourceFault
+pub fn source_fault(fault: ReadFault) -> SourceFault
     ensures { result ≡ fault_for fault }
 {
     match fault {
