@@ -10,11 +10,11 @@ use Rattle.id_value.proofs.PlacesLemmas.{set-here, slice_get-last}
 use Rattle.id_instr.specs.Graph.{Parts}
 use Rattle.id_tag.specs.declared.Message.{Message}
 use Rattle.id_tag.specs.Routes.{route_of}
-use Rattle.id_record.specs.declared.kept.Keeps.TheVariants as keeps
+use Rattle.id_record.specs.declared.step.Step.{Step}
 use Rattle.id_core.specs.Events.{EventView}
 use Rattle.id_core.specs.Fits.{Fits, IsFor}
 use Rattle.id_core.specs.Replays.{ElementView}
-use Rattle.id_core.specs.Steps.{State, event_of, is_ended, outputs_of, state_after}
+use Rattle.id_core.specs.Steps.{State, event_of, is_ended, outputs_of, state_after, step_of}
 use Rattle.id_core.specs.Machines.{IsElement}
 use Rattle.id_core.proofs.MachinesLemmas.{IsDelivery, IsGiven, IsMachine-deliver, is_for, taken}
 use Rattle.id_runs.specs.Legal.{CanFollow, InSomeOrder, after_event}
@@ -49,6 +49,7 @@ module _ (b : BenchView) (bench : IsBench b) (k : ℕ) (m : Message) (at : slice
     abbrev pub after : BenchView
     after = record {
       graph = b.graph;
+      keeps = b.keeps;
       elements = set b.elements n (taken e m);
       flight = others ++ outputs_of e.graph e.number e.state m;
       sent = [];
@@ -59,7 +60,7 @@ module _ (b : BenchView) (bench : IsBench b) (k : ℕ) (m : Message) (at : slice
 
     pub bench_after : IsBench after
     bench_after =
-        let old = IsMachine-deliver b.graph keeps.All b.elements b.flight k n m e bench.machine delivery fits in
+        let old = IsMachine-deliver b.graph b.keeps b.elements b.flight k n m e bench.machine delivery fits in
         record {
           machine = record {
             at_least_one = old.at_least_one;
@@ -115,12 +116,17 @@ module _ (b : BenchView) (bench : IsBench b) (k : ℕ) (m : Message) (at : slice
           (last_is e.state.events (event_of e.graph e.number e.state m));
     }
 
-    pub delivers : Delivers b m after
-    delivers = record {
+    came : (s : Step) → s ≡ step_of e.graph e.number e.state m → event.step ≡ s
+    came s is = (λ i. step_of (sym element_is.graph i) (sym element_is.number i) e.state m) ∙ sym is
+
+    pub delivers : (s : Step) → s ≡ step_of e.graph e.number e.state m → Delivers b m s after
+    delivers s is = record {
       event = event;
       of = refl;
+      came = came s is;
       follows = record { can = can; after = followed };
       same_graph = refl;
+      same_keeps = refl;
       same_count = length-set b.elements n (taken e m);
       recorded = recorded;
     }
@@ -145,16 +151,17 @@ last_at b m v e events l there is =
 pub done : (b : BenchView) (bench : IsBench b) (k : ℕ) (m : Message) (at : slice_get b.flight k ≡ Some m) (e : ElementView)
     (element : slice_get b.elements (number_for b m) ≡ Some e) (left : is_ended e.state m ≡ false)
     (fits : All (Fits e.graph) (outputs_of e.graph e.number e.state m)) (mid c : BenchView) → mid.flight ≡ b.flight
-    → mid.sent ≡ b.sent ++ outputs_of e.graph e.number e.state m → Replaces m mid c → c.graph ≡ b.graph
-    → c.elements ≡ set b.elements (number_for b m) (taken e m) → c.sent ≡ [] → IsBench c × Delivers b m c
-done b bench k m at e element left fits mid c flight sent r graph elements nothing =
+    → mid.sent ≡ b.sent ++ outputs_of e.graph e.number e.state m → Replaces m mid c → c.graph ≡ b.graph → c.keeps ≡ b.keeps
+    → c.elements ≡ set b.elements (number_for b m) (taken e m) → c.sent ≡ [] → (s : Step) → s ≡ step_of e.graph e.number e.state m
+    → IsBench c × Delivers b m s c
+done b bench k m at e element left fits mid c flight sent r graph keeps elements nothing s is =
     let out : InSomeOrder b.flight (m ∷ r.others) = subst (λ (ms : List Message). InSomeOrder ms (m ∷ r.others)) flight r.out in
     let all : c.flight ≡ r.others ++ outputs_of e.graph e.number e.state m =
     r.flight ∙ ap (λ ms. r.others ++ ms) (sent ∙ ap (λ ms. ms ++ outputs_of e.graph e.number e.state m) bench.none) in
     let same : after b bench k m at e element left fits r.others out ≡ c =
-    λ i. record { graph = sym graph i; elements = sym elements i; flight = sym all i; sent = sym nothing i } in (
+    λ i. record { graph = sym graph i; keeps = sym keeps i; elements = sym elements i; flight = sym all i; sent = sym nothing i } in (
       subst IsBench same (bench_after b bench k m at e element left fits r.others out),
-      subst (Delivers b m) same (delivers b bench k m at e element left fits r.others out),
+      subst (Delivers b m s) same (delivers b bench k m at e element left fits r.others out s is),
     )
 
 pub left_ok : {A E : Type 0} (a : A) (x : E) (b : Bool) → (◌≡◌ {A = Result A E} (Ok a) (Err x) → IsTrue b) × (IsTrue b → ◌≡◌ {A = Result A E} (Ok a) (Err x)) → b ≡ false

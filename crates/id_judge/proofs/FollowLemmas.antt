@@ -36,7 +36,7 @@ module _ (g : Parts) (count : ℕ) where
   }
 
   -- and it leads to the same, but for that order
-  same_after : (w x : World) (v : EventView) → IsSameBut w x → (f : CanFollow g count w v) (h : CanFollow g count x v)
+  pub same_after : (w x : World) (v : EventView) → IsSameBut w x → (f : CanFollow g count w v) (h : CanFollow g count x v)
       → IsSameBut (after_event g count w v f) (after_event g count x v h)
   same_after w x v same f h =
       let state : f.state ≡ h.state =

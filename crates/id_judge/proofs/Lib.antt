@@ -3,3 +3,12 @@ pub mod FollowLemmas
 pub mod DeliverLemmas
 pub mod VerdictLemmas
 pub mod GivenLemmas
+pub mod LinesLemmas
+pub mod ClearLemmas
+pub mod ReadLemmas
+pub mod StampsLemmas
+pub mod TextLemmas
+pub mod SmallLemmas
+pub mod KeysLemmas
+pub mod FewLemmas
+pub mod ClearLines

@@ -4,6 +4,7 @@ use Rattle.std.proofs.lemmas.List.{take_all}
 use Rattle.id_instr.specs.Graph.{Parts}
 use Rattle.id_value.specs.declared.Constant.{Constant}
 use Rattle.id_observe.proofs.WalksLemmas.{take-next}
+use Rattle.id_record.specs.declared.kept.Keeps.{Keeps}
 use Rattle.id_record.specs.declared.kept.Keeps.TheVariants as keeps
 use Rattle.id_core.specs.Events.{EventView}
 use Rattle.id_core.specs.Machines.{MachineView, World, start}
@@ -34,10 +35,10 @@ first_is g h vs count n es i v w cause graph many at lead why =
     is_first g vs count es i v w cause at lead (subst H many (subst F graph why))
 
 -- all of them
-pub legal_is : (g h : Parts) (vs : List Constant) (count n : ℕ) (es : List EventView) (w : World) (m : MachineView) → h ≡ g → n ≡ count
-    → LeadTo g count (start g vs count) (take (length es) es) w → m ≡ record { graph = h; count = n; keeps = keeps.All; world = w }
+pub legal_is : (g h : Parts) (vs : List Constant) (count n : ℕ) (es : List EventView) (w : World) (k : Keeps) (m : MachineView) → h ≡ g → n ≡ count
+    → k ≡ keeps.All → LeadTo g count (start g vs count) (take (length es) es) w → m ≡ record { graph = h; count = n; keeps = k; world = w }
     → (m.graph ≡ g) × (m.count ≡ count) × (m.keeps ≡ keeps.All) × IsLegalOrder g vs count es m.world
-legal_is g h vs count n es w m graph many lead is =
+legal_is g h vs count n es w k m graph many kept lead is =
     let P : List EventView → Type 0 = λ xs. LeadTo g count (start g vs count) xs w in
     let order : IsLegalOrder g vs count es w = record {
       flight = w.flight;
@@ -46,6 +47,6 @@ legal_is g h vs count n es w m graph many lead is =
     } in (
       ap (λ (x : MachineView). x.graph) is ∙ graph,
       ap (λ (x : MachineView). x.count) is ∙ many,
-      ap (λ (x : MachineView). x.keeps) is,
+      ap (λ (x : MachineView). x.keeps) is ∙ kept,
       subst (λ (x : World). IsLegalOrder g vs count es x) (sym (ap (λ (x : MachineView). x.world) is)) order,
     )

@@ -4,7 +4,8 @@ use Rattle.std.specs.Prelude.{◌++◌, length, slice_get}
 use Rattle.id_instr.specs.Graph.{Parts}
 use Rattle.id_tag.specs.declared.Message.{Message}
 use Rattle.id_tag.specs.Routes.{route_of}
-use Rattle.id_record.specs.declared.kept.Keeps.TheVariants as keeps
+use Rattle.id_record.specs.declared.kept.Keeps.{Keeps}
+use Rattle.id_record.specs.declared.step.Step.{Step}
 use Rattle.id_core.specs.Events.{EventView}
 use Rattle.id_core.specs.Replays.{ElementView}
 use Rattle.id_core.specs.Steps.{is_ended}
@@ -15,9 +16,11 @@ use Rattle.id_judge.specs.declared.verdict.Cause.TheVariants.{NotInFlight, Other
 use Rattle.id_judge.specs.declared.verdict.Cause.TheVariants.{OtherOutcome}
 use Rattle.id_judge.specs.Verdicts.{Follows}
 
--- the graph, the elements, what is in flight, and what was sent and is not yet in flight
+-- the graph, how much the elements keep of their events, the elements, what is in flight, and what was sent and is not
+-- yet in flight
 pub record BenchView : Type 0 where
   pub graph : Parts
+  pub keeps : Keeps
   pub elements : List ElementView
   pub flight : List Message
   pub sent : List Message
@@ -26,9 +29,9 @@ pub record BenchView : Type 0 where
 abbrev pub world_in : BenchView → World
 world_in b = world_of b.elements b.flight
 
--- it is a machine whose elements keep all events, and all that was sent is in flight
+-- it is a machine whose elements keep so much, and all that was sent is in flight
 pub record IsBench (b : BenchView) : Type 0 where
-  pub machine : IsMachine b.graph keeps.All b.elements b.flight
+  pub machine : IsMachine b.graph b.keeps b.elements b.flight
   pub none : b.sent ≡ []
 
 -- the number of the element that a message is for
@@ -51,12 +54,15 @@ pub record IsLast (b : BenchView) (m : Message) (v : EventView) : Type 0 where
   pub there : slice_get b.elements (number_for b m) ≡ Some element
   pub last : slice_get element.state.events (length element.state.events - 1) ≡ Some v
 
--- the message was delivered: an event of it followed, which is the last one that its element has recorded
-pub record Delivers (b : BenchView) (m : Message) (c : BenchView) : Type 0 where
+-- the message was delivered, and came to this: an event of it followed, which is the last one that its element has
+-- recorded
+pub record Delivers (b : BenchView) (m : Message) (s : Step) (c : BenchView) : Type 0 where
   pub event : EventView
   pub of : event.message ≡ m
+  pub came : event.step ≡ s
   pub follows : Follows b.graph (length b.elements) (world_in b) event (world_in c)
   pub same_graph : c.graph ≡ b.graph
+  pub same_keeps : c.keeps ≡ b.keeps
   pub same_count : length c.elements ≡ length b.elements
   pub recorded : IsLast c m event
 

@@ -4,18 +4,19 @@ ghost use Rattle.std.specs.Prelude.{◌≡◌, ◌<◌, ◌≤◌, ◌++◌, [],
 ghost use Rattle.std.specs.Prelude.{Some, None, Ok, Err, IfOk, IfSome, OnOk};
 ghost use Rattle.id_element.specs.declared.step.TakeError.TheVariants.{StampEnd};
 ghost use Rattle.id_element.specs.Steps.{fresh};
-ghost use Rattle.id_record.specs.declared.kept.Keeps.TheVariants as keeps;
+ghost use Rattle.id_record.specs.declared.kept.Keeps.TheVariants as kept;
 ghost use Rattle.id_core.specs.Machines.{AllKeep, AreElements, TakesInputs, start};
 ghost use Rattle.id_record.specs.Events.{EventView};
 ghost use Rattle.id_tag.specs.declared.Message.{Message};
 ghost use Rattle.id_judge.specs.Benches.{Delivers, Differs, IsBench, IsEnded, IsLast, Replaces};
 ghost use Rattle.id_judge.specs.Benches.{world_in};
+ghost use Rattle.id_judge.specs.Lines.{AreSmall};
 ghost use Rattle.id_judge.specs.Verdicts.{Follows, IsCause, told};
 
 use crate::given::{Given, is_given};
 use crate::pool::Pool;
 use crate::verdict::Cause;
-use id_core::{Element, Event, Keeps, Machine, TakeError, start_flight};
+use id_core::{Element, Event, Keeps, Machine, Step, TakeError, start_flight};
 use id_flight::Queue;
 use id_source::Inputs;
 use id_tag::{Message, route};
@@ -27,8 +28,9 @@ use std::marker::Model;
 #[derive(Drop)]
 pub struct Bench<'a> {
     graph: &'a Valid,
-    elements: Vec<Element<'a>>,
-    flight: Pool,
+    keeps: Keeps,
+    pub elements: Vec<Element<'a>>,
+    pub flight: Pool,
     sent: Queue,
 }
 
@@ -42,55 +44,60 @@ impl<'a> Model for Bench<'a> {
 
     ghost view = { λ b. record {
       graph = b.graph.now;
+      keeps = b.keeps;
       elements = b.elements.items;
       flight = b.flight;
       sent = b.sent.messages;
     } };
 }
 
-/// The machine of so many elements at its start.
+/// The machine of so many elements at its start, each of which keeps so much of its events.
 pub fn start_bench<'a>(
     alloc: Global,
     graph: &'a Valid,
     inputs: &Inputs,
     count: u32,
+    keeps: Keeps,
 ) -> Result<Bench<'a>, AllocError>
     requires inputs { TakesInputs graph.now inputs.now.values }
     requires at_least_one { 0 < count }
     requires at_most_64 { count ≤ 64 }
     ensures bench { IfOk result IsBench }
     ensures graph { IfOk result (λ b. b.graph ≡ graph.now) }
+    ensures keeps { IfOk result (λ b. b.keeps ≡ keeps) }
     ensures count { IfOk result (λ b. length b.elements ≡ count) }
     ensures world { IfOk result (λ b. world_in b ≡ start graph.now inputs.now.values count) }
 {
-    let elements = fresh_elements(alloc, graph, count)?;
+    let elements = fresh_elements(alloc, graph, count, keeps)?;
     let mut sent = start_flight(alloc, graph, inputs)?;
     let mut flight = Pool::new(alloc);
     send(&mut flight, &mut sent)?;
     Ok(Bench {
         graph,
+        keeps,
         elements,
         flight,
         sent,
     })
 }
 
-/// The elements at the start, each of which keeps all events.
+/// The elements at the start, each of which keeps so much of its events.
 fn fresh_elements<'a>(
     alloc: Global,
     graph: &'a Valid,
     count: u32,
+    keeps: Keeps,
 ) -> Result<Vec<Element<'a>>, AllocError>
     requires at_least_one { 0 < count }
     requires at_most_64 { count ≤ 64 }
     ensures len { IfOk result (λ es. length es.items ≡ count) }
     ensures elements { IfOk result (λ es. AreElements graph.now count es.items) }
-    ensures kept { IfOk result (λ es. AllKeep keeps.All es.items) }
+    ensures kept { IfOk result (λ es. AllKeep keeps es.items) }
     ensures states { IfOk result (λ es. map (λ e. e.state) es.items ≡ replicate count fresh) }
 {
     let mut elements = Vec::with_capacity(alloc, count as usize)?;
     for number in 0..count {
-        elements.push_reserved(Element::new(alloc, number, count, graph));
+        elements.push_reserved(Element::keeping(alloc, number, count, graph, keeps));
     }
     Ok(elements)
 }
@@ -112,6 +119,7 @@ fn send(flight: &mut Pool, sent: &mut Queue) -> Result<(), AllocError>
 fn replace(bench: &mut Bench<'_>, position: usize) -> Result<(), AllocError>
     requires { position < length bench.old.flight }
     ensures graph { bench.new.graph ≡ bench.old.graph }
+    ensures keeps { bench.new.keeps ≡ bench.old.keeps }
     ensures elements { bench.new.elements ≡ bench.old.elements }
     ensures flight { OnOk result ((m : Message) → slice_get bench.old.flight position ≡ Some m
         → Replaces m bench.old bench.new) }
@@ -121,18 +129,19 @@ fn replace(bench: &mut Bench<'_>, position: usize) -> Result<(), AllocError>
     send(&mut bench.flight, &mut bench.sent)
 }
 
-/// Delivers the message at a position: it leaves, its element handles it, and what is sent is in flight.
-fn deliver(bench: &mut Bench<'_>, position: usize, message: &Message) -> Result<(), TakeError>
+/// Delivers the message at a position, and answers what it came to: it leaves, its element handles it, and what is sent
+/// is in flight.
+pub fn deliver(bench: &mut Bench<'_>, position: usize, message: &Message) -> Result<Step, TakeError>
     requires bench { IsBench bench.old }
     requires there { slice_get bench.old.flight position ≡ Some message.now }
     ensures bench { OnOk result (IsBench bench.new) }
-    ensures delivers { OnOk result (Delivers bench.old message.now bench.new) }
+    ensures delivers { IfOk result (λ step. Delivers bench.old message.now step bench.new) }
     ensures end { result ≡ Err StampEnd → IsEnded bench.old message.now }
 {
     let number = route(message, bench.elements.len() as u32) as usize;
     match bench.elements[number].take(message, &mut bench.sent) {
-        Ok(_) => match replace(bench, position) {
-            Ok(()) => Ok(()),
+        Ok(step) => match replace(bench, position) {
+            Ok(()) => Ok(step),
             Err(_) => Err(TakeError::Memory),
         },
         Err(error) => Err(error),
@@ -141,9 +150,11 @@ fn deliver(bench: &mut Bench<'_>, position: usize, message: &Message) -> Result<
 
 /// Lets an event follow, or says why it cannot.
 pub fn follow(bench: &mut Bench<'_>, given: &Given) -> Result<Option<Cause>, AllocError>
-    requires { IsBench bench.old }
+    requires bench { IsBench bench.old }
+    requires keeps { bench.old.keeps ≡ kept.All }
     ensures bench { result ≡ Ok None → IsBench bench.new }
     ensures graph { result ≡ Ok None → bench.new.graph ≡ bench.old.graph }
+    ensures keeps { result ≡ Ok None → bench.new.keeps ≡ bench.old.keeps }
     ensures count { result ≡ Ok None → length bench.new.elements ≡ length bench.old.elements }
     ensures follows { result ≡ Ok None
         → Follows bench.old.graph (length bench.old.elements) (world_in bench.old) given.now (world_in bench.new) }
@@ -159,7 +170,7 @@ pub fn follow(bench: &mut Bench<'_>, given: &Given) -> Result<Option<Cause>, All
         return Ok(Some(Cause::OtherElement));
     }
     match deliver(bench, position, message) {
-        Ok(()) => Ok(difference(bench, given)),
+        Ok(_) => Ok(difference(bench, given)),
         Err(TakeError::StampEnd) => Ok(Some(Cause::NoStamp)),
         Err(TakeError::Memory) => Err(AllocError),
     }
@@ -168,6 +179,7 @@ pub fn follow(bench: &mut Bench<'_>, given: &Given) -> Result<Option<Cause>, All
 /// The last event that the element of a message has recorded.
 fn last_event<'b>(bench: &'b Bench<'_>, message: &Message) -> Event<'b>
     requires bench { IsBench bench.now }
+    requires keeps { bench.now.keeps ≡ kept.All }
     requires recorded { (v : EventView) × IsLast bench.now message.now v }
     ensures { (v : EventView) → IsLast bench.now message.now v → told result ≡ v }
 {
@@ -180,6 +192,7 @@ fn last_event<'b>(bench: &'b Bench<'_>, message: &Message) -> Event<'b>
 /// element.
 fn difference(bench: &Bench<'_>, given: &Given) -> Option<Cause>
     requires bench { IsBench bench.now }
+    requires keeps { bench.now.keeps ≡ kept.All }
     requires recorded { (v : EventView) × IsLast bench.now given.now.message v }
     ensures { (v : EventView) → IsLast bench.now given.now.message v → Differs v given.now result }
 {
@@ -193,18 +206,25 @@ fn difference(bench: &Bench<'_>, given: &Given) -> Option<Cause>
     Some(Cause::OtherOutcome)
 }
 
+/// Tells that what is in flight is what a machine has. Does nothing.
+pub fn tell_small(bench: &Bench<'_>)
+    ensures { AreSmall bench.now.flight }
+{
+    bench.flight.tell_small();
+}
+
 /// The machine, with what is in flight in the order in which it stands.
 pub fn end_bench<'a>(alloc: Global, bench: Bench<'a>) -> Result<Machine<'a>, AllocError>
     requires { IsBench bench }
     ensures { IfOk result (λ m. m ≡ record {
       graph = bench.entry.graph;
       count = length bench.entry.elements;
-      keeps = keeps.All;
+      keeps = bench.entry.keeps;
       world = world_in bench.entry;
     }) }
 {
     let queue = queue_of(alloc, &bench.flight)?;
-    Ok(Machine::resume(alloc, bench.graph, Keeps::All, bench.elements, queue))
+    Ok(Machine::resume(alloc, bench.graph, bench.keeps, bench.elements, queue))
 }
 
 /// Messages in a queue, in the order in which they stand.

@@ -8,7 +8,7 @@ ghost use Rattle.id_judge.specs.Verdicts.{IsVerdict};
 use crate::bench::{end_bench, follow, start_bench};
 use crate::given::Given;
 use crate::verdict::Verdict;
-use id_core::{MAX_ELEMENTS, MachineError};
+use id_core::{Keeps, MAX_ELEMENTS, MachineError};
 use id_source::Inputs;
 use id_valid::Valid;
 use std::alloc::Global;
@@ -29,7 +29,7 @@ pub fn judge_events<'a>(
     if count == 0 || count > MAX_ELEMENTS {
         return Err(MachineError::BadElements);
     }
-    let mut bench = start_bench(alloc, graph, inputs, count)?;
+    let mut bench = start_bench(alloc, graph, inputs, count, Keeps::All)?;
     for position in 0..events.len() {
         if let Some(cause) = follow(&mut bench, &events[position])? {
             return Ok(Verdict::CannotFollow(position, cause));

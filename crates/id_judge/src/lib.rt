@@ -1,20 +1,28 @@
-//! The judge of events: whether a list of events, of whatever machine, is that of a run.
+//! The judges: whether a list of events, of whatever machine, is that of a run, and whether a text is its trace.
 //!
 //! Keeps: what is in flight stands in no order; where a message stands is found by what it names, and else by a look at
 //! each.
 //! Errors: `MachineError`; nothing is left of a judge then.
-//! Read first: `specs/Verdicts.antt`, then `judge_events`.
-//! Not here: the machine's step (`id_element`), legal lists and their laws (`id_runs`).
+//! Read first: `specs/Verdicts.antt`, then `judge_events`; `specs/Lines.antt`, then `judge_lines`.
+//! Not here: the machine's step (`id_element`), legal lists and their laws (`id_runs`), the lines (`id_trace`).
 #![tactic(auto)]
 
 mod bench;
 mod events;
 mod given;
+mod hint;
+mod line;
+mod lines;
 mod pool;
+mod said;
 mod same;
+mod small;
+#[cfg(test)]
+mod tests;
 mod verdict;
 
 pub use events::judge_events;
 pub use given::Given;
-pub use id_core::{Machine, MachineError};
+pub use id_core::{Keeps, Machine, MachineError};
+pub use lines::judge_lines;
 pub use verdict::{Cause, Verdict};

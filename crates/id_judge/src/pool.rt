@@ -1,6 +1,7 @@
 //! Messages in flight, in no order, each of which is found by what it names.
 
 use crate::same::same_message;
+use crate::small::tell_small;
 use id_instr::Port;
 use id_tag::{Message, NearHasher, Payload, Tag, mix};
 use indexmap::IndexMap;
@@ -22,6 +23,10 @@ impl Model for Pool {
     ghost Value = { List Message };
 
     ghost view = { λ p. p.messages.items };
+
+    ghost use Rattle.id_judge.specs.Lines.{AreSmall};
+
+    ghost invariant = { λ p. AreSmall p.messages.items };
 }
 
 impl Pool {
@@ -30,6 +35,7 @@ impl Pool {
     ghost use Rattle.id_value.specs.List.{Among};
     ghost use Rattle.id_runs.specs.Legal.{InSomeOrder};
     ghost use Rattle.id_tag.specs.declared.Message.{Message};
+    ghost use Rattle.id_judge.specs.Lines.{AreSmall};
 
     /// No message. Takes no memory.
     pub fn new(alloc: Global) -> Pool
@@ -61,9 +67,17 @@ impl Pool {
         ensures { OnOk result (self.new ≡ self.old ++ message ∷ []) }
     {
         let place = self.messages.len();
+        tell_small(&message.payload);
         self.messages.push(message)?;
         self.places.insert(name_of(&message.payload), place)?;
         Ok(())
+    }
+
+    /// Tells that the numbers of each tag are those that a machine has. Does nothing.
+    pub fn tell_small(&self)
+        ensures { AreSmall self.now }
+    {
+        self.messages.len();
     }
 
     /// Where a message of this name was put last, where something stands there. Takes no memory.
@@ -144,7 +158,18 @@ pub fn name_of(payload: &Payload) -> u64 {
 
 /// A tag and what is to happen there, in one number.
 fn name(tag: Tag, what: u64) -> u64 {
-    let context = mix(u64::from(tag.context.element), tag.context.serial);
-    let turn = mix(context, tag.iteration);
-    mix(mix(turn, u64::from(tag.instr)), what)
+    name_by([
+        u64::from(tag.context.element),
+        tag.context.serial,
+        tag.iteration,
+        u64::from(tag.instr),
+        what,
+    ])
+}
+
+/// The numbers of a tag and what is to happen there, in one number.
+pub fn name_by(numbers: [u64; 5]) -> u64 {
+    let context = mix(numbers[0], numbers[1]);
+    let turn = mix(context, numbers[2]);
+    mix(mix(turn, numbers[3]), numbers[4])
 }

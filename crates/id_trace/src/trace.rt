@@ -34,8 +34,8 @@ fn put_line<W: Sink>(sink: &mut W, event: &Event<'_>) -> Result<(), PrintError>
     put(sink, end_bytes(event.step))
 }
 
-/// What ends the line of an event that came to this.
-fn end_bytes(step: Step) -> &'static [u8]
+/// What ends the line of an event that came to this. Takes no memory.
+pub fn end_bytes(step: Step) -> &'static [u8]
     ensures { result.now ≡ end_text step }
 {
     match step {
@@ -64,7 +64,8 @@ fn put_moment<W: Sink>(sink: &mut W, stamp: u64, element: u32) -> Result<(), Pri
     put_numbers(sink, stamp, b" ", element as u64)
 }
 
-fn put_payload<W: Sink>(sink: &mut W, payload: &Payload) -> Result<(), PrintError>
+/// Writes what a message says, as it stands in the line of its event. Takes no memory.
+pub fn put_payload<W: Sink>(sink: &mut W, payload: &Payload) -> Result<(), PrintError>
     ensures { Prints (W.told sink.old) (W.told sink.new) (payload_text payload.now) result }
 {
     match *payload {

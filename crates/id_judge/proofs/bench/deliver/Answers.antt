@@ -26,7 +26,7 @@ number_is c =
     ∙ ap (route_of c.args.message.now.payload)
     (c.len.ensures ∙ c.bench.inside.elements.ok.0 ∙ ap (λ (v : BenchView). length v.elements) c.bench.view_is)
 
-both : (c : goal.In-Ok-replace) → IsBench c.replace.new.bench × Delivers c.args.bench.now c.args.message.now c.replace.new.bench
+both : (c : goal.In-Ok-replace) → IsBench c.replace.new.bench × Delivers c.args.bench.now c.args.message.now c.in-Ok.step c.replace.new.bench
 both c =
     let a = (goal.at.returns-in-Ok-replace-clause-bench c).After-index_mut in
     let b = c.args.bench.now in
@@ -36,6 +36,7 @@ both c =
     let r = c.in-Ok-replace.ensures in
     let mid : BenchView = record {
       graph = c.bench.inside.graph.now;
+      keeps = c.bench.inside.keeps;
       elements = set c.bench.inside.elements.items c.route-number.result c.take.new.self;
       flight = c.bench.inside.flight;
       sent = c.take.new.outputs.messages;
@@ -46,8 +47,9 @@ both c =
     let at : slice_get mid.flight c.args.position ≡ Some m = ap (λ ms. slice_get ms c.args.position) flight ∙ c.requires.there in
     let elements : c.replace.new.bench.elements ≡ set b.elements (number_for b m) (taken e m) =
     r.elements ∙ (λ i. set (c.bench.view_is i).elements (number_is a i) (h.state i)) in
-    done b c.requires.bench c.args.position m c.requires.there e (there a) (left_ok c.in-Ok.field-0 StampEnd (is_ended e.state m) h.end)
-    h.fits mid c.replace.new.bench flight sent (r.flight m at) (r.graph ∙ ap (λ (v : BenchView). v.graph) c.bench.view_is) elements r.sent
+    done b c.requires.bench c.args.position m c.requires.there e (there a) (left_ok c.in-Ok.step StampEnd (is_ended e.state m) h.end)
+    h.fits mid c.replace.new.bench flight sent (r.flight m at) (r.graph ∙ ap (λ (v : BenchView). v.graph) c.bench.view_is)
+    (r.keeps ∙ ap (λ (v : BenchView). v.keeps) c.bench.view_is) elements r.sent c.in-Ok.step h.step
 
 pub returns-in-Ok-replace-clause-bench : goal.returns-in-Ok-replace-clause-bench
 returns-in-Ok-replace-clause-bench c = (both c).0

@@ -2,7 +2,6 @@
 use Rattle.std.proofs.Common.{◌≡◌, length, sym, ap, ◌∙◌, arith}
 use Rattle.std.proofs.lemmas.List.Elements.{All-push}
 use Rattle.std.proofs.lemmas.List.{length_push, map_push, replicate_more}
-use Rattle.id_record.specs.declared.kept.Keeps.TheVariants as keeps
 use Rattle.id_core.specs.Machines.{IsElement}
 use Rattle.id_core.proofs.MachinesLemmas.{AreElements-push}
 use Rattle.id_judge.proofs.bench.fresh_elements.Goals as goal
@@ -10,21 +9,21 @@ use Rattle.id_judge.proofs.bench.fresh_elements.Goals as goal
 pub loop-number-preserved : goal.loop-number-preserved
 loop-number-preserved c =
     let items = c.loop-number.elements.items in
-    let made : IsElement c.args.graph.now c.args.count (length items) c.new.result = record {
-      number = ap (λ v. v.number) c.new.ensures ∙ sym c.loop-number.invariant.0;
-      count_is = ap (λ v. v.count) c.new.ensures;
-      graph = ap (λ v. v.graph) c.new.ensures;
+    let made : IsElement c.args.graph.now c.args.count (length items) c.keeping.result = record {
+      number = ap (λ v. v.number) c.keeping.ensures ∙ sym c.loop-number.invariant.0;
+      count_is = ap (λ v. v.count) c.keeping.ensures;
+      graph = ap (λ v. v.graph) c.keeping.ensures;
     } in (
-      rw (c.push_reserved.ensures.items, length_push items c.new.result, c.loop-number.invariant.0),
+      rw (c.push_reserved.ensures.items, length_push items c.keeping.result, c.loop-number.invariant.0),
       omega arith,
       omega arith,
-      rw c.push_reserved.ensures.items (AreElements-push c.args.graph.now c.args.count items c.new.result c.loop-number.invariant.3 made),
-      rw c.push_reserved.ensures.items (All-push (λ e. e.keeps ≡ keeps.All) items c.new.result c.loop-number.invariant.4 (ap (λ v. v.keeps) c.new.ensures)),
+      rw c.push_reserved.ensures.items (AreElements-push c.args.graph.now c.args.count items c.keeping.result c.loop-number.invariant.3 made),
+      rw c.push_reserved.ensures.items (All-push (λ e. e.keeps ≡ c.args.keeps) items c.keeping.result c.loop-number.invariant.4 (ap (λ v. v.keeps) c.keeping.ensures)),
       rw (
         c.push_reserved.ensures.items,
-        map_push (λ e. e.state) items c.new.result,
+        map_push (λ e. e.state) items c.keeping.result,
         c.loop-number.invariant.5,
-        ap (λ v. v.state) c.new.ensures,
+        ap (λ v. v.state) c.keeping.ensures,
         replicate_more,
       ),
     )

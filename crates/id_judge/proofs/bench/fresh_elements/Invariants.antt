@@ -1,7 +1,6 @@
 -- The elements so far have their numbers and are fresh, and there is room for the rest.
 use Rattle.std.proofs.Common.{◌≡◌, ◌≤◌, length, map, replicate, vec_len, vec_capacity}
 use Rattle.id_element.specs.Steps.{fresh}
-use Rattle.id_record.specs.declared.kept.Keeps.TheVariants as keeps
 use Rattle.id_core.specs.Machines.{AllKeep, AreElements}
 use Rattle.id_judge.proofs.bench.fresh_elements.Given as goal
 
@@ -11,5 +10,5 @@ invariant-loop-number l =
     × (vec_len l.elements ≡ l.number)
     × (l.count ≤ vec_capacity l.elements)
     × AreElements l.graph l.count l.elements.items
-    × AllKeep keeps.All l.elements.items
+    × AllKeep l.keeps l.elements.items
     × (map (λ e. e.state) l.elements.items ≡ replicate l.number fresh)

@@ -10,6 +10,7 @@ returns-clause-flight c =
     (λ sent m at.
     let after : BenchView = record {
       graph = c.bench.inside.graph.now;
+      keeps = c.bench.inside.keeps;
       elements = c.bench.inside.elements.items;
       flight = c.send.new.flight;
       sent = c.send.new.sent.messages;

@@ -22,7 +22,7 @@ loop-position-init c =
     let g = c.args.graph.now in
     let from = start g c.args.inputs.now.values c.args.count in
     let h = c.in_ok-bench.ensures in
-    (h.bench, h.graph, h.count, subst (λ (w : World). LeadTo g c.args.count from [] w) (sym h.world) no_more)
+    (h.bench, h.graph, h.count, h.keeps, subst (λ (w : World). LeadTo g c.args.count from [] w) (sym h.world) no_more)
 
 pub returns-in-Some-clause-verdict : goal.returns-in-Some-clause-verdict
 returns-in-Some-clause-verdict c =
@@ -33,7 +33,7 @@ returns-in-Some-clause-verdict c =
     subst (λ (o : Option Cause). IfSome o (IsCause b.graph n (world_in b) v)) c.in-Some.is c.in_ok-cause.ensures.cause in
     first_is c.args.graph.now b.graph c.args.inputs.now.values c.args.count n c.args.events.now c.loop-position.position v (world_in b) c.in-Some.cause
     c.loop-position.invariant.1 c.loop-position.invariant.2 (next_is (goal.at.returns-in-Some-clause-verdict c).After-follow)
-    c.loop-position.invariant.3 why
+    c.loop-position.invariant.4 why
 
 pub loop-position-preserved : goal.loop-position-preserved
 loop-position-preserved c =
@@ -44,9 +44,10 @@ loop-position-preserved c =
       h.bench (ap (λ o. Ok o) c.in_default.is),
       h.graph (ap (λ o. Ok o) c.in_default.is) ∙ graph,
       h.count (ap (λ o. Ok o) c.in_default.is) ∙ many,
+      h.keeps (ap (λ o. Ok o) c.in_default.is) ∙ c.loop-position.invariant.3,
       next_lead c.args.graph.now b.graph c.args.inputs.now.values c.args.count (length b.elements) c.args.events.now c.loop-position.position
           c.index-events-position.result (world_in b) (world_in c.follow.new.bench) graph many (next_is (goal.at.loop-position-preserved c).After-follow)
-          c.loop-position.invariant.3 (h.follows (ap (λ o. Ok o) c.in_default.is)),
+          c.loop-position.invariant.4 (h.follows (ap (λ o. Ok o) c.in_default.is)),
     )
 
 pub returns-clause-verdict : goal.returns-clause-verdict
@@ -56,5 +57,5 @@ returns-clause-verdict c =
     let es = c.args.events.now in
     let from = start g c.args.inputs.now.values c.args.count in
     let end : c.loop-position.position ≡ length es = omega (arith, c.loop-position-test.false, c.loop-position.auto.position-end) in
-    legal_is g b.graph c.args.inputs.now.values c.args.count (length b.elements) es (world_in b) c.in_ok-machine.machine c.loop-position.invariant.1
-    c.loop-position.invariant.2 (subst (λ i. LeadTo g c.args.count from (take i es) (world_in b)) end c.loop-position.invariant.3) c.in_ok-machine.ensures
+    legal_is g b.graph c.args.inputs.now.values c.args.count (length b.elements) es (world_in b) b.keeps c.in_ok-machine.machine
+    c.loop-position.invariant.1 c.loop-position.invariant.2 c.loop-position.invariant.3 (subst (λ i. LeadTo g c.args.count from (take i es) (world_in b)) end c.loop-position.invariant.4) c.in_ok-machine.ensures

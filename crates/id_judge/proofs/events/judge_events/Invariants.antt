@@ -1,6 +1,7 @@
 -- The events so far lead to where the machine is.
 use Rattle.std.proofs.Common.{◌≡◌, length, take}
 use Rattle.id_core.specs.Machines.{start}
+use Rattle.id_record.specs.declared.kept.Keeps.TheVariants as keeps
 use Rattle.id_runs.specs.Legal.{LeadTo}
 use Rattle.id_judge.specs.Benches.{IsBench, world_in}
 use Rattle.id_judge.proofs.events.judge_events.Given as goal
@@ -8,4 +9,5 @@ use Rattle.id_judge.proofs.events.judge_events.Given as goal
 abbrev pub invariant-loop-position : goal.invariant-loop-position
 invariant-loop-position l =
     IsBench l.bench × (l.bench.graph ≡ l.graph) × (length l.bench.elements ≡ l.count)
+    × (l.bench.keeps ≡ keeps.All)
     × LeadTo l.graph l.count (start l.graph l.inputs.values l.count) (take l.position l.events) (world_in l.bench)
