@@ -1,5 +1,5 @@
 -- The loops of a text's program stand where the text has a `{`.
-use Rattle.std.proofs.Common.{◌≡◌, ℕ, zero, suc, ◌+◌, Bool, true, false, List, [], ◌∷◌, ◌++◌, drop, Option, Some, refl, ap, subst, ◌∙◌, arith}
+use Rattle.std.proofs.Common.{◌≡◌, ℕ, zero, suc, ◌+◌, true, false, List, [], ◌∷◌, ◌++◌, drop, Option, Some, refl, ap, subst, ◌∙◌, arith}
 use Rattle.std.specs.Prelude.{slice_get}
 use Rattle.std.specs.Option.{option_map_or}
 use Rattle.std.specs.Prelude.{◌==◌}
@@ -25,7 +25,6 @@ use Rattle.id_grammar.specs.Grammar.{by_name, by_array, by_braces, no_arguments,
 use Rattle.id_grammar.specs.Grammar.{by_statement, by_next, by_body, by_last, Derives, opened, unconditional, single}
 use Rattle.id_grammar.specs.Grammar.{grouped, plain, bare, atomic, fetched, some_arguments, Follows, ended, taken}
 use Rattle.id_grammar.specs.Grammar.{chosen, left_out, named, kinded, given, Program, empty, defined}
-use Rattle.id_table.specs.declared.row.Node.TheVariants.{Array}
 use Rattle.id_table.specs.Rows.{at}
 use Rattle.id_sink.specs.Texts.{has_brace}
 

@@ -11,7 +11,6 @@ use Rattle.id_tree.specs.Distinct.{HasPlace}
 use Rattle.id_grammar.specs.Tree.{Tree, literal, unary, binary, name, conditional, call, block, loop, array, fetch}
 use Rattle.id_grammar.specs.Tree.{binding, next, store, param, define, none, more, for_loop}
 use Rattle.id_table.specs.Tables.{is_binder}
-use Rattle.id_table.specs.Rows.{at}
 use Rattle.id_table.specs.declared.row.Node.{Node}
 use Rattle.id_check.specs.declared.checked.Checked.{Checked}
 use Rattle.id_check.specs.Programs.{Stands, place, tree}

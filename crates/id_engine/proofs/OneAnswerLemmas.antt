@@ -38,7 +38,7 @@ use Rattle.id_trace.specs.Traces.{trace_text}
 use Rattle.id_print.proofs.NamesLemmas.{NamesRise-Rises, Rises-sorted, asks_told, helds_told, names_told}
 use Rattle.id_engine.specs.OneAnswer.{Answered, OneAnswer, SameLeft, ShowOne, report_of}
 use Rattle.id_engine.specs.OneProgram.{MeanTheSame}
-use Rattle.id_engine.specs.Runs.{Ran}
+use Rattle.id_engine.specs.Runs.{HasRun}
 use Rattle.id_engine.proofs.AlikeLemmas.{IsQuietly, at_fault, quietly, rising_same}
 use Rattle.id_engine.proofs.HeldBackLemmas.{inputs_of}
 use Rattle.id_engine.proofs.HeldLemmas.{AreApartBy-held, AreApartBy-waiting, AreHeld-complete, AreSomeHeld-sound, AreWaiting-complete}
@@ -249,7 +249,7 @@ module _ (sound : Soundness) (complete : QuietIsComplete) (text : List ℕ) (wor
 
 -- where no trace is asked for, the report is all that goes out
 out_whole : (text : List ℕ) (words : List (List ℕ)) (b : Bool) (count steps : ℕ) (old new : SinkView)
-    → (h : Ran text words count false steps b old new 0) → GoesOut old new h.output 0
+    → (h : HasRun text words count false steps b old new 0 (Ok tt)) → GoesOut old new h.output 0
 out_whole text words b count steps old new h =
     let P : List EventView → Type 0 = λ es. GoesOut old new (trace_text es ++ h.output) 0 in
     subst P ((h.traced).unasked refl) (h.printed).printed

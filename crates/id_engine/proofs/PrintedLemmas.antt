@@ -1,5 +1,5 @@
 -- A run that is printed (specs/Reports.antt).
-use Rattle.std.proofs.Common.{◌≡◌, ◌++◌, ℕ, Bool, List, Result, Ok, Err, refl, sym, subst, ◌∙◌}
+use Rattle.std.proofs.Common.{◌≡◌, ◌≢◌, ◌++◌, ℕ, Bool, List, Option, None, Result, Ok, Err, refl, sym, subst, ◌∙◌}
 use Rattle.std.specs.Prelude.{IsErrAnd}
 use Rattle.id_check.specs.declared.checked.Checked.{Checked}
 use Rattle.id_value.specs.declared.Constant.{Constant}
@@ -18,7 +18,7 @@ use Rattle.id_compile.specs.declared.error.EngineError.{EngineError}
 use Rattle.id_compile.specs.declared.error.EngineError.TheVariants.{Memory, Write}
 use Rattle.id_print.specs.RunReports.{IsReportFrom}
 use Rattle.id_engine.specs.Reports.{AreAllowed, PrintsEvents}
-use Rattle.id_elements.specs.Runs.{IsRun, MovesOn}
+use Rattle.id_elements.specs.Runs.{IsByPositions, IsRun, MovesOn}
 use Rattle.id_engine.specs.Reports.{PrintsMachine, PrintsRun, RunsSo, ran, unallowed, status_of}
 use Rattle.id_engine.specs.Reports.PrintsEvents.{all_out, front_out}
 use Rattle.id_engine.specs.Reports.PrintsRun.{whole, cut}
@@ -61,12 +61,12 @@ PrintsMachine-reported m n text t b old new result r same from prints =
 
 -- ---- a run of a program with its inputs
 
-module _ (P : Checked) (vs : List Constant) (text : List ℕ) (count : ℕ) (t : Bool) (steps : ℕ) (b : Bool) where
+module _ (P : Checked) (vs : List Constant) (text : List ℕ) (count : ℕ) (t : Bool) (steps : ℕ) (o : Option ℕ) (b : Bool) where
   -- its machine is printed
   pub RunsSo-machine : (g : Parts) (m : MachineView) → Soundness → QuietIsComplete → AreInputs P vs → Schemas P g → AreAllowed count steps
-      → IsRun g vs count steps m → MovesOn m.world → (old new : SinkView) (result : Result ℕ EngineError) → PrintsMachine m text t b old new result
-      → RunsSo P vs text count t steps b old new result
-  RunsSo-machine g m sound complete inputs schemas allowed k moves old new result (reported r from prints) =
-      ran g m r allowed schemas (IsTrueOf-run (source P vs) g count steps inputs schemas m b r sound complete k from)
+      → IsRun g vs count steps m → MovesOn m.world → (o ≢ None → IsByPositions g vs count m.world) → (old new : SinkView) (result : Result ℕ EngineError) → PrintsMachine m text t b old new result
+      → RunsSo P vs text count t steps o b old new result
+  RunsSo-machine g m sound complete inputs schemas allowed k moves placed old new result (reported r from prints) =
+      ran g m r allowed placed schemas (IsTrueOf-run (source P vs) g count steps inputs schemas m b r sound complete k from)
       (record { run = k; moves = moves; from = from }) prints
-  RunsSo-machine g m sound complete inputs schemas allowed k moves old new result (out_of_memory same) = unallowed Memory refl same
+  RunsSo-machine g m sound complete inputs schemas allowed k moves placed old new result (out_of_memory same) = unallowed Memory refl same

@@ -1,6 +1,6 @@
 -- Lists that rise by an order by which nothing is before itself: those with the same members are one, and facts, values,
 -- names and lines have such orders.
-use Rattle.std.proofs.Common.{◌≡◌, ◌⊎◌, inl, inr, ℕ, ℤ, ◌<◌, ◌<ℤ◌, true, false, List, [], ◌∷◌, Ordering, Less, Equal, refl, sym, ap, subst, ◌∙◌, arith}
+use Rattle.std.proofs.Common.{◌≡◌, ◌⊎◌, inl, inr, ℕ, ℤ, ◌<ℤ◌, true, false, List, [], ◌∷◌, Ordering, Less, Equal, refl, sym, ap, subst, ◌∙◌, arith}
 use Rattle.std.specs.Prelude.{pos}
 use Rattle.std.proofs.lemmas.Cmp.{tied_itself}
 use Rattle.std.proofs.lemmas.Int.{ints}
@@ -10,7 +10,6 @@ use Rattle.id_source.specs.declared.Fact.{Fact}
 use Rattle.id_source.specs.declared.Fact.TheVariants as fact
 use Rattle.id_source.specs.declared.Path.{Path}
 use Rattle.id_source.specs.declared.Put.{Put}
-use Rattle.id_source.specs.declared.Shape.{Shape}
 use Rattle.id_source.specs.declared.Site.{Site}
 use Rattle.id_source.specs.declared.SourceValue.{SourceValue}
 use Rattle.id_source.specs.declared.SourceValue.TheVariants.{Int, Bool, Name}

@@ -108,7 +108,7 @@ says_some S g number count w b r ok h = record {
 }
 
 -- what a report of a run of a schemas' graph says is so
-IsTrueOf-laws : (S : Source) (g : Parts) (count : ℕ) (ks : List ℕ) (m : MachineView) (b : Bool) (r : Report) → Soundness → QuietIsComplete →
+pub IsTrueOf-laws : (S : Source) (g : Parts) (count : ℕ) (ks : List ℕ) (m : MachineView) (b : Bool) (r : Report) → Soundness → QuietIsComplete →
     AreInputs S.checked S.inputs
     → Schemas S.checked g → m.graph ≡ g → IsSameBut (run g count ks (start g S.inputs count)) m.world → IsReportFrom m b r → IsTrueOf S b r
 IsTrueOf-laws S g count ks m b r sound complete inputs schemas same_graph world from =

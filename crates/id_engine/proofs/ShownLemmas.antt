@@ -45,7 +45,7 @@ use Rattle.id_trace.specs.Traces.{trace_text}
 use Rattle.id_engine.specs.Runs.Ends.{quiet as ends_quiet, fault as ends_fault, stopped as ends_stopped}
 
 -- the text of a report that is so is what a run shows
-Shows-from_report : (P : Checked) (ws : List (List ℕ)) (vs : List Constant) (text : List ℕ) (b : Bool) (r : Report) (e : Ending) → AreInputsOf P ws vs
+pub Shows-from_report : (P : Checked) (ws : List (List ℕ)) (vs : List Constant) (text : List ℕ) (b : Bool) (r : Report) (e : Ending) → AreInputsOf P ws vs
     → SaysTruly (source P vs) b r e → Shows P text (Run b false ws) (status_of e) (ending_text text r (asked b r.names) e)
 Shows-from_report P ws vs text b r Quiet i h = quiet r.answer r.names r.structures r.waiting i h.answer h.names h.structures h.waiting h.none
 Shows-from_report P ws vs text b r Stopped i h = stopped r.answer r.names r.structures i h.answer h.names h.structures
@@ -125,7 +125,7 @@ module _ (text : List ℕ) (ws : List (List ℕ)) (P : Checked) (is : IsProgramO
   has : HasInputs text ws
   has = record { program = P; is_program = is; small = small; inputs = vs; are_inputs = are }
 
-  module _ (count : ℕ) (t : Bool) (steps : ℕ) (b : Bool) (old new : SinkView) where
+  module _ (count : ℕ) (t : Bool) (steps : ℕ) (order : Option ℕ) (b : Bool) (old new : SinkView) where
     HasRun-from : (result : Result (Unit {0}) PrintError) (g : Parts) (m : MachineView) (r : Report) → Schemas P g → IsTrueOf (source P vs) b r →
         IsReportOfRun g vs count steps m b r
         → HasPrinted text t b m.world r old new result → HasRun text ws count t steps b old new (status_of r.ending) result
@@ -148,54 +148,57 @@ module _ (text : List ℕ) (ws : List (List ℕ)) (P : Checked) (is : IsProgramO
       printed = h.printed;
     }
 
-    pub RunsSo-ran : (result : Result ℕ EngineError) → RunsSo P vs text count t steps b old new result → IfOk result (Ran text ws count t steps b old new)
-    RunsSo-ran result (ran g m r allowed schemas true_of o (whole h)) = HasRun-from (Ok tt) g m r schemas true_of o h
-    RunsSo-ran result (ran g m r allowed schemas true_of o (cut e h)) = tt
-    RunsSo-ran result (ran g m r allowed schemas true_of o (unprinted same)) = tt
+    pub RunsSo-ran : (result : Result ℕ EngineError) → RunsSo P vs text count t steps order b old new result → IfOk result (Ran text ws count t steps order b old new)
+    unfolding HasRun-from
+    RunsSo-ran result (ran g m r allowed placed schemas true_of o (whole h)) =
+        record { ran = HasRun-from (Ok tt) g m r schemas true_of o h; ordered = placed }
+    RunsSo-ran result (ran g m r allowed placed schemas true_of o (cut e h)) = tt
+    RunsSo-ran result (ran g m r allowed placed schemas true_of o (unprinted same)) = tt
     RunsSo-ran result (unallowed e why same) = tt
 
-    pub RunsSo-shown : (result : Result ℕ EngineError) → RunsSo P vs text count t steps b old new result → IfOk result (ShowsAll (Run b t ws) text old new)
-    RunsSo-shown result (ran g m r allowed schemas true_of o (whole h)) =
+    pub RunsSo-shown : (result : Result ℕ EngineError) → RunsSo P vs text count t steps order b old new result → IfOk result (ShowsAll (Run b t ws) text old new)
+    RunsSo-shown result (ran g m r allowed placed schemas true_of o (whole h)) =
         shown_of text ws count t steps b old new (status_of r.ending) (Ok tt) (HasRun-from (Ok tt) g m r schemas true_of o h)
-    RunsSo-shown result (ran g m r allowed schemas true_of o (cut e h)) = tt
-    RunsSo-shown result (ran g m r allowed schemas true_of o (unprinted same)) = tt
+    RunsSo-shown result (ran g m r allowed placed schemas true_of o (cut e h)) = tt
+    RunsSo-shown result (ran g m r allowed placed schemas true_of o (unprinted same)) = tt
     RunsSo-shown result (unallowed e why same) = tt
 
-    pub RunsSo-front : (result : Result ℕ EngineError) → RunsSo P vs text count t steps b old new result → result ≡ Err Write →
-        RanFront text ws count t steps b old new
-    RunsSo-front result (ran g m r allowed schemas true_of o (whole h)) k = absurd cc
-    RunsSo-front result (ran g m r allowed schemas true_of o (cut e h)) k =
-        record { status = status_of r.ending; error = e; ran = HasRun-from (Err e) g m r schemas true_of o h }
-    RunsSo-front result (ran g m r allowed schemas true_of o (unprinted same)) k = absurd cc
+    pub RunsSo-front : (result : Result ℕ EngineError) → RunsSo P vs text count t steps order b old new result → result ≡ Err Write →
+        RanFront text ws count t steps order b old new
+    unfolding HasRun-from
+    RunsSo-front result (ran g m r allowed placed schemas true_of o (whole h)) k = absurd cc
+    RunsSo-front result (ran g m r allowed placed schemas true_of o (cut e h)) k =
+        record { status = status_of r.ending; error = e; ran = HasRun-from (Err e) g m r schemas true_of o h; ordered = placed }
+    RunsSo-front result (ran g m r allowed placed schemas true_of o (unprinted same)) k = absurd cc
     RunsSo-front result (unallowed e why same) k = let l = late_unallowed text count steps e why in let w : e ≡ Write = cc in absurd (l.1 w)
 
-    pub RunsSo-cut : (result : Result ℕ EngineError) → RunsSo P vs text count t steps b old new result → result ≡ Err Write →
+    pub RunsSo-cut : (result : Result ℕ EngineError) → RunsSo P vs text count t steps order b old new result → result ≡ Err Write →
         ShowsFront (Run b t ws) text old new
     RunsSo-cut result h k =
         let f = RunsSo-front result h k in
         record { status = f.status; error = f.error; shown = shown_of text ws count t steps b old new f.status (Err f.error) f.ran }
 
-    pub RunsSo-silent : (result : Result ℕ EngineError) → RunsSo P vs text count t steps b old new result → IfErr result (λ e. e ≢ Write → new ≡ old)
-    RunsSo-silent result (ran g m r allowed schemas true_of o (whole h)) = tt
-    RunsSo-silent result (ran g m r allowed schemas true_of o (cut e h)) = λ n. absurd (n refl)
-    RunsSo-silent result (ran g m r allowed schemas true_of o (unprinted same)) = λ n. same
+    pub RunsSo-silent : (result : Result ℕ EngineError) → RunsSo P vs text count t steps order b old new result → IfErr result (λ e. e ≢ Write → new ≡ old)
+    RunsSo-silent result (ran g m r allowed placed schemas true_of o (whole h)) = tt
+    RunsSo-silent result (ran g m r allowed placed schemas true_of o (cut e h)) = λ n. absurd (n refl)
+    RunsSo-silent result (ran g m r allowed placed schemas true_of o (unprinted same)) = λ n. same
     RunsSo-silent result (unallowed e why same) = λ n. same
 
-    pub RunsSo-taken : (result : Result ℕ EngineError) → RunsSo P vs text count t steps b old new result → OnOk result (IsTakenRun text ws count steps)
-    RunsSo-taken result (ran g m r allowed schemas true_of o (whole h)) =
+    pub RunsSo-taken : (result : Result ℕ EngineError) → RunsSo P vs text count t steps order b old new result → OnOk result (IsTakenRun text ws count steps)
+    RunsSo-taken result (ran g m r allowed placed schemas true_of o (whole h)) =
         record { inputs = has; some_elements = allowed.some_elements; few_elements = allowed.few_elements; some = allowed.some; few = allowed.few }
-    RunsSo-taken result (ran g m r allowed schemas true_of o (cut e h)) = tt
-    RunsSo-taken result (ran g m r allowed schemas true_of o (unprinted same)) = tt
+    RunsSo-taken result (ran g m r allowed placed schemas true_of o (cut e h)) = tt
+    RunsSo-taken result (ran g m r allowed placed schemas true_of o (unprinted same)) = tt
     RunsSo-taken result (unallowed e why same) = tt
 
-    pub RunsSo-refused : (result : Result ℕ EngineError) → RunsSo P vs text count t steps b old new result → IfErr result (IsRefusedRun text ws count steps)
-    RunsSo-refused result (ran g m r allowed schemas true_of o (whole h)) = tt
-    RunsSo-refused result (ran g m r allowed schemas true_of o (cut e h)) = by_write
-    RunsSo-refused result (ran g m r allowed schemas true_of o (unprinted same)) = by_source by_memory
+    pub RunsSo-refused : (result : Result ℕ EngineError) → RunsSo P vs text count t steps order b old new result → IfErr result (IsRefusedRun text ws count steps)
+    RunsSo-refused result (ran g m r allowed placed schemas true_of o (whole h)) = tt
+    RunsSo-refused result (ran g m r allowed placed schemas true_of o (cut e h)) = by_write
+    RunsSo-refused result (ran g m r allowed placed schemas true_of o (unprinted same)) = by_source by_memory
     RunsSo-refused result (unallowed e why same) = refused_unallowed text ws count steps has e why
 
-    pub RunsSo-inside : (result : Result ℕ EngineError) → RunsSo P vs text count t steps b old new result → IfErr result (IsInsideOf text)
-    RunsSo-inside result (ran g m r allowed schemas true_of o (whole h)) = tt
-    RunsSo-inside result (ran g m r allowed schemas true_of o (cut e h)) = tt
-    RunsSo-inside result (ran g m r allowed schemas true_of o (unprinted same)) = tt
+    pub RunsSo-inside : (result : Result ℕ EngineError) → RunsSo P vs text count t steps order b old new result → IfErr result (IsInsideOf text)
+    RunsSo-inside result (ran g m r allowed placed schemas true_of o (whole h)) = tt
+    RunsSo-inside result (ran g m r allowed placed schemas true_of o (cut e h)) = tt
+    RunsSo-inside result (ran g m r allowed placed schemas true_of o (unprinted same)) = tt
     RunsSo-inside result (unallowed e why same) = let l = late_unallowed text count steps e why in l.0

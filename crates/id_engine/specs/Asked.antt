@@ -11,12 +11,12 @@ use Rattle.id_engine.specs.Served.{command_of, IsRefusedRequest, IsRun, IsRunFro
 
 -- what a request asks for of a text is printed with this result: whole, or up to a failed write, or it is refused
 -- before the first byte
-pub record PrintsAsked (text : List ℕ) (r : Request) (old new : SinkView) (result : Result ℕ EngineError) :
+pub record PrintsAsked (text bytes : List ℕ) (r : Request) (old new : SinkView) (result : Result ℕ EngineError) :
     Type 0 where
-  pub shown : IfOk result (ShowsAll (command_of r) text old new)
+  pub shown : IfOk result (ShowsAll (command_of bytes r) text old new)
   pub taken : IfOk result (λ _. IsTaken text r)
   pub ran : IfOk result (IsRun text r old new)
-  pub cut : result ≡ Err Write → ShowsFront (command_of r) text old new
+  pub cut : result ≡ Err Write → ShowsFront (command_of bytes r) text old new
   pub front : result ≡ Err Write → IsRunFront text r old new
   pub silent : IfErr result (λ e. e ≢ Write → new ≡ old)
   pub refused : IfErr result (IsRefusedRequest text r)
@@ -29,6 +29,7 @@ IsComputed (asks.Graph file) = ⊥
 IsComputed (asks.Draw file) = ⊥
 IsComputed (asks.Run file inputs count trace steps order names) = Unit {0}
 IsComputed (asks.Facts file rounds inputs) = Unit {0}
+IsComputed (asks.Judge file trace inputs count names) = Unit {0}
 
 -- the request asks for a run
 abbrev pub IsToRun : Request → Type 0
@@ -37,3 +38,13 @@ IsToRun (asks.Graph file) = ⊥
 IsToRun (asks.Draw file) = ⊥
 IsToRun (asks.Run file inputs count trace steps order names) = Unit {0}
 IsToRun (asks.Facts file rounds inputs) = ⊥
+IsToRun (asks.Judge file trace inputs count names) = ⊥
+
+-- the request asks for a run, or to judge the trace of one
+abbrev pub IsOfRun : Request → Type 0
+IsOfRun (asks.Check file) = ⊥
+IsOfRun (asks.Graph file) = ⊥
+IsOfRun (asks.Draw file) = ⊥
+IsOfRun (asks.Run file inputs count trace steps order names) = Unit {0}
+IsOfRun (asks.Facts file rounds inputs) = ⊥
+IsOfRun (asks.Judge file trace inputs count names) = Unit {0}

@@ -1,5 +1,6 @@
 -- What public clauses cite.
 pub mod Commands
+pub mod Judged
 pub mod Runs
 pub mod Alike
 pub mod OneProgram
@@ -15,4 +16,5 @@ pub mod Settled
 -- For use inside.
 pub mod Reports
 pub mod Asked
+pub mod Judgements
 pub mod Found

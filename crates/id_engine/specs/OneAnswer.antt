@@ -1,5 +1,5 @@
 -- *One answer*: what the runs of one text have in common (docs/PROMISES.md, "The run").
-use Rattle.std.specs.Prelude.{◌≡◌, ℕ, Bool, false, List, Option, IfSome, Result}
+use Rattle.std.specs.Prelude.{◌≡◌, ℕ, Bool, false, List, Ok, Option, IfSome, Result}
 use Rattle.id_source.specs.declared.Ask.{Ask}
 use Rattle.id_source.specs.declared.NameValue.{NameValue}
 use Rattle.id_source.specs.declared.SourceValue.{SourceValue}
@@ -8,7 +8,7 @@ use Rattle.id_sink.specs.Told.{SinkView}
 use Rattle.id_print.specs.declared.helds.Held.{Held}
 use Rattle.id_print.specs.Texts.{quiet_text}
 use Rattle.id_print.specs.Reports.{asked}
-use Rattle.id_engine.specs.Runs.{HasRun, Ran}
+use Rattle.id_engine.specs.Runs.{HasRun}
 
 -- a run for which `engine` answers with this status, of the text on the inputs that these words give: on any number of
 -- elements, in any order, with what names have or without
@@ -52,5 +52,6 @@ pub record OneAnswer : Type 0 where
       → Answered text words c 1 → ⊥
   -- so two calls of `engine` that print no trace, with status 0, leave sinks that showed the same showing the same
   pub told : (text : List ℕ) (words : List (List ℕ)) (b : Bool) (count n steps m : ℕ) (old new other : SinkView)
-      → Ran text words count false steps b old new 0 → Ran text words n false m b old other 0
+      → HasRun text words count false steps b old new 0 (Ok tt)
+      → HasRun text words n false m b old other 0 (Ok tt)
       → SameLeft old new other

@@ -1,6 +1,6 @@
 -- The report of a run of a text's program, and how it is printed.
-use Rattle.std.specs.Prelude.{◌≡◌, ◌≤◌, ◌<◌, ◌⊎◌, ℕ, Bool, IsTrue, List, ◌++◌}
-use Rattle.std.specs.Prelude.{IfSome, Result, Ok, Err}
+use Rattle.std.specs.Prelude.{◌≡◌, ◌≢◌, ◌≤◌, ◌<◌, ◌⊎◌, ℕ, Bool, IsTrue, List, ◌++◌}
+use Rattle.std.specs.Prelude.{IfSome, None, Option, Result, Ok, Err}
 use Rattle.id_check.specs.declared.checked.Checked.{Checked}
 use Rattle.id_value.specs.declared.Constant.{Constant}
 use Rattle.id_source.specs.Sources.{Source, source}
@@ -28,7 +28,7 @@ use Rattle.id_source.specs.Computed.{HasMoreFacts}
 use Rattle.id_compile.specs.declared.error.EngineError.{EngineError}
 use Rattle.id_compile.specs.declared.error.EngineError.TheVariants.{BadElements, BadSteps, BadRounds, TooManyFacts}
 use Rattle.id_compile.specs.declared.error.EngineError.TheVariants.{Memory, Write}
-use Rattle.id_elements.specs.Runs.{IsRun, MovesOn}
+use Rattle.id_elements.specs.Runs.{IsByPositions, IsRun, MovesOn}
 use Rattle.id_engine.specs.Runs.{IsTraceOf}
 
 -- the status of an ending
@@ -107,14 +107,16 @@ IsUnallowed count steps BadElements = (count ≡ 0) ⊎ (64 < count)
 IsUnallowed count steps BadSteps = (0 < count) × (count ≤ 64) × ((steps ≡ 0) ⊎ (100000000 < steps))
 IsUnallowed count steps e = e ≡ Memory
 
--- a run of a program with its inputs is printed, or it is refused before the first byte
-pub data RunsSo (P : Checked) (vs : List Constant) (text : List ℕ) (count : ℕ) (t : Bool) (steps : ℕ) (b : Bool)
-    (old new : SinkView) : Result ℕ EngineError → Type 0 where
+-- a run of a program with its inputs is printed, which is one by positions where a seed gives the order, or it is
+-- refused before the first byte
+pub data RunsSo (P : Checked) (vs : List Constant) (text : List ℕ) (count : ℕ) (t : Bool) (steps : ℕ)
+    (order : Option ℕ) (b : Bool) (old new : SinkView) : Result ℕ EngineError → Type 0 where
   ran : {result : Result ℕ EngineError} (g : Parts) (m : MachineView) (r : Report) → AreAllowed count steps
-      → Schemas P g → IsTrueOf (source P vs) b r → IsReportOfRun g vs count steps m b r
-      → PrintsRun text t b m.world r old new result → RunsSo P vs text count t steps b old new result
+      → (order ≢ None → IsByPositions g vs count m.world) → Schemas P g → IsTrueOf (source P vs) b r
+      → IsReportOfRun g vs count steps m b r → PrintsRun text t b m.world r old new result →
+      RunsSo P vs text count t steps order b old new result
   unallowed : (e : EngineError) → IsUnallowed count steps e → new ≡ old →
-      RunsSo P vs text count t steps b old new (Err e)
+      RunsSo P vs text count t steps order b old new (Err e)
 
 -- the places of each report of this machine are at most so many bytes in
 abbrev pub AreReportsWithin : MachineView → Bool → ℕ → Type 0

@@ -1,6 +1,6 @@
 -- Runs of the engine: how they end, and what is printed of them (docs/PROMISES.md, "The run").
 use Rattle.std.specs.Prelude.{◌≡◌, ◌≢◌, ℕ, Bool, IsTrue, IsFalse, List, [], ◌++◌, All, Result}
-use Rattle.std.specs.Prelude.{Ok, Err, if◌then◌else◌}
+use Rattle.std.specs.Prelude.{Ok, Err, None, Option, if◌then◌else◌}
 use Rattle.id_check.specs.declared.checked.Checked.{Checked}
 use Rattle.id_instr.specs.Graph.{Parts}
 use Rattle.id_value.specs.declared.Constant.{Constant}
@@ -15,7 +15,7 @@ use Rattle.id_core.specs.Events.{EventView}
 use Rattle.id_core.specs.Firsts.{AreMergedOf, IsFirstFault}
 use Rattle.id_core.specs.Machines.{MachineView, World, IsQuiet}
 use Rattle.id_core.specs.Observed.{answer, faults, names, waiting}
-use Rattle.id_elements.specs.Runs.{IsHeldBack, IsRun, MovesOn}
+use Rattle.id_elements.specs.Runs.{IsByPositions, IsHeldBack, IsRun, MovesOn}
 use Rattle.id_sink.specs.declared.sink.PrintError.{PrintError}
 use Rattle.id_sink.specs.Told.{SinkView, Prints}
 use Rattle.id_print.specs.declared.helds.Held.{Held}
@@ -77,14 +77,17 @@ pub record HasRun (text : List ℕ) (words : List (List ℕ)) (count : ℕ) (t :
   pub shows : Shows program text (Run b t words) status (trace_text events ++ output)
   pub printed : Prints old new (trace_text events ++ output) result
 
--- all of it is printed
-abbrev pub Ran : List ℕ → List (List ℕ) → ℕ → Bool → ℕ → Bool → SinkView → SinkView → ℕ
-    → Type 0
-Ran text words count t steps b old new status = HasRun text words count t steps b old new status (Ok tt)
+-- all of it is printed; and where a seed gives the order, the run is one by positions, as deliveries one after another
+-- are
+pub record Ran (text : List ℕ) (words : List (List ℕ)) (count : ℕ) (t : Bool) (steps : ℕ)
+    (order : Option ℕ) (b : Bool) (old new : SinkView) (status : ℕ) : Type 0 where
+  pub ran : HasRun text words count t steps b old new status (Ok tt)
+  pub ordered : order ≢ None → IsByPositions ran.graph ran.inputs count ran.machine.world
 
 -- a front of it is printed, and then a write failed
-pub record RanFront (text : List ℕ) (words : List (List ℕ)) (count : ℕ) (t : Bool) (steps : ℕ) (b : Bool)
-    (old new : SinkView) : Type 0 where
+pub record RanFront (text : List ℕ) (words : List (List ℕ)) (count : ℕ) (t : Bool) (steps : ℕ)
+    (order : Option ℕ) (b : Bool) (old new : SinkView) : Type 0 where
   pub status : ℕ
   pub error : PrintError
   pub ran : HasRun text words count t steps b old new status (Err error)
+  pub ordered : order ≢ None → IsByPositions ran.graph ran.inputs count ran.machine.world

@@ -1,6 +1,6 @@
 -- What the program does with a request (docs/PROMISES.md, "The program").
-use Rattle.std.specs.Prelude.{◌≡◌, ◌≢◌, ℕ, List, [], map, Option, Result, Ok, Err, IfOk, IfErr}
-use Rattle.std.specs.Prelude.{string_bytes}
+use Rattle.std.specs.Prelude.{◌≡◌, ◌≢◌, ℕ, List, [], map, Option, None, Some, Result, Ok, Err}
+use Rattle.std.specs.Prelude.{IfOk, IfErr, Vec, string_bytes}
 use Rattle.id_sink.specs.declared.sink.PrintError.{PrintError}
 use Rattle.id_sink.specs.Told.{SinkView, Prints}
 use Rattle.id_args.specs.declared.request.Request.{Request}
@@ -11,10 +11,11 @@ use Rattle.id_args.specs.Requests.{AskFor, words_read}
 use Rattle.id_compile.specs.declared.error.EngineError.{EngineError}
 use Rattle.id_compile.specs.declared.error.EngineError.TheVariants.{Write}
 use Rattle.id_compile.specs.declared.refusal.Cause.TheVariants as cause
+use Rattle.id_sink.specs.declared.source.ReadFault.{ReadFault}
 use Rattle.id_sink.specs.declared.source.SourceFault.{SourceFault}
-use Rattle.id_sink.specs.Reading.{IsToldText, IsUnread}
+use Rattle.id_sink.specs.Reading.{IsToldText, IsUnread, IsUnreadFor, IsToldFor, fault_for}
 use Rattle.id_compile.specs.Programs.{HasProgram}
-use Rattle.id_engine.specs.Commands.{Command, Check, List_graph, Draw_graph, Facts, Run, ShowsAll}
+use Rattle.id_engine.specs.Commands.{Command, Check, List_graph, Draw_graph, Facts, Judge, Run, ShowsAll}
 use Rattle.id_engine.specs.Commands.{ShowsFront}
 use Rattle.id_engine.specs.Runs.{Ran, RanFront}
 use Rattle.id_compile.specs.Refusals.{IsRefusedText, IsRefusedRun, IsTakenRun, AreRefusedFacts, AreTakenFacts}
@@ -27,6 +28,16 @@ file_of (asks.Graph file) = file.now
 file_of (asks.Draw file) = file.now
 file_of (asks.Run file inputs count trace steps order names) = file.now
 file_of (asks.Facts file rounds inputs) = file.now
+file_of (asks.Judge file trace inputs count names) = file.now
+
+-- the file of the trace that a request asks to judge
+abbrev pub trace_of : Request → Option (List ℕ)
+trace_of (asks.Check file) = None
+trace_of (asks.Graph file) = None
+trace_of (asks.Draw file) = None
+trace_of (asks.Run file inputs count trace steps order names) = None
+trace_of (asks.Facts file rounds inputs) = None
+trace_of (asks.Judge file trace inputs count names) = Some trace.now
 
 -- the words of a request's inputs
 abbrev pub words_of : Request → List (List ℕ)
@@ -35,14 +46,17 @@ words_of (asks.Graph file) = []
 words_of (asks.Draw file) = []
 words_of (asks.Run file inputs count trace steps order names) = map (λ w. w.now) inputs.items
 words_of (asks.Facts file rounds inputs) = map (λ w. w.now) inputs.items
+words_of (asks.Judge file trace inputs count names) = map (λ w. w.now) inputs.items
 
--- what a request asks for
-abbrev pub command_of : Request → Command
-command_of (asks.Check file) = Check
-command_of (asks.Graph file) = List_graph
-command_of (asks.Draw file) = Draw_graph
-command_of (asks.Run file inputs count trace steps order names) = Run names trace (map (λ w. w.now) inputs.items)
-command_of (asks.Facts file rounds inputs) = Facts rounds (map (λ w. w.now) inputs.items)
+-- what a request asks for, with the bytes of its trace where it has one
+abbrev pub command_of : List ℕ → Request → Command
+command_of bytes (asks.Check file) = Check
+command_of bytes (asks.Graph file) = List_graph
+command_of bytes (asks.Draw file) = Draw_graph
+command_of bytes (asks.Run file inputs count trace steps order names) =
+    Run names trace (map (λ w. w.now) inputs.items)
+command_of bytes (asks.Facts file rounds inputs) = Facts rounds (map (λ w. w.now) inputs.items)
+command_of bytes (asks.Judge file trace inputs count names) = Judge names (map (λ w. w.now) inputs.items) count bytes
 
 -- a request on a text is taken: the text has a program, the words give inputs, and all numbers are within their limits
 abbrev pub IsTaken : List ℕ → Request → Type 0
@@ -52,6 +66,7 @@ IsTaken text (asks.Draw file) = HasProgram text
 IsTaken text (asks.Run file inputs count trace steps order names) =
     IsTakenRun text (map (λ w. w.now) inputs.items) count steps
 IsTaken text (asks.Facts file rounds inputs) = AreTakenFacts text (map (λ w. w.now) inputs.items) rounds
+IsTaken text (asks.Judge file trace inputs count names) = IsTakenRun text (map (λ w. w.now) inputs.items) count 1
 
 -- a request to run the text is run
 abbrev pub IsRun : List ℕ → Request → SinkView → SinkView → ℕ → Type 0
@@ -59,8 +74,9 @@ IsRun text (asks.Check file) out out' status = Unit {0}
 IsRun text (asks.Graph file) out out' status = Unit {0}
 IsRun text (asks.Draw file) out out' status = Unit {0}
 IsRun text (asks.Run file inputs count trace steps order names) out out' status =
-    Ran text (map (λ w. w.now) inputs.items) count trace steps names out out' status
+    Ran text (map (λ w. w.now) inputs.items) count trace steps order names out out' status
 IsRun text (asks.Facts file rounds inputs) out out' status = Unit {0}
+IsRun text (asks.Judge file trace inputs count names) out out' status = Unit {0}
 
 -- and of a run that was cut short by a failed write, a front is out
 abbrev pub IsRunFront : List ℕ → Request → SinkView → SinkView → Type 0
@@ -68,8 +84,9 @@ IsRunFront text (asks.Check file) out out' = Unit {0}
 IsRunFront text (asks.Graph file) out out' = Unit {0}
 IsRunFront text (asks.Draw file) out out' = Unit {0}
 IsRunFront text (asks.Run file inputs count trace steps order names) out out' =
-    RanFront text (map (λ w. w.now) inputs.items) count trace steps names out out'
+    RanFront text (map (λ w. w.now) inputs.items) count trace steps order names out out'
 IsRunFront text (asks.Facts file rounds inputs) out out' = Unit {0}
+IsRunFront text (asks.Judge file trace inputs count names) out out' = Unit {0}
 
 -- why a request on a text is refused
 abbrev pub IsRefusedRequest : List ℕ → Request → EngineError → Type 0
@@ -79,29 +96,56 @@ IsRefusedRequest text (asks.Draw file) e = IsRefusedText text e
 IsRefusedRequest text (asks.Run file inputs count trace steps order names) e =
     IsRefusedRun text (map (λ w. w.now) inputs.items) count steps e
 IsRefusedRequest text (asks.Facts file rounds inputs) e = AreRefusedFacts text (map (λ w. w.now) inputs.items) rounds e
+-- as a run of one step on as many elements would be
+IsRefusedRequest text (asks.Judge file trace inputs count names) e =
+    IsRefusedRun text (map (λ w. w.now) inputs.items) count 1 e
 
 -- the request is served: what it asks for is printed whole, or one line says why not
-pub data Serves (text : List ℕ) (r : Request) (out out' err err' : SinkView) : ℕ → Type 0 where
-  done : {status : ℕ} → ShowsAll (command_of r) text out out' status → IsTaken text r
+pub data Serves (text bytes : List ℕ) (r : Request) (out out' err err' : SinkView) : ℕ → Type 0 where
+  done : {status : ℕ} → ShowsAll (command_of bytes r) text out out' status → IsTaken text r
       → IsRun text r out out' status → err' ≡ err →
-      Serves text r out out' err err' status
+      Serves text bytes r out out' err err' status
   -- nothing is printed but the line of the refusal
   refused : {status : ℕ} (e : EngineError) → e ≢ Write → IsRefusedRequest text r e → out' ≡ out
       → IsToldRefusal text (words_of r) e err err' status →
-      Serves text r out out' err err' status
+      Serves text bytes r out out' err err' status
   -- a write failed, and a front is out, where a run was asked for of the run that was made
-  cut : {status : ℕ} → ShowsFront (command_of r) text out out' → IsRunFront text r out out'
+  cut : {status : ℕ} → ShowsFront (command_of bytes r) text out out' → IsRunFront text r out out'
       → IsToldRefusal text (words_of r) Write err err' status →
-      Serves text r out out' err err' status
+      Serves text bytes r out out' err err' status
 
--- a request is done with what the source tells of its file: the text is served, or its fault is refused
-pub data Drives (told : Option (Result (List ℕ) SourceFault)) (r : Request) (out out' err err' : SinkView) : ℕ
-    → Type 0 where
-  served : {status : ℕ} (text : List ℕ) → IsToldText told text → Serves text r out out' err err' status
-      → Drives told r out out' err err' status
+-- the bytes are those that the source told of the trace that a request asks to judge, if it told any
+abbrev pub AreToldBytes : (List ℕ → Option (Result (List ℕ) ReadFault)) → Option (List ℕ) → List ℕ
+    → Type 0
+AreToldBytes told None bytes = bytes ≡ []
+AreToldBytes told (Some file) bytes = IsToldFor (told file) bytes
+
+-- the trace that a request asks to judge can't be read
+abbrev pub AreUnread : (List ℕ → Option (Result (List ℕ) ReadFault)) → Option (List ℕ) → ReadFault
+    → Type 0
+AreUnread told None fault = ⊥
+AreUnread told (Some file) fault = IsUnreadFor (told file) fault
+
+-- the trace of a request, which may have none, is read
+abbrev pub AreBytesRead : {A : Type 0} → (List ℕ → Option (Result (List ℕ) ReadFault)) → Option (List ℕ)
+    → Result (Vec ℕ A) ReadFault → Type 0
+AreBytesRead told file (Ok v) = AreToldBytes told file v.items
+AreBytesRead told file (Err fault) = AreUnread told file fault
+
+-- a request is done with what the source tells of its files: the text is served, with the trace where it has one, or
+-- the fault of one of the two is refused
+pub data Drives (told : Option (Result (List ℕ) SourceFault))
+    (told_bytes : List ℕ → Option (Result (List ℕ) ReadFault)) (r : Request) (out out' err err' : SinkView) :
+    ℕ → Type 0 where
+  served : {status : ℕ} (text bytes : List ℕ) → IsToldText told text
+      → AreToldBytes told_bytes (trace_of r) bytes → Serves text bytes r out out' err err' status
+      → Drives told told_bytes r out out' err err' status
   unread : (fault : SourceFault) → IsUnread told fault → out' ≡ out
       → IsPrintedLine [] (plain (source_cause fault)) err err' →
-      Drives told r out out' err err' (row_of (source_cause fault)).2
+      Drives told told_bytes r out out' err err' (row_of (source_cause fault)).2
+  no_trace : (fault : ReadFault) → AreUnread told_bytes (trace_of r) fault → out' ≡ out
+      → IsPrintedLine [] (plain (source_cause (fault_for fault))) err err' →
+      Drives told told_bytes r out out' err err' (row_of (source_cause (fault_for fault))).2
 
 -- help is printed whole, or a write of it failed
 pub data HasHelped (text : List ℕ) (out out' err err' : SinkView) : ℕ → Type 0 where
@@ -125,14 +169,17 @@ Answers out out' err err' Memory status = (out' ≡ out) × IsPrintedLine [] (pl
 -- the words are served, with what the source tells of each name: what they ask for is done, or it is answered why they
 -- ask for nothing
 pub record ServesWords (words : List (List ℕ)) (told : List ℕ → Option (Result (List ℕ) SourceFault))
-    (out out' err err' : SinkView) (status : ℕ) : Type 0 where
+    (told_bytes : List ℕ → Option (Result (List ℕ) ReadFault)) (out out' err err' : SinkView) (status : ℕ)
+    : Type 0 where
   pub asked : Result Request Unasked
   pub read : AskFor (words_read words) asked
-  pub done : IfOk asked (λ r. Drives (told (file_of r)) r out out' err err' status)
+  pub done : IfOk asked (λ r. Drives (told (file_of r)) told_bytes r out out' err err' status)
   pub answered : IfErr asked (λ u. Answers out out' err err' u status)
 
 -- words that were had are served, and of words that could not be had it is answered why
 abbrev pub AnswersWords : Result (List (List ℕ)) Unasked → (List ℕ → Option (Result (List ℕ) SourceFault))
-    → SinkView → SinkView → SinkView → SinkView → ℕ → Type 0
-AnswersWords (Ok words) told out out' err err' status = ServesWords words told out out' err err' status
-AnswersWords (Err u) told out out' err err' status = Answers out out' err err' u status
+    → (List ℕ → Option (Result (List ℕ) ReadFault)) → SinkView → SinkView → SinkView → SinkView → ℕ
+    → Type 0
+AnswersWords (Ok words) told told_bytes out out' err err' status =
+    ServesWords words told told_bytes out out' err err' status
+AnswersWords (Err u) told told_bytes out out' err err' status = Answers out out' err err' u status

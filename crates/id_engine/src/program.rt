@@ -1,17 +1,22 @@
 //! The whole program over any source of texts and any sinks.
 
-ghost use Rattle.std.specs.Prelude.{◌≡◌, [], map, IfErr, IfOk};
-ghost use Rattle.id_engine.specs.Asked.{IsComputed, IsToRun, PrintsAsked};
+ghost use Rattle.std.specs.Prelude.{◌≡◌, [], map, IfErr, IfOk, List, ℕ, Option, Result};
+ghost use Rattle.id_engine.specs.Asked.{IsComputed, IsOfRun, IsToRun, PrintsAsked};
 ghost use Rattle.id_compile.specs.Refusals.{IsInsideOf, IsPrintedLine, IsToldRefusal, plain, row_of};
-ghost use Rattle.id_engine.specs.Served.{Answers, Drives, HasHelped, Serves, file_of, words_of};
+ghost use Rattle.id_engine.specs.Served.{Answers, AreBytesRead, Drives, HasHelped, Serves, file_of, trace_of};
+ghost use Rattle.id_engine.specs.Served.{words_of};
+ghost use Rattle.id_sink.specs.Reading.{IsToldText};
+ghost use Rattle.id_sink.specs.declared.source.SourceFault.{SourceFault};
 
 use crate::commands::{check_text, draw_text, facts_text, graph_text};
+use crate::judge::judge_text;
 use crate::run::engine;
 use id_args::{Request, Unasked};
 use id_compile::{Cause, EngineError, Source, of_engine_error, of_source_fault, plain, refuse};
 use id_core::{Gate, Keeps, Open};
 use id_elements::Settings;
 use id_print::{Sink, put};
+use id_sink::{ReadFault, source_fault};
 use std::alloc::Global;
 use std::sync::Wait;
 use std::thread::Threads;
@@ -61,7 +66,7 @@ fn run_asked<R: Threads + Wait + Sync, G: Gate + Sync, O: Sink>(
     out: &mut O,
 ) -> Result<u8, EngineError>
     requires { IsToRun request.now }
-    ensures { PrintsAsked text.now request.now (O.told out.old) (O.told out.new) result }
+    ensures { (bytes : List ℕ) → PrintsAsked text.now bytes request.now (O.told out.old) (O.told out.new) result }
 {
     match request {
         Request::Run {
@@ -92,17 +97,42 @@ fn run_asked<R: Threads + Wait + Sync, G: Gate + Sync, O: Sink>(
     }
 }
 
+/// Runs a text as a request asks for, or judges a trace as one of it, prints what comes of it, and answers the status.
+fn print_of_run<R: Threads + Wait + Sync, G: Gate + Sync, O: Sink>(
+    rt: &R,
+    alloc: Global,
+    request: &Request<'_>,
+    text: &str,
+    trace: &[u8],
+    gate: &G,
+    out: &mut O,
+) -> Result<u8, EngineError>
+    requires { IsOfRun request.now }
+    ensures { PrintsAsked text.now trace.now request.now (O.told out.old) (O.told out.new) result }
+{
+    match request {
+        Request::Judge {
+            inputs,
+            count,
+            names,
+            ..
+        } => judge_text(alloc, text, trace, inputs.as_slice(), *count, *names, out),
+        _ => run_asked(rt, alloc, request, text, gate, out),
+    }
+}
+
 /// Prints what a request asks for of a text that is computed on inputs, and answers the status.
 fn print_computed<R: Threads + Wait + Sync, G: Gate + Sync, O: Sink>(
     rt: &R,
     alloc: Global,
     request: &Request<'_>,
     text: &str,
+    trace: &[u8],
     gate: &G,
     out: &mut O,
 ) -> Result<u8, EngineError>
     requires { IsComputed request.now }
-    ensures { PrintsAsked text.now request.now (O.told out.old) (O.told out.new) result }
+    ensures { PrintsAsked text.now trace.now request.now (O.told out.old) (O.told out.new) result }
 {
     match request {
         Request::Facts { rounds, inputs, .. } => facts_text(
@@ -112,26 +142,27 @@ fn print_computed<R: Threads + Wait + Sync, G: Gate + Sync, O: Sink>(
             *rounds,
             out,
         ),
-        _ => run_asked(rt, alloc, request, text, gate, out),
+        _ => print_of_run(rt, alloc, request, text, trace, gate, out),
     }
 }
 
-/// Prints what a request asks for of a text, and answers the status.
+/// Prints what a request asks for of a text, and of a trace, and answers the status.
 fn print_asked<R: Threads + Wait + Sync, G: Gate + Sync, O: Sink>(
     rt: &R,
     alloc: Global,
     request: &Request<'_>,
     text: &str,
+    trace: &[u8],
     gate: &G,
     out: &mut O,
 ) -> Result<u8, EngineError>
-    ensures { PrintsAsked text.now request.now (O.told out.old) (O.told out.new) result }
+    ensures { PrintsAsked text.now trace.now request.now (O.told out.old) (O.told out.new) result }
 {
     match request {
         Request::Check { .. } => check_text(alloc, text, out),
         Request::Graph { .. } => graph_text(alloc, text, out),
         Request::Draw { .. } => draw_text(alloc, text, out),
-        _ => print_computed(rt, alloc, request, text, gate, out),
+        _ => print_computed(rt, alloc, request, text, trace, gate, out),
     }
 }
 
@@ -140,7 +171,9 @@ fn words_of<'a>(request: &'a Request<'a>) -> &'a [&'a str]
     ensures { map (λ w. w.now) result.now ≡ words_of request.now }
 {
     match request {
-        Request::Run { inputs, .. } | Request::Facts { inputs, .. } => inputs.as_slice(),
+        Request::Run { inputs, .. }
+        | Request::Facts { inputs, .. }
+        | Request::Judge { inputs, .. } => inputs.as_slice(),
         Request::Check { .. } | Request::Graph { .. } | Request::Draw { .. } => &[],
     }
 }
@@ -153,20 +186,22 @@ fn tell<E: Sink>(request: &Request<'_>, error: &EngineError, text: &str, err: &m
     refuse(&of_engine_error(words_of(request), error), text, err)
 }
 
-/// Does what a request asks for with a text, and answers the status. A run's gate holds each handling of a message for
-/// as long as it likes.
+/// Does what a request asks for with a text, and with the bytes of the trace that it asks to judge, and answers the
+/// status. A run's gate holds each handling of a message for as long as it likes.
 pub fn serve<R: Threads + Wait + Sync, G: Gate + Sync, O: Sink, E: Sink>(
     rt: &R,
     alloc: Global,
     request: &Request<'_>,
     text: &str,
+    trace: &[u8],
     gate: &G,
     out: &mut O,
     err: &mut E,
 ) -> u8
-    ensures { Serves text.now request.now (O.told out.old) (O.told out.new) (E.told err.old) (E.told err.new) result }
+    ensures { Serves text.now trace.now request.now (O.told out.old) (O.told out.new) (E.told err.old)
+        (E.told err.new) result }
 {
-    match print_asked(rt, alloc, request, text, gate, out) {
+    match print_asked(rt, alloc, request, text, trace, gate, out) {
         Ok(status) => status,
         Err(error) => tell(request, &error, text, err),
     }
@@ -181,11 +216,50 @@ fn file_of<'a>(request: &Request<'a>) -> &'a str
         | Request::Graph { file }
         | Request::Draw { file }
         | Request::Run { file, .. }
-        | Request::Facts { file, .. } => file,
+        | Request::Facts { file, .. }
+        | Request::Judge { file, .. } => file,
     }
 }
 
-/// Reads the text of a request, and serves it.
+/// The bytes of the trace that a request asks to judge, and none where it asks for something else.
+fn read_trace<S: Source>(
+    alloc: Global,
+    request: &Request<'_>,
+    source: &mut S,
+) -> Result<Vec<u8>, ReadFault>
+    ensures { AreBytesRead (S.told_bytes source.old) (trace_of request.now) result }
+{
+    match request {
+        Request::Judge { trace, .. } => source.read_bytes(alloc, trace),
+        Request::Check { .. }
+        | Request::Graph { .. }
+        | Request::Draw { .. }
+        | Request::Run { .. }
+        | Request::Facts { .. } => Ok(Vec::new(alloc)),
+    }
+}
+
+/// Reads the trace of a request, where it has one, and serves it with that and with its text.
+fn serve_text<R: Threads + Wait + Sync, S: Source, O: Sink, E: Sink>(
+    rt: &R,
+    alloc: Global,
+    request: &Request<'_>,
+    text: &str,
+    source: &mut S,
+    out: &mut O,
+    err: &mut E,
+) -> u8
+    ensures { (told : Option (Result (List ℕ) SourceFault)) → IsToldText told text.now
+        → Drives told (S.told_bytes source.old) request.now (O.told out.old) (O.told out.new) (E.told err.old)
+        (E.told err.new) result }
+{
+    match read_trace(alloc, request, source) {
+        Ok(trace) => serve(rt, alloc, request, text, trace.as_slice(), &Open, out, err),
+        Err(fault) => refuse_plainly(of_source_fault(source_fault(fault)), err),
+    }
+}
+
+/// Reads the text of a request, and its trace, and serves it.
 fn serve_file<R: Threads + Wait + Sync, S: Source, O: Sink, E: Sink>(
     rt: &R,
     alloc: Global,
@@ -194,11 +268,11 @@ fn serve_file<R: Threads + Wait + Sync, S: Source, O: Sink, E: Sink>(
     out: &mut O,
     err: &mut E,
 ) -> u8
-    ensures { Drives (S.told source.old (file_of request.now)) request.now (O.told out.old) (O.told out.new)
-        (E.told err.old) (E.told err.new) result }
+    ensures { Drives (S.told source.old (file_of request.now)) (S.told_bytes source.old) request.now (O.told out.old)
+        (O.told out.new) (E.told err.old) (E.told err.new) result }
 {
     match source.read(alloc, file_of(request)) {
-        Ok(text) => serve(rt, alloc, request, text.as_str(), &Open, out, err),
+        Ok(text) => serve_text(rt, alloc, request, text.as_str(), source, out, err),
         Err(fault) => refuse_plainly(of_source_fault(fault), err),
     }
 }
@@ -214,8 +288,8 @@ pub fn drive_asked<R: Threads + Wait + Sync, S: Source, O: Sink, E: Sink>(
     err: &mut E,
 ) -> u8
     ensures asked { IfOk asked.now
-        (λ r. Drives (S.told source.old (file_of r)) r (O.told out.old) (O.told out.new) (E.told err.old)
-        (E.told err.new) result) }
+        (λ r. Drives (S.told source.old (file_of r)) (S.told_bytes source.old) r (O.told out.old) (O.told out.new)
+        (E.told err.old) (E.told err.new) result) }
     ensures unasked { IfErr asked.now
         (λ u. Answers (O.told out.old) (O.told out.new) (E.told err.old) (E.told err.new) u result) }
 {

@@ -1,7 +1,7 @@
 //! A text, compiled, run and printed.
 
 ghost use Rattle.std.specs.Prelude.{◌≡◌, ◌≢◌, ◌≤◌, ◌++◌, length, map};
-ghost use Rattle.std.specs.Prelude.{IfErr, IfOk, IsTrue, OnOk};
+ghost use Rattle.std.specs.Prelude.{IfErr, IfOk, IsTrue, None, OnOk};
 ghost use Rattle.id_record.specs.declared.kept.Keeps.TheVariants as keeps;
 ghost use Rattle.id_pieces.specs.Schemas.{Schemas};
 ghost use Rattle.id_source.specs.Sources.{AreInputs};
@@ -10,7 +10,7 @@ ghost use Rattle.id_sink.specs.Told.{Prints};
 ghost use Rattle.id_trace.specs.Traces.{trace_text};
 ghost use Rattle.id_print.specs.RunReports.{IsReportFrom};
 ghost use Rattle.id_print.specs.Within.{ReportWithin};
-ghost use Rattle.id_elements.specs.Runs.{IsRun, MovesOn};
+ghost use Rattle.id_elements.specs.Runs.{IsByPositions, IsRun, MovesOn};
 ghost use Rattle.id_engine.specs.Alike.{PrintedAlike};
 ghost use Rattle.id_engine.specs.Moments.{AllMoments};
 ghost use Rattle.id_engine.specs.OneAnswer.{OneAnswer};
@@ -198,6 +198,8 @@ fn run_for<'a, R: Threads + Wait + Sync, G: Gate + Sync>(
         settings.steps) }
     ensures kept { IfOk result (λ r. r.keeps ≡ settings.keeps) }
     ensures moves { IfOk result (λ r. MovesOn r.world) }
+    ensures positions { IfOk result (λ r. settings.order ≢ None → IsByPositions prepared.now.compiled.graph
+        prepared.now.inputs.values settings.elements r.world) }
     ensures allowed { OnOk result (AreAllowed settings.elements settings.steps) }
     ensures refused { IfErr result (IsUnallowed settings.elements settings.steps) }
 {
@@ -236,7 +238,7 @@ fn run_prepared<R: Threads + Wait + Sync, G: Gate + Sync, W: Sink>(
     requires within { IsPlacedWithin (length text.now) prepared.now.compiled.checked }
     requires short { length text.now ≤ 1048576 }
     ensures { RunsSo prepared.now.compiled.checked prepared.now.inputs.values text.now settings.elements trace
-        settings.steps names (W.told out.old) (W.told out.new) result }
+        settings.steps settings.order names (W.told out.old) (W.told out.new) result }
 {
     id_laws::sound();
     id_laws::complete();
@@ -274,7 +276,7 @@ fn run_once<R: Threads + Wait + Sync, G: Gate + Sync, W: Sink>(
     requires within { IsPlacedWithin (length text.now) prepared.compiled.checked }
     requires short { length text.now ≤ 1048576 }
     ensures { RunsSo prepared.compiled.checked prepared.inputs.values text.now settings.elements trace settings.steps
-        names (W.told out.old) (W.told out.new) result }
+        settings.order names (W.told out.old) (W.told out.new) result }
 {
     let status = run_prepared(
         rt, alloc, &prepared, text, settings, names, trace, gate, out,
@@ -284,7 +286,7 @@ fn run_once<R: Threads + Wait + Sync, G: Gate + Sync, W: Sink>(
 }
 
 /// The status of a run that ended so.
-fn status_of(ending: &Ending) -> u8
+pub(crate) fn status_of(ending: &Ending) -> u8
     ensures { result ≡ status_of ending.now }
 {
     match ending {
@@ -316,10 +318,10 @@ pub fn engine<R: Threads + Wait + Sync, G: Gate + Sync, W: Sink>(
         (ShowsAll (command.Run names trace (map (λ w. w.now) inputs.now)) text.now (W.told out.old) (W.told out.new)) }
 
     // It is a run, that has come to its end: its events are a legal list, and each message left is held back, or there
-    // was a fault.
+    // was a fault. Where a seed gives its order, it is one by positions.
     ensures ran { IfOk result
-        (Ran text.now (map (λ w. w.now) inputs.now) settings.elements trace settings.steps names (W.told out.old)
-        (W.told out.new)) }
+        (Ran text.now (map (λ w. w.now) inputs.now) settings.elements trace settings.steps settings.order names
+        (W.told out.old) (W.told out.new)) }
 
     // After a failed write a front of such a text is out, that of the run that was made, and after any other error
     // nothing.
@@ -327,8 +329,8 @@ pub fn engine<R: Threads + Wait + Sync, G: Gate + Sync, W: Sink>(
         → ShowsFront (command.Run names trace (map (λ w. w.now) inputs.now)) text.now (W.told out.old)
         (W.told out.new) }
     ensures front { result ≡ Err EngineError.Write
-        → RanFront text.now (map (λ w. w.now) inputs.now) settings.elements trace settings.steps names
-        (W.told out.old) (W.told out.new) }
+        → RanFront text.now (map (λ w. w.now) inputs.now) settings.elements trace settings.steps settings.order
+        names (W.told out.old) (W.told out.new) }
     ensures silent { IfErr result (λ e. e ≢ EngineError.Write → W.told out.new ≡ W.told out.old) }
 
     // A refusal comes for its cause alone, at a place of the text.

@@ -35,8 +35,8 @@ pub fn drive<R: Threads + Wait + Sync, N: AsStr, S: Source, O: Sink, E: Sink>(
     out: &mut O,
     err: &mut E,
 ) -> u8
-    ensures { ServesWords (map N.text words.now) (S.told source.old) (O.told out.old) (O.told out.new)
-        (E.told err.old) (E.told err.new) result }
+    ensures { ServesWords (map N.text words.now) (S.told source.old) (S.told_bytes source.old) (O.told out.old)
+        (O.told out.new) (E.told err.old) (E.told err.new) result }
 {
     let asked = read_words(alloc, words);
     if is_compiled(&asked) {
@@ -55,7 +55,7 @@ fn answer_words<R: Threads + Wait + Sync, N: AsStr + Drop, S: Source, O: Sink, E
     err: &mut E,
 ) -> u8
     ensures { AnswersWords (result_map_both (λ ws. map N.text ws.items) (λ u. u) words) (S.told source.old)
-        (O.told out.old) (O.told out.new) (E.told err.old) (E.told err.new) result }
+        (S.told_bytes source.old) (O.told out.old) (O.told out.new) (E.told err.old) (E.told err.new) result }
 {
     match words {
         Ok(words) => drive(rt, alloc, words.as_slice(), source, out, err),
@@ -80,7 +80,8 @@ pub fn drive_settled<
     err: &mut Stream<F>,
 ) -> u8
     ensures { AnswersSettled (result_map_both (λ ws. map N.text ws.items) (λ u. u) words) (S.told source.old)
-        (D.view out.old.writer) (D.view out.new.writer) (F.view err.old.writer) (F.view err.new.writer) result }
+        (S.told_bytes source.old) (D.view out.old.writer) (D.view out.new.writer) (F.view err.old.writer)
+        (F.view err.new.writer) result }
 {
     let status = answer_words(rt, alloc, words, source, out, err);
     let settled = settle(out, err, status);

@@ -1,5 +1,7 @@
 use id_args::read_words;
-use id_engine::{Device, Request, Source, SourceFault, Stream, drive, drive_asked, settle};
+use id_engine::{
+    Device, ReadFault, Request, Source, SourceFault, Stream, drive, drive_asked, settle,
+};
 use id_sink::{Sink, SinkFault, put};
 use std::alloc::{AllocError, Global};
 use std::io;
@@ -48,7 +50,10 @@ fn with_room<R: Abort + AllocGlobal>(rt: &R, room: usize) -> Telling<'_, R> {
     }
 }
 
-/// A source with one text, named `text.id`.
+/// The trace that the source below has: the first events of a run of `def main(): int = 7;` on one element.
+const TRACE: &[u8] = b"1 0 token c0.0#0 1.0 signal\n2 0 token c0.0#0 3.0 signal\n";
+
+/// A source with one text, named `text.id`, and one trace, named `trace`.
 #[derive(Drop)]
 struct OneText<'a> {
     text: &'a str,
@@ -59,11 +64,20 @@ impl Source for OneText<'_> {
 
     ghost told = { λ _ _. None };
 
+    ghost told_bytes = { λ _ _. None };
+
     fn read(&mut self, alloc: Global, name: &str) -> Result<String, SourceFault> {
         if name != "text.id" {
             return Err(SourceFault::File);
         }
         String::from_str(alloc, self.text).map_err(|_| SourceFault::Memory)
+    }
+
+    fn read_bytes(&mut self, alloc: Global, name: &str) -> Result<Vec<u8>, ReadFault> {
+        if name != "trace" {
+            return Err(ReadFault::File);
+        }
+        Vec::from_slice(alloc, TRACE).map_err(|_| ReadFault::Memory)
     }
 }
 
@@ -305,6 +319,37 @@ fn refuses_no_steps_and_elements_beyond_64(rt: HostRuntime) {
     assert!(&rt; is_refused(&rt, 1, 0, "refused 20 BadSteps\n"));
     assert!(&rt; is_refused(&rt, 0, 0, "refused 19 BadElements\n"));
     assert!(&rt; is_refused(&rt, 65, 1, "refused 19 BadElements\n"));
+}
+
+#[test]
+fn judges_a_trace(rt: HostRuntime) -> Result<(), Fail> {
+    let got = print(
+        &rt,
+        "def main(): int = 7;",
+        "judge|text.id|trace|--names",
+        1_000_000,
+    )?;
+    let legal = got.out.as_slice() == "legal 2\nstopped\nanswer none\n".as_bytes();
+    assert!(&rt; legal && got.err.is_empty() && got.status == 3);
+    let got = print(
+        &rt,
+        "def main(n: int): int = n;",
+        "judge|text.id|trace|n=1",
+        1_000_000,
+    )?;
+    let other = got.out.as_slice() == "event 2: no such message is in flight\n".as_bytes();
+    assert!(&rt; other && got.err.is_empty() && got.status == 6);
+    let got = print(
+        &rt,
+        "def main(): int = 7;",
+        "judge|text.id|other",
+        1_000_000,
+    )?;
+    let unread = got.err.as_slice() == "refused 4 File\n".as_bytes();
+    assert!(&rt; unread && got.out.is_empty() && got.status == 5);
+    let got = print(&rt, "def main(): int = 7;", "judge|text.id|trace", 10)?;
+    assert!(&rt; is_cut(&got));
+    Ok(())
 }
 
 /// The trace of `def main(): int = 7;`, and its answer.

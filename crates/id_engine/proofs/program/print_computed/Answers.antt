@@ -14,4 +14,4 @@ returns-in-Facts g c = record {
 }
 
 pub returns-in_default : goal.returns-in_default
-returns-in_default g c = c.run_asked.ensures
+returns-in_default g c = c.print_of_run.ensures

@@ -1,7 +1,7 @@
 use Rattle.id_engine.proofs.program.run_asked.Goals as goal
 
 pub returns : goal.returns
-returns g c = record {
+returns g c = λ bytes. record {
   shown = rw c.in-Run.is (rw c.as_slice.ensures.value at c.engine.ensures.shown);
   taken = rw c.in-Run.is (rw c.as_slice.ensures.value at c.engine.ensures.taken);
   ran = rw c.in-Run.is (rw c.as_slice.ensures.value at c.engine.ensures.ran);

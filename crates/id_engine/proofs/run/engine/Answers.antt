@@ -21,33 +21,33 @@ returns-in-Ok g c = record {
   shown = (let p = c.in-Ok.prepared in
       let e = c.in-Ok.ensures in
       RunsSo-shown c.args.text.now (map (λ w. w.now) c.args.inputs.now) p.compiled.checked e.program e.small p.inputs.values e.inputs
-      c.args.settings.elements c.args.trace c.args.settings.steps c.args.names _ _ _ c.run_once.ensures);
+      c.args.settings.elements c.args.trace c.args.settings.steps c.args.settings.order c.args.names _ _ _ c.run_once.ensures);
   ran = (let p = c.in-Ok.prepared in
       let e = c.in-Ok.ensures in
       RunsSo-ran c.args.text.now (map (λ w. w.now) c.args.inputs.now) p.compiled.checked e.program e.small p.inputs.values e.inputs
-      c.args.settings.elements c.args.trace c.args.settings.steps c.args.names _ _ _ c.run_once.ensures);
+      c.args.settings.elements c.args.trace c.args.settings.steps c.args.settings.order c.args.names _ _ _ c.run_once.ensures);
   cut = (let p = c.in-Ok.prepared in
       let e = c.in-Ok.ensures in
       RunsSo-cut c.args.text.now (map (λ w. w.now) c.args.inputs.now) p.compiled.checked e.program e.small p.inputs.values e.inputs
-      c.args.settings.elements c.args.trace c.args.settings.steps c.args.names _ _ _ c.run_once.ensures);
+      c.args.settings.elements c.args.trace c.args.settings.steps c.args.settings.order c.args.names _ _ _ c.run_once.ensures);
   front = (let p = c.in-Ok.prepared in
       let e = c.in-Ok.ensures in
       RunsSo-front c.args.text.now (map (λ w. w.now) c.args.inputs.now) p.compiled.checked e.program e.small p.inputs.values e.inputs
-      c.args.settings.elements c.args.trace c.args.settings.steps c.args.names _ _ _ c.run_once.ensures);
+      c.args.settings.elements c.args.trace c.args.settings.steps c.args.settings.order c.args.names _ _ _ c.run_once.ensures);
   silent = (let p = c.in-Ok.prepared in
       let e = c.in-Ok.ensures in
       RunsSo-silent c.args.text.now (map (λ w. w.now) c.args.inputs.now) p.compiled.checked e.program e.small p.inputs.values e.inputs
-      c.args.settings.elements c.args.trace c.args.settings.steps c.args.names _ _ _ c.run_once.ensures);
+      c.args.settings.elements c.args.trace c.args.settings.steps c.args.settings.order c.args.names _ _ _ c.run_once.ensures);
   taken = (let p = c.in-Ok.prepared in
       let e = c.in-Ok.ensures in
       RunsSo-taken c.args.text.now (map (λ w. w.now) c.args.inputs.now) p.compiled.checked e.program e.small p.inputs.values e.inputs
-      c.args.settings.elements c.args.trace c.args.settings.steps c.args.names _ _ _ c.run_once.ensures);
+      c.args.settings.elements c.args.trace c.args.settings.steps c.args.settings.order c.args.names _ _ _ c.run_once.ensures);
   refused = (let p = c.in-Ok.prepared in
       let e = c.in-Ok.ensures in
       RunsSo-refused c.args.text.now (map (λ w. w.now) c.args.inputs.now) p.compiled.checked e.program e.small p.inputs.values e.inputs
-      c.args.settings.elements c.args.trace c.args.settings.steps c.args.names _ _ _ c.run_once.ensures);
+      c.args.settings.elements c.args.trace c.args.settings.steps c.args.settings.order c.args.names _ _ _ c.run_once.ensures);
   inside = (let p = c.in-Ok.prepared in
       let e = c.in-Ok.ensures in
       RunsSo-inside c.args.text.now (map (λ w. w.now) c.args.inputs.now) p.compiled.checked e.program e.small p.inputs.values e.inputs
-      c.args.settings.elements c.args.trace c.args.settings.steps c.args.names _ _ _ c.run_once.ensures);
+      c.args.settings.elements c.args.trace c.args.settings.steps c.args.settings.order c.args.names _ _ _ c.run_once.ensures);
 }

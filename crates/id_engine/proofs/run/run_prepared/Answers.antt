@@ -22,6 +22,6 @@ pub returns-in-Ok : goal.returns-in-Ok
 returns-in-Ok g c =
     let p = c.args.prepared.now in
     let e = c.in-Ok.ensures in
-    RunsSo-machine p.compiled.checked p.inputs.values c.args.text.now c.args.settings.elements c.args.trace c.args.settings.steps c.args.names
-    p.compiled.graph c.in-Ok.run' c.sound.ensures c.complete.ensures c.requires.inputs e.schemas e.allowed e.run e.moves _ _ c.print_once.result
+    RunsSo-machine p.compiled.checked p.inputs.values c.args.text.now c.args.settings.elements c.args.trace c.args.settings.steps c.args.settings.order c.args.names
+    p.compiled.graph c.in-Ok.run' c.sound.ensures c.complete.ensures c.requires.inputs e.schemas e.allowed e.run e.moves e.positions _ _ c.print_once.result
     c.print_once.ensures

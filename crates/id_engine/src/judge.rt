@@ -1,0 +1,342 @@
+//! A trace, judged as one of a text.
+
+ghost use Rattle.std.specs.Prelude.{◌≡◌, ◌≢◌, ◌≤◌, ◌<◌, length, map};
+ghost use Rattle.std.specs.Prelude.{IfErr, IfOk, OnOk, ◌++◌};
+ghost use Rattle.id_record.specs.declared.kept.Keeps.TheVariants as keeps;
+ghost use Rattle.id_pieces.specs.Schemas.{Schemas};
+ghost use Rattle.id_source.specs.Sources.{AreInputs};
+ghost use Rattle.id_print.specs.Reports.{report_text};
+ghost use Rattle.id_print.specs.Within.{ReportWithin};
+ghost use Rattle.id_sink.specs.Told.{Prints};
+ghost use Rattle.id_judge.specs.Lines.{IsLineVerdict};
+ghost use Rattle.id_compile.specs.Programs.{IsPlacedWithin};
+ghost use Rattle.id_compile.specs.Refusals.{IsInsideOf, IsRefusedRun, IsTakenRun};
+ghost use Rattle.id_engine.specs.Commands.{ShowsAll, ShowsFront};
+ghost use Rattle.id_engine.specs.Commands as command;
+ghost use Rattle.id_engine.specs.Judged.{begin_with_digit, begin_with_line, behind_lines, cause_text, has_end};
+ghost use Rattle.id_engine.specs.Judged.{legal_text, other_text, why_text};
+ghost use Rattle.id_engine.specs.Judgements.{IsPrintedSo, JudgesSo, PrintsCounted, PrintsJudged, PrintsLegal};
+ghost use Rattle.id_engine.specs.Reports.{AreAllowed, AreReportsWithin, IsUnallowed};
+
+use crate::run::status_of;
+use id_compile::{EngineError, Prepared, prepare};
+use id_core::{Keeps, Machine, MachineError, merge_records};
+use id_judge::{Cause, Verdict, judge_lines};
+use id_print::{PrintError, Report, Sink, put, run_report, write_report};
+use id_sink::put_long;
+use std::alloc::Global;
+
+/// The status where a trace is none of a run.
+const NO_RUN: u8 = 6;
+
+/// The bytes behind so many line feeds.
+fn behind_lines(trace: &[u8], lines: usize) -> &[u8]
+    ensures { result.now ≡ behind_lines lines trace.now }
+{
+    let mut rest = trace;
+    let mut left = lines;
+    while left > 0 {
+        match rest.split_first() {
+            None => return rest,
+            Some((first, others)) => {
+                if *first == b'\n' {
+                    left -= 1;
+                }
+                rest = others;
+            }
+        }
+    }
+    rest
+}
+
+/// Whether a line feed is among the bytes.
+fn has_end(bytes: &[u8]) -> bool
+    ensures { result ≡ has_end bytes.now }
+{
+    bytes.contains(&b'\n')
+}
+
+/// Whether the bytes begin with a digit.
+fn begin_with_digit(bytes: &[u8]) -> bool
+    ensures { result ≡ begin_with_digit bytes.now }
+{
+    match bytes.first() {
+        Some(first) => b'0' <= *first && *first <= b'9',
+        None => false,
+    }
+}
+
+/// Whether the bytes begin with a whole line that a digit opens, as the line of each event does.
+fn begin_with_line(bytes: &[u8]) -> bool
+    ensures { result ≡ begin_with_line bytes.now }
+{
+    begin_with_digit(bytes) && has_end(bytes)
+}
+
+/// What is said of a cause.
+fn cause_bytes(cause: Cause) -> &'static [u8]
+    ensures { result.now ≡ cause_text cause }
+{
+    match cause {
+        Cause::NotInFlight => b"no such message is in flight",
+        Cause::OtherElement => b"its message is for another element",
+        Cause::NoStamp => b"no stamp is left for its message",
+        Cause::OtherStamp => b"its stamp is not the next",
+        Cause::OtherOutcome => b"the element makes another event of its message",
+    }
+}
+
+/// Why the event at this position can't follow.
+fn why_bytes(trace: &[u8], position: usize, cause: Cause) -> &'static [u8]
+    ensures { result.now ≡ why_text trace.now position cause }
+{
+    if begin_with_line(behind_lines(trace, position)) {
+        cause_bytes(cause)
+    } else {
+        b"this is no line of an event"
+    }
+}
+
+/// Writes that a trace is one of a run, with the number of its events.
+fn put_legal<W: Sink>(sink: &mut W, events: usize) -> Result<(), PrintError>
+    ensures { Prints (W.told sink.old) (W.told sink.new) (legal_text events) result }
+{
+    put(sink, b"legal ")?;
+    put_long(sink, events as u64)?;
+    put(sink, b"\n")
+}
+
+/// Writes that the event at this position, from 0, can't follow, and why.
+fn put_other<W: Sink>(sink: &mut W, position: usize, why: &[u8]) -> Result<(), PrintError>
+    requires { position < 18446744073709551615 }
+    ensures { Prints (W.told sink.old) (W.told sink.new) (other_text position why.now) result }
+{
+    put(sink, b"event ")?;
+    put_long(sink, position as u64 + 1)?;
+    put(sink, b": ")?;
+    put(sink, why)?;
+    put(sink, b"\n")
+}
+
+/// What writing an output whose status is this came to.
+fn printed(written: Result<(), PrintError>, status: u8) -> Result<u8, EngineError>
+    ensures { IsPrintedSo written status result }
+{
+    match written {
+        Ok(()) => Ok(status),
+        Err(_) => Err(EngineError::Write),
+    }
+}
+
+/// Writes that a trace is one of a run, with the number of its events, and then the report.
+fn write_legal<W: Sink>(
+    events: usize,
+    report: &Report,
+    text: &str,
+    names: bool,
+    out: &mut W,
+) -> Result<(), PrintError>
+    requires fits { length text.now ≤ 1048576 }
+    requires inside { ReportWithin (length text.now) report.now }
+    ensures { Prints (W.told out.old) (W.told out.new) (legal_text events ++ report_text text.now names report.now)
+        result }
+{
+    put_legal(out, events)?;
+    write_report(report, text, names, out)
+}
+
+/// Writes that a trace is one of a run, which has come to this machine and shows this report, and answers the status.
+fn print_counted<W: Sink>(
+    alloc: Global,
+    machine: &Machine<'_>,
+    report: &Report,
+    text: &str,
+    names: bool,
+    out: &mut W,
+) -> Result<u8, EngineError>
+    requires kept { machine.now.keeps ≡ keeps.All }
+    requires fits { length text.now ≤ 1048576 }
+    requires inside { ReportWithin (length text.now) report.now }
+    ensures { PrintsCounted machine.now text.now names report.now (W.told out.old) (W.told out.new) result }
+{
+    match merge_records(alloc, machine.elements()) {
+        Ok(events) => {
+            let written = write_legal(events.len(), report, text, names, out);
+            printed(written, status_of(&report.ending))
+        }
+        Err(_) => Err(EngineError::Memory),
+    }
+}
+
+/// Writes that a trace is one of a run, which has come to this machine, and what that shows, and answers the status.
+fn print_shown<W: Sink>(
+    alloc: Global,
+    machine: &Machine<'_>,
+    text: &str,
+    names: bool,
+    out: &mut W,
+) -> Result<u8, EngineError>
+    requires kept { machine.now.keeps ≡ keeps.All }
+    requires fits { length text.now ≤ 1048576 }
+    requires inside { AreReportsWithin machine.now names (length text.now) }
+    ensures { PrintsLegal machine.now text.now names (W.told out.old) (W.told out.new) result }
+{
+    match run_report(alloc, machine, names) {
+        Ok(report) => {
+            let status = print_counted(alloc, machine, &report, text, names, out);
+            drop(report);
+            status
+        }
+        Err(_) => Err(EngineError::Memory),
+    }
+}
+
+/// The same, and lets the machine go. Before its report is made, the memory of what was in flight is given back.
+fn print_machine<W: Sink>(
+    alloc: Global,
+    machine: Machine<'_>,
+    text: &str,
+    names: bool,
+    out: &mut W,
+) -> Result<u8, EngineError>
+    requires kept { machine.keeps ≡ keeps.All }
+    requires fits { length text.now ≤ 1048576 }
+    requires inside { AreReportsWithin machine names (length text.now) }
+    ensures { PrintsLegal machine.entry text.now names (W.told out.old) (W.told out.new) result }
+{
+    let mut machine = machine;
+    machine.give_back(alloc);
+    let status = print_shown(alloc, &machine, text, names, out);
+    drop(machine);
+    status
+}
+
+/// Writes that the event at this position can't follow, and why, and answers the status.
+fn print_other<W: Sink>(
+    trace: &[u8],
+    position: usize,
+    cause: Cause,
+    out: &mut W,
+) -> Result<u8, EngineError>
+    requires { position < length trace.now }
+    ensures { PrintsJudged (other_text position (why_text trace.now position cause)) 6 (W.told out.old)
+        (W.told out.new) result }
+{
+    let within = position < trace.len();
+    prove!(within);
+    let why = why_bytes(trace, position, cause);
+    let written = put_other(out, position, why);
+    printed(written, NO_RUN)
+}
+
+/// What the judge says of a trace, as one of a run of a compiled program with its inputs.
+fn verdict_of<'a>(
+    alloc: Global,
+    prepared: &'a Prepared,
+    trace: &[u8],
+    count: u32,
+) -> Result<Verdict<'a>, EngineError>
+    requires { AreInputs prepared.now.compiled.checked prepared.now.inputs.values }
+    ensures schemas { Schemas prepared.now.compiled.checked prepared.now.compiled.graph }
+    ensures verdict { IfOk result
+        (IsLineVerdict prepared.now.compiled.graph prepared.now.inputs.values count keeps.All trace.now) }
+    ensures allowed { OnOk result (AreAllowed count 1) }
+    ensures refused { IfErr result (IsUnallowed count 1) }
+{
+    id_laws::inputs_fit();
+    match judge_lines(
+        alloc,
+        prepared.compiled.valid(),
+        &prepared.inputs,
+        count,
+        Keeps::All,
+        trace,
+    ) {
+        Ok(verdict) => Ok(verdict),
+        Err(MachineError::BadElements) => Err(EngineError::BadElements),
+        Err(MachineError::Memory) => Err(EngineError::Memory),
+    }
+}
+
+/// Judges a trace as one of a run of a compiled program with its inputs, and writes what comes of that.
+fn judge_prepared<W: Sink>(
+    alloc: Global,
+    prepared: &Prepared,
+    text: &str,
+    trace: &[u8],
+    count: u32,
+    names: bool,
+    out: &mut W,
+) -> Result<u8, EngineError>
+    requires inputs { AreInputs prepared.now.compiled.checked prepared.now.inputs.values }
+    requires within { IsPlacedWithin (length text.now) prepared.now.compiled.checked }
+    requires short { length text.now ≤ 1048576 }
+    ensures { JudgesSo prepared.now.compiled.checked prepared.now.inputs.values text.now trace.now count names
+        (W.told out.old) (W.told out.new) result }
+{
+    id_laws::sound();
+    id_laws::complete();
+    id_laws::legal_lists();
+    match verdict_of(alloc, prepared, trace, count) {
+        Ok(Verdict::Legal(machine)) => print_machine(alloc, machine, text, names, out),
+        Ok(Verdict::CannotFollow(position, cause)) => print_other(trace, position, cause, out),
+        Err(error) => Err(error),
+    }
+}
+
+/// The same, and lets the program go.
+fn judge_once<W: Sink>(
+    alloc: Global,
+    prepared: Prepared,
+    text: &str,
+    trace: &[u8],
+    count: u32,
+    names: bool,
+    out: &mut W,
+) -> Result<u8, EngineError>
+    requires inputs { AreInputs prepared.compiled.checked prepared.inputs.values }
+    requires within { IsPlacedWithin (length text.now) prepared.compiled.checked }
+    requires short { length text.now ≤ 1048576 }
+    ensures { JudgesSo prepared.compiled.checked prepared.inputs.values text.now trace.now count names
+        (W.told out.old) (W.told out.new) result }
+{
+    let status = judge_prepared(alloc, &prepared, text, trace, count, names, out);
+    drop(prepared);
+    status
+}
+
+/// Compiles a text, judges whether these bytes are the trace of a run of it on the inputs that the words give, on so
+/// many elements, and writes what `idc judge` prints: that they are, and the report of that run, with what names have
+/// where `names` asks for it; or which event is the first that can't follow, and why. It answers the status: that of
+/// the report, 0 where the run is quiet, 1 where it has a fault, 3 where messages are left; and 6 where there is no
+/// such run.
+pub fn judge_text<W: Sink>(
+    alloc: Global,
+    text: &str,
+    trace: &[u8],
+    inputs: &[&str],
+    count: u32,
+    names: bool,
+    out: &mut W,
+) -> Result<u8, EngineError>
+    // What is printed is what the judge says of the bytes, and of a run what it shows; the source's equations give it.
+    ensures shown { IfOk result
+        (ShowsAll (command.Judge names (map (λ w. w.now) inputs.now) count trace.now) text.now (W.told out.old)
+        (W.told out.new)) }
+
+    // After a failed write a front of such a text is out, and after any other error nothing.
+    ensures cut { result ≡ Err EngineError.Write
+        → ShowsFront (command.Judge names (map (λ w. w.now) inputs.now) count trace.now) text.now (W.told out.old)
+        (W.told out.new) }
+    ensures silent { IfErr result (λ e. e ≢ EngineError.Write → W.told out.new ≡ W.told out.old) }
+
+    // A refusal comes for its cause alone, at a place of the text: as that of a run of one step.
+    ensures taken { OnOk result (IsTakenRun text.now (map (λ w. w.now) inputs.now) count 1) }
+    ensures refused { IfErr result (IsRefusedRun text.now (map (λ w. w.now) inputs.now) count 1) }
+    ensures inside { IfErr result (IsInsideOf text.now) }
+{
+    match prepare(alloc, text, inputs) {
+        Ok(prepared) => judge_once(alloc, prepared, text, trace, count, names, out),
+        Err(error) => Err(error),
+    }
+}
