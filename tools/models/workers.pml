@@ -2,37 +2,46 @@
  *
  * A worker is a process; the calling thread, which waits for them, is `init`. Beside each step stands the function of
  * crates/id_elements/src that it is of. A step touches once what workers share; what else stands in its `atomic` is the
- * worker's own. Messages have nothing in them: one is in some inbox at the start, and events send SENDS more, at most 2
- * each, to any elements. A worker may stop all before an event (its element has handled `steps` messages), after one (a
- * fault) and where it sends (memory is refused). Its thread may begin at any time, after others, or never. A sleep ends
- * by a wake alone: that of the code ends after 20 milliseconds too, which would hide a lost wake.
+ * worker's own, and so a burst is one step. Messages have nothing in them, and a letter is how many it has: one of one
+ * message is in some inbox at the start, and events send SENDS messages more, at most 2 each, to any elements. At any
+ * event an element may have handled `steps` messages, or there may be a fault; any push may be refused. A thread may
+ * begin at any time, after others, or never. A sleep ends by a wake; by its time, 20 milliseconds in the code, it ends
+ * only where some worker has not begun or has given up, since else that would hide a lost wake.
  *
  * Searched for in all orders of the steps:
  * - deadlock: nothing moves, and not all have ended (an invalid end state);
  * - a run without end (a cycle: no step is marked as progress, and no fairness is asked for). Where there is neither,
- *   each run ends from each state, and no worker sleeps for ever, whether a message waits in its inbox or none;
- * - `pending` at 0 while a message is anywhere, or below 0, and messages that are lost when all have ended (assert).
+ *   each run ends from each state, and no worker sleeps for ever, whether a letter waits in its inbox or none;
+ * - `pending` at 0 while a message is anywhere that may be handled, or below 0 (assert);
+ * - messages that are lost when all have ended; or that are left and may be handled, though nothing cut the run short:
+ *   no fault, no refusal, no worker that never began, none that gave up since another had not begun (assert).
  *
  * Mutants, which must be found wrong:
  * NO_WAKE         a push wakes nobody
- * EARLY_WAKE      a push looks at the flag before it puts the message in
+ * EARLY_WAKE      a push looks at the flag before it puts the letter in
  * NO_SECOND_LOOK  a worker that has set its flag parks without another look
+ * SLEEPS_ON       a worker sleeps while it has messages of its own
+ * KEEPS_LETTERS   a worker that can handle nothing more sends no letters
+ * LATE_LETTERS    it sends them when it has counted as done what it took out
+ * LATE_COUNT      a letter is counted after it was put in
+ * EARLY_DONE      letters are counted as done when they are taken out
+ * SPENT_OWES      a worker whose element has handled `steps` counts nothing as done
+ * SPENT_ENDS      it ends, and takes no letters out
  * QUIET_STOP      who stops all wakes nobody
- * EARLY_SLEEP     a worker sleeps though not all have begun
  * NO_PATIENCE     an idle worker never gives up on those that have not begun
- * LATE_COUNT      a message is counted after it was put in
- * EARLY_DONE      messages are counted as done when they are taken out
- * NO_RESET with TAKES=1 and BURST=2, see below
+ * QUIET_END       a worker that gives up does not say so
+ * HASTY           a worker gives up though all have begun and none has given up: the run ends, but work is left
+ * NO_RISE and NO_RESET together, see below
  *
- * Two that are harmless, and must not be found wrong:
+ * Three that are harmless, and must not be found wrong:
  * NO_CLEAR        The flag is not cleared after a sleep. Then each push wakes, and a worker that comes to `sleep` parks
  *                 at once. But the look before that was made with the flag set, and so no wake is lost.
- * NO_RESET        `looks` is not set to 0 where messages came. Then a worker whose flag is set may park in the round in
- *                 which it handled messages. No wake is lost, since in that round a pop found none with the flag set:
- *                 it had no message of its own before BURST were handled, so fewer than BURST were taken, and so the
- *                 inbox was found empty. This rests on `receive_all` and `burst` having one bound. Where a round takes
- *                 fewer than it handles (TAKES below BURST), a message may be left in the inbox that came before the
- *                 flag was set, and nobody wakes the worker for it: then all rests on `looks = 0`.
+ * NO_RISE         The flag is not cleared where letters came. Then a worker may park without setting it again, but
+ *                 `looks = 0` has it look at least once before that, and that look found the inbox empty.
+ * NO_RESET        `looks` is not set to 0 where letters came. Then a worker comes to `sleep` right after them, but its
+ *                 flag is not set there, and so it looks once more.
+ *                 Without both it may park in the round in which it took letters out; where it took as many as it may,
+ *                 one may be left that was pushed before the flag was set, and nobody wakes the worker for that one.
  */
 
 #ifndef WORKERS
@@ -45,20 +54,26 @@
 #define BURST 1         /* so many messages are handled in a round, 64 in worker.rt */
 #endif
 #ifndef TAKES
-#define TAKES BURST     /* so many are taken out of the inbox, the same 64 there */
+#define TAKES BURST     /* so many letters are taken out of the inbox, the same 64 there */
 #endif
-#define LOOKS 1         /* 64 in shared.rt */
-#define PATIENCE 2      /* 100,000 there */
+#define LOOKS 1         /* PAUSES and YIELDS, 264 in shared.rt */
+#ifndef PATIENCE
+#define PATIENCE 2      /* 20 there */
+#endif
 
-bool stopped;                                   /* Shared */
+#define INCOMPLETE (begun < WORKERS || gave_up)  /* Shared::is_incomplete */
+
+bool stopped, gave_up;                          /* Shared */
 byte pending = 1, begun;
 bool sleeps[WORKERS];
 bool token[WORKERS];                            /* Parker: whether it was unparked */
-chan inbox[WORKERS] = [1 + SENDS] of { bit };   /* Door */
+chan inbox[WORKERS] = [1 + SENDS] of { byte };  /* Door */
 bool ended[WORKERS];                            /* whether the call on a thread has returned */
 
-/* what no code has: messages in flight, what events may still send, what workers had at hand at their end */
-byte flying = 1, spare = SENDS, left;
+/* what no code has: messages in flight, those of elements that have handled `steps`, what events may still send, what
+ * workers had at hand at their end, and whether something has cut the run short */
+byte flying = 1, held, spare = SENDS, left;
+bool cut;
 
 inline wake() {                                 /* Shared::wake */
   if
@@ -69,15 +84,42 @@ inline wake() {                                 /* Shared::wake */
   fi
 }
 
+inline post_all() {                             /* Worker::post_all */
+  do
+  :: atomic { to < WORKERS && letters[to] == 0 -> to++ }
+  :: atomic { to < WORKERS && letters[to] > 0;  /* post */
+#ifndef LATE_COUNT
+       pending++                                /* count_sent */
+#endif
+     };
+#ifdef EARLY_WAKE
+     wake();
+#endif
+     if
+     :: atomic { inbox[to]!letters[to] -> letters[to] = 0 }      /* Door::push */
+     :: atomic { cut = true; goto halt }        /* refuse */
+     fi;
+#ifdef LATE_COUNT
+     pending++;
+#endif
+#ifndef EARLY_WAKE
+     wake();
+#endif
+     to++
+  :: atomic { to == WORKERS -> to = 0; break }
+  od
+}
+
 proctype worker(byte me) {
-  byte own, out;                                /* Worker: how many of its own, and how many sent but not sorted */
+  byte own, letters[WORKERS];                   /* Worker: how many of its own, and how many in each letter */
   byte taken, looks;                            /* Worker::work */
+  bool spent, goes;                             /* whether its element has handled `steps`; Turn::Goes */
   byte i, to;
 
   if                                            /* for_each_mut */
   :: true                                       /* a thread is made for it, or it is the last, on the calling thread */
   :: me < WORKERS - 1 -> ended[me + 1] && ended[WORKERS - 1]   /* none can be made: it begins after those behind it */
-  :: goto end                                   /* work_below: it is not below the limit */
+  :: atomic { cut = true; goto end }            /* work_below: it is not below the limit */
   fi;
   begun++;                                      /* begin */
 
@@ -88,91 +130,115 @@ round:                                          /* work */
   fi;
 
   do                                            /* receive_all */
-  :: atomic { i < TAKES && nempty(inbox[me]) -> inbox[me]?_; own++; taken++; i++ }   /* receive: a pop finds one */
-  :: atomic { i < TAKES && empty(inbox[me]) -> i = 0;                                /* a pop finds none */
+  :: atomic { i < TAKES && nempty(inbox[me]) -> /* receive: a pop finds one */
+       inbox[me]?to;
+       own = own + to;
+       held = held + (spent -> to : 0);
+       to = 0;
+       taken++;
+       i++
+     }
+  :: atomic { i < TAKES && empty(inbox[me]) -> i = 0;                       /* a pop finds none */
        if
-       :: own == 0 && taken == 0 -> goto idle   /* burst: Turn::Empty, and count_done has nothing to count */
+       :: taken == 0 && (own == 0 || spent) -> goto idle   /* Turn::Empty, with nothing to send or to count */
        :: else -> break
        fi
      }
   :: atomic { i == TAKES -> i = 0; break }
   od;
 #ifdef EARLY_DONE
-  atomic { pending = pending - taken; assert(pending > 0 || flying == 0) };
+  atomic { pending = pending - taken; assert(pending > 0 || flying == held) };
 #endif
 
-  do                                            /* burst */
-  :: atomic { i == BURST -> i = 0;              /* Turn::Goes */
+  atomic {                                      /* burst */
+    do
+    :: i == BURST -> goes = true; break         /* Turn::Goes */
+    :: i < BURST && (own == 0 || spent) -> break /* Turn::Empty */
+    :: i < BURST && own > 0 && !spent -> spent = true; held = held + own
+    :: i < BURST && own > 0 && !spent -> own--; flying--; cut = true; goto halt   /* a fault, Turn::Stops */
+    :: i < BURST && own > 0 && !spent -> own--; flying--; i++;                    /* step: give, send_on */
+       do
+       :: to < 2 && spare > 0 -> to++; spare--; flying++; own++
+       :: to < 2 && spare > 0 -> to++; spare--; flying++; letters[(me + 1) % WORKERS]++
+#if WORKERS == 3
+       :: to < 2 && spare > 0 -> to++; spare--; flying++; letters[(me + 2) % WORKERS]++
+#endif
+       :: to = 0; break
+       od
+    od;
+    i = 0
+  };
+
+#if defined(KEEPS_LETTERS) || defined(LATE_LETTERS)
+  if
+  :: !goes -> goto count
+  :: else
+  fi;
+#endif
+  post_all();
+  if
+  :: atomic { goes -> goes = false;
+#ifdef SLEEPS_ON
+       goto idle
+#else
 #ifndef NO_RESET
        looks = 0;
 #endif
        goto round
+#endif
      }
-  :: atomic { i < BURST && own == 0 -> i = 0; break }                     /* Turn::Empty */
-  :: atomic { i < BURST && own > 0 -> goto halt }                         /* Turn::Stops, at `steps` */
-  :: atomic { i < BURST && own > 0 -> own--; flying--; goto halt }        /* step: a fault, Turn::Stops */
-  :: atomic { i < BURST && own > 0 -> own--; flying--; i++;               /* step: an event */
-       do
-       :: out < 2 && spare > 0 -> spare--; flying++; out++
-       :: break
-       od
-     };
-     do                                         /* send_all */
-     :: out == 0 -> break
-     :: atomic { out > 0 -> out--; own++ }      /* keep */
-     :: atomic { out > 0 -> select(to : 1 .. WORKERS - 1); to = (me + to) % WORKERS };   /* post */
-#ifndef LATE_COUNT
-        pending++;                              /* count_sent */
-#endif
-#ifdef EARLY_WAKE
-        wake();
-#endif
-        if
-        :: atomic { inbox[to]!0 -> out-- }      /* put */
-        :: goto halt                            /* refuse */
-        fi;
-#ifdef LATE_COUNT
-        pending++;
-#endif
-#ifndef EARLY_WAKE
-        wake();
-#endif
-        to = 0
-     od
-  od;
+  :: else
+  fi;
 
-  atomic {
-    if
-    :: taken > 0 ->
+count:
+#ifdef SPENT_ENDS
+  if
+  :: spent -> goto end
+  :: else
+  fi;
+#endif
+  if
+  :: atomic { taken > 0;
 #ifndef NO_RESET
        looks = 0;
 #endif
+#ifndef NO_RISE
+       sleeps[me] = false                       /* rise */
+#endif
+     };
+     atomic {                                   /* count_done */
 #ifndef EARLY_DONE
        assert(pending >= taken);
-       pending = pending - taken;               /* count_done */
+#ifdef SPENT_OWES
+       pending = pending - (spent -> 0 : taken);
+#else
+       pending = pending - taken;
+#endif
 #endif
        taken = 0;
        if
-       :: pending == 0 -> assert(flying == 0); goto halt
+       :: pending == 0 -> assert(flying == held); goto halt
        :: else
        fi
-    :: else
-    fi
-  };
+     }
+  :: else
+  fi;
+#ifdef LATE_LETTERS
+  post_all();
+#endif
 
 idle:
   atomic {                                      /* wait */
-    looks = (looks > PATIENCE -> looks : looks + 1);
+    looks = (looks > LOOKS + PATIENCE -> looks : looks + 1);
     if
-#ifdef EARLY_SLEEP
-    :: looks > LOOKS
-#else
-    :: begun == WORKERS && looks > LOOKS        /* it goes on to `sleep` */
+    :: looks <= LOOKS -> goto round             /* spin_loop, yield_now */
+#ifdef HASTY
+    :: looks > LOOKS + PATIENCE -> cut = cut || INCOMPLETE; goto gives_up
 #endif
 #ifndef NO_PATIENCE
-    :: begun < WORKERS && looks > PATIENCE -> goto halt
+    :: looks > LOOKS + PATIENCE && INCOMPLETE -> cut = true; goto gives_up
 #endif
-    :: else -> goto round                       /* yield_now */
+    :: else                                     /* it goes on to `sleep` */
     fi
   };
 
@@ -188,31 +254,51 @@ idle:
      }
   :: sleeps[me]
   fi;
-  token[me];                                    /* Parker::park_timeout: it waits, without the time */
+  if                                            /* Parker::park_timeout */
+  :: token[me]
+  :: INCOMPLETE                                 /* its time is over */
+  fi;
   token[me] = false;
 #ifndef NO_CLEAR
   sleeps[me] = false;
 #endif
   goto round;
 
+gives_up:
+#ifndef QUIET_END
+  gave_up = true;
+#endif
+  goto end;
+
 halt:                                           /* stop; the next round sees it, and ends */
-  atomic { stopped = true; left = left + own + out; own = 0; out = 0; taken = 0; looks = 0; i = 0; to = 0 };
+  stopped = true;
 #ifndef QUIET_STOP
+  atomic { to = 0; i = 0 };
   do
   :: atomic { to < WORKERS -> token[to] = true; to++ }
-  :: atomic { to == WORKERS -> to = 0; break }
+  :: atomic { to == WORKERS -> break }
   od;
 #endif
+
 end:
-  atomic { left = left + own + out; ended[me] = true }
+  atomic {                                      /* what it has at hand is gathered */
+    left = left + own;
+    own = 0;
+    for (to : 0 .. WORKERS - 1) {
+      left = left + letters[to];
+      letters[to] = 0
+    };
+    taken = 0; looks = 0; spent = false; goes = false; i = 0; to = 0;
+    ended[me] = true
+  }
 }
 
 init {                                          /* run_workers */
-  byte k;
+  byte k, n;
 
   atomic {
     select(k : 0 .. WORKERS - 1);
-    inbox[k]!0;                                 /* send_start */
+    inbox[k]!1;                                 /* send_start */
     k = 0;
     do
     :: k < WORKERS -> run worker(k); k++        /* work_all */
@@ -225,9 +311,11 @@ init {                                          /* run_workers */
   od;
   atomic {                                      /* gather, drain_all: `finish` goes on with that, and is alone */
     do
-    :: k < WORKERS -> left = left + len(inbox[k]); k++
+    :: k < WORKERS && nempty(inbox[k]) -> inbox[k]?n; left = left + n
+    :: k < WORKERS && empty(inbox[k]) -> k++
     :: k == WORKERS -> break
     od;
-    assert(left == flying)
+    assert(left == flying);
+    assert(cut || left == held)
   }
 }
