@@ -1,10 +1,11 @@
 #!/usr/bin/env python3
 """machine.py FILE LISTING [NAME=VALUE ..] [--elements N] [--steps N]: runs a graph, and prints the trace of that run.
 
-LISTING is what `idc graph FILE` prints. This machine is written from docs/GRAPH.md and docs/MACHINE.md alone, and shares
-nothing with idc. Its elements, one where nothing else is said, take turns, and each handles the newest of its
+LISTING is what `idc graph FILE` prints. This machine is written from docs/RUNTIMES.md and the pages that it names, and
+shares nothing with idc. Its elements, one where nothing else is said, take turns, and each handles the newest of its
 messages first. It ends where no message is left, behind a fault, or after so many messages, a million where nothing
-else is said. It prints each event as it comes to pass, for `tools/check-trace` to look at.
+else is said. It prints each event as it comes to pass, for `idc judge` to look at, and for
+`tools/check-trace`.
 """
 import argparse, collections, operator, re, signal
 
