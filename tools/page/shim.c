@@ -152,6 +152,9 @@ u64 pthread_self(void) { return 1; }
 int pthread_detach(u64 t) { return 0; }
 int pthread_join(u64 t, void **r) { __builtin_trap(); }
 int sched_yield(void) { return 0; }
+// one processor, of which the system does not say whether this thread may run on it
+i64 sysconf(int what) { return 1; }
+int sched_getaffinity(int thread, u64 size, void *mask) { return -1; }
 // a futex: to wake somebody wakes nobody, and to wait is refused with EAGAIN
 i64 syscall(i64 number, void *p, i64 what, i64 value, void *q, ...) {
     errno_ = 11;
