@@ -76,7 +76,8 @@ fn answers<R: Abort + AllocGlobal + Threads + Wait + Sync, G: Gate + Sync>(
     }
 }
 
-/// A gate that holds the handling of the 101st message of each of two elements until that of the other has come too.
+/// A gate that holds the handling of the 301st message of each of two elements until that of the other has come too: by
+/// then each has sent the other what it had for it.
 #[derive(Drop)]
 struct Meeting {
     come: AtomicU64,
@@ -102,31 +103,31 @@ impl Meeting {
 
 impl Gate for Meeting {
     fn hold(&self, at: &Handling) {
-        if at.handled() == 100 {
+        if at.handled() == 300 {
             self.meet();
         }
     }
 }
 
-/// Two calls of a sum of a hundred ones: each element has one of them.
-fn two_sums(alloc: Global) -> Result<String, AllocError> {
+/// Eight calls of a sum of a hundred ones: of two elements each has four of them.
+fn eight_sums(alloc: Global) -> Result<String, AllocError> {
     let mut text = String::from_str(alloc, "def f(): int = 1")?;
     for _ in 0..99 {
         text.push_str(" + 1")?;
     }
-    text.push_str(";\ndef main(): int = f() + f();")?;
+    text.push_str(";\ndef main(): int = f() + f() + f() + f() + f() + f() + f() + f();")?;
     Ok(text)
 }
 
 #[test]
 fn two_workers_are_in_the_element_step_at_once(rt: HostRuntime) -> Result<(), Fail> {
-    let text = two_sums(rt.alloc())?;
+    let text = eight_sums(rt.alloc())?;
     let graph = graph_of(rt.alloc(), text.as_str())?;
     let gate = Meeting {
         come: AtomicU64::new(0),
         met: AtomicU64::new(0),
     };
-    let answered = answers(&rt, &graph, 2, 2, &gate, 200)?;
+    let answered = answers(&rt, &graph, 2, 2, &gate, 800)?;
     let met = gate.met.load(Ordering::SeqCst);
     assert!(rt; answered && met == 2);
     Ok(())
