@@ -61,39 +61,58 @@ stamp-from x y not = elim (cases_lt x.stamp y.stamp) [
 
 -- ---- the first fault of some events
 
+-- what is so of each of these events that was a fault
+abbrev pub EachFault : List EventView → (EventView → Type 0) → Type 0
+EachFault es P = (e : EventView) (x : Fault) → Among e es → e.step ≡ steps.Fault x → P e
+
+each_fault-join : (P : EventView → Type 0) (xs ys : List EventView) → EachFault xs P → EachFault ys P → EachFault (xs ++ ys) P
+each_fault-join P xs ys one other e x among is = elim (Among-either e xs ys among) [ inl here ↦ one e x here is | inr there ↦ other e x there is ]
+
 -- this fault is that of an event of these, and none of them that was a fault is before it
 pub record IsFirst (es : List EventView) (a : Faulted) : Type 0 where
   pub event : EventView
   pub among : Among event es
   pub fault : event.step ≡ steps.Fault a.fault
   pub stamp : event.stamp ≡ a.stamp
-  pub first : (e : EventView) (x : Fault) → Among e es → e.step ≡ steps.Fault x → by_moment e event ≢ Less
+  pub first : EachFault es (λ e. by_moment e event ≢ Less)
 
 -- none of these was a fault
 abbrev pub NoFault : List EventView → Type 0
-NoFault es = (e : EventView) (x : Fault) → Among e es → e.step ≢ steps.Fault x
+NoFault es = EachFault es (λ e. ⊥)
 
 abbrev pub AreFirst : List EventView → Option Faulted → Type 0
 AreFirst es o = MatchOption o (NoFault es) (IsFirst es)
 
--- an event that was no fault is left out
-AreFirst-later : (e : EventView) (es : List EventView) (o : Option Faulted) → ((x : Fault) → e.step ≢ steps.Fault x) → AreFirst es o → AreFirst (e ∷ es) o
-AreFirst-later e es None not none = go
-  where
-    go : NoFault (e ∷ es)
-    go f x (inl here) is = not x (sym (ap (λ v. v.step) here) ∙ is)
-    go f x (inr later) is = none f x later is
-AreFirst-later e es (Some a) not first = record {
+-- the first of one of two lists is that of both, where no fault of the other is before it
+IsFirst-left : (xs ys : List EventView) (a : Faulted) (first : IsFirst xs a) → EachFault ys (λ e. by_moment e first.event ≢ Less) → IsFirst (xs ++ ys) a
+IsFirst-left xs ys a first others = record {
   event = first.event;
-  among = inr first.among;
+  among = Among-left first.event xs ys first.among;
   fault = first.fault;
   stamp = first.stamp;
-  first = go;
+  first = each_fault-join (λ e. by_moment e first.event ≢ Less) xs ys first.first others;
 }
+
+IsFirst-right : (xs ys : List EventView) (a : Faulted) (first : IsFirst ys a) → EachFault xs (λ e. by_moment e first.event ≢ Less) → IsFirst (xs ++ ys) a
+IsFirst-right xs ys a first others = record {
+  event = first.event;
+  among = Among-right first.event xs ys first.among;
+  fault = first.fault;
+  stamp = first.stamp;
+  first = each_fault-join (λ e. by_moment e first.event ≢ Less) xs ys others first.first;
+}
+
+-- events that were no faults are left out
+AreFirst-behind : (xs ys : List EventView) (o : Option Faulted) → NoFault xs → AreFirst ys o → AreFirst (xs ++ ys) o
+AreFirst-behind xs ys None none nothing = each_fault-join (λ e. ⊥) xs ys none nothing
+AreFirst-behind xs ys (Some a) none first = IsFirst-right xs ys a first (λ e x among is. absurd (none e x among is))
+
+AreFirst-later : (e : EventView) (es : List EventView) (o : Option Faulted) → ((x : Fault) → e.step ≢ steps.Fault x) → AreFirst es o → AreFirst (e ∷ es) o
+AreFirst-later e es o not rest = AreFirst-behind (e ∷ []) es o itself rest
   where
-    go : (f : EventView) (x : Fault) → Among f (e ∷ es) → f.step ≡ steps.Fault x → by_moment f first.event ≢ Less
-    go f x (inl here) is = absurd (not x (sym (ap (λ v. v.step) here) ∙ is))
-    go f x (inr later) is = first.first f x later is
+    itself : NoFault (e ∷ [])
+    itself f x (inl here) is = not x (sym (ap (λ v. v.step) here) ∙ is)
+    itself f x (inr later) is = absurd later
 
 -- what events in order show first
 first-in : (es : List EventView) → IsStrictlySortedBy by_moment es → AreFirst es (first_fault es)
@@ -101,7 +120,7 @@ unfolding IsStrictlySortedBy
 first-in [] sorted = λ e x among. absurd among
 first-in (e ∷ es) sorted = from (first-in es sorted.1) e.step refl
   where
-    itself : (f : EventView) (x : Fault) → Among f (e ∷ es) → f.step ≡ steps.Fault x → by_moment f e ≢ Less
+    itself : EachFault (e ∷ es) (λ f. by_moment f e ≢ Less)
     itself f x (inl here) fault = λ less. less-itself by_moment_total e (subst (λ v. by_moment v e ≡ Less) here less)
     itself f x (inr later) fault = not_before f e (each-of (λ z. by_moment e z ≡ Less) es f sorted.0 later)
 
@@ -113,77 +132,28 @@ first-in (e ∷ es) sorted = from (first-in es sorted.1) e.step refl
 -- the earlier of what two lists show first is what both do, where all events of the second are of one higher element
 earlier-join : (xs ys : List EventView) (n : ℕ) (a b : Option Faulted) → ((e : EventView) → Among e xs → e.element < n)
     → ((e : EventView) → Among e ys → e.element ≡ n) → AreFirst xs a → AreFirst ys b → AreFirst (xs ++ ys) (earlier_of a b)
-earlier-join xs ys n None None below own none nothing = go
-  where
-    go : NoFault (xs ++ ys)
-    go e x among is = elim (Among-either e xs ys among) [
-      | inl here ↦ none e x here is
-      | inr there ↦ nothing e x there is
-    ]
-earlier-join xs ys n None (Some b) below own none first = record {
-  event = first.event;
-  among = Among-right first.event xs ys first.among;
-  fault = first.fault;
-  stamp = first.stamp;
-  first = go;
-}
-  where
-    go : (e : EventView) (x : Fault) → Among e (xs ++ ys) → e.step ≡ steps.Fault x → by_moment e first.event ≢ Less
-    go e x among is = elim (Among-either e xs ys among) [
-      | inl here ↦ absurd (none e x here is)
-      | inr there ↦ first.first e x there is
-    ]
-earlier-join xs ys n (Some a) None below own first nothing = record {
-  event = first.event;
-  among = Among-left first.event xs ys first.among;
-  fault = first.fault;
-  stamp = first.stamp;
-  first = go;
-}
-  where
-    go : (e : EventView) (x : Fault) → Among e (xs ++ ys) → e.step ≡ steps.Fault x → by_moment e first.event ≢ Less
-    go e x among is = elim (Among-either e xs ys among) [
-      | inl here ↦ first.first e x here is
-      | inr there ↦ absurd (nothing e x there is)
-    ]
+earlier-join xs ys n None b below own none next = AreFirst-behind xs ys b none next
+earlier-join xs ys n (Some a) None below own first nothing = IsFirst-left xs ys a first (λ e x among is. absurd (nothing e x among is))
 earlier-join xs ys n (Some a) (Some b) below own first next = from (nat_lt b.stamp a.stamp) refl
   where
     -- the event of the second has the lower stamp
-    later : b.stamp < a.stamp → (e : EventView) (x : Fault) → Among e (xs ++ ys) → e.step ≡ steps.Fault x → by_moment e next.event ≢ Less
-    later lower e x among is = elim (Among-either e xs ys among) [
-      | inl here ↦
-          let from_first = stamp-from e first.event (first.first e x here is) in
-          not_before e next.event (earlier_stamp next.event e (omega (arith, lower, from_first, first.stamp, next.stamp)))
-      | inr there ↦ next.first e x there is
-    ]
+    later : b.stamp < a.stamp → EachFault xs (λ e. by_moment e next.event ≢ Less)
+    later lower e x among is =
+        let from_first = stamp-from e first.event (first.first e x among is) in
+        not_before e next.event (earlier_stamp next.event e (omega (arith, lower, from_first, first.stamp, next.stamp)))
 
     -- or not
-    sooner : a.stamp ≤ b.stamp → (e : EventView) (x : Fault) → Among e (xs ++ ys) → e.step ≡ steps.Fault x → by_moment e first.event ≢ Less
-    sooner lower e x among is = elim (Among-either e xs ys among) [
-      | inl here ↦ first.first e x here is
-      | inr there ↦
-          let from_next = stamp-from e next.event (next.first e x there is) in
-          let lower_element = below first.event first.among in
-          let is_own = own e there in
-          not_before e first.event
-          (earlier_element first.event e (omega (arith, lower, from_next, first.stamp, next.stamp)) (omega (arith, lower_element, is_own)))
-    ]
+    sooner : a.stamp ≤ b.stamp → EachFault ys (λ e. by_moment e first.event ≢ Less)
+    sooner lower e x among is =
+        let from_next = stamp-from e next.event (next.first e x among is) in
+        let lower_element = below first.event first.among in
+        let is_own = own e among in
+        not_before e first.event
+        (earlier_element first.event e (omega (arith, lower, from_next, first.stamp, next.stamp)) (omega (arith, lower_element, is_own)))
 
     from : (c : Bool) → nat_lt b.stamp a.stamp ≡ c → AreFirst (xs ++ ys) (if c then Some b else Some a)
-    from true is = record {
-      event = next.event;
-      among = Among-right next.event xs ys next.among;
-      fault = next.fault;
-      stamp = next.stamp;
-      first = later (grind (arith, nat_tests, is));
-    }
-    from false is = record {
-      event = first.event;
-      among = Among-left first.event xs ys first.among;
-      fault = first.fault;
-      stamp = first.stamp;
-      first = sooner (grind (arith, nat_tests, is));
-    }
+    from true is = IsFirst-right xs ys b next (later (grind (arith, nat_tests, is)))
+    from false is = IsFirst-left xs ys a first (sooner (grind (arith, nat_tests, is)))
 
 -- ---- the first fault of elements
 

@@ -1,9 +1,10 @@
 -- Lemmas on specs/Paths.antt, in the order of its definitions.
 use Rattle.std.proofs.Common.{◌≡◌, ◌≢◌, ◌⊎◌, inl, inr, ℕ, zero, suc, ◌+◌, ◌-◌, ◌<◌, ◌≤◌, Option, Some, None, List, []}
-use Rattle.std.proofs.Common.{◌∷◌, ◌++◌, reverse, take, map, length, length-append, slice_get, refl, sym, ap, ◌∙◌}
+use Rattle.std.proofs.Common.{◌∷◌, ◌++◌, reverse, take, map, length, slice_get, refl, sym, ap, ◌∙◌}
 use Rattle.std.proofs.Common.{arith}
 use Rattle.std.proofs.lemmas.List.{append-nil, append_assoc, reverse-append}
-use Rattle.id_observe.proofs.WalksLemmas.{events-next}
+use Rattle.id_observe.proofs.WalksLemmas.{events-next, take-next}
+use Rattle.std.specs.List.{cons_option, filter_map}
 use Rattle.std.specs.HashMap.{get}
 use Rattle.std.specs.Option.{option_map_or, option_or}
 use Rattle.id_instr.specs.Graph.{Parts}
@@ -22,16 +23,6 @@ use Rattle.id_observe.specs.Paths.{enter_in, enter_of, maker_in, maker_of, path_
 some_none : {X : Type 0} {x : X} → Some x ≡ None → ⊥
 some_none e = cc
 
--- no events entered a context
-pub enter_in-none : (g : Parts) (c : Context) → enter_in g [] c ≡ None
-unfolding enter_in
-enter_in-none g c = refl
-
--- the first event counts last
-pub enter_in-cons : (g : Parts) (e : EventView) (es : List EventView) (c : Context) → enter_in g (e ∷ es) c ≡ option_or (enter_in g es c) (enter_of g e c)
-unfolding enter_in
-enter_in-cons g e es c = refl
-
 -- one of three
 pub or-assoc : {X : Type 0} (x y z : Option X) → option_or (option_or x y) z ≡ option_or x (option_or y z)
 or-assoc None y z = refl
@@ -42,29 +33,57 @@ pub or-none : {X : Type 0} (x : Option X) → option_or x None ≡ x
 or-none None = refl
 or-none (Some x) = refl
 
--- the later of two lists of events counts first
-pub enter_in-append : (g : Parts) (es fs : List EventView) (c : Context) → enter_in g (es ++ fs) c ≡ option_or (enter_in g fs c) (enter_in g es c)
+-- a walk in which the last element that gives something counts
+pub record TakesLast {X Y : Type 0} (walk : List X → Option Y) (h : X → Option Y) : Type 0 where
+  pub none : walk [] ≡ None
+  pub more : (x : X) (xs : List X) → walk (x ∷ xs) ≡ option_or (walk xs) (h x)
+
+-- the later of two lists counts first
+last-append : {X Y : Type 0} {walk : List X → Option Y} {h : X → Option Y} → TakesLast walk h → (xs ys : List X) → walk (xs ++ ys) ≡ option_or (walk ys) (walk xs)
+last-append {walk = walk} takes [] ys = sym (ap (option_or (walk ys)) takes.none ∙ or-none (walk ys))
+last-append {walk = walk} {h = h} takes (x ∷ xs) ys =
+    takes.more x (xs ++ ys) ∙ ap (λ o. option_or o (h x)) (last-append takes xs ys) ∙ or-assoc (walk ys) (walk xs) (h x)
+    ∙ ap (option_or (walk ys)) (sym (takes.more x xs))
+
+-- so does one more element
+pub last-one : {X Y : Type 0} {walk : List X → Option Y} {h : X → Option Y} → TakesLast walk h → (xs : List X) (i : ℕ) (x : X) → slice_get xs i ≡ Some x
+    → walk (take (i + 1) xs) ≡ option_or (h x) (walk (take i xs))
+last-one {walk = walk} {h = h} takes xs i x at =
+    ap walk (take-next xs i x at) ∙ last-append takes (take i xs) (x ∷ [])
+    ∙ ap (λ o. option_or o (walk (take i xs))) (takes.more x [] ∙ ap (λ o. option_or o (h x)) takes.none)
+
+-- and so do the events of one more record
+pub last-next : {Y : Type 0} {walk : List EventView → Option Y} {h : EventView → Option Y} → TakesLast walk h → (es : List ElementView) (i : ℕ) (e : ElementView)
+    → slice_get es i ≡ Some e → walk (events_of (map (λ x. x.state) (take (i + 1) es))) ≡ option_or (walk e.state.events) (walk (events_of (map (λ x. x.state) (take i es))))
+last-next {walk = walk} takes es i e at = ap walk (events-next es i e at) ∙ last-append takes (events_of (map (λ x. x.state) (take i es))) e.state.events
+
+-- the last of some elements
+last_in : {X : Type 0} → List X → Option X
+last_in [] = None
+last_in (x ∷ xs) = option_or (last_in xs) (Some x)
+
+last-in : {X Y : Type 0} {walk : List X → Option Y} {h : X → Option Y} → TakesLast walk h → (xs : List X) → walk xs ≡ last_in (filter_map h xs)
+unfolding last_in
+last-in takes [] = takes.none
+last-in {Y = Y} {h = h} takes (x ∷ xs) = takes.more x xs ∙ ap (λ o. option_or o (h x)) (last-in takes xs) ∙ one (h x)
+  where
+    one : (o : Option Y) → option_or (last_in (filter_map h xs)) o ≡ last_in (cons_option o (filter_map h xs))
+    one None = or-none (last_in (filter_map h xs))
+    one (Some y) = refl
+
+-- two walks give the same where their elements do
+pub last-same : {X Y Z : Type 0} {v : List X → Option Z} {w : List Y → Option Z} {h : X → Option Z} {k : Y → Option Z} → TakesLast v h → TakesLast w k
+    → (xs : List X) (ys : List Y) → filter_map h xs ≡ filter_map k ys → v xs ≡ w ys
+last-same one other xs ys same = last-in one xs ∙ ap last_in same ∙ sym (last-in other ys)
+
+-- of events, the last that entered the context counts, and the last that made the structure
+pub enter_in-last : (g : Parts) (c : Context) → TakesLast (λ es. enter_in g es c) (λ e. enter_of g e c)
 unfolding enter_in
-enter_in-append g [] fs c = sym (or-none (enter_in g fs c))
-enter_in-append g (e ∷ es) fs c =
-    ap (λ o. option_or o (enter_of g e c)) (enter_in-append g es fs c) ∙ or-assoc (enter_in g fs c) (enter_in g es c) (enter_of g e c)
+enter_in-last g c = record { none = refl; more = λ e es. refl }
 
--- no events made a structure
-pub maker_in-none : (g : Parts) (s : Structure) → maker_in g [] s ≡ None
+pub maker_in-last : (g : Parts) (s : Structure) → TakesLast (λ es. maker_in g es s) (λ e. maker_of g e s)
 unfolding maker_in
-maker_in-none g s = refl
-
--- the first event counts last
-pub maker_in-cons : (g : Parts) (e : EventView) (es : List EventView) (s : Structure) → maker_in g (e ∷ es) s ≡ option_or (maker_in g es s) (maker_of g e s)
-unfolding maker_in
-maker_in-cons g e es s = refl
-
--- the later of two lists of events counts first
-pub maker_in-append : (g : Parts) (es fs : List EventView) (s : Structure) → maker_in g (es ++ fs) s ≡ option_or (maker_in g fs s) (maker_in g es s)
-unfolding maker_in
-maker_in-append g [] fs s = sym (or-none (maker_in g fs s))
-maker_in-append g (e ∷ es) fs s =
-    ap (λ o. option_or o (maker_of g e s)) (maker_in-append g es fs s) ∙ or-assoc (maker_in g fs s) (maker_in g es s) (maker_of g e s)
+maker_in-last g s = record { none = refl; more = λ e es. refl }
 
 -- a tag whose context nothing entered has no steps
 pub steps_to-main : (g : Parts) (enter : Context → Option Tag) (n : ℕ) (t : Tag) → enter t.context ≡ None → steps_to g enter n t ≡ []
@@ -124,25 +143,6 @@ pub structure_by-same : (g : Parts) (es : List EventView) (p : Paths) → p.grap
     ((s : Structure) → get same_structure p.makers s ≡ maker_in g es s)
     → structure_by p ≡ (λ s. name_by g (path_of g es) (maker_in g es s))
 structure_by-same g es p graph paths makers = λ i s. name_by (graph i) (paths i) (makers s i)
-
--- the enters of one more record come after those before
-pub enters-next : (g : Parts) (es : List ElementView) (i : ℕ) (e : ElementView) (c : Context) → slice_get es i ≡ Some e
-    → enter_in g (events_of (map (λ x. x.state) (take (i + 1) es))) c ≡
-    option_or (enter_in g e.state.events c) (enter_in g (events_of (map (λ x. x.state) (take i es))) c)
-enters-next g es i e c at =
-    ap (λ xs. enter_in g xs c) (events-next es i e at) ∙ enter_in-append g (events_of (map (λ x. x.state) (take i es))) e.state.events c
-
--- so do the structures that it made
-pub makers-next : (g : Parts) (es : List ElementView) (i : ℕ) (e : ElementView) (s : Structure) → slice_get es i ≡ Some e
-    → maker_in g (events_of (map (λ x. x.state) (take (i + 1) es))) s ≡
-    option_or (maker_in g e.state.events s) (maker_in g (events_of (map (λ x. x.state) (take i es))) s)
-makers-next g es i e s at =
-    ap (λ xs. maker_in g xs s) (events-next es i e at) ∙ maker_in-append g (events_of (map (λ x. x.state) (take i es))) e.state.events s
-
--- the events of one more record are counted with those before
-pub length-next : (es : List ElementView) (i : ℕ) (e : ElementView) → slice_get es i ≡ Some e
-    → length (events_of (map (λ x. x.state) (take (i + 1) es))) ≡ length (events_of (map (λ x. x.state) (take i es))) + length e.state.events
-length-next es i e at = ap length (events-next es i e at) ∙ length-append (events_of (map (λ x. x.state) (take i es))) e.state.events
 
 -- these steps lead to a tag, so many: none under a context that nothing entered, and one more than to the tag of the `enter`
 pub data Leads (g : Parts) (enter : Context → Option Tag) : Tag → ℕ → List PathStep → Type 0 where

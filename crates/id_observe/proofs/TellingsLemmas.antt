@@ -1,12 +1,12 @@
 -- Lemmas on specs/Tellings.antt: in a record that leads to its state, tellings say of contexts, of structures and of the answer what events say.
 use Rattle.std.proofs.Common.{◌≡◌, ◌≢◌, ◌⊎◌, inl, inr, ℕ, zero, suc, ◌+◌, ◌-◌, Bool, true, false, Option, Some, None, List, []}
-use Rattle.std.proofs.Common.{◌∷◌, ◌++◌, length, map, take, refl, sym, ap, subst, ◌∙◌, append_assoc, append-nil, arith}
+use Rattle.std.proofs.Common.{◌∷◌, ◌++◌, get_or, length, map, take, refl, sym, ap, subst, ◌∙◌, append_assoc, append-nil, arith}
 use Rattle.std.specs.Prelude.{◌==◌, if◌then◌else◌, slice_get, option_map, option_and_then}
 use Rattle.std.specs.List.{AllByRecursion, filter_map, cons_option}
 use Rattle.std.specs.FinMap as cells
 use Rattle.std.specs.HashMap.{get}
 use Rattle.std.specs.Option.{option_map_or, option_or}
-use Rattle.std.proofs.lemmas.List.Elements.{filter_map-append}
+use Rattle.std.proofs.lemmas.List.Elements.{filter_map-append, recursion_from_All}
 use Rattle.id_instr.specs.declared.instr.Instr.{Instr}
 use Rattle.id_instr.specs.declared.instr.Op.{Op}
 use Rattle.id_instr.specs.declared.instr.Op.TheVariants.{Alloc, Enter}
@@ -39,16 +39,16 @@ use Rattle.id_record.specs.declared.telling.Told.TheVariants.{Entered, Made, Cam
 use Rattle.id_record.specs.Events.{EventView, tag_of, value_of}
 use Rattle.id_record.specs.Sends.{beside, numbered, token_to}
 use Rattle.id_record.specs.Tellings.{came_in, is_merged, is_number, is_value_merge, made_in, merged, tellings, told_in}
-use Rattle.id_record.proofs.EachLemmas.{each-append}
+use Rattle.id_record.proofs.EachLemmas.{each-append, each-weaker}
 use Rattle.id_observe.specs.declared.paths.Tables.{Tables}
 use Rattle.id_observe.specs.Observed.{is_label_of, name_at, name_in, names_of}
 use Rattle.id_observe.specs.Paths.{answers, brought, enter_in, entered, entered_by, if_made, if_same, is_alloc, is_enter}
-use Rattle.id_observe.specs.Paths.{last_context, made, made_by, maker_in, making_of, makings_of}
+use Rattle.id_observe.specs.Paths.{last_context, made, made_by, maker_in, makings_of}
 use Rattle.id_observe.specs.Sourced.{source_value}
 use Rattle.id_observe.specs.Tellings.{AddsOne, AddsTold, enter_by, entered_told, made_told, maker_by, making_told, value_told}
-use Rattle.id_observe.proofs.PathsLemmas.{enter_in-cons, maker_in-cons, or-assoc, or-none}
+use Rattle.id_observe.proofs.PathsLemmas.{TakesLast, enter_in-last, last-one, last-same, maker_in-last, or-assoc}
 use Rattle.id_observe.proofs.SkippedLemmas.{brought-elsewhere, entered_by-none, made_by-none}
-use Rattle.id_observe.proofs.WalksLemmas.{filter_map-next, take-next}
+use Rattle.id_observe.proofs.WalksLemmas.{filter_map-next}
 
 -- this is told of the tag
 abbrev pub telling : Tag → Told → Telling
@@ -215,75 +215,32 @@ made-cases x (fired.Out (value.Structure s)) = from (is_number (value_of x))
     from false = inl refl
 made-cases x f = inl refl
 
--- so what an event tells of a context is what its firing tells
-enter_by-one : (g : Parts) (t : Telling) (c : Context) → enter_by g (t ∷ []) c ≡ if_same t.tag c (entered_told g t)
-unfolding enter_by
-enter_by-one g t c = refl
-
-enter_by-made : (g : Parts) (x : Payload) (f : Fired) (c : Context) →
-    enter_by g (cons_option (made_in x f) []) c ≡ if_same (tag_of x) c (option_and_then (entered_told g) (made_in x f))
-unfolding enter_by
-enter_by-made g x f c = elim (made-cases x f) [
-  | inl none ↦ ap (λ o. enter_by g (cons_option o []) c) none ∙ sym (ap (λ o. if_same (tag_of x) c (option_and_then (entered_told g) o)) none)
-  | inr (t, is, tag) ↦
-      ap (λ o. enter_by g (cons_option o []) c) is ∙ ap (λ u. if_same u c (entered_told g t)) tag
-      ∙ sym (ap (λ o. if_same (tag_of x) c (option_and_then (entered_told g) o)) is)
-]
-
-enter_by-told : (g : Parts) (x : Payload) (f : Fired) (c : Context) →
-    enter_by g (told_in x f) c ≡ if_same (tag_of x) c (option_and_then (entered_told g) (made_in x f))
-unfolding enter_by
-enter_by-told g x f c = elim (came-cases x) [
-  | inl none ↦ ap (λ o. enter_by g (cons_option o (cons_option (made_in x f) [])) c) none ∙ enter_by-made g x f c
+-- so what an event tells of the tag of its message is what its firing tells, where what came tells nothing
+told-gives : {X Y : Type 0} (w : Telling → Option X) (k : Tag → Option X → Option Y) → ((t : Tag) → k t None ≡ None)
+    → ((t : Tag) (v : Value) → w (telling t (Came v)) ≡ None) → (x : Payload) (f : Fired)
+    → filter_map (λ t. k t.tag (w t)) (told_in x f) ≡ cons_option (k (tag_of x) (option_and_then w (made_in x f))) []
+told-gives {Y = Y} w k none came x f = elim (came-cases x) [
+  | inl not ↦ ap (λ o. filter_map h (cons_option o made)) not ∙ of_made
   | inr (v, is) ↦
-      ap (λ o. enter_by g (cons_option o (cons_option (made_in x f) [])) c) is ∙ or-none (enter_by g (cons_option (made_in x f) []) c)
-      ∙ enter_by-made g x f c
+      ap (λ o. filter_map h (cons_option o made)) is
+      ∙ ap (λ o. cons_option o (filter_map h made)) (ap (k (tag_of x)) (came (tag_of x) v) ∙ none (tag_of x)) ∙ of_made
 ]
+  where
+    h : Telling → Option Y
+    h t = k t.tag (w t)
 
--- so it is of a structure
-maker_by-one : (g : Parts) (t : Telling) (s : Structure) → maker_by g (t ∷ []) s ≡ if_made t.tag s (made_told g t)
-unfolding maker_by
-maker_by-one g t s = refl
+    made : List Telling
+    made = cons_option (made_in x f) []
 
-maker_by-made : (g : Parts) (x : Payload) (f : Fired) (s : Structure) →
-    maker_by g (cons_option (made_in x f) []) s ≡ if_made (tag_of x) s (option_and_then (made_told g) (made_in x f))
-unfolding maker_by
-maker_by-made g x f s = elim (made-cases x f) [
-  | inl none ↦ ap (λ o. maker_by g (cons_option o []) s) none ∙ sym (ap (λ o. if_made (tag_of x) s (option_and_then (made_told g) o)) none)
-  | inr (t, is, tag) ↦
-      ap (λ o. maker_by g (cons_option o []) s) is ∙ ap (λ u. if_made u s (made_told g t)) tag
-      ∙ sym (ap (λ o. if_made (tag_of x) s (option_and_then (made_told g) o)) is)
-]
-
-maker_by-told : (g : Parts) (x : Payload) (f : Fired) (s : Structure) →
-    maker_by g (told_in x f) s ≡ if_made (tag_of x) s (option_and_then (made_told g) (made_in x f))
-unfolding maker_by
-maker_by-told g x f s = elim (came-cases x) [
-  | inl none ↦ ap (λ o. maker_by g (cons_option o (cons_option (made_in x f) [])) s) none ∙ maker_by-made g x f s
-  | inr (v, is) ↦
-      ap (λ o. maker_by g (cons_option o (cons_option (made_in x f) [])) s) is ∙ or-none (maker_by g (cons_option (made_in x f) []) s)
-      ∙ maker_by-made g x f s
-]
-
--- and of the structures that were made
-makings-made : (g : Parts) (x : Payload) (f : Fired) → filter_map (making_told g) (cons_option (made_in x f) [])
-    ≡ cons_option (option_map (λ s. record { structure = s; tag = tag_of x }) (option_and_then (made_told g) (made_in x f))) []
-makings-made g x f = elim (made-cases x f) [
-  | inl none ↦
-      ap (λ o. filter_map (making_told g) (cons_option o [])) none
-      ∙ sym (ap (λ o. cons_option (option_map (λ s. record { structure = s; tag = tag_of x }) (option_and_then (made_told g) o)) []) none)
-  | inr (t, is, tag) ↦
-      ap (λ o. filter_map (making_told g) (cons_option o [])) is
-      ∙ ap (λ u. cons_option (option_map (λ s. record { structure = s; tag = u }) (made_told g t)) []) tag
-      ∙ sym (ap (λ o. cons_option (option_map (λ s. record { structure = s; tag = tag_of x }) (option_and_then (made_told g) o)) []) is)
-]
-
-makings-told : (g : Parts) (x : Payload) (f : Fired) → filter_map (making_told g) (told_in x f)
-    ≡ cons_option (option_map (λ s. record { structure = s; tag = tag_of x }) (option_and_then (made_told g) (made_in x f))) []
-makings-told g x f = elim (came-cases x) [
-  | inl none ↦ ap (λ o. filter_map (making_told g) (cons_option o (cons_option (made_in x f) []))) none ∙ makings-made g x f
-  | inr (v, is) ↦ ap (λ o. filter_map (making_told g) (cons_option o (cons_option (made_in x f) []))) is ∙ makings-made g x f
-]
+    of_made : filter_map h made ≡ cons_option (k (tag_of x) (option_and_then w (made_in x f))) []
+    of_made = elim (made-cases x f) [
+      | inl not ↦
+          ap (λ o. filter_map h (cons_option o [])) not
+          ∙ sym (ap (λ o. cons_option o []) (ap (λ o. k (tag_of x) (option_and_then w o)) not ∙ none (tag_of x)))
+      | inr (t, is, tag) ↦
+          ap (λ o. filter_map h (cons_option o [])) is ∙ ap (λ u. cons_option (k u (w t)) []) tag
+          ∙ sym (ap (λ o. cons_option (k (tag_of x) (option_and_then w o)) []) is)
+    ]
 
 -- what a firing tells is no answer
 values-made : (x : Payload) (f : Fired) → filter_map value_told (cons_option (made_in x f) []) ≡ []
@@ -314,85 +271,59 @@ values-told (Write c v t) f = values-made (Write c v t) f
 
 -- ---- tellings of all events
 
--- of nothing that was told a context was entered
-pub enter_by-none : (g : Parts) (c : Context) → enter_by g [] c ≡ None
+-- the last telling that tells of the context counts, and the last that tells of the structure
+enter_by-last : (g : Parts) (c : Context) → TakesLast (λ ts. enter_by g ts c) (λ t. if_same t.tag c (entered_told g t))
 unfolding enter_by
-enter_by-none g c = refl
+enter_by-last g c = record { none = refl; more = λ t ts. refl }
 
-pub maker_by-none : (g : Parts) (s : Structure) → maker_by g [] s ≡ None
+maker_by-last : (g : Parts) (s : Structure) → TakesLast (λ ts. maker_by g ts s) (λ t. if_made t.tag s (made_told g t))
 unfolding maker_by
-maker_by-none g s = refl
+maker_by-last g s = record { none = refl; more = λ t ts. refl }
 
--- the later tellings count first
-enter_by-append : (g : Parts) (ts us : List Telling) (c : Context) → enter_by g (ts ++ us) c ≡ option_or (enter_by g us c) (enter_by g ts c)
-unfolding enter_by
-enter_by-append g [] us c = sym (or-none (enter_by g us c))
-enter_by-append g (t ∷ ts) us c =
-    let one = if_same t.tag c (entered_told g t) in
-    ap (λ o. option_or o one) (enter_by-append g ts us c) ∙ or-assoc (enter_by g us c) (enter_by g ts c) one
+-- what tellings give is what events do, where it is so of each event
+told-all : {Y : Type 0} (h : Telling → Option Y) (d : EventView → Option Y) (es : List EventView)
+    → AllByRecursion (λ e. filter_map h (told_in e.message.payload e.fired) ≡ cons_option (d e) []) es → filter_map h (tellings es) ≡ filter_map d es
+told-all h d [] all = refl
+told-all {Y = Y} h d (e ∷ es) all =
+    filter_map-append h (told_in e.message.payload e.fired) (tellings es) ∙ ap (λ ys. ys ++ filter_map h (tellings es)) all.0
+    ∙ one (d e) ∙ ap (cons_option (d e)) (told-all h d es all.1)
+  where
+    one : (o : Option Y) → cons_option o [] ++ filter_map h (tellings es) ≡ cons_option o (filter_map h (tellings es))
+    one None = refl
+    one (Some y) = refl
 
-maker_by-append : (g : Parts) (ts us : List Telling) (s : Structure) → maker_by g (ts ++ us) s ≡ option_or (maker_by g us s) (maker_by g ts s)
-unfolding maker_by
-maker_by-append g [] us s = sym (or-none (maker_by g us s))
-maker_by-append g (t ∷ ts) us s =
-    let one = if_made t.tag s (made_told g t) in
-    ap (λ o. option_or o one) (maker_by-append g ts us s) ∙ or-assoc (maker_by g us s) (maker_by g ts s) one
-
--- tellings of nothing
-enter_by-nothing : (g : Parts) (c : Context) → enter_by g [] c ≡ enter_in g [] c
-unfolding enter_by enter_in
-enter_by-nothing g c = refl
-
-maker_by-nothing : (g : Parts) (s : Structure) → maker_by g [] s ≡ maker_in g [] s
-unfolding maker_by maker_in
-maker_by-nothing g s = refl
-
-enter_by-all : (g : Parts) (es : List EventView) (c : Context) → AllByRecursion (Tells g) es → enter_by g (tellings es) c ≡ enter_in g es c
-enter_by-all g [] c all = enter_by-nothing g c
-enter_by-all g (e ∷ es) c all =
-    let told = told_in e.message.payload e.fired in
-    enter_by-append g told (tellings es) c ∙ ap (λ o. option_or o (enter_by g told c)) (enter_by-all g es c all.1)
-    ∙ ap (option_or (enter_in g es c)) (enter_by-told g e.message.payload e.fired c ∙ ap (if_same (tag_of e.message.payload) c) (sym (all.0).enters))
-    ∙ sym (enter_in-cons g e es c)
-
-maker_by-all : (g : Parts) (es : List EventView) (s : Structure) → AllByRecursion (Tells g) es → maker_by g (tellings es) s ≡ maker_in g es s
-maker_by-all g [] s all = maker_by-nothing g s
-maker_by-all g (e ∷ es) s all =
-    let told = told_in e.message.payload e.fired in
-    maker_by-append g told (tellings es) s ∙ ap (λ o. option_or o (maker_by g told s)) (maker_by-all g es s all.1)
-    ∙ ap (option_or (maker_in g es s)) (maker_by-told g e.message.payload e.fired s ∙ ap (if_made (tag_of e.message.payload) s) (sym (all.0).makes))
-    ∙ sym (maker_in-cons g e es s)
-
-cons-append : {A : Type 0} (o : Option A) (xs : List A) → cons_option o [] ++ xs ≡ cons_option o xs
-cons-append None xs = refl
-cons-append (Some x) xs = refl
-
-makings-all : (g : Parts) (es : List EventView) → AllByRecursion (Tells g) es → filter_map (making_told g) (tellings es) ≡ makings_of g es
-makings-all g [] all = refl
-makings-all g (e ∷ es) all =
-    let x = e.message.payload in
-    filter_map-append (making_told g) (told_in x e.fired) (tellings es)
-    ∙ ap (λ ms. ms ++ filter_map (making_told g) (tellings es))
-    (makings-told g x e.fired ∙ ap (λ o. cons_option (option_map (λ s. record { structure = s; tag = tag_of x }) o) []) (sym (all.0).makes))
-    ∙ cons-append (making_of g e) (filter_map (making_told g) (tellings es)) ∙ ap (cons_option (making_of g e)) (makings-all g es all.1)
+tells-all : {X Y : Type 0} (e : ElementView) (w : Telling → Option X) (k : Tag → Option X → Option Y) (d : EventView → Option X)
+    → ((t : Tag) → k t None ≡ None) → ((t : Tag) (v : Value) → w (telling t (Came v)) ≡ None)
+    → ((v : EventView) → Tells e.graph v → d v ≡ option_and_then w (made_in v.message.payload v.fired)) → Replays e
+    → filter_map (λ t. k t.tag (w t)) (tellings e.state.events) ≡ filter_map (λ v. k (tag_of v.message.payload) (d v)) e.state.events
+tells-all e w k d none came tell replays =
+    told-all (λ t. k t.tag (w t)) (λ v. k (tag_of v.message.payload) (d v)) e.state.events
+    (each-weaker (Tells e.graph) _
+    (λ v tells. told-gives w k none came v.message.payload v.fired ∙ ap (λ o. cons_option (k (tag_of v.message.payload) o) []) (sym (tell v tells)))
+    e.state.events (Tells-from e replays))
 
 -- what the events of an element tell is what they do
 pub enters-told : (e : ElementView) (c : Context) → Replays e → enter_by e.graph (tellings e.state.events) c ≡ enter_in e.graph e.state.events c
-enters-told e c replays = enter_by-all e.graph e.state.events c (Tells-from e replays)
+enters-told e c replays =
+    last-same (enter_by-last e.graph c) (enter_in-last e.graph c) (tellings e.state.events) e.state.events
+    (tells-all e (entered_told e.graph) (λ t o. if_same t c o) (λ v. entered e.graph v.message.payload v.outputs) (λ t. refl) (λ t v. refl)
+    (λ v tells. tells.enters) replays)
 
 pub makers-told : (e : ElementView) (s : Structure) → Replays e → maker_by e.graph (tellings e.state.events) s ≡ maker_in e.graph e.state.events s
-makers-told e s replays = maker_by-all e.graph e.state.events s (Tells-from e replays)
+makers-told e s replays =
+    last-same (maker_by-last e.graph s) (maker_in-last e.graph s) (tellings e.state.events) e.state.events
+    (tells-all e (made_told e.graph) (λ t o. if_made t s o) (made e.graph) (λ t. refl) (λ t v. refl) (λ v tells. tells.makes) replays)
 
 pub makings-of_told : (e : ElementView) → Replays e → filter_map (making_told e.graph) (tellings e.state.events) ≡ makings_of e.graph e.state.events
-makings-of_told e replays = makings-all e.graph e.state.events (Tells-from e replays)
+makings-of_told e replays =
+    tells-all e (made_told e.graph) (λ t o. option_map (λ s. record { structure = s; tag = t }) o) (made e.graph) (λ t. refl) (λ t v. refl)
+    (λ v tells. tells.makes) replays
 
 pub answers-told : (es : List EventView) → filter_map value_told (tellings es) ≡ answers es
-answers-told [] = refl
-answers-told (e ∷ es) =
-    let x = e.message.payload in
-    filter_map-append value_told (told_in x e.fired) (tellings es)
-    ∙ ap (λ vs. vs ++ filter_map value_told (tellings es)) (values-told x e.fired)
-    ∙ cons-append (brought x) (filter_map value_told (tellings es)) ∙ ap (cons_option (brought x)) (answers-told es)
+answers-told es =
+    told-all value_told (λ e. brought e.message.payload) es
+    (recursion_from_All (λ e. filter_map value_told (told_in e.message.payload e.fired) ≡ cons_option (brought e.message.payload) []) es
+    (λ k e within. values-told (get_or es k e).message.payload (get_or es k e).fired))
 
 -- ---- what came to merges
 
@@ -426,34 +357,32 @@ names-merged g path name (e ∷ es) = from (names-merged g path name es) (is_mer
 -- nothing is told yet
 pub AddsTold-none : (g : Parts) (old : Tables) → AddsTold g [] old old
 AddsTold-none g old = record {
-  enters = λ c. sym (ap (λ o. option_or o (get same_context old.enters c)) (enter_by-none g c));
-  makers = λ s. sym (ap (λ o. option_or o (get same_structure old.makers s)) (maker_by-none g s));
+  enters = λ c. sym (ap (λ o. option_or o (get same_context old.enters c)) (enter_by-last g c).none);
+  makers = λ s. sym (ap (λ o. option_or o (get same_structure old.makers s)) (maker_by-last g s).none);
   makings = sym (append-nil old.makings.items);
   values = sym (append-nil old.values.items);
 }
 
+-- one more telling in a map of the tables
+found-next : {Y : Type 0} {walk : List Telling → Option Y} {h : Telling → Option Y} → TakesLast walk h → (ts : List Telling) (i : ℕ) (t : Telling)
+    (old mid new : Option Y) → slice_get ts i ≡ Some t → mid ≡ option_or (walk (take i ts)) old → new ≡ option_or (h t) mid
+    → new ≡ option_or (walk (take (i + 1) ts)) old
+found-next {walk = walk} {h = h} takes ts i t old mid new at told one =
+    one ∙ ap (option_or (h t)) told ∙ sym (or-assoc (h t) (walk (take i ts)) old) ∙ ap (λ o. option_or o old) (sym (last-one takes ts i t at))
+
+-- and in a list of theirs
+items-next : {Y : Type 0} (h : Telling → Option Y) (ts : List Telling) (i : ℕ) (t : Telling) (old mid new : List Y) → slice_get ts i ≡ Some t
+    → mid ≡ old ++ filter_map h (take i ts) → new ≡ mid ++ cons_option (h t) [] → new ≡ old ++ filter_map h (take (i + 1) ts)
+items-next h ts i t old mid new at told one =
+    one ∙ ap (λ ys. ys ++ cons_option (h t) []) told ∙ append_assoc old (filter_map h (take i ts)) (cons_option (h t) [])
+    ∙ ap (λ ys. old ++ ys) (sym (filter_map-next h ts i t at))
+
 -- what is told next comes after what was told
 pub AddsTold-next : (g : Parts) (ts : List Telling) (i : ℕ) (t : Telling) (old mid new : Tables) → slice_get ts i ≡ Some t
     → AddsTold g (take i ts) old mid → AddsOne g t mid new → AddsTold g (take (i + 1) ts) old new
-AddsTold-next g ts i t old mid new at told one =
-    let next = take-next ts i t at in
-    record {
-      enters = λ c.
-          one.enters c ∙ ap (option_or (if_same t.tag c (entered_told g t))) (told.enters c)
-          ∙ sym (or-assoc (if_same t.tag c (entered_told g t)) (enter_by g (take i ts) c) (get same_context old.enters c))
-          ∙ ap (λ o. option_or o (get same_context old.enters c))
-          (sym (ap (λ xs. enter_by g xs c) next ∙ enter_by-append g (take i ts) (t ∷ []) c ∙ ap (λ o. option_or o (enter_by g (take i ts) c)) (enter_by-one g t c)));
-      makers = λ s.
-          one.makers s ∙ ap (option_or (if_made t.tag s (made_told g t))) (told.makers s)
-          ∙ sym (or-assoc (if_made t.tag s (made_told g t)) (maker_by g (take i ts) s) (get same_structure old.makers s))
-          ∙ ap (λ o. option_or o (get same_structure old.makers s))
-          (sym (ap (λ xs. maker_by g xs s) next ∙ maker_by-append g (take i ts) (t ∷ []) s ∙ ap (λ o. option_or o (maker_by g (take i ts) s)) (maker_by-one g t s)));
-      makings =
-          one.makings ∙ ap (λ ms. ms ++ cons_option (making_told g t) []) told.makings
-          ∙ append_assoc old.makings.items (filter_map (making_told g) (take i ts)) (cons_option (making_told g t) [])
-          ∙ ap (λ ms. old.makings.items ++ ms) (sym (filter_map-next (making_told g) ts i t at));
-      values =
-          one.values ∙ ap (λ vs. vs ++ cons_option (value_told t) []) told.values
-          ∙ append_assoc old.values.items (filter_map value_told (take i ts)) (cons_option (value_told t) [])
-          ∙ ap (λ vs. old.values.items ++ vs) (sym (filter_map-next value_told ts i t at));
-    }
+AddsTold-next g ts i t old mid new at told one = record {
+  enters = λ c. found-next (enter_by-last g c) ts i t _ _ _ at (told.enters c) (one.enters c);
+  makers = λ s. found-next (maker_by-last g s) ts i t _ _ _ at (told.makers s) (one.makers s);
+  makings = items-next (making_told g) ts i t _ _ _ at told.makings one.makings;
+  values = items-next value_told ts i t _ _ _ at told.values one.values;
+}

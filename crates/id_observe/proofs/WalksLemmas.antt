@@ -2,7 +2,7 @@
 use Rattle.std.proofs.Common.{◌≡◌, ℕ, suc, ◌+◌, ◌<◌, Option, Some, None, List, [], ◌∷◌, ◌++◌, map, length, get_or, take, drop, refl, sym, ap, subst, ◌∙◌, append-nil}
 use Rattle.std.specs.Prelude.{All, true, false, is_some, slice_get, option_map}
 use Rattle.std.specs.List.{filter_map, flat_map, cons_option}
-use Rattle.std.proofs.lemmas.List.{append_assoc, take_more, take-append-drop, map-append}
+use Rattle.std.proofs.lemmas.List.{take_more, take-append-drop, map-append}
 use Rattle.std.proofs.lemmas.List.Elements.{filter_map-append}
 use Rattle.std.proofs.lemmas.Grind.{flat_map-append}
 use Rattle.std.proofs.lemmas.Option.{slice_get_within, get_or_from_slice_get}
@@ -113,14 +113,3 @@ pub filter_map-next_part : {A B C : Type 0} (f : A → C) (h : C → Option B) (
 filter_map-next_part f h xs i y at =
     let there = element-from_part f (slice_get xs i) y at in
     filter_map-next (λ x. h (f x)) xs i there.0 there.1 ∙ ap (λ z. filter_map (λ x. h (f x)) (take i xs) ++ cons_option (h z) []) there.2
-
--- what the first of those still to come gives goes before what the others give
-pub filter_map-before : {A B : Type 0} (h : A → Option B) (ps qs : List B) (xs rest : List A) (x : A) (o : Option B)
-    → xs ≡ x ∷ rest → o ≡ h x → qs ≡ ps ++ cons_option o [] → qs ++ filter_map h rest ≡ ps ++ filter_map h xs
-filter_map-before {B = B} h ps qs xs rest x o first is added =
-    ap (λ l. l ++ filter_map h rest) added ∙ append_assoc ps (cons_option o []) (filter_map h rest)
-    ∙ ap (λ l. ps ++ l) (one o ∙ ap (λ p. cons_option p (filter_map h rest)) is) ∙ ap (λ l. ps ++ filter_map h l) (sym first)
-  where
-    one : (p : Option B) → cons_option p [] ++ filter_map h rest ≡ cons_option p (filter_map h rest)
-    one None = refl
-    one (Some y) = refl

@@ -1,6 +1,5 @@
 -- One more event adds the fault that it shows, if it shows one.
-use Rattle.std.proofs.lemmas.Grind.{common_steps}
-use Rattle.std.proofs.Common.{append_assoc, arith}
+use Rattle.std.proofs.Common.{append_assoc}
 use Rattle.id_observe.specs.Sourced.{fault_of}
 use Rattle.id_observe.specs.Paths.{structure_by}
 use Rattle.id_observe.specs.Paths.{path_by}
@@ -12,12 +11,3 @@ loop-position-preserved c =
     let next = filter_map-next (λ e. fault_of c.args.paths.now.graph.now (path_by c.args.paths.now) (structure_by c.args.paths.now) e.step) c.args.events.now
     c.loop-position.position _ c.event-event.ensures in
     rw (c.in_ok-add_fault.ensures, c.in_ok-source_fault.ensures, c.loop-position.invariant, next, append_assoc)
-
-pub returns-in_err-source_fault : goal.returns-in_err-source_fault
-returns-in_err-source_fault c = grind (arith, common_steps)
-
-pub returns-in_err-add_fault : goal.returns-in_err-add_fault
-returns-in_err-add_fault c = grind (arith, common_steps)
-
-pub returns : goal.returns
-returns c = grind (arith, common_steps)

@@ -8,14 +8,14 @@ use Rattle.std.proofs.lemmas.Option.{slice_get_read}
 use Rattle.id_observe.specs.Paths.{enter_in, maker_in, making_of, makings_of}
 use Rattle.id_observe.specs.Paths.{answers, brought, events_of}
 use Rattle.id_observe.proofs.WalksLemmas.{all-get, walk-next}
-use Rattle.id_observe.proofs.PathsLemmas.{enter_in-none, enters-next, maker_in-none, makers-next}
+use Rattle.id_observe.proofs.PathsLemmas.{enter_in-last, last-next, maker_in-last}
 use Rattle.id_element.proofs.ShortLemmas.{if_err}
 use Rattle.id_observe.proofs.paths.all_records.Goals as goal
 
 pub loop-element-init : goal.loop-element-init
 loop-element-init c = record {
-  enters = λ d. let none = enter_in-none c.args.graph.now d in grind (arith, common_steps, none);
-  makers = λ d. let none = maker_in-none c.args.graph.now d in grind (arith, common_steps, none);
+  enters = λ d. let none = (enter_in-last c.args.graph.now d).none in grind (arith, common_steps, none);
+  makers = λ d. let none = (maker_in-last c.args.graph.now d).none in grind (arith, common_steps, none);
   makings = c.new-3.ensures.items;
   values = c.new-4.ensures.items;
 }
@@ -36,10 +36,10 @@ loop-element-preserved c =
     record {
       enters = λ d.
           c.in_ok-add_record.ensures.enters d
-          ∙ ap (option_or (enter_in g e.state.events d)) (c.loop-element.invariant.enters d) ∙ sym (enters-next g es i e d at);
+          ∙ ap (option_or (enter_in g e.state.events d)) (c.loop-element.invariant.enters d) ∙ sym (last-next (enter_in-last g d) es i e at);
       makers = λ d.
           c.in_ok-add_record.ensures.makers d
-          ∙ ap (option_or (maker_in g e.state.events d)) (c.loop-element.invariant.makers d) ∙ sym (makers-next g es i e d at);
+          ∙ ap (option_or (maker_in g e.state.events d)) (c.loop-element.invariant.makers d) ∙ sym (last-next (maker_in-last g d) es i e at);
       makings =
           rw (c.in_ok-add_record.ensures.makings, c.loop-element.invariant.makings, walk-next (λ s. s.events) (making_of g) es i e at);
       values =

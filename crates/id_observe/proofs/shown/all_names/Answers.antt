@@ -1,6 +1,5 @@
 -- One more record adds the names by what came to its merges.
-use Rattle.std.proofs.lemmas.Grind.{common_steps}
-use Rattle.std.proofs.Common.{◌≡◌, ◌≢◌, Some, refl, ap, ◌∙◌, arith}
+use Rattle.std.proofs.Common.{◌≡◌, ◌≢◌, Some, refl, ap, ◌∙◌}
 use Rattle.std.specs.List.{filter_map}
 use Rattle.std.specs.Prelude.{slice_get}
 use Rattle.std.proofs.lemmas.Option.{slice_get_read}
@@ -34,21 +33,3 @@ loop-element-preserved c =
       names = rw (c.in_ok-add_names.ensures, c.loop-element.invariant.names, came, next);
       marks = c.loop-element.invariant.marks;
     }
-
-pub returns-in_err-marks : goal.returns-in_err-marks
-returns-in_err-marks c = grind (arith, common_steps)
-
-pub loop-element-init : goal.loop-element-init
-loop-element-init c = grind (arith, common_steps)
-
-pub offset_bounds-elements-element-index : goal.offset_bounds-elements-element-index
-offset_bounds-elements-element-index c = grind (arith, common_steps)
-
-pub add_names-requires : goal.add_names-requires
-add_names-requires c = grind (arith, common_steps)
-
-pub returns-in_err-add_names : goal.returns-in_err-add_names
-returns-in_err-add_names c = grind (arith, common_steps)
-
-pub returns : goal.returns
-returns c = grind (arith, common_steps)

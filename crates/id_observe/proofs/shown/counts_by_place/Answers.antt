@@ -4,6 +4,3 @@ use Rattle.id_observe.proofs.shown.counts_by_place.Goals as goal
 
 pub loop-instr-preserved : goal.loop-instr-preserved
 loop-instr-preserved c = grind (arith, common_steps)
-
-pub returns : goal.returns
-returns c = grind (arith, common_steps)
