@@ -1,3 +1,2 @@
-pub mod FlightLemmas
 pub mod InputsLemmas
 pub mod MachinesLemmas

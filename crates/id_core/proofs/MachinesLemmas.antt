@@ -24,6 +24,7 @@ use Rattle.id_valid.specs.Roles.{has_main_place, IsMain}
 use Rattle.id_valid.specs.Validator.{IsMainBlock}
 use Rattle.id_element.specs.Fits.{Fits, TokenFits}
 use Rattle.id_element.specs.Fits.{IsFor}
+use Rattle.id_element.specs.Takes.{Handles}
 use Rattle.id_element.specs.Steps.{fresh, outputs_of, event_of, state_after, step_of, is_ended}
 use Rattle.id_element.specs.declared.step.TakeError.{TakeError}
 use Rattle.id_element.specs.declared.step.TakeError.TheVariants.{StampEnd}
@@ -219,46 +220,10 @@ left_ok : {A : Type 0} (a : A) (b : Bool) → ◌≡◌ {A = Result A TakeError}
 left_ok {A = A} a true both = let end : ◌≡◌ {A = Result A TakeError} (Ok a) (Err StampEnd) = both.1 refl in cc
 left_ok a false both = refl
 
--- a message was given to an element: what this is then, and what is in flight, where it was handled, where it stays, and after an error
-pub record IsGiving {A : Type 0} (Done Apart : A → Type 0) (flight : List Message) (k : ℕ) (m : Message)
-    (e later : ElementView) (left : List Message) (r : Result A TakeError) : Type 0 where
-  pub state : IfOk r (λ a. Done a → later ≡ taken e m)
-  pub messages : IfOk r (λ a. Done a → left ≡ remove flight k ++ outputs_of e.graph e.number e.state m)
-  pub fits : OnOk r (All (Fits e.graph) (outputs_of e.graph e.number e.state m))
-  pub apart : IfOk r (λ a. Apart a → later ≡ e)
-  pub apart_messages : IfOk r (λ a. Apart a → left ≡ flight)
-  pub end : r ≡ Err StampEnd ↔ IsTrue (is_ended e.state m)
-  pub err : OnErr r (later ≡ e)
-  pub err_messages : OnErr r (left ≡ flight)
-
--- where it is handled whenever no error comes
-module _ {A : Type 0} {flight : List Message} {k : ℕ} {m : Message} {e later : ElementView} {left : List Message} where
-  pub giving_any : (r : Result A TakeError) → OnOk r (later ≡ taken e m) → OnOk r (left ≡ remove flight k ++ outputs_of e.graph e.number e.state m)
-      → OnOk r (All (Fits e.graph) (outputs_of e.graph e.number e.state m)) → r ≡ Err StampEnd ↔ IsTrue (is_ended e.state m)
-      → OnErr r (later ≡ e) → OnErr r (left ≡ flight) → IsGiving (λ _. ⊤) (λ _. ⊥) flight k m e later left r
-  giving_any (Ok a) took gone fits end err err_messages =
-      record {
-        state = λ _. took;
-        messages = λ _. gone;
-        fits = fits;
-        apart = λ no. absurd no;
-        apart_messages = λ no. absurd no;
-        end = end;
-        err = tt;
-        err_messages = tt;
-      }
-  giving_any (Err b) took gone fits end err err_messages =
-      record { state = tt; messages = tt; fits = tt; apart = tt; apart_messages = tt; end = end; err = err; err_messages = err_messages }
-
-pub always : {A E : Type 0} (P : A → Type 0) (r : Result A E) → IfOk r (λ a. ⊤ → P a) → IfOk r P
-always P (Ok a) told = told tt
-always P (Err e) told = tt
-
 -- what the delivery of the message at a position tells, as it is promised of a machine
-pub record IsTold {A : Type 0} (Done Apart : A → Type 0) (gives : A → Step) (k : ℕ) (v later : MachineView) (r : Result A TakeError) : Type 0 where
-  pub world : IfOk r (λ a. Done a → later ≡ record v { world = delivered v.graph v.count v.world k })
-  pub step : IfOk r (λ a. Done a → option_map (λ e. e.step) (event_at v.graph v.count v.world k) ≡ Some (gives a))
-  pub apart : IfOk r (λ a. Apart a → later ≡ v)
+pub record IsTold (k : ℕ) (v later : MachineView) (r : Result Step TakeError) : Type 0 where
+  pub world : OnOk r (later ≡ record v { world = delivered v.graph v.count v.world k })
+  pub step : IfOk r (λ s. option_map (λ e. e.step) (event_at v.graph v.count v.world k) ≡ Some s)
   pub end : r ≡ Err StampEnd ↔ event_at v.graph v.count v.world k ≡ None
   pub err : OnErr r (later ≡ v)
 
@@ -284,12 +249,11 @@ module _ {g : Parts} {keeps : Keeps} {es : List ElementView} {flight : List Mess
   kept_list = ap (set es n) (sym (get_or_from_slice_get es n e e given.element)) ∙ set-get_or es n e
 
   -- the machine stays one, whatever the delivery came to
-  pub IsMachine-given : {A : Type 0} {Done Apart : A → Type 0} {later : ElementView} {left : List Message}
-      (which : (a : A) → Done a ⊎ Apart a) (r : Result A TakeError) → IsGiving Done Apart flight k m e later left r → IsMachine g keeps (set es n later) left
-  IsMachine-given which (Ok a) x = ⊎_elim
-      (λ done. rw (x.state done, x.messages done) (IsMachine-deliver g keeps es flight k n m e old (delivery (left_ok a (is_ended e.state m) x.end)) x.fits))
-      (λ apart. rw (x.apart apart, x.apart_messages apart, kept_list) old) (which a)
-  IsMachine-given which (Err b) x = rw (x.err, x.err_messages, kept_list) old
+  pub IsMachine-given : {later : ElementView} {left : List Message} (r : Result Step TakeError) → Handles e later m flight (remove flight k) left r
+      → IsMachine g keeps (set es n later) left
+  IsMachine-given (Ok s) x =
+      rw (x.becomes.element, x.becomes.outputs) (IsMachine-deliver g keeps es flight k n m e old (delivery (left_ok s (is_ended e.state m) x.ended)) x.fits)
+  IsMachine-given (Err b) x = rw (x.becomes.element, x.becomes.same, kept_list) old
 
   module _ {v : MachineView} (is : ◌≡◌ {A = MachineView} (record { graph = g; count = length es; keeps = keeps; world = world_of es flight }) v) where
     -- what the machine shows afterwards
@@ -326,17 +290,15 @@ module _ {g : Parts} {keeps : Keeps} {es : List ElementView} {flight : List Mess
         at false stamp = ((λ h. not_so (is_ended e.state m) stamp (both.0 h)), (λ h. absurd (no_event _ _ (event_in_view false stamp) h)))
 
     -- what the element and the list in flight tell is told of the machine
-    pub told-given : {A : Type 0} {Done Apart : A → Type 0} {later : ElementView} {left : List Message} (step : A → Step) (r : Result A TakeError)
-        → IsGiving Done Apart flight k m e later left r → IfOk r (λ a. Done a → step a ≡ step_of e.graph e.number e.state m)
-        → IsTold Done Apart step k v (after later left) r
-    told-given {later = later} {left = left} step (Ok a) x goes =
-        let stamp = left_ok a (is_ended e.state m) x.end in
+    pub told-given : {later : ElementView} {left : List Message} (r : Result Step TakeError) → Handles e later m flight (remove flight k) left r
+        → IsTold k v (after later left) r
+    told-given {later = later} {left = left} (Ok s) x =
+        let stamp = left_ok s (is_ended e.state m) x.ended in
         record {
-          world = λ done. view-delivered later left stamp (x.state done) (x.messages done);
-          step = λ done. step-delivered stamp ∙ ap (λ s. Some s) (sym (goes done));
-          apart = λ apart. view-kept later left (x.apart apart) (x.apart_messages apart);
-          end = end-delivered (Ok a) x.end;
+          world = view-delivered later left stamp x.becomes.element x.becomes.outputs;
+          step = step-delivered stamp ∙ ap (λ t. Some t) (sym x.becomes.step);
+          end = end-delivered (Ok s) x.ended;
           err = tt;
         }
-    told-given {later = later} {left = left} step (Err b) x goes =
-        record { world = tt; step = tt; apart = tt; end = end-delivered (Err b) x.end; err = view-kept later left x.err x.err_messages }
+    told-given {later = later} {left = left} (Err b) x =
+        record { world = tt; step = tt; end = end-delivered (Err b) x.ended; err = view-kept later left x.becomes.element x.becomes.same }

@@ -3,19 +3,15 @@
 //! Keeps: 1 to 64 elements in order of their numbers, and in flight only what fits the graph, in the order in which it
 //! was sent.
 //! Errors: `TakeError` and `MachineError`; after each of them nothing has changed.
-//! Read first: `specs/Machines.antt`, then `Machine::deliver`; `specs/Flights.antt`, then `InFlight`.
+//! Read first: `specs/Machines.antt`, then `Machine::deliver`.
 //! Not here: elements (`id_element`), records (`id_record`), what they show (`id_observe`): their names are handed on.
 #![tactic(auto)]
 
 mod entering;
-mod flight;
-mod in_flight;
 mod machine;
 
 pub use entering::takes_inputs;
-pub use flight::Flight;
 pub use id_element::{Element, Gate, Handling, Open, TakeError, fits};
 pub use id_observe::{CellValue, Holdings, Merged, Observed, merge_records, observe_records};
 pub use id_record::{Event, Events, Fault, Keeps, Outputs, Step};
-pub use in_flight::InFlight;
 pub use machine::{MAX_ELEMENTS, Machine, MachineError, fresh_elements, start_flight};

@@ -12,8 +12,6 @@ ghost use Rattle.id_core.specs.Machines.{AllKeep, AreElements, TakesInputs};
 ghost use Rattle.id_core.specs.Machines.{input_messages, start_message, start_messages};
 ghost use Rattle.id_observe.specs.Observed.{main_tag};
 
-use crate::flight::Flight;
-use crate::in_flight::InFlight;
 use id_element::{Element, Open, TakeError};
 use id_flight::Queue;
 use id_instr::Port;
@@ -71,7 +69,7 @@ pub struct Machine<'a> {
     graph: &'a Valid,
     keeps: Keeps,
     elements: Vec<Element<'a>>,
-    flight: InFlight,
+    flight: Queue,
 }
 
 impl<'a> Model for Machine<'a> {
@@ -150,18 +148,17 @@ impl<'a> Machine<'a> {
             return Err(MachineError::BadElements);
         }
         let elements = fresh_elements(alloc, graph, count, keeps)?;
-        let messages = start_flight(alloc, graph, inputs)?;
+        let flight = start_flight(alloc, graph, inputs)?;
         Ok(Machine {
             graph,
             keeps,
             elements,
-            flight: InFlight::new(alloc, messages),
+            flight,
         })
     }
 
     /// The machine of these elements, which keep so much, with these messages in flight. Takes no memory.
     pub fn resume(
-        alloc: Global,
         graph: &'a Valid,
         keeps: Keeps,
         elements: Vec<Element<'a>>,
@@ -179,7 +176,7 @@ impl<'a> Machine<'a> {
             graph,
             keeps,
             elements,
-            flight: InFlight::new(alloc, flight),
+            flight,
         }
     }
 
@@ -201,8 +198,7 @@ impl<'a> Machine<'a> {
     {
         let message = self.flight.message(position);
         let number = route(&message, self.elements.len() as u32) as usize;
-        self.flight
-            .give_at(position, &message, &mut self.elements[number], &Open)
+        self.elements[number].take_from(&mut self.flight, position, &Open)
     }
 
     /// Gives back the memory of what is in flight and of what waits at each element, where nothing is or does: it shows
@@ -210,7 +206,9 @@ impl<'a> Machine<'a> {
     pub fn give_back(&mut self, alloc: Global)
         ensures { self.new ≡ self.old }
     {
-        self.flight.give_back(alloc);
+        if self.flight.is_empty() {
+            self.flight = Queue::new(alloc);
+        }
         give_back(&mut self.elements, alloc);
     }
 
@@ -222,11 +220,11 @@ impl<'a> Machine<'a> {
     }
 
     /// The messages in flight, in the order in which they were sent. Takes no memory.
-    pub fn in_flight(&self) -> Flight<'_>
-        ensures value { result ≡ self.now.world.flight }
+    pub fn in_flight(&self) -> &Queue
+        ensures value { result.now.messages ≡ self.now.world.flight }
         ensures fit { All (Fits self.now.graph) self.now.world.flight }
     {
-        Flight::new(&self.flight)
+        &self.flight
     }
 
     /// What the run so far shows: the answer, what binders have, structures and their cells, what fetches ask for and

@@ -1,11 +1,6 @@
 -- Lemmas on specs/Firings.antt: the outcome is what the code computes in parts.
-use Rattle.std.proofs.Common.{◌≡◌, ◌<◌, ◌+◌, ◌++◌, ◌∷◌, ℕ, List, Option, Some, None, [], true, cond, length, refl, sym, ap, ◌∙◌}
-use Rattle.std.specs.Prelude.{slice_get, option_and_then}
-use Rattle.std.proofs.lemmas.Option.{slice_get_within}
-use Rattle.id_instr.specs.declared.dests.Dest.{Dest}
-use Rattle.id_instr.specs.declared.instr.PortKind.{PortKind}
-use Rattle.id_instr.specs.Graph.{kind_at}
-use Rattle.id_instr.specs.Ports.{port_kind}
+use Rattle.std.proofs.Common.{◌≡◌, ◌+◌, ◌++◌, ◌∷◌, ℕ, Some, [], length, refl, sym, ap, ◌∙◌}
+use Rattle.std.specs.Prelude.{slice_get}
 use Rattle.id_tag.specs.declared.Message.{Message}
 use Rattle.id_instr.specs.declared.dests.Port.{Port}
 use Rattle.id_instr.specs.declared.instr.Instr.{Instr}
@@ -17,11 +12,8 @@ use Rattle.id_tag.specs.declared.Tag.{Tag}
 use Rattle.id_tag.specs.declared.Value.{Value}
 use Rattle.id_tag.specs.declared.Payload.TheVariants.{Token}
 use Rattle.id_match.specs.Waiting.{Store}
-use Rattle.id_bank.specs.declared.cell.ReadAnswer.{ReadAnswer}
-use Rattle.id_bank.specs.declared.cell.ReadAnswer.TheVariants.{Now, Deferred}
 use Rattle.id_bank.specs.Cells.{Cells}
 use Rattle.id_record.specs.declared.step.Verdict.{Verdict}
-use Rattle.id_record.specs.Records.{event_of_handled, sent_by}
 use Rattle.id_record.specs.declared.step.Step.TheVariants.{Went, Stuck}
 use Rattle.id_ops.specs.declared.Fresh.{Fresh}
 use Rattle.id_ops.specs.declared.Fired.{Fired}
@@ -29,27 +21,16 @@ use Rattle.id_ops.specs.declared.Fired.TheVariants.{Out, Side, Moved, Entered, S
 use Rattle.id_ops.specs.Operators.{fired, side_of}
 use Rattle.id_element.specs.declared.step.Arrival.{Arrival}
 use Rattle.id_element.specs.declared.step.Arrival.TheVariants.{Fires, Waits, Blocked}
-use Rattle.id_record.specs.Events.{EventView, full_step, tag_of}
-use Rattle.id_record.specs.Handlings.{no_replies}
-use Rattle.id_record.specs.declared.handled.Handled.{Handled}
-use Rattle.id_record.proofs.RecordsLemmas.{event_alone}
-use Rattle.id_tag.specs.declared.Payload.{Payload}
+use Rattle.id_record.specs.Events.{full_step}
 use Rattle.id_element.specs.Steps.{State, next_stamp, outputs_of, outcome, outcome_of, state_after, step_of}
-use Rattle.id_element.specs.Steps.{Outcome, allocated_by, answer_fired, answer_sends, arrival, arrival_of, arriving}
+use Rattle.id_element.specs.Steps.{Outcome, allocated_by, arrival, arriving}
 use Rattle.id_element.specs.Steps.{at_instr, fired_step, fired_verdict, made_by, waiting_after}
 use Rattle.id_record.specs.Sends.{numbered, sent}
 use Rattle.id_element.specs.declared.step.PlainOperands.{PlainOperands}
-use Rattle.id_element.specs.declared.step.PlainOperands.TheVariants as plain
-use Rattle.id_element.specs.Firings.{IsFiring, IsShot, arrival_in, firing_of, operands_in, verdict_of}
-use Rattle.id_instr.specs.Ports.{two_ports}
-use Rattle.id_match.specs.Waiting.{offer_after, offer_answer, pair_of}
-use Rattle.id_match.specs.declared.meeting.Offered.TheVariants.{Pair}
-use Rattle.id_ops.specs.declared.Operands.TheVariants.{One}
-use Rattle.id_ops.specs.declared.shot.Shot.{Shot}
-use Rattle.id_ops.specs.declared.shot.Shot.TheVariants as shot
-use Rattle.id_ops.specs.Shots.{IsBrief, IsOwn, fired_of}
+use Rattle.id_element.specs.Firings.{IsFiring, IsPlainFiring, arrival_in, firing_of, operands_in, verdict_of}
+use Rattle.id_ops.specs.declared.plain_fired.PlainFired.{PlainFired}
+use Rattle.id_ops.specs.PlainFired.{fired_of}
 use Rattle.id_record.specs.declared.step.Verdict.TheVariants as verdict
-use Rattle.id_tag.specs.declared.plain.Plain.{Plain}
 use Rattle.id_tag.specs.declared.plain.PlainToken.{PlainToken}
 use Rattle.id_tag.specs.Plains.{tag_in, whole}
 
@@ -126,76 +107,7 @@ pub reacted : (n : Fresh) (i : Instr) (t : Tag) (p : Port) (v : Value) (w later 
 reacted n i t p v w later b a f d ea el ef ed =
     rw (ed, ef, ea, el) (arriving-computed n i t p v (waiting_after i.op w t p v) b (arrival i.op w t p v))
 
--- what an answer fires it sends
-pub answer-sent : (g : Parts) (u t : Tag) (a : ReadAnswer) → sent_by g u (answer_fired t a) ≡ answer_sends t a
-answer-sent g u t (Now v) = refl
-answer-sent g u t Deferred = refl
-
--- the event of a read
-pub event_of_read : (g : Parts) (n : ℕ) (ts : List Tag) (k : ℕ) (h : Handled) (a : ReadAnswer)
-    → h.reaction.fired ≡ answer_fired (tag_of h.message.payload) a → h.replies ≡ no_replies
-    → event_of_handled g n ts k h ≡ record {
-      element = n;
-      stamp = h.stamp;
-      message = h.message;
-      fired = answer_fired (tag_of h.message.payload) a;
-      outputs = numbered n k h.stamp 0 (answer_sends (tag_of h.message.payload) a);
-      step = full_step h.message.payload h.reaction.verdict;
-    }
-event_of_read g n ts k h a fires none =
-    let t = tag_of h.message.payload in
-    let event : Fired → List Payload → EventView = λ f xs. record {
-      element = n;
-      stamp = h.stamp;
-      message = h.message;
-      fired = f;
-      outputs = numbered n k h.stamp 0 xs;
-      step = full_step h.message.payload h.reaction.verdict;
-    } in
-    event_alone g n ts k h none ∙ ap (λ f. event f (sent_by g t f)) fires ∙ ap (event (answer_fired t a)) (answer-sent g t t a)
-
 -- ---- plain tokens
-
--- a shot goes well
-shot_went : (s : Shot) → fired_verdict (fired_of s) ≡ verdict.Went
-shot_went shot.Nothing = refl
-shot_went (shot.Out v) = refl
-shot_went (shot.Side b v) = refl
-shot_went (shot.Moved k v) = refl
-shot_went (shot.Sent u v) = refl
-
--- a token for an operator of two ports comes to what its offer does
-offered : (op : Op) (w : Store) (t : PlainToken) → two_ports op ≡ true
-    → arrival_in op w t ≡ arrival_of (offer_answer w (tag_in t) t.port (whole t.value))
-offered op w t two = ap (λ b. cond b (arrival_of (offer_answer w (tag_in t) t.port (whole t.value))) (Fires (One (whole t.value)))) two
-
--- and these wait afterwards
-waits_offered : (op : Op) (w : Store) (t : PlainToken) → two_ports op ≡ true
-    → waiting_after op w (tag_in t) t.port (whole t.value) ≡ offer_after w (tag_in t) t.port (whole t.value)
-waits_offered op w t two = ap (λ b. cond b (offer_after w (tag_in t) t.port (whole t.value)) w) two
-
--- a plain token whose offer gave a pair fires an operator of two ports
-pub meeting : (op : Op) (w later : Store) (t : PlainToken) (l r v : Plain) → two_ports op ≡ true
-    → offer_answer w (tag_in t) t.port (whole t.value) ≡ pair_of t.port (whole t.value) (whole v)
-    → Pair (whole l) (whole r) ≡ pair_of t.port (whole t.value) (whole v)
-    → later ≡ offer_after w (tag_in t) t.port (whole t.value) → IsFiring op w later t (plain.Two l r)
-meeting op w later t l r v two answer pair after = record {
-  fires = offered op w t two ∙ ap arrival_of (answer ∙ sym pair);
-  waits = after ∙ sym (waits_offered op w t two);
-}
-
--- it comes to what its operands are shot for
-pub shot_from_firing : (op : Op) (w later : Store) (t : PlainToken) (o : PlainOperands) (s : Shot) → IsFiring op w later t o
-    → ((u : Tag) (n : Fresh) → fired op u (operands_in o) n ≡ fired_of s) → IsOwn s t.value → IsBrief t.iteration s
-    → allocated_by op (fired_of s) ≡ 0 → IsShot op w later t s
-shot_from_firing op w later t o s firing fires own brief none = record {
-  fires = λ i n same. ap (firing_of i (tag_in t) n) firing.fires ∙ ap (λ op. fired op (tag_in t) (operands_in o) n) same ∙ fires (tag_in t) n;
-  went = ap (λ a. verdict_of a (fired_of s)) firing.fires ∙ shot_went s;
-  waits = firing.waits;
-  own = own;
-  brief = brief;
-  makes_none = none;
-}
 
 -- the outcome of a plain token that has this fired, where these wait afterwards
 abbrev pub plain_outcome : Instr → PlainToken → Store → Cells → Fired → Verdict → Outcome
@@ -218,12 +130,12 @@ plain_reacted g n w later b t i f d there waits fires comes =
     ap (λ o. at_instr n w b (tag_in t) t.port (whole t.value) o) there
     ∙ reacted n i (tag_in t) t.port (whole t.value) w later b (arrival_in i.op w t) f d refl waits fires comes
 
--- the outcome of one that comes to a shot
-pub shot_outcome : (g : Parts) (n : Fresh) (w later : Store) (b : Cells) (t : PlainToken) (i : Instr) (s : Shot)
-    → slice_get g.instrs t.instr ≡ Some i → IsShot i.op w later t s
-    → outcome g n w b (Token (tag_in t) t.port (whole t.value)) ≡ plain_outcome i t later b (fired_of s) verdict.Went
-shot_outcome g n w later b t i s there shot =
-    plain_reacted g n w later b t i (fired_of s) verdict.Went there shot.waits (sym (shot.fires i n refl)) (sym shot.went)
+-- the outcome of one that fires this in small numbers
+pub short_outcome : (g : Parts) (n : Fresh) (w later : Store) (b : Cells) (t : PlainToken) (i : Instr) (p : PlainFired)
+    → slice_get g.instrs t.instr ≡ Some i → IsPlainFiring i.op w later t p
+    → outcome g n w b (Token (tag_in t) t.port (whole t.value)) ≡ plain_outcome i t later b (fired_of (tag_in t) p) verdict.Went
+short_outcome g n w later b t i p there is =
+    plain_reacted g n w later b t i (fired_of (tag_in t) p) verdict.Went there is.waits (sym (is.fires i n refl)) (sym is.went)
 
 -- the outcome of one that fires these operands
 pub fires_outcome : (g : Parts) (n : Fresh) (w later : Store) (b : Cells) (t : PlainToken) (i : Instr) (o : PlainOperands)
@@ -265,52 +177,3 @@ step_by g e s m o is = record {
   state = ap (state_by e s m) is;
   outputs = ap (λ x. numbered e (length s.events) (next_stamp s m) 0 x.sends) is;
 }
-
--- a state is another where each part of it is
-same_state : (d s : State) → d.waiting ≡ s.waiting → d.cells ≡ s.cells → d.stamp ≡ s.stamp → d.contexts ≡ s.contexts
-    → d.structures ≡ s.structures → d.events ≡ s.events → d ≡ s
-same_state d s waiting cells stamp contexts structures events =
-    ap (λ x. record d { waiting = x }) waiting
-    ∙ ap (λ x. record d { waiting = s.waiting; cells = x }) cells
-    ∙ ap (λ x. record d { waiting = s.waiting; cells = s.cells; stamp = x }) stamp
-    ∙ ap (λ x. record s { contexts = x; structures = d.structures; events = d.events }) contexts
-    ∙ ap (λ x. record s { structures = x; events = d.events }) structures
-    ∙ ap (λ x. record s { events = x }) events
-
--- it is the one after a message, where each part is what the outcome says, at the stamp of the event
-pub after_by : (d : State) (g : Parts) (e : ℕ) (s : State) (m : Message) (o : Outcome) (n : ℕ) → IsStepBy g e s m o → n ≡ next_stamp s m
-    → d.waiting ≡ o.waiting → d.cells ≡ o.cells → d.stamp ≡ n → d.contexts ≡ s.contexts + o.made → d.structures ≡ s.structures + o.allocated
-    → d.events ≡ s.events ++ record {
-      element = e;
-      stamp = n;
-      message = m;
-      fired = o.fired;
-      outputs = numbered e (length s.events) n 0 o.sends;
-      step = o.step;
-    } ∷ []
-    → d ≡ state_after g e s m
-after_by d g e s m o n by is waiting cells stamp contexts structures events =
-    let event : ℕ → EventView = λ k. record {
-      element = e;
-      stamp = k;
-      message = m;
-      fired = o.fired;
-      outputs = numbered e (length s.events) k 0 o.sends;
-      step = o.step;
-    } in
-    same_state d (state_by e s m o) waiting cells (stamp ∙ is) contexts structures (events ∙ ap (λ k. s.events ++ event k ∷ []) is)
-    ∙ sym by.state
-
--- and what was sent is what it sends
-pub outputs_by : (before now : List Message) (g : Parts) (e : ℕ) (s : State) (m : Message) (o : Outcome) (n : ℕ) → IsStepBy g e s m o
-    → n ≡ next_stamp s m → now ≡ before ++ numbered e (length s.events) n 0 o.sends → now ≡ before ++ outputs_of g e s m
-outputs_by before now g e s m o n by is sends =
-    sends ∙ ap (λ k. before ++ numbered e (length s.events) k 0 o.sends) is ∙ ap (λ xs. before ++ xs) (sym by.outputs)
-
--- a port that takes a kind is one of an instruction that there is
-pub within_kind : (g : Parts) (d : Dest) (k : PortKind) → kind_at g.instrs d ≡ Some k → d.instr < length g.instrs
-within_kind g d k h = at (slice_get g.instrs d.instr) refl h
-  where
-    at : (o : Option Instr) → slice_get g.instrs d.instr ≡ o → option_and_then (λ i. port_kind i.op d.port) o ≡ Some k → d.instr < length g.instrs
-    at None e h = cc
-    at (Some i) e h = slice_get_within g.instrs d.instr i e

@@ -1,10 +1,10 @@
 pub mod FiringsLemmas
+pub mod ElementsLemmas
 pub mod EventsLemmas
 pub mod FitsLemmas
-pub mod HandledLemmas
 pub mod OutcomeLemmas
 pub mod ReplaysLemmas
 pub mod SentLemmas
 pub mod ShortLemmas
-mod VisitsLemmas
+pub mod TakesLemmas
 pub mod TellingsLemmas

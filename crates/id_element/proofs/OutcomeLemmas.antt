@@ -17,8 +17,6 @@ use Rattle.id_tag.specs.declared.Payload.{Payload}
 use Rattle.id_tag.specs.declared.Payload.TheVariants.{Token, Read, Write}
 use Rattle.id_tag.specs.declared.Message.{Message}
 use Rattle.id_tag.specs.Kinds.{kind_of}
-use Rattle.id_tag.specs.declared.plain.Plain.{Plain}
-use Rattle.id_tag.specs.Plains.{tag_in, whole}
 use Rattle.id_valid.specs.Validator.{IsValid}
 use Rattle.std.specs.FinMap.{empty, get, get-empty, get-insert, insert}
 use Rattle.std.specs.Ordering.{eq_by_cmp}
@@ -40,8 +38,6 @@ use Rattle.id_element.specs.Fits.{TokenFits, ReplyFits, PayloadFits, Fits, held_
 use Rattle.id_element.specs.Steps.{State, allocated_by, answer_sends, arrival, arrival_of, arriving, at_instr}
 use Rattle.id_element.specs.Steps.{fill_sends, made_by, next_numbers, next_stamp, outcome, outputs_of, state_after}
 use Rattle.id_element.specs.Steps.{waiting_after}
-use Rattle.id_flight.specs.declared.demand.Demand.{Demand}
-use Rattle.id_flight.specs.Demands.{asked, demanded}
 use Rattle.id_record.specs.Events.{tag_of}
 use Rattle.id_record.specs.Sends.{numbered}
 use Rattle.id_element.specs.Replays.{CellFits, CellsFit, WaitingFits}
@@ -172,22 +168,6 @@ outputs_fit g n s m valid waiting cells fits =
     (AllFit-later g s.stamp (next_stamp s m) s.waiting (omega arith) waiting)
     (AllHeld-later g s.stamp (next_stamp s m) s.cells (omega arith) cells)
     (before_later g m.stamp (next_stamp s m) m.payload (omega arith) fits)
-    (PayloadFits-later g m.stamp (next_stamp s m) m.payload (omega arith) fits))
-
--- what a read or a write in small numbers sends fits
-demand_sends : (g : Parts) (stamp : ℕ) (n : Fresh) (w : Store) (b : Cells) (c : Cell) (t : Tag) (o : Option Plain) → AllHeld g stamp b →
-    PayloadFits g stamp (asked o c t)
-    → All (PayloadFits g stamp) (outcome g n w b (asked o c t)).sends
-demand_sends g stamp n w b c t None held fits = answer_fits g stamp c t (get b c) (held c) fits.reply
-demand_sends g stamp n w b c t (Some v) held fits = fill_fits g stamp c (whole v) (get b c) (held c) fits.kind
-
--- and so does each of its outputs
-pub demand_outputs_fit : (g : Parts) (n : ℕ) (s : State) (d : Demand) → CellsFit g s → Fits g (demanded d) → All (Fits g) (outputs_of g n s (demanded d))
-demand_outputs_fit g n s d cells fits =
-    let m : Message = demanded d in
-    numbered_fit g n (length s.events) (next_stamp s m) 0 _
-    (demand_sends g (next_stamp s m) (next_numbers n s) s.waiting s.cells d.cell (tag_in d.like) d.stored
-    (AllHeld-later g s.stamp (next_stamp s m) s.cells (omega arith) cells)
     (PayloadFits-later g m.stamp (next_stamp s m) m.payload (omega arith) fits))
 
 -- what waits after an offer fits

@@ -1,7 +1,7 @@
 -- Lemmas on specs/Replays.antt: a record goes on by one message.
 use Rattle.std.proofs.Common.{◌≡◌, ℕ, List, [], ◌∷◌, ◌++◌, refl, sym, ap, subst, ◌∙◌, arith}
 use Rattle.std.proofs.lemmas.List.{map_push}
-use Rattle.std.specs.Prelude.{All, ◌<◌, ◌≤◌, ◌-◌, ◌^◌, Some, Bool, true, IsTrue, ◌↔◌}
+use Rattle.std.specs.Prelude.{All, ◌<◌, ◌≤◌, ◌-◌, ◌^◌, Option, None, Some}
 use Rattle.std.specs.FinMap.{empty}
 use Rattle.std.proofs.lemmas.List.Elements.{All-nil, All-push}
 use Rattle.id_instr.specs.declared.dests.Port.{Port}
@@ -10,14 +10,13 @@ use Rattle.id_tag.specs.declared.Value.{Value}
 use Rattle.id_tag.specs.declared.Message.{Message}
 use Rattle.id_match.specs.Waiting.{waits}
 use Rattle.id_match.proofs.KeyedLemmas.{waits-empty}
-use Rattle.id_record.specs.declared.step.Step.TheVariants.{Went}
-use Rattle.id_record.specs.Events.{AllWent}
+use Rattle.id_record.specs.declared.step.Step.{Step}
 use Rattle.id_element.specs.Fits.{IsFor}
-use Rattle.id_element.proofs.EventsLemmas.{AllWent-push}
 use Rattle.id_element.proofs.OutcomeLemmas.{CellsFit-empty, CellsFit-take, WaitingFits-take, counted-take, numbered-take}
 use Rattle.id_instr.specs.Graph.{Parts}
-use Rattle.id_element.specs.Steps.{State, fresh, state_after, step_of, event_of}
-use Rattle.id_element.specs.Replays.{after_all, messages, IsReplayed, IsLegal, CellsFit, WaitingFits, ElementView, Replays, IsKept}
+use Rattle.id_element.specs.Steps.{State, fresh, state_after, event_of}
+use Rattle.id_element.specs.Takes.{Becomes, Takes}
+use Rattle.id_element.specs.Replays.{after_all, messages, IsReplayed, IsLegal, CellsFit, WaitingFits, ElementView, Replays}
 
 -- one more message is one more step
 after_all-push : (g : Parts) (n : ℕ) (s : State) (ms : List Message) (m : Message) → after_all g n s (ms ++ m ∷ []) ≡ state_after g n (after_all g n s ms) m
@@ -57,17 +56,15 @@ Replays-take e m is_for left last replays = record {
   numbered = numbered-take e.graph e.number e.state m replays.numbered;
 }
 
--- an element that has handled nothing keeps what it should
-pub IsKept-fresh : (e : ElementView) → e.state ≡ fresh → IsKept e true
-IsKept-fresh e is = record {
-  replays = Replays-fresh e is;
-  went_is = let P : State → Type 0 = λ s. IsTrue true ↔ AllWent s.events in subst P (sym is) (λ _. All-nil (λ x. x.step ≡ Went), λ _. refl);
-}
+-- and after one that it has taken
+pub Replays-takes : (e e' : ElementView) (m : Message) (rest list : List Message) (s : Step) → IsFor e.graph e.count e.number m → Takes e e' m rest list s
+    → Replays e → Replays e'
+Replays-takes e e' m rest list s is_for takes replays =
+    subst Replays (sym takes.element)
+    (Replays-take e m is_for (omega (arith, takes.stamp)) (omega (arith, takes.stamp)) replays)
 
--- an element keeps it after one more message, whose step the flag takes in
-pub IsKept-take : (e : ElementView) (m : Message) (a r : Bool) → IsFor e.graph e.count e.number m → m.stamp < 2 ^ 64 - 1 → e.state.stamp < 2 ^ 64 - 1 →
-    (IsTrue r ↔ (IsTrue a × (step_of e.graph e.number e.state m ≡ Went))) → IsKept e a → IsKept (record e { state = state_after e.graph e.number e.state m }) r
-IsKept-take e m a r is_for left last step kept = record {
-  replays = Replays-take e m is_for left last kept.replays;
-  went_is = AllWent-push a r e.state.events (event_of e.graph e.number e.state m) kept.went_is step;
-}
+-- whatever became of a message
+pub Replays-becomes : (e e' : ElementView) (m : Message) (list rest list' : List Message) (o : Option Step) → IsFor e.graph e.count e.number m
+    → Becomes e e' m list rest list' o → Replays e → Replays e'
+Replays-becomes e e' m list rest list' (Some s) is_for done replays = Replays-takes e e' m rest list' s is_for done replays
+Replays-becomes e e' m list rest list' None is_for done replays = subst Replays (sym done.element) replays

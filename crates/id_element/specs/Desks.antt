@@ -1,8 +1,9 @@
 -- The state of an element, as its desk holds it, and which events are small.
-use Rattle.std.specs.Prelude.{◌-◌, ◌<◌, ◌^◌, ◌≤◌, ℕ, length}
+use Rattle.std.specs.Prelude.{◌-◌, ◌<◌, ◌^◌, ◌≤◌, ℕ, List, Option, length}
 use Rattle.id_instr.specs.declared.instr.Instr.{Instr}
 use Rattle.id_tag.specs.declared.plain.PlainToken.{PlainToken}
 use Rattle.id_tag.specs.Plains.{tag_in}
+use Rattle.id_tag.specs.declared.Message.{Message}
 use Rattle.id_tag.specs.declared.Payload.{Payload}
 use Rattle.id_tag.specs.declared.Payload.TheVariants.{Token}
 use Rattle.id_element.specs.declared.desk.Desk.{Desk}
@@ -10,7 +11,11 @@ use Rattle.id_ops.specs.declared.Fired.{Fired}
 use Rattle.id_ops.specs.Operators.{fired}
 use Rattle.id_element.specs.declared.step.PlainOperands.{PlainOperands}
 use Rattle.id_element.specs.Firings.{operands_in}
+use Rattle.id_match.specs.Waiting.{Store}
+use Rattle.id_record.specs.declared.step.Step.{Step}
+use Rattle.id_element.specs.Replays.{ElementView}
 use Rattle.id_element.specs.Steps.{State, fresh_numbers}
+use Rattle.id_element.specs.Takes.{Becomes}
 
 -- what waits, the cells, the last stamp, how many contexts and structures were made, and the record
 abbrev pub state_of : Desk → State
@@ -22,6 +27,26 @@ state_of d = record {
   structures = d.structures;
   events = d.log.events;
 }
+
+-- the element that works there
+abbrev pub element_at : Desk → ElementView
+element_at d = record {
+  number = d.log.element;
+  count = d.count;
+  graph = d.log.graph;
+  keeps = d.log.keeps;
+  state = state_of d;
+}
+
+-- what became of a message at a desk, and of the list that its messages go to: it was taken and came to this, or else
+-- nothing has changed
+abbrev pub Treats : Desk → Desk → Message → List Message → List Message → Option Step → Type 0
+Treats d d' m list list' s = Becomes (element_at d) (element_at d') m list list list' s
+
+-- the same, where what waits has changed before
+abbrev pub TreatsFrom : Store → Desk → Desk → Message → List Message → List Message → Option Step → Type 0
+TreatsFrom w d d' m list list' s =
+    Becomes (record (element_at d) { state = record (state_of d) { waiting = w } }) (element_at d') m list list list' s
 
 -- what is said is a token
 abbrev pub IsToken : Payload → Type 0

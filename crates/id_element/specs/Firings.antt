@@ -18,9 +18,9 @@ use Rattle.id_instr.specs.declared.instr.Op.{Op}
 use Rattle.id_match.specs.Waiting.{Store}
 use Rattle.id_ops.specs.declared.Operands.{Operands}
 use Rattle.id_ops.specs.declared.Operands.TheVariants.{One, Two}
-use Rattle.id_ops.specs.declared.shot.Shot.{Shot}
-use Rattle.id_ops.specs.declared.shot.Shot.TheVariants as shot
-use Rattle.id_ops.specs.Shots.{IsBrief, IsOwn, fired_of}
+use Rattle.id_ops.specs.declared.plain_fired.PlainFired.{PlainFired}
+use Rattle.id_ops.specs.declared.plain_fired.PlainFired.TheVariants as plain_fired
+use Rattle.id_ops.specs.PlainFired.{MakesNone, fired_of}
 use Rattle.id_element.specs.declared.step.PlainOperands.{PlainOperands}
 use Rattle.id_element.specs.declared.step.PlainOperands.TheVariants as plain
 use Rattle.id_element.specs.declared.step.Reacted.{Reacted}
@@ -60,14 +60,14 @@ verdict_of Blocked f = Stuck
 abbrev pub arrival_in : Op → Store → PlainToken → Arrival
 arrival_in op w t = arrival op w (tag_in t) t.port (whole t.value)
 
--- a plain token comes to this shot, which makes no structure, and these wait afterwards
-pub record IsShot (op : Op) (w later : Store) (t : PlainToken) (s : Shot) : Type 0 where
-  pub fires : (i : Instr) (n : Fresh) → i.op ≡ op → firing_of i (tag_in t) n (arrival_in op w t) ≡ fired_of s
-  pub went : verdict_of (arrival_in op w t) (fired_of s) ≡ Went
+-- a plain token fires this in small numbers, which makes and takes no structure, and these wait afterwards
+pub record IsPlainFiring (op : Op) (w later : Store) (t : PlainToken) (p : PlainFired) : Type 0 where
+  pub fires : (i : Instr) (n : Fresh) → i.op ≡ op
+      → firing_of i (tag_in t) n (arrival_in op w t) ≡ fired_of (tag_in t) p
+  pub went : verdict_of (arrival_in op w t) (fired_of (tag_in t) p) ≡ Went
   pub waits : later ≡ waiting_after op w (tag_in t) t.port (whole t.value)
-  pub own : IsOwn s t.value
-  pub brief : IsBrief t.iteration s
-  pub makes_none : allocated_by op (fired_of s) ≡ 0
+  pub makes_none : MakesNone p t.value
+  pub takes_none : allocated_by op (fired_of (tag_in t) p) ≡ 0
 
 -- the operands that these plain values are
 abbrev pub operands_in : PlainOperands → Operands
@@ -81,8 +81,8 @@ pub record IsFiring (op : Op) (w later : Store) (t : PlainToken) (o : PlainOpera
 
 -- this comes of a plain token, and these wait afterwards
 abbrev pub IsReaction : Op → Store → Store → PlainToken → Reacted → Type 0
-IsReaction op w later t reacted.Waits = IsShot op w later t shot.Nothing
-IsReaction op w later t (reacted.One s) = IsShot op w later t s
-IsReaction op w later t (reacted.Two s) = IsShot op w later t s
+IsReaction op w later t reacted.Waits = IsPlainFiring op w later t plain_fired.Nothing
+IsReaction op w later t (reacted.One p) = IsPlainFiring op w later t p
+IsReaction op w later t (reacted.Two p) = IsPlainFiring op w later t p
 IsReaction op w later t (reacted.Fires o) = IsFiring op w later t o
 IsReaction op w later t reacted.Apart = later ≡ w

@@ -11,33 +11,37 @@ use Rattle.id_record.specs.declared.step.Step.{Step}
 use Rattle.id_record.specs.Sends.{numbered, sent}
 use Rattle.id_element.specs.Steps.{Outcome, allocated_by, made_by}
 use Rattle.id_element.specs.declared.desk.Desk.{Desk}
-use Rattle.id_element.specs.Desks.{state_of}
+use Rattle.id_element.specs.Desks.{element_at}
+use Rattle.id_element.specs.Replays.{ElementView}
 
 -- the messages that a desk sends at this stamp, for what its next event sends
 abbrev pub outputs_at : Desk → ℕ → List Payload → List Message
 outputs_at d stamp xs = numbered d.log.element (length d.log.events) stamp 0 xs
 
--- the desk has handled this message at this stamp with this outcome: its event is the last in the record, what it made
--- is counted, and the number, the graph and how much is kept stay
-pub record IsRecorded (old new : Desk) (m : Message) (stamp : ℕ) (o : Outcome) : Type 0 where
-  pub state : state_of new ≡ record {
+-- the element that has handled this message at this stamp with this outcome: its event is the last in the record, and
+-- what it made is counted
+abbrev pub recorded : ElementView → Message → ℕ → Outcome → ElementView
+recorded e m stamp o = record e {
+  state = record {
     waiting = o.waiting;
     cells = o.cells;
     stamp = stamp;
-    contexts = old.contexts + o.made;
-    structures = old.structures + o.allocated;
-    events = old.log.events ++ record {
-      element = old.log.element;
+    contexts = e.state.contexts + o.made;
+    structures = e.state.structures + o.allocated;
+    events = e.state.events ++ record {
+      element = e.number;
       stamp = stamp;
       message = m;
       fired = o.fired;
-      outputs = outputs_at old stamp o.sends;
+      outputs = numbered e.number (length e.state.events) stamp 0 o.sends;
       step = o.step;
     } ∷ [];
-  }
-  pub number : new.log.element ≡ old.log.element
-  pub graph : new.log.graph ≡ old.log.graph
-  pub keeps : new.log.keeps ≡ old.log.keeps
+  };
+}
+
+-- that is the element at the desk now
+pub record IsRecorded (old new : Desk) (m : Message) (stamp : ℕ) (o : Outcome) : Type 0 where
+  pub element : element_at new ≡ recorded (element_at old) m stamp o
 
 -- what its event at this stamp sends was put behind the messages before
 abbrev pub IsSent : Desk → List Message → List Message → ℕ → List Payload → Type 0

@@ -5,8 +5,9 @@ pub mod Shorts
 pub mod Steps
 pub mod Desks
 pub mod Replays
+pub mod Takes
 pub mod Codes
 -- For use inside.
-pub mod Concluded
 pub mod Handled
+pub mod Kept
 pub mod Visited

@@ -1,5 +1,5 @@
 -- The record of an element leads to its state (docs/MACHINE.md, "The record").
-use Rattle.std.specs.Prelude.{◌≡◌, ◌↔◌, Bool, IsTrue, ◌<◌, ◌≤◌, ◌-◌, ◌^◌, ℕ, Some, List}
+use Rattle.std.specs.Prelude.{◌≡◌, ◌<◌, ◌≤◌, ◌-◌, ◌^◌, ℕ, Some, List}
 use Rattle.std.specs.Prelude.{[], ◌∷◌, map, All}
 use Rattle.id_instr.specs.declared.dests.Port.{Port}
 use Rattle.std.specs.FinMap.{get}
@@ -12,7 +12,7 @@ use Rattle.id_match.specs.Waiting.{waits}
 use Rattle.id_bank.specs.Cells.{CellState, Present, Deferred}
 use Rattle.id_instr.specs.Graph.{Parts}
 use Rattle.id_record.specs.declared.kept.Keeps.{Keeps}
-use Rattle.id_record.specs.Events.{EventView, AllWent}
+use Rattle.id_record.specs.Events.{EventView}
 use Rattle.id_element.specs.Fits.{TokenFits, ReplyFits, IsFor, held_in}
 use Rattle.id_element.specs.Steps.{State, fresh, state_after}
 
@@ -67,8 +67,3 @@ pub record Replays (e : ElementView) : Type 0 where
   pub cells : CellsFit e.graph e.state
   pub counted : e.state.contexts ≤ e.state.stamp
   pub numbered : e.state.structures ≤ e.state.stamp
-
--- what an element keeps beside its state: its record replays, and a flag says whether every event went well
-pub record IsKept (e : ElementView) (went : Bool) : Type 0 where
-  pub replays : Replays e
-  pub went_is : IsTrue went ↔ AllWent e.state.events

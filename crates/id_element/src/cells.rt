@@ -1,30 +1,28 @@
 //! What an element does with reads and writes of its cells, in full and in short.
 
-ghost use Rattle.std.specs.Prelude.{◌≡◌, ◌-◌, ◌^◌, ◌<◌, ◌≤◌, ◌++◌};
-ghost use Rattle.std.specs.Prelude.{◌↔◌, Some, length};
-ghost use Rattle.std.specs.Prelude.{true, false, IfErr, IfOk, OnOk, OnErr, IsTrue};
-ghost use Rattle.id_element.specs.declared.step.TakeError.TheVariants.{StampEnd};
+ghost use Rattle.std.specs.Prelude.{◌≡◌, ◌<◌, ◌≤◌, ◌↔◌, Some, length};
+ghost use Rattle.std.specs.Prelude.{IfErr, IfOk, OnOk, OnErr, IsTrue};
 ghost use Rattle.std.specs.FinMap as map;
-ghost use Rattle.id_bank.specs.Cells.{count_expected, write_after, write_answer};
-ghost use Rattle.id_record.specs.Events.{full_step, tag_of, value_of};
-ghost use Rattle.id_flight.specs.Demands.{demanded};
-ghost use Rattle.id_record.specs.Handlings.{AreThere};
-ghost use Rattle.id_record.specs.Visits.{fated};
 ghost use Rattle.id_tag.specs.Plains.{tag_in, whole};
+ghost use Rattle.id_flight.specs.Demands.{demanded};
+ghost use Rattle.id_bank.specs.Cells.{count_expected, write_after, write_answer};
 ghost use Rattle.id_record.specs.declared.step.Step.TheVariants.{Went};
 ghost use Rattle.id_record.specs.declared.step.Verdict.TheVariants as verdict;
-ghost use Rattle.id_element.specs.Steps.{answer_sends, fill_sends, fill_verdict};
-ghost use Rattle.id_element.specs.Steps.{is_ended, next_stamp, step_of};
-ghost use Rattle.id_element.specs.Steps.{outputs_of, readers_of, state_after};
-ghost use Rattle.id_element.specs.Desks.{state_of, IsShort};
+ghost use Rattle.id_record.specs.Events.{full_step, tag_of, value_of};
+ghost use Rattle.id_record.specs.Handlings.{AreThere};
+ghost use Rattle.id_record.specs.Visits.{fated};
+ghost use Rattle.id_element.specs.declared.step.TakeError.TheVariants.{StampEnd};
+ghost use Rattle.id_element.specs.Desks.{IsShort, Treats, element_at, state_of};
 ghost use Rattle.id_element.specs.Handled.{IsRecorded, IsSent};
+ghost use Rattle.id_element.specs.Shorts.{came_full, came_short};
+ghost use Rattle.id_element.specs.Steps.{answer_sends, fill_sends, fill_verdict, is_ended, next_stamp, readers_of};
 ghost use Rattle.id_element.specs.Visited.{IsRead, IsWrite, answer_outcome, fill_outcome};
 ghost use Rattle.id_element.specs.Visited.{visit_message, visit_outcome};
 
 use crate::desk::Desk;
 use crate::gate::Gate;
 use crate::outcome::{answer_fired, fill_verdict, next_stamp, send_replies};
-use crate::step::TakeError;
+use crate::step::{Short, TakeError};
 use id_bank::{ReadAnswer, WriteAnswer};
 use id_flight::{Demand, Queue};
 use id_instr::Port;
@@ -47,20 +45,9 @@ pub fn take_read<G: Gate>(
     requires is { IsRead read.now.payload }
     requires stamp { stamp ≡ next_stamp (state_of desk.old) read.now }
 
-    ensures step { IfOk result (λ v. full_step read.now.payload v
-        ≡ step_of desk.old.log.graph desk.old.log.element (state_of desk.old) read.now) }
-    ensures state { OnOk result
-        (state_of desk.new ≡ state_after desk.old.log.graph desk.old.log.element (state_of desk.old) read.now) }
-    ensures outputs { OnOk result
-        (outputs.new.messages
-        ≡ outputs.old.messages ++ outputs_of desk.old.log.graph desk.old.log.element (state_of desk.old) read.now) }
-    ensures number { desk.new.log.element ≡ desk.old.log.element }
-    ensures graph { desk.new.log.graph ≡ desk.old.log.graph }
-    ensures keeps { desk.new.log.keeps ≡ desk.old.log.keeps }
-
+    ensures treats { Treats desk.old desk.new read.now outputs.old.messages outputs.new.messages
+        (came_full read.now.payload result) }
     ensures memory { IfErr result (λ e. e ≡ TakeError.Memory) }
-    ensures err { OnErr result (state_of desk.new ≡ state_of desk.old) }
-    ensures err_outputs { OnErr result (outputs.new.messages ≡ outputs.old.messages) }
 {
     let Payload::Read { cell, reply } = read.payload else {
         unreachable!()
@@ -83,20 +70,9 @@ pub fn take_write<G: Gate>(
     requires is { IsWrite write.now.payload }
     requires stamp { stamp ≡ next_stamp (state_of desk.old) write.now }
 
-    ensures step { IfOk result (λ v. full_step write.now.payload v
-        ≡ step_of desk.old.log.graph desk.old.log.element (state_of desk.old) write.now) }
-    ensures state { OnOk result
-        (state_of desk.new ≡ state_after desk.old.log.graph desk.old.log.element (state_of desk.old) write.now) }
-    ensures outputs { OnOk result
-        (outputs.new.messages ≡ outputs.old.messages
-        ++ outputs_of desk.old.log.graph desk.old.log.element (state_of desk.old) write.now) }
-    ensures number { desk.new.log.element ≡ desk.old.log.element }
-    ensures graph { desk.new.log.graph ≡ desk.old.log.graph }
-    ensures keeps { desk.new.log.keeps ≡ desk.old.log.keeps }
-
+    ensures treats { Treats desk.old desk.new write.now outputs.old.messages outputs.new.messages
+        (came_full write.now.payload result) }
     ensures memory { IfErr result (λ e. e ≡ TakeError.Memory) }
-    ensures err { OnErr result (state_of desk.new ≡ state_of desk.old) }
-    ensures err_outputs { OnErr result (outputs.new.messages ≡ outputs.old.messages) }
 {
     let Payload::Write {
         cell,
@@ -112,42 +88,27 @@ pub fn take_write<G: Gate>(
     Ok(fill(desk, write, stamp, &answer, outputs))
 }
 
-/// Handles a read or a write of a cell, where that is short, and answers whether it did: all goes well then. It is the
-/// element step.
+/// Handles a read or a write of a cell, where that is short, and says what became of it: the element step.
 #[inline(always)]
 pub fn take_demand<G: Gate>(
     desk: &mut Desk<'_>,
     demand: &Demand,
     outputs: &mut Queue,
     gate: &G,
-) -> Result<bool, TakeError>
-    ensures step { result ≡ Ok true → step_of desk.old.log.graph desk.old.log.element (state_of desk.old)
-        (demanded demand.now) ≡ Went }
-    ensures state { result ≡ Ok true → state_of desk.new
-        ≡ state_after desk.old.log.graph desk.old.log.element (state_of desk.old) (demanded demand.now) }
-    ensures outputs { result ≡ Ok true → outputs.new.messages ≡ outputs.old.messages
-        ++ outputs_of desk.old.log.graph desk.old.log.element (state_of desk.old) (demanded demand.now) }
-    ensures apart { result ≡ Ok false → state_of desk.new ≡ state_of desk.old }
-    ensures apart_outputs { result ≡ Ok false → outputs.new.messages ≡ outputs.old.messages }
-    ensures number { desk.new.log.element ≡ desk.old.log.element }
-    ensures graph { desk.new.log.graph ≡ desk.old.log.graph }
-    ensures keeps { desk.new.log.keeps ≡ desk.old.log.keeps }
-    ensures left { OnOk result (demand.now.like.stamp < 2 ^ 64 - 1) }
-    ensures last_left { OnOk result (desk.old.stamp < 2 ^ 64 - 1) }
-
+) -> Result<Short, TakeError>
+    ensures treats { Treats desk.old desk.new (demanded demand.now) outputs.old.messages outputs.new.messages
+        (came_short (tag_in demand.now.like) result) }
     ensures end { (result ≡ Err StampEnd) ↔ IsTrue (is_ended (state_of desk.old) (demanded demand.now)) }
-    ensures err { OnErr result (state_of desk.new ≡ state_of desk.old) }
-    ensures err_outputs { OnErr result (outputs.new.messages ≡ outputs.old.messages) }
 {
     let stamp = next_stamp(desk.stamp, u64::from(demand.like.stamp))?;
     if !desk.is_short(1, &demand.like, stamp) {
-        return Ok(false);
+        return Ok(Short::Apart);
     }
     ask_or_put(desk, demand, stamp as u32, outputs, gate)
 }
 
-/// Handles a read in small numbers, and a write where it is the first: the element step at this stamp, which is the
-/// next. It answers whether it did.
+/// Handles a read in small numbers, and a write where it is the first, and says what became of it: the element step at
+/// this stamp, which is the next.
 #[inline(always)]
 fn ask_or_put<G: Gate>(
     desk: &mut Desk<'_>,
@@ -155,31 +116,16 @@ fn ask_or_put<G: Gate>(
     stamp: u32,
     outputs: &mut Queue,
     gate: &G,
-) -> Result<bool, TakeError>
+) -> Result<Short, TakeError>
     requires stamp { stamp ≡ next_stamp (state_of desk.old) (demanded demand.now) }
     requires short { IsShort desk.old 1 demand.now.like stamp }
 
-    ensures step { result ≡ Ok true → step_of desk.old.log.graph desk.old.log.element (state_of desk.old)
-        (demanded demand.now) ≡ Went }
-    ensures state { result ≡ Ok true → state_of desk.new
-        ≡ state_after desk.old.log.graph desk.old.log.element (state_of desk.old) (demanded demand.now) }
-    ensures outputs { result ≡ Ok true → outputs.new.messages ≡ outputs.old.messages
-        ++ outputs_of desk.old.log.graph desk.old.log.element (state_of desk.old) (demanded demand.now) }
-    ensures apart { result ≡ Ok false → state_of desk.new ≡ state_of desk.old }
-    ensures apart_outputs { result ≡ Ok false → outputs.new.messages ≡ outputs.old.messages }
-    ensures number { desk.new.log.element ≡ desk.old.log.element }
-    ensures graph { desk.new.log.graph ≡ desk.old.log.graph }
-    ensures keeps { desk.new.log.keeps ≡ desk.old.log.keeps }
-
+    ensures treats { Treats desk.old desk.new (demanded demand.now) outputs.old.messages outputs.new.messages
+        (came_short (tag_in demand.now.like) result) }
     ensures memory { IfErr result (λ e. e ≡ TakeError.Memory) }
-    ensures err { OnErr result (state_of desk.new ≡ state_of desk.old) }
-    ensures err_outputs { OnErr result (outputs.new.messages ≡ outputs.old.messages) }
 {
     match demand.stored {
-        None => {
-            ask(desk, demand, stamp, outputs, gate)?;
-            Ok(true)
-        }
+        None => ask(desk, demand, stamp, outputs, gate),
         Some(value) => put(desk, demand, value, stamp, outputs, gate),
     }
 }
@@ -192,29 +138,20 @@ fn ask<G: Gate>(
     stamp: u32,
     outputs: &mut Queue,
     gate: &G,
-) -> Result<(), TakeError>
+) -> Result<Short, TakeError>
     requires is { read.now.stored ≡ None }
     requires stamp { stamp ≡ next_stamp (state_of desk.old) (demanded read.now) }
     requires short { IsShort desk.old 1 read.now.like stamp }
 
-    ensures step { step_of desk.old.log.graph desk.old.log.element (state_of desk.old) (demanded read.now) ≡ Went }
-    ensures state { OnOk result (state_of desk.new
-        ≡ state_after desk.old.log.graph desk.old.log.element (state_of desk.old) (demanded read.now)) }
-    ensures outputs { OnOk result (outputs.new.messages ≡ outputs.old.messages
-        ++ outputs_of desk.old.log.graph desk.old.log.element (state_of desk.old) (demanded read.now)) }
-    ensures number { desk.new.log.element ≡ desk.old.log.element }
-    ensures graph { desk.new.log.graph ≡ desk.old.log.graph }
-    ensures keeps { desk.new.log.keeps ≡ desk.old.log.keeps }
-
+    ensures treats { Treats desk.old desk.new (demanded read.now) outputs.old.messages outputs.new.messages
+        (came_short (tag_in read.now.like) result) }
     ensures memory { IfErr result (λ e. e ≡ TakeError.Memory) }
-    ensures err { OnErr result (state_of desk.new ≡ state_of desk.old) }
-    ensures err_outputs { OnErr result (outputs.new.messages ≡ outputs.old.messages) }
 {
     desk.reserve(1, 0, outputs)?;
     let answer = desk.cells.read(read.cell, read.like.tag())?;
     desk.hold(gate);
     answer_demand(desk, read, stamp, answer, outputs);
-    Ok(())
+    Ok(Short::Went)
 }
 
 /// Sends the answer to a read in small numbers, if it has one, and records the event. There is room for it. Takes no
@@ -280,8 +217,8 @@ fn answer_full(
     answer_read(desk, &message, u64::from(stamp), answer, outputs);
 }
 
-/// Handles a write of this value in small numbers, where it is the first: the element step at this stamp, which is the
-/// next. It answers whether it did.
+/// Handles a write of this value in small numbers, where it is the first, and says what became of it: the element step
+/// at this stamp, which is the next.
 #[inline(always)]
 fn put<G: Gate>(
     desk: &mut Desk<'_>,
@@ -290,33 +227,18 @@ fn put<G: Gate>(
     stamp: u32,
     outputs: &mut Queue,
     gate: &G,
-) -> Result<bool, TakeError>
+) -> Result<Short, TakeError>
     requires is { write.now.stored ≡ Some value }
     requires stamp { stamp ≡ next_stamp (state_of desk.old) (demanded write.now) }
     requires short { IsShort desk.old 1 write.now.like stamp }
 
-    ensures step { result ≡ Ok true → step_of desk.old.log.graph desk.old.log.element (state_of desk.old)
-        (demanded write.now) ≡ Went }
-    ensures state { result ≡ Ok true → state_of desk.new
-        ≡ state_after desk.old.log.graph desk.old.log.element (state_of desk.old) (demanded write.now) }
-    ensures outputs { result ≡ Ok true → outputs.new.messages ≡ outputs.old.messages
-        ++ outputs_of desk.old.log.graph desk.old.log.element (state_of desk.old) (demanded write.now) }
-    ensures apart { result ≡ Ok false → state_of desk.new ≡ state_of desk.old }
-    ensures apart_outputs { result ≡ Ok false → outputs.new.messages ≡ outputs.old.messages }
-    ensures number { desk.new.log.element ≡ desk.old.log.element }
-    ensures graph { desk.new.log.graph ≡ desk.old.log.graph }
-    ensures keeps { desk.new.log.keeps ≡ desk.old.log.keeps }
-
+    ensures treats { Treats desk.old desk.new (demanded write.now) outputs.old.messages outputs.new.messages
+        (came_short (tag_in write.now.like) result) }
     ensures memory { IfErr result (λ e. e ≡ TakeError.Memory) }
-    ensures err { OnErr result (state_of desk.new ≡ state_of desk.old) }
-    ensures err_outputs { OnErr result (outputs.new.messages ≡ outputs.old.messages) }
 {
     match desk.cells.expected(write.cell) {
-        Some(readers) => {
-            put_first(desk, write, value, readers, stamp, outputs, gate)?;
-            Ok(true)
-        }
-        None => Ok(false),
+        Some(readers) => put_first(desk, write, value, readers, stamp, outputs, gate),
+        None => Ok(Short::Apart),
     }
 }
 
@@ -331,30 +253,21 @@ fn put_first<G: Gate>(
     stamp: u32,
     outputs: &mut Queue,
     gate: &G,
-) -> Result<(), TakeError>
+) -> Result<Short, TakeError>
     requires is { write.now.stored ≡ Some value }
     requires first { count_expected (map.get desk.old.cells write.now.cell) ≡ Some readers }
     requires stamp { stamp ≡ next_stamp (state_of desk.old) (demanded write.now) }
     requires short { IsShort desk.old 1 write.now.like stamp }
 
-    ensures step { step_of desk.old.log.graph desk.old.log.element (state_of desk.old) (demanded write.now) ≡ Went }
-    ensures state { OnOk result (state_of desk.new
-        ≡ state_after desk.old.log.graph desk.old.log.element (state_of desk.old) (demanded write.now)) }
-    ensures outputs { OnOk result (outputs.new.messages ≡ outputs.old.messages
-        ++ outputs_of desk.old.log.graph desk.old.log.element (state_of desk.old) (demanded write.now)) }
-    ensures number { desk.new.log.element ≡ desk.old.log.element }
-    ensures graph { desk.new.log.graph ≡ desk.old.log.graph }
-    ensures keeps { desk.new.log.keeps ≡ desk.old.log.keeps }
-
+    ensures treats { Treats desk.old desk.new (demanded write.now) outputs.old.messages outputs.new.messages
+        (came_short (tag_in write.now.like) result) }
     ensures memory { IfErr result (λ e. e ≡ TakeError.Memory) }
-    ensures err { OnErr result (state_of desk.new ≡ state_of desk.old) }
-    ensures err_outputs { OnErr result (outputs.new.messages ≡ outputs.old.messages) }
 {
     let tag = write.like.tag();
     let answer = write_cell(desk, write.cell, value.value(), tag, readers, outputs)?;
     desk.hold(gate);
     fill_demand(desk, write, value, stamp, &answer, outputs);
-    Ok(())
+    Ok(Short::Went)
 }
 
 /// Writes a value to a cell for whose value at most so many replies wait, and makes room for its event. After an error
@@ -371,20 +284,17 @@ fn write_cell(
     requires { length (readers_of (write_answer (map.get desk.old.cells cell))) ≤ readers }
 
     ensures answer { IfOk result (λ a. a ≡ write_answer (map.get desk.old.cells cell)) }
-    ensures state { OnOk result (state_of desk.new ≡ record (state_of desk.old) {
-      cells = write_after desk.old.cells cell value origin;
+    ensures element { OnOk result (element_at desk.new ≡ record (element_at desk.old) {
+      state = record (state_of desk.old) { cells = write_after desk.old.cells cell value origin };
     }) }
     ensures messages { outputs.new.messages ≡ outputs.old.messages }
-    ensures number { desk.new.log.element ≡ desk.old.log.element }
-    ensures graph { desk.new.log.graph ≡ desk.old.log.graph }
-    ensures keeps { desk.new.log.keeps ≡ desk.old.log.keeps }
 
     ensures room { OnOk result (0 < desk.new.log.room) }
     ensures room_for_replies { IfOk result (λ a. length (readers_of a) ≤ desk.new.log.room_for_replies) }
     ensures room_in_outputs { IfOk result (λ a. length (readers_of a) ≤ outputs.new.room) }
 
     ensures memory { IfErr result (λ e. e ≡ TakeError.Memory) }
-    ensures err { OnErr result (state_of desk.new ≡ state_of desk.old) }
+    ensures err { OnErr result (element_at desk.new ≡ element_at desk.old) }
 {
     desk.reserve(readers, readers, outputs)?;
     let answer = desk.cells.write(cell, value, origin)?;

@@ -5,27 +5,27 @@ ghost use Rattle.std.specs.Prelude.{◌≡◌};
 
 use crate::gate::Gate;
 use crate::outcome::{
-    allocated_by, allocated_by_deed, deed_of, fresh_numbers, made_by, most_sent, next_stamp, react,
-    react_operands, react_plain, send, send_deed, send_like, send_shot, short_of,
+    allocated_by, allocated_by_plain, fire_else, fresh_numbers, made_by, most_sent, next_stamp,
+    react, react_operands, react_plain, send, send_like, send_plain_fired, short_of,
 };
 use crate::step::{PlainOperands, Reacted, Short, TakeError};
 use id_bank::Bank;
 use id_flight::Queue;
 use id_instr::{Graph, Instr, Port};
 use id_match::Waiting;
-use id_ops::{Deed, Shot};
+use id_ops::PlainFired;
 use id_record::{
-    Doing, Envelope, Handling, Keeps, NO_REPLIES, Reaction, Record, Shooting, Verdict, message,
-    tag_of,
+    Envelope, Handling, Keeps, NO_REPLIES, PlainFiring, Reaction, Record, Verdict, message, tag_of,
 };
 use id_tag::{Message, Payload, PlainToken, Tag, Value};
 use id_valid::Valid;
 use std::alloc::{AllocError, Global};
 
-/// What waits at an element, its cells, its last stamp, how many contexts and structures it has made, and its record,
-/// which knows its number.
+/// What waits at an element, its cells, its last stamp, how many contexts and structures it has made, its record, which
+/// knows its number, and how many elements there are.
 #[derive(Drop)]
 pub struct Desk<'a> {
+    pub count: u32,
     pub waiting: Waiting,
     pub cells: Bank,
     pub stamp: u64,
@@ -35,43 +35,35 @@ pub struct Desk<'a> {
 }
 
 impl<'a> Desk<'a> {
-    ghost use Rattle.std.specs.Prelude.{◌≡◌, ◌+◌, ◌-◌, ◌^◌, ◌<◌, ◌≤◌, ◌++◌};
-    ghost use Rattle.std.specs.Prelude.{◌↔◌, Some, slice_get};
-    ghost use Rattle.std.specs.Prelude.{IfErr, IfOk, IfSome, OnOk, OnErr, IsTrue};
-    ghost use Rattle.id_element.specs.declared.step.TakeError.TheVariants.{StampEnd};
-    ghost use Rattle.id_record.specs.Events.{full_step, tag_of};
-    ghost use Rattle.id_element.specs.Fits.{Fits};
-    ghost use Rattle.id_tag.specs.Plains.{message_of, tag_in};
-    ghost use Rattle.id_ops.specs.Deeds.{fired_by_deed};
-    ghost use Rattle.id_ops.specs.Shots.{IsBrief, IsOwn, fired_of};
-    ghost use Rattle.id_ops.specs.declared.Fired.TheVariants.{Nothing};
-    ghost use Rattle.id_record.specs.declared.step.Step.TheVariants.{Went};
-    ghost use Rattle.id_element.specs.Steps.{allocated_by, at_instr, fresh, next_numbers};
-    ghost use Rattle.id_tag.specs.declared.Payload.TheVariants.{Token};
-    ghost use Rattle.id_element.specs.Steps.{fired_verdict, is_ended, made_by, next_stamp, step_of};
-    ghost use Rattle.id_element.specs.Steps.{outputs_of, state_after};
-    ghost use Rattle.id_record.specs.Sends.{sent};
-    ghost use Rattle.id_valid.specs.Validator.{IsValid};
-    ghost use Rattle.id_element.specs.Desks.{state_of, IsShort, IsToken, fired_by};
-    ghost use Rattle.id_element.specs.Concluded.{IsConcluded, IsUnchanged};
-    ghost use Rattle.id_element.specs.Handled.{IsRecorded, IsSent, token_outcome, token_sends};
-    ghost use Rattle.id_element.specs.Shorts.{IsHandled, step_in};
-    ghost use Rattle.id_element.specs.declared.step.Short.{Short};
-    ghost use Rattle.id_match.specs.Waiting.{Store};
-    ghost use Rattle.id_element.specs.declared.step.Reacted.{Reacted};
-    ghost use Rattle.id_element.specs.Firings.{IsBound, IsReaction, most_sent};
+    ghost use Rattle.std.specs.Prelude.{◌≡◌, ◌+◌, ◌^◌, ◌-◌, ◌<◌, ◌≤◌, ◌↔◌};
+    ghost use Rattle.std.specs.Prelude.{IfErr, IfOk, IfSome, IsTrue, OnErr, OnOk, Some, slice_get};
     ghost use Rattle.id_instr.specs.Graph.{arcs_on, IsGraph};
+    ghost use Rattle.id_valid.specs.Validator.{IsValid};
+    ghost use Rattle.id_tag.specs.Plains.{message_of, tag_in};
+    ghost use Rattle.id_tag.specs.declared.Payload.TheVariants.{Token};
+    ghost use Rattle.id_match.specs.Waiting.{Store};
     ghost use Rattle.id_ops.specs.Operators.{side_of};
+    ghost use Rattle.id_ops.specs.PlainFired.{MakesNone, fired_of};
+    ghost use Rattle.id_record.specs.declared.step.Step.TheVariants.{Went};
+    ghost use Rattle.id_record.specs.Events.{full_step, tag_of};
+    ghost use Rattle.id_record.specs.Sends.{sent};
+    ghost use Rattle.id_element.specs.declared.step.TakeError.TheVariants.{StampEnd};
+    ghost use Rattle.id_element.specs.Desks.{IsShort, IsToken, Treats, TreatsFrom, element_at, fired_by, state_of};
+    ghost use Rattle.id_element.specs.Firings.{IsBound, IsReaction, most_sent};
+    ghost use Rattle.id_element.specs.Fits.{Fits};
+    ghost use Rattle.id_element.specs.Handled.{IsRecorded, IsSent, token_outcome, token_sends};
+    ghost use Rattle.id_element.specs.Shorts.{came_full, came_short, short_step};
+    ghost use Rattle.id_element.specs.Steps.{allocated_by, at_instr, fired_verdict, fresh, is_ended, made_by};
+    ghost use Rattle.id_element.specs.Steps.{next_numbers, next_stamp};
 
-    /// The desk of the element of this number, at which nothing was handled, and which will keep so much of its events.
-    /// Takes no memory.
-    pub fn new(alloc: Global, number: u32, graph: &'a Valid, keeps: Keeps) -> Desk<'a>
-        ensures number { result.log.element ≡ number }
-        ensures graph { result.log.graph ≡ graph.now }
-        ensures keeps { result.log.keeps ≡ keeps }
-        ensures state { state_of result ≡ fresh }
+    /// The desk of the element of this number, of so many, at which nothing was handled, and which will keep so much of
+    /// its events. Takes no memory.
+    pub fn new(alloc: Global, number: u32, count: u32, graph: &'a Valid, keeps: Keeps) -> Desk<'a>
+        ensures { element_at result
+            ≡ record { number = number; count = count; graph = graph.now; keeps = keeps; state = fresh } }
     {
         Desk {
+            count,
             waiting: Waiting::new(alloc),
             cells: Bank::new(alloc),
             stamp: 0,
@@ -83,8 +75,7 @@ impl<'a> Desk<'a> {
 
     /// Gives back the memory of the waiting store, where nothing waits.
     pub fn give_back(&mut self, alloc: Global)
-        ensures state { state_of self.new ≡ state_of self.old }
-        ensures log { self.new.log ≡ self.old.log }
+        ensures { element_at self.new ≡ element_at self.old }
     {
         if self.waiting.len() == 0 {
             self.waiting = Waiting::new(alloc);
@@ -109,20 +100,9 @@ impl<'a> Desk<'a> {
         requires structures { self.old.structures + 1 < 2 ^ 64 }
         requires fits { Fits graph.now message.now }
 
-        ensures step { IfOk result (λ v. full_step message.now.payload v
-            ≡ step_of graph.now self.old.log.element (state_of self.old) message.now) }
-        ensures state { OnOk result
-            (state_of self.new ≡ state_after graph.now self.old.log.element (state_of self.old) message.now) }
-        ensures outputs { OnOk result
-            (outputs.new.messages
-            ≡ outputs.old.messages ++ outputs_of graph.now self.old.log.element (state_of self.old) message.now) }
-        ensures number { self.new.log.element ≡ self.old.log.element }
-        ensures graph { self.new.log.graph ≡ self.old.log.graph }
-        ensures keeps { self.new.log.keeps ≡ self.old.log.keeps }
-
+        ensures treats { Treats self.old self.new message.now outputs.old.messages outputs.new.messages
+            (came_full message.now.payload result) }
         ensures memory { IfErr result (λ e. e ≡ TakeError.Memory) }
-        ensures err { OnErr result (state_of self.new ≡ state_of self.old) }
-        ensures err_outputs { OnErr result (outputs.new.messages ≡ outputs.old.messages) }
     {
         let Payload::Token { tag, port, value } = message.payload else {
             unreachable!()
@@ -157,18 +137,16 @@ impl<'a> Desk<'a> {
               made = made_by r.fired;
               allocated = allocated_by instr.now.op r.fired;
             }) }
-        ensures state { OnOk result
-            (state_of self.new ≡ record (state_of self.old) { waiting = self.new.waiting }) }
+        ensures element { OnOk result (element_at self.new ≡ record (element_at self.old) {
+          state = record (state_of self.old) { waiting = self.new.waiting };
+        }) }
         ensures messages { outputs.new.messages ≡ outputs.old.messages }
-        ensures number { self.new.log.element ≡ self.old.log.element }
-        ensures graph { self.new.log.graph ≡ self.old.log.graph }
-        ensures keeps { self.new.log.keeps ≡ self.old.log.keeps }
 
         ensures room { OnOk result (0 < self.new.log.room) }
         ensures room_in_outputs { OnOk result (most_sent instr.now ≤ outputs.new.room) }
 
         ensures memory { IfErr result (λ e. e ≡ TakeError.Memory) }
-        ensures err { OnErr result (state_of self.new ≡ state_of self.old) }
+        ensures err { OnErr result (element_at self.new ≡ element_at self.old) }
     {
         self.reserve(most_sent(instr), 0, outputs)?;
         let next = fresh_numbers(self.log.element(), self.contexts, self.structures);
@@ -195,24 +173,9 @@ impl<'a> Desk<'a> {
         requires numbered { self.old.structures ≤ self.old.stamp }
         requires fits { Fits graph.now (message_of token.now) }
 
-        ensures step { IfOk result (λ short. IsHandled short → step_in short (tag_in token.now)
-            ≡ step_of graph.now self.old.log.element (state_of self.old) (message_of token.now)) }
-        ensures state { IfOk result (λ short. IsHandled short → state_of self.new
-            ≡ state_after graph.now self.old.log.element (state_of self.old) (message_of token.now)) }
-        ensures outputs { IfOk result (λ short. IsHandled short → outputs.new.messages
-            ≡ outputs.old.messages
-            ++ outputs_of graph.now self.old.log.element (state_of self.old) (message_of token.now)) }
-        ensures apart { result ≡ Ok Short.Apart → state_of self.new ≡ state_of self.old }
-        ensures apart_outputs { result ≡ Ok Short.Apart → outputs.new.messages ≡ outputs.old.messages }
-        ensures number { self.new.log.element ≡ self.old.log.element }
-        ensures graph { self.new.log.graph ≡ self.old.log.graph }
-        ensures keeps { self.new.log.keeps ≡ self.old.log.keeps }
-        ensures left { OnOk result (token.now.stamp < 2 ^ 64 - 1) }
-        ensures last_left { OnOk result (self.old.stamp < 2 ^ 64 - 1) }
-
+        ensures treats { Treats self.old self.new (message_of token.now) outputs.old.messages outputs.new.messages
+            (came_short (tag_in token.now) result) }
         ensures end { (result ≡ Err StampEnd) ↔ IsTrue (is_ended (state_of self.old) (message_of token.now)) }
-        ensures err { OnErr result (state_of self.new ≡ state_of self.old) }
-        ensures err_outputs { OnErr result (outputs.new.messages ≡ outputs.old.messages) }
     {
         let stamp = next_stamp(self.stamp, u64::from(token.stamp))?;
         let instr = &graph.instrs()[token.instr as usize];
@@ -243,16 +206,9 @@ impl<'a> Desk<'a> {
         requires counted { self.old.contexts + 1 < 2 ^ 64 }
         requires numbered { self.old.structures + 1 < 2 ^ 64 }
 
-        ensures handled { IfOk result (λ short. IsHandled short → IsConcluded self.old self.new outputs.old.messages
-            outputs.new.messages self.old.waiting token.now short) }
-        ensures apart { result ≡ Ok Short.Apart
-            → IsUnchanged self.old self.new outputs.old.messages outputs.new.messages }
-        ensures number { self.new.log.element ≡ self.old.log.element }
-        ensures graph { self.new.log.graph ≡ self.old.log.graph }
-        ensures keeps { self.new.log.keeps ≡ self.old.log.keeps }
-
+        ensures treats { Treats self.old self.new (message_of token.now) outputs.old.messages outputs.new.messages
+            (came_short (tag_in token.now) result) }
         ensures memory { IfErr result (λ e. e ≡ TakeError.Memory) }
-        ensures err { OnErr result (IsUnchanged self.old self.new outputs.old.messages outputs.new.messages) }
     {
         self.reserve(most, 0, outputs)?;
         let reacted = react_plain(&mut self.waiting, instr.op, token)?;
@@ -290,26 +246,21 @@ impl<'a> Desk<'a> {
         requires counted { self.old.contexts + 1 < 2 ^ 64 }
         requires numbered { self.old.structures + 1 < 2 ^ 64 }
 
-        ensures handled { (w : Store) → IsReaction instr.now.op w self.old.waiting token.now reacted
-            → IsHandled result
-            → IsConcluded self.old self.new outputs.old.messages outputs.new.messages w token.now result }
-        ensures apart { result ≡ Short.Apart
-            → (reacted ≡ Reacted.Apart) × IsUnchanged self.old self.new outputs.old.messages outputs.new.messages }
-        ensures number { self.new.log.element ≡ self.old.log.element }
-        ensures graph { self.new.log.graph ≡ self.old.log.graph }
-        ensures keeps { self.new.log.keeps ≡ self.old.log.keeps }
+        ensures { (w : Store) → IsReaction instr.now.op w self.old.waiting token.now reacted
+            → TreatsFrom w self.old self.new (message_of token.now) outputs.old.messages outputs.new.messages
+            (short_step (tag_in token.now) result) }
     {
         match reacted {
             Reacted::Waits => {
-                self.conclude_shot(instr, token, stamp, Shot::Nothing, outputs);
+                self.conclude_short(instr, token, stamp, PlainFired::Nothing, outputs);
                 Short::Went
             }
-            Reacted::One(shot) => {
-                self.conclude_shot(instr, token, stamp, shot, outputs);
+            Reacted::One(fired) => {
+                self.conclude_short(instr, token, stamp, fired, outputs);
                 Short::Went
             }
-            Reacted::Two(shot) => {
-                self.conclude_shot(instr, token, stamp, shot, outputs);
+            Reacted::Two(fired) => {
+                self.conclude_short(instr, token, stamp, fired, outputs);
                 Short::Went
             }
             Reacted::Fires(operands) => {
@@ -382,10 +333,7 @@ impl<'a> Desk<'a> {
         replies: usize,
         outputs: &mut Queue,
     ) -> Result<(), AllocError>
-        ensures state { state_of self.new ≡ state_of self.old }
-        ensures number { self.new.log.element ≡ self.old.log.element }
-        ensures graph { self.new.log.graph ≡ self.old.log.graph }
-        ensures keeps { self.new.log.keeps ≡ self.old.log.keeps }
+        ensures element { element_at self.new ≡ element_at self.old }
         ensures messages { outputs.new.messages ≡ outputs.old.messages }
 
         ensures room { OnOk result (0 < self.new.log.room) }
@@ -456,32 +404,27 @@ impl<'a> Desk<'a> {
         self.structures += allocated_by(instr.op, &reaction.fired);
     }
 
-    /// Sends what was shot, and records the event. There is room for it. Takes no memory.
+    /// Sends what was fired in small numbers, and records the event. There is room for it. Takes no memory.
     #[inline(always)]
-    fn conclude_shot(
+    fn conclude_short(
         &mut self,
         instr: &Instr,
         token: &PlainToken,
         stamp: u32,
-        shot: Shot,
+        fired: PlainFired,
         outputs: &mut Queue,
     )
         requires room { 0 < self.old.log.room }
         requires short { IsShort self.old (most_sent instr.now) token.now stamp }
-        requires own_value { IsOwn shot token.now.value }
-        requires brief { IsBrief token.now.iteration shot }
-        requires makes_none { allocated_by instr.now.op (fired_of shot) ≡ 0 }
+        requires makes_none { MakesNone fired token.now.value }
+        requires takes_none { allocated_by instr.now.op (fired_of (tag_in token.now) fired) ≡ 0 }
         requires own { slice_get self.old.log.graph.instrs token.now.instr ≡ Some instr.now }
         requires room_in_outputs { most_sent instr.now ≤ outputs.old.room }
-        requires graph { IsGraph self.old.log.graph }
-        requires valid { IsValid self.old.log.graph }
-        requires counted { self.old.contexts + 1 < 2 ^ 64 }
-        requires numbered { self.old.structures + 1 < 2 ^ 64 }
 
         ensures recorded { IsRecorded self.old self.new (message_of token.now) stamp
-            (token_outcome self.old instr.now (tag_in token.now) (fired_of shot) Went) }
+            (token_outcome self.old instr.now (tag_in token.now) (fired_of (tag_in token.now) fired) Went) }
         ensures sent { IsSent self.old outputs.old.messages outputs.new.messages stamp
-            (token_sends instr.now (tag_in token.now) (fired_of shot)) }
+            (token_sends instr.now (tag_in token.now) (fired_of (tag_in token.now) fired)) }
     {
         let sample = PlainToken {
             position: self.log.len() as u32,
@@ -489,43 +432,13 @@ impl<'a> Desk<'a> {
             sender: self.log.element() as u8,
             ..*token
         };
-        send_shot(instr, &sample, shot, outputs);
-        self.log.push_shot(Shooting { token, stamp, shot });
-        self.stamp = u64::from(stamp);
-    }
-
-    /// Sends what a deed sends, and records the event. There is room for it. Takes no memory.
-    #[inline(always)]
-    fn conclude_deed(
-        &mut self,
-        instr: &Instr,
-        token: &PlainToken,
-        stamp: u32,
-        deed: Deed,
-        outputs: &mut Queue,
-    )
-        requires room { 0 < self.old.log.room }
-        requires short { IsShort self.old (most_sent instr.now) token.now stamp }
-        requires own { slice_get self.old.log.graph.instrs token.now.instr ≡ Some instr.now }
-        requires room_in_outputs { most_sent instr.now ≤ outputs.old.room }
-        requires counted { self.old.contexts + 1 < 2 ^ 64 }
-        requires numbered { self.old.structures + 1 < 2 ^ 64 }
-
-        ensures recorded { IsRecorded self.old self.new (message_of token.now) stamp
-            (token_outcome self.old instr.now (tag_in token.now) (fired_by_deed (tag_in token.now) deed) Went) }
-        ensures sent { IsSent self.old outputs.old.messages outputs.new.messages stamp
-            (token_sends instr.now (tag_in token.now) (fired_by_deed (tag_in token.now) deed)) }
-    {
-        let sample = PlainToken {
-            position: self.log.len() as u32,
+        send_plain_fired(instr, &sample, fired, outputs);
+        self.log.push_plain(PlainFiring {
+            token,
             stamp,
-            sender: self.log.element() as u8,
-            ..*token
-        };
-        send_deed(instr, &sample, deed, outputs);
-        self.log.push_deed(Doing { token, stamp, deed });
+            fired,
+        });
         self.stamp = u64::from(stamp);
-        self.structures += allocated_by_deed(instr.op, deed);
     }
 
     /// Fires the operands of which a plain token is one, sends what comes of them, and records the event. There is room
@@ -548,25 +461,24 @@ impl<'a> Desk<'a> {
         requires counted { self.old.contexts + 1 < 2 ^ 64 }
         requires numbered { self.old.structures + 1 < 2 ^ 64 }
 
-        ensures handled { IsHandled result }
-        ensures verdict { step_in result (tag_in token.now) ≡ full_step
-            (message_of token.now).payload (fired_verdict (fired_by self.old instr.now token.now operands)) }
+        ensures step { short_step (tag_in token.now) result ≡ Some (full_step
+            (message_of token.now).payload (fired_verdict (fired_by self.old instr.now token.now operands))) }
         ensures recorded { IsRecorded self.old self.new (message_of token.now) stamp (token_outcome self.old instr.now
             (tag_in token.now) (fired_by self.old instr.now token.now operands) (full_step
             (message_of token.now).payload (fired_verdict (fired_by self.old instr.now token.now operands)))) }
         ensures sent { IsSent self.old outputs.old.messages outputs.new.messages stamp
             (token_sends instr.now (tag_in token.now) (fired_by self.old instr.now token.now operands)) }
     {
-        match deed_of(instr.op, operands) {
-            Some(deed) => {
-                self.conclude_deed(instr, token, stamp, deed, outputs);
+        match fire_else(instr.op, operands) {
+            Some(fired) if allocated_by_plain(instr.op, fired) == 0 => {
+                self.conclude_short(instr, token, stamp, fired, outputs);
                 Short::Went
             }
-            None => self.conclude_full(instr, token, stamp, operands, outputs),
+            _ => self.conclude_full(instr, token, stamp, operands, outputs),
         }
     }
 
-    /// The same where it is no deed.
+    /// The same where its numbers are not small.
     #[inline(never)]
     fn conclude_full(
         &mut self,
@@ -585,9 +497,8 @@ impl<'a> Desk<'a> {
         requires counted { self.old.contexts + 1 < 2 ^ 64 }
         requires numbered { self.old.structures + 1 < 2 ^ 64 }
 
-        ensures handled { IsHandled result }
-        ensures verdict { step_in result (tag_in token.now) ≡ full_step
-            (message_of token.now).payload (fired_verdict (fired_by self.old instr.now token.now operands)) }
+        ensures step { short_step (tag_in token.now) result ≡ Some (full_step
+            (message_of token.now).payload (fired_verdict (fired_by self.old instr.now token.now operands))) }
         ensures recorded { IsRecorded self.old self.new (message_of token.now) stamp (token_outcome self.old instr.now
             (tag_in token.now) (fired_by self.old instr.now token.now operands) (full_step
             (message_of token.now).payload (fired_verdict (fired_by self.old instr.now token.now operands)))) }

@@ -1,19 +1,18 @@
 //! An element: what waits at it, its cells, its last stamp and its record (docs/MACHINE.md, "Element step").
 
-ghost use Rattle.std.specs.Prelude.{◌≡◌, ◌↔◌, IsTrue};
-ghost use Rattle.id_record.specs.declared.step.Step.TheVariants.{Went};
-ghost use Rattle.id_element.specs.Shorts.{IsHandled, step_in};
-ghost use Rattle.id_element.specs.declared.step.Short.{Short};
-ghost use Rattle.id_tag.specs.declared.Tag.{Tag};
+ghost use Rattle.std.specs.Prelude.{◌≡◌};
+ghost use Rattle.id_element.specs.Shorts.{short_step};
 
+use crate::cells::take_demand;
 use crate::desk::Desk;
 use crate::gate::{Gate, Open};
 use crate::outcome::bound;
 use crate::step::{Short, TakeError};
+use crate::taking::take;
 use id_bank::{Cells, Reader};
 use id_flight::{Demand, Queue};
-use id_record::{Events, Faulted, Keeps, Step, Telling, full_step};
-use id_tag::{Message, Payload, PlainToken};
+use id_record::{Events, Fault, Faulted, Keeps, Step, Telling, full_step};
+use id_tag::{Message, Payload, PlainToken, Tag};
 use id_valid::Valid;
 use std::alloc::{AllocError, Global};
 use std::marker::Model;
@@ -21,9 +20,7 @@ use std::marker::Model;
 /// An element of the machine: it handles the messages that are routed to it, one at a time.
 #[derive(Drop)]
 pub struct Element<'a> {
-    count: u32,
     desk: Desk<'a>,
-    went: bool,
     // What a message sends at the most, at any instruction of the graph, and more than 256 where the number of the
     // element or those of the instructions are not small: asked for once.
     most: usize,
@@ -31,48 +28,35 @@ pub struct Element<'a> {
 
 impl<'a> Model for Element<'a> {
     ghost use Rattle.id_element.specs.Codes.{coded_element};
-    ghost use Rattle.id_element.specs.Replays.{ElementView, IsKept};
-    ghost use Rattle.id_element.specs.Desks.{state_of};
-    ghost use Rattle.id_element.specs.Firings.{IsBound};
+    ghost use Rattle.id_element.specs.Desks.{element_at};
+    ghost use Rattle.id_element.specs.Kept.{IsKept};
+    ghost use Rattle.id_element.specs.Replays.{ElementView};
 
     ghost Value = { ElementView };
 
     ghost coded = { coded_element };
 
-    ghost view = { λ e. record {
-      number = e.desk.log.element;
-      count = e.count;
-      graph = e.desk.log.graph;
-      keeps = e.desk.log.keeps;
-      state = state_of e.desk;
-    } };
+    ghost view = { λ e. element_at e.desk };
 
-    ghost invariant = { λ e. IsKept (record {
-      number = e.desk.log.element;
-      count = e.count;
-      graph = e.desk.log.graph;
-      keeps = e.desk.log.keeps;
-      state = state_of e.desk;
-    }) e.went × IsBound e.desk.log.graph e.desk.log.element e.most };
+    ghost invariant = { λ e. IsKept (element_at e.desk) e.most };
 }
 
 impl<'a> Element<'a> {
-    ghost use Rattle.std.specs.Prelude.{◌≡◌, ◌<◌, ◌≤◌, ◌-◌, ◌^◌, ◌==◌, ◌||◌, ◌++◌};
-    ghost use Rattle.std.specs.Prelude.{◌↔◌, All, IfOk, OnOk, OnErr, IsTrue};
-    ghost use Rattle.std.specs.Prelude.{true, false, ◌≢◌, length};
+    ghost use Rattle.std.specs.Prelude.{◌≡◌, ◌≢◌, ◌<◌, ◌≤◌, ◌-◌, ◌^◌, ◌↔◌};
+    ghost use Rattle.std.specs.Prelude.{◌==◌, ◌||◌, All, IfOk, IsTrue, length};
     ghost use Rattle.std.specs.FinMap.{empty};
+    ghost use Rattle.id_tag.specs.Plains.{message_of, tag_in};
+    ghost use Rattle.id_flight.specs.Demands.{demanded};
+    ghost use Rattle.id_bank.specs.Cells.{cells_of, deferred_of};
     ghost use Rattle.id_record.specs.declared.kept.Keeps.TheVariants as keeps;
+    ghost use Rattle.id_record.specs.Events.{AllWent};
     ghost use Rattle.id_record.specs.Tellings.{any_stuck, first_fault, merged, tellings};
     ghost use Rattle.id_element.specs.declared.step.TakeError.TheVariants.{StampEnd};
-    ghost use Rattle.id_record.specs.Events.{AllWent};
     ghost use Rattle.id_element.specs.Fits.{Fits, IsFor};
-    ghost use Rattle.id_flight.specs.Demands.{demanded};
     ghost use Rattle.id_element.specs.Replays.{Replays};
-    ghost use Rattle.id_bank.specs.Cells.{cells_of, deferred_of};
-    ghost use Rattle.id_element.specs.Steps.{fresh, is_ended, step_of, outputs_of, state_after};
-    ghost use Rattle.id_element.specs.Shorts.{IsHandled, step_in};
-    ghost use Rattle.id_element.specs.declared.step.Short.{Short};
-    ghost use Rattle.id_tag.specs.Plains.{message_of, tag_in};
+    ghost use Rattle.id_element.specs.Shorts.{came_short};
+    ghost use Rattle.id_element.specs.Steps.{fresh, is_ended, outputs_of};
+    ghost use Rattle.id_element.specs.Takes.{Becomes, Handles, HandlesAt, IsForAt};
 
     /// The element of this number, of so many, that has handled nothing and keeps all events. Takes no memory, and
     /// looks at each instruction once.
@@ -101,34 +85,18 @@ impl<'a> Element<'a> {
             ≡ record { number = number; count = count; graph = graph.now; keeps = keeps; state = fresh } }
     {
         Element {
-            count,
-            desk: Desk::new(alloc, number, graph, keeps),
-            went: true,
+            desk: Desk::new(alloc, number, count, graph, keeps),
             most: bound(number, graph.graph()),
         }
     }
 
-    /// Handles a message that is for this element: appends what is sent for it, and answers what it
-    /// came to (docs/MACHINE.md, "Element step"). After an error nothing has changed, and the same
-    /// message can be given again.
+    /// Handles a message that is for this element: appends what is sent for it, and answers what it came to
+    /// (docs/MACHINE.md, "Element step"). After an error nothing has changed, and the same message can be given again.
     #[inline(always)]
     pub fn take(&mut self, message: &Message, outputs: &mut Queue) -> Result<Step, TakeError>
         requires { IsFor self.old.graph self.old.count self.old.number message.now }
-
-        ensures step { IfOk result
-            (λ step. step ≡ step_of self.old.graph self.old.number self.old.state message.now) }
-        ensures state { OnOk result (self.new
-            ≡ record self.old { state = state_after self.old.graph self.old.number self.old.state message.now }) }
-        ensures outputs { OnOk result
-            (outputs.new.messages
-            ≡ outputs.old.messages ++ outputs_of self.old.graph self.old.number self.old.state message.now) }
-        // What is sent fits, so that the element it is routed to can take it.
-        ensures fits { OnOk result
-            (All (Fits self.old.graph) (outputs_of self.old.graph self.old.number self.old.state message.now)) }
-
-        ensures end { (result ≡ Err StampEnd) ↔ IsTrue (is_ended self.old.state message.now) }
-        ensures err { OnErr result (self.new ≡ self.old) }
-        ensures err_outputs { OnErr result (outputs.new.messages ≡ outputs.old.messages) }
+        ensures { Handles self.old self.new message.now outputs.old.messages outputs.old.messages
+            outputs.new.messages result }
     {
         self.take_held(message, outputs, &Open)
     }
@@ -144,95 +112,140 @@ impl<'a> Element<'a> {
         gate: &G,
     ) -> Result<Step, TakeError>
         requires { IsFor self.old.graph self.old.count self.old.number message.now }
-
-        ensures step { IfOk result
-            (λ step. step ≡ step_of self.old.graph self.old.number self.old.state message.now) }
-        ensures state { OnOk result (self.new
-            ≡ record self.old { state = state_after self.old.graph self.old.number self.old.state message.now }) }
-        ensures outputs { OnOk result
-            (outputs.new.messages
-            ≡ outputs.old.messages ++ outputs_of self.old.graph self.old.number self.old.state message.now) }
-        // What is sent fits, so that the element it is routed to can take it.
-        ensures fits { OnOk result
-            (All (Fits self.old.graph) (outputs_of self.old.graph self.old.number self.old.state message.now)) }
-
-        ensures end { (result ≡ Err StampEnd) ↔ IsTrue (is_ended self.old.state message.now) }
-        ensures err { OnErr result (self.new ≡ self.old) }
-        ensures err_outputs { OnErr result (outputs.new.messages ≡ outputs.old.messages) }
+        ensures { Handles self.old self.new message.now outputs.old.messages outputs.old.messages
+            outputs.new.messages result }
     {
         let graph = self.desk.log.graph();
-        let verdict = crate::taking::take(&mut self.desk, graph.graph(), message, outputs, gate)?;
-        let step = full_step(&message.payload, verdict);
-        self.went = still_went(self.went, &step);
+        let verdict = take(&mut self.desk, graph.graph(), message, outputs, gate)?;
+        Ok(full_step(&message.payload, verdict))
+    }
+
+    /// Handles the message at a position of a list, from 0, which is for this element, as `take_held` does: it leaves
+    /// the list, which closes up, and what is sent for it goes to the end. After an error nothing has changed.
+    #[inline(always)]
+    pub fn take_from<G: Gate>(
+        &mut self,
+        list: &mut Queue,
+        position: usize,
+        gate: &G,
+    ) -> Result<Step, TakeError>
+        requires there { position < length list.old.messages }
+        requires for_it { IsForAt self.old list.old.messages position }
+        ensures { HandlesAt position self.old self.new list.old.messages list.new.messages result }
+    {
+        let token = match list.token(position) {
+            Some(token) => *token,
+            None => return self.take_other(list, position, gate),
+        };
+        self.open(list, position, u64::from(token.stamp))?;
+        let short = self.take_plain(&token, list, gate)?;
+        match short_step(token.tag(), short) {
+            Some(step) => {
+                list.remove(position);
+                Ok(step)
+            }
+            None => self.take_whole(list, position, gate),
+        }
+    }
+
+    /// The same of what is no plain token.
+    #[inline(never)]
+    fn take_other<G: Gate>(
+        &mut self,
+        list: &mut Queue,
+        position: usize,
+        gate: &G,
+    ) -> Result<Step, TakeError>
+        requires there { position < length list.old.messages }
+        requires for_it { IsForAt self.old list.old.messages position }
+        ensures { HandlesAt position self.old self.new list.old.messages list.new.messages result }
+    {
+        let demand = match list.demand(position) {
+            Some(demand) => demand,
+            None => return self.take_whole(list, position, gate),
+        };
+        self.open(list, position, u64::from(demand.like.stamp))?;
+        let short = self.take_short_demand(&demand, list, gate)?;
+        match short_step(demand.like.tag(), short) {
+            Some(step) => {
+                list.remove(position);
+                Ok(step)
+            }
+            None => self.take_whole(list, position, gate),
+        }
+    }
+
+    /// The same of any message.
+    #[inline(never)]
+    fn take_whole<G: Gate>(
+        &mut self,
+        list: &mut Queue,
+        position: usize,
+        gate: &G,
+    ) -> Result<Step, TakeError>
+        requires there { position < length list.old.messages }
+        requires for_it { IsForAt self.old list.old.messages position }
+        ensures { HandlesAt position self.old self.new list.old.messages list.new.messages result }
+    {
+        let message = list.message(position);
+        self.open(list, position, message.stamp)?;
+        let step = self.take_held(&message, list, gate)?;
+        list.remove(position);
         Ok(step)
     }
 
-    /// Handles a plain token that is for this element, as `take_held` does, where that is short, and says what became
-    /// of it. After an error, and where it is not short, nothing has changed and the gate was not called.
+    /// Makes a list ready for its message at a position, which has this stamp, to leave it, where a stamp is left.
     #[inline(always)]
-    pub fn take_plain_held<G: Gate>(
+    fn open(&self, list: &mut Queue, position: usize, stamp: u64) -> Result<(), TakeError>
+        requires { position < length list.old.messages }
+        ensures same { list.new.messages ≡ list.old.messages }
+        ensures end { (result ≡ Err StampEnd)
+            ↔ IsTrue ((self.now.state.stamp == 2 ^ 64 - 1) || (stamp == 2 ^ 64 - 1)) }
+    {
+        if self.desk.stamp == u64::MAX || stamp == u64::MAX {
+            return Err(TakeError::StampEnd);
+        }
+        list.open(position)?;
+        Ok(())
+    }
+
+    /// Handles a plain token that is for this element, as `take_held` does, where that is short, and says what became
+    /// of it. Where it is not short, the gate was not called.
+    #[inline(always)]
+    fn take_plain<G: Gate>(
         &mut self,
         token: &PlainToken,
         outputs: &mut Queue,
         gate: &G,
     ) -> Result<Short, TakeError>
         requires { IsFor self.old.graph self.old.count self.old.number (message_of token.now) }
-
-        ensures step { IfOk result (λ short. IsHandled short → step_in short (tag_in token.now)
-            ≡ step_of self.old.graph self.old.number self.old.state (message_of token.now)) }
-        ensures state { IfOk result (λ short. IsHandled short → self.new ≡ record self.old {
-          state = state_after self.old.graph self.old.number self.old.state (message_of token.now);
-        }) }
-        ensures outputs { IfOk result (λ short. IsHandled short → outputs.new.messages
-            ≡ outputs.old.messages
-            ++ outputs_of self.old.graph self.old.number self.old.state (message_of token.now)) }
-        ensures fits { OnOk result (All (Fits self.old.graph)
-            (outputs_of self.old.graph self.old.number self.old.state (message_of token.now))) }
-        ensures apart { result ≡ Ok Short.Apart → self.new ≡ self.old }
-        ensures apart_outputs { result ≡ Ok Short.Apart → outputs.new.messages ≡ outputs.old.messages }
-
+        ensures becomes { Becomes self.old self.new (message_of token.now) outputs.old.messages outputs.old.messages
+            outputs.new.messages (came_short (tag_in token.now) result) }
+        ensures fits { All (Fits self.old.graph)
+            (outputs_of self.old.graph self.old.number self.old.state (message_of token.now)) }
         ensures end { (result ≡ Err StampEnd) ↔ IsTrue (is_ended self.old.state (message_of token.now)) }
-        ensures err { OnErr result (self.new ≡ self.old) }
-        ensures err_outputs { OnErr result (outputs.new.messages ≡ outputs.old.messages) }
     {
         let graph = self.desk.log.graph();
-        let short = self
-            .desk
-            .take_plain(graph.graph(), token, self.most, outputs, gate)?;
-        note_short(&mut self.went, short);
-        Ok(short)
+        self.desk
+            .take_plain(graph.graph(), token, self.most, outputs, gate)
     }
 
-    /// Handles a read or a write of a cell that is for this element, as `take_held` does, where that is short, and
-    /// answers whether it did: all goes well then. After an error, and where it is not short, nothing has changed and
-    /// the gate was not called.
+    /// The same of a read or a write of a cell.
     #[inline(always)]
-    pub fn take_demand_held<G: Gate>(
+    fn take_short_demand<G: Gate>(
         &mut self,
         demand: &Demand,
         outputs: &mut Queue,
         gate: &G,
-    ) -> Result<bool, TakeError>
+    ) -> Result<Short, TakeError>
         requires { IsFor self.old.graph self.old.count self.old.number (demanded demand.now) }
-
-        ensures step { result ≡ Ok true →
-            step_of self.old.graph self.old.number self.old.state (demanded demand.now) ≡ Went }
-        ensures state { result ≡ Ok true → self.new ≡ record self.old {
-          state = state_after self.old.graph self.old.number self.old.state (demanded demand.now);
-        } }
-        ensures outputs { result ≡ Ok true → outputs.new.messages
-            ≡ outputs.old.messages ++ outputs_of self.old.graph self.old.number self.old.state (demanded demand.now) }
-        ensures fits { OnOk result (All (Fits self.old.graph)
-            (outputs_of self.old.graph self.old.number self.old.state (demanded demand.now))) }
-        ensures apart { result ≡ Ok false → self.new ≡ self.old }
-        ensures apart_outputs { result ≡ Ok false → outputs.new.messages ≡ outputs.old.messages }
-
+        ensures becomes { Becomes self.old self.new (demanded demand.now) outputs.old.messages outputs.old.messages
+            outputs.new.messages (came_short (tag_in demand.now.like) result) }
+        ensures fits { All (Fits self.old.graph)
+            (outputs_of self.old.graph self.old.number self.old.state (demanded demand.now)) }
         ensures end { (result ≡ Err StampEnd) ↔ IsTrue (is_ended self.old.state (demanded demand.now)) }
-        ensures err { OnErr result (self.new ≡ self.old) }
-        ensures err_outputs { OnErr result (outputs.new.messages ≡ outputs.old.messages) }
     {
-        let handled = crate::cells::take_demand(&mut self.desk, demand, outputs, gate)?;
-        Ok(handled)
+        take_demand(&mut self.desk, demand, outputs, gate)
     }
 
     /// Gives back the memory of what waits, where nothing does: it shows the same as before.
@@ -240,14 +253,6 @@ impl<'a> Element<'a> {
         ensures { self.new ≡ self.old }
     {
         self.desk.give_back(alloc);
-    }
-
-    /// Whether no stamp is left after this one. Takes no memory.
-    #[inline(always)]
-    pub fn is_ended_at(&self, stamp: u64) -> bool
-        ensures { result ≡ ((self.now.state.stamp == 2 ^ 64 - 1) || (stamp == 2 ^ 64 - 1)) }
-    {
-        self.desk.stamp == u64::MAX || stamp == u64::MAX
     }
 
     /// Whether no stamp is left for the message. Takes no memory.
@@ -262,7 +267,7 @@ impl<'a> Element<'a> {
     pub fn all_went(&self) -> bool
         ensures { IsTrue result ↔ AllWent self.now.state.events }
     {
-        self.went
+        !self.desk.log.is_stuck() && self.desk.log.fault().is_none()
     }
 
     /// Whether no cell was read or written here. Takes no memory.
@@ -351,25 +356,14 @@ impl<'a> Element<'a> {
     }
 }
 
-/// Notes of a plain token whether it went well, if it was handled: most do, and leave what was noted as it is.
+/// What the event of a message under this tag came to, where it was handled in short.
 #[inline(always)]
-fn note_short(went: &mut bool, short: Short)
-    ensures handled { IsHandled short → (t : Tag)
-        → (IsTrue went.new ↔ (IsTrue went.old × (step_in short t ≡ Went))) }
-    ensures apart { short ≡ Short.Apart → went.new ≡ went.old }
+fn short_step(tag: Tag, short: Short) -> Option<Step>
+    ensures { result ≡ short_step tag short }
 {
-    if let Short::Failed(_) = short {
-        *went = false;
-    }
-}
-
-/// Whether every event went well, this one taken in.
-#[inline(always)]
-fn still_went(went: bool, step: &Step) -> bool
-    ensures { IsTrue result ↔ (IsTrue went × (step.now ≡ Went)) }
-{
-    match *step {
-        Step::Went => went,
-        Step::Fault(_) | Step::Stuck => false,
+    match short {
+        Short::Went => Some(Step::Went),
+        Short::Failed(fault) => Some(Step::Fault(Fault::Operator { fault, tag })),
+        Short::Apart => None,
     }
 }

@@ -2,8 +2,8 @@
 //!
 //! Keeps: an element's state, its store, its cells and its numbers, is what its record leads to.
 //! Errors: `TakeError`; after each of them nothing has changed.
-//! Read first: `specs/Steps.antt`, then `Element::take`; `specs/Firings.antt`, then `outcome::react`;
-//! `specs/Desks.antt`, then `Desk::take_token`.
+//! Read first: `specs/Steps.antt` and `specs/Takes.antt`, then `Element::take`; `specs/Firings.antt`, then
+//! `outcome::react`; `specs/Desks.antt`, then `Desk::take_token`.
 //! Not here: what an operator does (`id_ops`), matching (`id_match`), how events are kept (`id_record`), runs
 //! (`id_core`).
 #![tactic(auto)]
@@ -20,4 +20,4 @@ mod taking;
 pub use element::Element;
 pub use fitting::{fits, op_at};
 pub use gate::{Gate, Handling, Open};
-pub use step::{Short, TakeError};
+pub use step::TakeError;

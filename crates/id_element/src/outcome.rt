@@ -6,7 +6,7 @@ ghost use Rattle.std.specs.Prelude.{IfOk, IfSome, OnOk, OnErr, IfErr, IsTrue, tr
 ghost use Rattle.id_bank.specs.Cells.{Cells};
 ghost use Rattle.id_element.specs.Steps.{allocated_by, answer_fired, arrival, at_instr, fill_verdict, fresh_numbers};
 ghost use Rattle.id_element.specs.Steps.{fired_verdict, made_by, waiting_after};
-ghost use Rattle.id_element.specs.Shorts.{IsHandled, step_in};
+ghost use Rattle.id_element.specs.Shorts.{short_step};
 ghost use Rattle.id_record.specs.Sends.{HasSecond, count_started, sent, started, numbered, replies, token_to};
 ghost use Rattle.id_tag.specs.declared.Sender.TheVariants.{Element};
 ghost use Rattle.id_tag.specs.declared.Payload.TheVariants.{Token};
@@ -20,16 +20,14 @@ ghost use Rattle.id_match.specs.Waiting.{Store, offer_after, offer_answer, pair_
 ghost use Rattle.id_match.specs.declared.meeting.Offered.TheVariants.{Pair};
 ghost use Rattle.id_tag.specs.Plains.{context_of, message_of, tag_in, whole};
 ghost use Rattle.id_tag.specs.declared.plain.Plain.{Plain};
-ghost use Rattle.id_instr.specs.declared.dests.Port.TheVariants.{Zero, One as PortOne};
-ghost use Rattle.id_ops.specs.Shots.{IsBrief, IsOwn, target_tag};
+ghost use Rattle.id_instr.specs.declared.dests.Port.TheVariants.{Zero};
+ghost use Rattle.id_ops.specs.PlainFired.{MakesNone, fired_of, target_tag};
 ghost use Rattle.id_instr.specs.declared.instr.Instr.{Instr};
 ghost use Rattle.id_tag.specs.declared.Tag.{Tag};
 ghost use Rattle.id_ops.specs.declared.Fresh.{Fresh};
 ghost use Rattle.id_ops.specs.declared.Operands.TheVariants.{One, Two};
 ghost use Rattle.id_ops.specs.Operators.{fired};
 ghost use Rattle.id_ops.specs.declared.Fired.TheVariants.{Entered};
-ghost use Rattle.id_ops.specs.Deeds.{fired_by_deed};
-ghost use Rattle.id_ops.specs.Shots.{fired_of};
 ghost use Rattle.id_instr.specs.Graph.{arcs_on};
 ghost use Rattle.id_ops.specs.Operators.{side_of, tag_within};
 
@@ -39,7 +37,8 @@ use id_flight::Queue;
 use id_instr::{Dest, Graph, Instr, Op, Port};
 use id_match::{Met, Offered, Waiting};
 use id_ops::{
-    Deed, Fired, Fresh, Operands, Shot, Target, deed_on, deed_on_two, fire, shoot_one, shoot_two,
+    Fired, Fresh, Operands, PlainFired, Target, fire, fire_one, fire_one_else, fire_two,
+    fire_two_else,
 };
 use id_record::{
     Envelope, Reaction, Record, Verdict, chosen, count_started, message, moved_to, start, token_at,
@@ -162,6 +161,7 @@ pub fn react_operands(instr: &Instr, next: Fresh, tag: Tag, operands: PlainOpera
 /// where the operands are plain.
 #[inline(always)]
 pub fn react_plain(waiting: &mut Waiting, op: Op, token: &PlainToken) -> Result<Reacted, AllocError>
+    requires { token.now.iteration < 2 ^ 32 - 1 }
     ensures reaction { IfOk result (IsReaction op waiting.old waiting.new token.now) }
     ensures err { OnErr result (waiting.new ≡ waiting.old) }
 {
@@ -178,16 +178,17 @@ pub fn react_plain(waiting: &mut Waiting, op: Op, token: &PlainToken) -> Result<
 /// What comes of a plain token at an operator of one port.
 #[inline(always)]
 fn fires(op: Op, token: &PlainToken) -> Reacted
-    requires { two_ports op ≡ false }
+    requires port { two_ports op ≡ false }
+    requires iteration { token.now.iteration < 2 ^ 32 - 1 }
     ensures { (w : Store) → IsReaction op w w token.now result }
 {
-    match shoot_one(op, u64::from(token.iteration), token.value) {
-        Some(shot) => Reacted::One(shot),
+    match fire_one(op, token.iteration, token.value) {
+        Some(fired) => Reacted::One(fired),
         None => Reacted::Fires(PlainOperands::One(token.value)),
     }
 }
 
-/// What comes of a plain token that met its partner: a shot that sends a value on sends the token's own.
+/// What comes of a plain token that met its partner.
 #[inline(always)]
 fn met(op: Op, token: &PlainToken, partner: Plain) -> Reacted
     requires { two_ports op ≡ true }
@@ -198,35 +199,31 @@ fn met(op: Op, token: &PlainToken, partner: Plain) -> Reacted
         → IsReaction op w later token.now result }
 {
     let (left, right) = by_port(token.port, token.value, partner);
-    match shoot_two(op, left, right) {
-        Some(shot) if is_own(shot, token) && allocated_by_shot(op, shot) == 0 => {
-            Reacted::Two(shot)
+    match fire_two(op, left, right) {
+        Some(fired) if is_own(fired, token) && allocated_by_plain(op, fired) == 0 => {
+            Reacted::Two(fired)
         }
         _ => Reacted::Fires(PlainOperands::Two(left, right)),
     }
 }
 
-/// Whether a shot of operands sends the token's own on, where that came to port 1, or a word for a word, or nothing.
+/// Whether the token's own value is fired, where that came to port 1, or a word for a word, as mostly: what else is
+/// fired is told out of line.
 #[inline(always)]
-fn is_own(shot: Shot, token: &PlainToken) -> bool
-    ensures { IsTrue result → (v : Plain) → (token.now.port ≡ PortOne → v ≡ token.now.value)
-        → IsOwn shot v → IsOwn shot token.now.value }
-{
-    match shot {
-        Shot::Nothing => true,
-        Shot::Out(sent) => token.value.is_word() && sent.is_word(),
-        Shot::Side(_, sent) => {
+fn is_own(fired: PlainFired, token: &PlainToken) -> bool {
+    match fired {
+        PlainFired::Out(sent) => token.value.is_word() && sent.is_word(),
+        PlainFired::Side(_, sent) => {
             token.port == Port::One || (token.value.is_word() && sent.is_word())
         }
-        Shot::Moved(_, _) | Shot::Sent(_, _) => token.port == Port::One,
+        _ => token.port == Port::One,
     }
 }
 
 /// The two values by port, of which `value` came to this port.
 #[inline(always)]
 fn by_port(port: Port, value: Plain, partner: Plain) -> (Plain, Plain)
-    ensures pair { Pair (whole result.0) (whole result.1) ≡ pair_of port (whole value) (whole partner) }
-    ensures one { port ≡ PortOne → result.1 ≡ value }
+    ensures { Pair (whole result.0) (whole result.1) ≡ pair_of port (whole value) (whole partner) }
 {
     match port {
         Port::Zero => (value, partner),
@@ -307,25 +304,13 @@ pub fn allocated_by(op: Op, fired: &Fired) -> u64
     }
 }
 
-/// How many structures a shot of the operator takes. Takes no memory.
+/// How many structures the operator takes where it fires this in small numbers. Takes no memory.
 #[inline(always)]
-fn allocated_by_shot(op: Op, shot: Shot) -> u64
-    ensures { result ≡ allocated_by op (fired_of shot) }
+pub fn allocated_by_plain(op: Op, fired: PlainFired) -> u64
+    ensures { (t : Tag) → result ≡ allocated_by op (fired_of t fired) }
 {
-    match (op, shot) {
-        (Op::Alloc { .. }, Shot::Out(_)) => 1,
-        _ => 0,
-    }
-}
-
-/// How many structures a deed of the operator takes; it makes no context. Takes no memory.
-#[inline(always)]
-pub fn allocated_by_deed(op: Op, deed: Deed) -> u64
-    ensures structures { (t : Tag) → result ≡ allocated_by op (fired_by_deed t deed) }
-    ensures contexts { (t : Tag) → made_by (fired_by_deed t deed) ≡ 0 }
-{
-    match (op, deed) {
-        (Op::Alloc { .. }, Deed::Addressed(_)) => 1,
+    match (op, fired) {
+        (Op::Alloc { .. }, PlainFired::Out(_) | PlainFired::Addressed(_)) => 1,
         _ => 0,
     }
 }
@@ -377,9 +362,8 @@ fn verdict(arrival: &Arrival, fired: &Fired) -> Verdict
 /// What becomes of a plain token that fired this: it went well, or its instruction failed. Takes no memory.
 #[inline(always)]
 pub fn short_of(fired: &Fired) -> Short
-    ensures handled { IsHandled result }
-    ensures step { (t : Tag) (p : Port) (v : Value)
-        → step_in result t ≡ full_step (Token t p v) (fired_verdict fired.now) }
+    ensures { (t : Tag) (p : Port) (v : Value)
+        → short_step t result ≡ Some (full_step (Token t p v) (fired_verdict fired.now)) }
 {
     match *fired {
         Fired::Failed(fault) => Short::Failed(fault),
@@ -513,30 +497,42 @@ fn envelope_of(like: &PlainToken) -> Envelope
     }
 }
 
-/// Appends the outputs of a shot, for which there is room: each is like this token. Takes no memory.
+/// What an operator fires on plain operands in small numbers, where that is nothing that `react_plain` tells. Takes no
+/// memory.
 #[inline(always)]
-pub fn send_shot(instr: &Instr, like: &PlainToken, shot: Shot, outputs: &mut Queue)
+pub fn fire_else(op: Op, operands: PlainOperands) -> Option<PlainFired>
+    ensures fired { IfSome result
+        (λ p. (t : Tag) (f : Fresh) → fired op t (operands_in operands) f ≡ fired_of t p) }
+    ensures makes_none { IfSome result (λ p. (v : Plain) → MakesNone p v) }
+{
+    match operands {
+        PlainOperands::One(value) => fire_one_else(op, value),
+        PlainOperands::Two(left, right) => fire_two_else(op, left, right),
+    }
+}
+
+/// Appends the outputs of a firing in small numbers, for which there is room: each is like this token. Takes no memory.
+#[inline(always)]
+pub fn send_plain_fired(instr: &Instr, like: &PlainToken, fired: PlainFired, outputs: &mut Queue)
     requires room { most_sent instr.now ≤ outputs.old.room }
     requires few { most_sent instr.now ≤ 256 }
-    requires brief { IsBrief like.now.iteration shot }
-    requires iteration { like.now.iteration < 2 ^ 32 - 1 }
     ensures { outputs.new.messages ≡ outputs.old.messages
         ++ numbered like.now.sender like.now.position like.now.stamp 0
-        (sent (Some instr.now.op) (arcs_on (side_of (fired_of shot)) instr.now) (tag_in like.now) (fired_of shot)) }
+        (sent (Some instr.now.op) (arcs_on (side_of (fired_of (tag_in like.now) fired)) instr.now) (tag_in like.now)
+        (fired_of (tag_in like.now) fired)) }
 {
     let dests = instr.dests.as_slice();
-    match shot {
-        Shot::Nothing => {}
-        Shot::Out(value) | Shot::Side(true, value) => {
-            send_plain(dests, &PlainToken { value, ..*like }, outputs)
+    match fired {
+        PlainFired::Nothing => {}
+        PlainFired::Out(value) | PlainFired::Side(true, value) => {
+            send_plain(dests, &with_value(like, value), outputs)
         }
-        Shot::Side(false, value) => {
+        PlainFired::Side(false, value) => {
             let others = instr.others.as_slice();
-            send_plain(others, &PlainToken { value, ..*like }, outputs)
+            send_plain(others, &with_value(like, value), outputs)
         }
-        Shot::Sent(target, value) => send_to(target, &PlainToken { value, ..*like }, outputs),
-        Shot::Moved(iteration, value) => {
-            let iteration = iteration as u32;
+        PlainFired::Sent(target, value) => send_to(target, &with_value(like, value), outputs),
+        PlainFired::Moved(iteration, value) => {
             send_plain(
                 dests,
                 &PlainToken {
@@ -547,37 +543,10 @@ pub fn send_shot(instr: &Instr, like: &PlainToken, shot: Shot, outputs: &mut Que
                 outputs,
             )
         }
-    }
-}
-
-/// What an operator does with plain operands, where that is a deed. Takes no memory.
-#[inline(always)]
-pub fn deed_of(op: Op, operands: PlainOperands) -> Option<Deed>
-    ensures { IfSome result
-        (λ d. (t : Tag) (f : Fresh) → fired op t (operands_in operands) f ≡ fired_by_deed t d) }
-{
-    match operands {
-        PlainOperands::One(value) => deed_on(op, value),
-        PlainOperands::Two(left, right) => deed_on_two(op, left, right),
-    }
-}
-
-/// Appends the outputs of a deed, for which there is room: each is like this token. Takes no memory.
-#[inline(always)]
-pub fn send_deed(instr: &Instr, like: &PlainToken, deed: Deed, outputs: &mut Queue)
-    requires room { most_sent instr.now ≤ outputs.old.room }
-    requires few { most_sent instr.now ≤ 256 }
-    ensures { outputs.new.messages ≡ outputs.old.messages
-        ++ numbered like.now.sender like.now.position like.now.stamp 0
-        (sent (Some instr.now.op) (arcs_on (side_of (fired_by_deed (tag_in like.now) deed)) instr.now) (tag_in like.now)
-        (fired_by_deed (tag_in like.now) deed)) }
-{
-    match deed {
-        Deed::Addressed(cell) => {
-            let value = cell.address();
-            send_plain(instr.dests.as_slice(), &with_value(like, value), outputs)
+        PlainFired::Addressed(cell) => {
+            send_plain(dests, &with_value(like, cell.address()), outputs)
         }
-        Deed::Asked(cell, instr) => outputs.push_read_reserved(
+        PlainFired::Asked(cell, instr) => outputs.push_read_reserved(
             &PlainToken {
                 instr,
                 output: 0,
@@ -585,19 +554,9 @@ pub fn send_deed(instr: &Instr, like: &PlainToken, deed: Deed, outputs: &mut Que
             },
             cell,
         ),
-        Deed::Stored(cell, value) => {
+        PlainFired::Stored(cell, value) => {
             outputs.push_write_reserved(&PlainToken { output: 0, ..*like }, cell, value)
         }
-        Deed::Switched(true, value) => {
-            let dests = instr.dests.as_slice();
-            send_plain(dests, &with_value(like, value), outputs)
-        }
-        Deed::Switched(false, value) => send_plain(
-            instr.others.as_slice(),
-            &with_value(like, value),
-            outputs,
-        ),
-        Deed::Passed(target, value) => send_to(target, &with_value(like, value), outputs),
     }
 }
 

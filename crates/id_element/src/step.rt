@@ -1,6 +1,6 @@
 //! What becomes of a message, and why a message is not handled (docs/MACHINE.md, "Element step").
 
-use id_ops::{Operands, Shot};
+use id_ops::{Operands, PlainFired};
 use id_tag::Plain;
 use id_value::FaultKind;
 use std::alloc::{AllocError, AllocFailed};
@@ -64,9 +64,9 @@ pub enum Reacted {
     /// It waits for its partner.
     Waits,
     /// A plain value is sent, or nothing, by an operator of one port.
-    One(Shot),
+    One(PlainFired),
     /// The same by one of two ports.
-    Two(Shot),
+    Two(PlainFired),
     /// It fires its instruction, and these operands have something else come of them.
     Fires(PlainOperands),
     /// Something else comes of it, and nothing has changed yet.

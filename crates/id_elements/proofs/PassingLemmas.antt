@@ -15,7 +15,7 @@ use Rattle.id_tag.specs.declared.Message.{Message}
 use Rattle.id_flight.specs.Queues.{QueueView}
 use Rattle.id_inbox.specs.Hands.{weight_in}
 use Rattle.id_element.specs.Fits.{Fits}
-use Rattle.id_elements.specs.Passing.{AreRouted, IsGoalAt, IsLastPut, IsLastSent, IsSentOn}
+use Rattle.id_elements.specs.Passing.{AreRouted, IsGoalAt, IsLastMoved, IsLastSent, IsSentOn}
 
 -- ---- lists
 
@@ -52,22 +52,22 @@ module _ {X : Type 0} (own own' : List X) (x : X) (is : own ≡ own' ++ x ∷ []
 
 -- it was moved back: it is for the element
 pub IsLastSent-back : (n count : ℕ) (own own' back back' : List Message) (ls : List QueueView) (k : ℕ)
-    → count ≡ length ls → k ≡ length own - 1 → IsGoalAt count own k n → IsLastPut own back own' back'
+    → count ≡ length ls → k ≡ length own - 1 → IsGoalAt count own k n → IsLastMoved own back own' back'
     → IsLastSent n own back ls own' back' ls (Ok tt)
 IsLastSent-back n count own own' back back' ls k many last goal put =
     let x = put.message in
-    let same : goal.message ≡ x = at_last own own' x put.own_is k goal.message last goal.there in
+    let same : goal.message ≡ x = at_last own own' x put.from_is k goal.message last goal.there in
     let mine : route_of x.payload (length ls) ≡ n = subst (λ (c : ℕ). route_of x.payload c ≡ n) many
     (subst (λ (m : Message). route_of m.payload count ≡ n) same goal.routed) in
     record {
       weight = λ f.
-          let a : sum_by f own ≡ sum_by f (own' ++ x ∷ []) = ap (sum_by f) put.own_is in
-          let b : sum_by f back' ≡ sum_by f (back ++ x ∷ []) = ap (sum_by f) put.list_is in
+          let a : sum_by f own ≡ sum_by f (own' ++ x ∷ []) = ap (sum_by f) put.from_is in
+          let b : sum_by f back' ≡ sum_by f (back ++ x ∷ []) = ap (sum_by f) put.to_is in
           omega (arith, a, b, sum_by_push f own' x, sum_by_push f back x);
       count = refl;
-      fits = λ g all kept. subst (All (Fits g)) (sym put.list_is) (All-push (Fits g) back x kept (All-last own own' x put.own_is (Fits g) all));
-      routed = λ all. subst (AreRouted (length ls) n) (sym put.list_is) (All-push (λ m. route_of m.payload (length ls) ≡ n) back x all mine);
-      moved = before_last own own' x put.own_is;
+      fits = λ g all kept. subst (All (Fits g)) (sym put.to_is) (All-push (Fits g) back x kept (All-last own own' x put.from_is (Fits g) all));
+      routed = λ all. subst (AreRouted (length ls) n) (sym put.to_is) (All-push (λ m. route_of m.payload (length ls) ≡ n) back x all mine);
+      moved = before_last own own' x put.from_is;
       stays = tt;
     }
 
@@ -141,11 +141,11 @@ IsSentOn-fewer n sent fewer own back ls own' back' ls' (Err e) on front = record
 -- ---- one after another comes back
 
 -- the last of these goes in front of the others, behind what is there
-pub last_back : (own back own' back' : List Message) → IsLastPut back own back' own' → own' ++ reverse back' ≡ own ++ reverse back
+pub last_back : (own back own' back' : List Message) → IsLastMoved back own back' own' → own' ++ reverse back' ≡ own ++ reverse back
 last_back own back own' back' put =
     let x = put.message in
-    ap (λ ms. ms ++ reverse back') put.list_is ∙ append_assoc own (x ∷ []) (reverse back')
-    ∙ ap (λ ms. own ++ ms) (sym (reverse-append back' (x ∷ [])) ∙ ap reverse (sym put.own_is))
+    ap (λ ms. ms ++ reverse back') put.to_is ∙ append_assoc own (x ∷ []) (reverse back')
+    ∙ ap (λ ms. own ++ ms) (sym (reverse-append back' (x ∷ [])) ∙ ap reverse (sym put.from_is))
 
 -- one more is for the element of this number
 pub routed_more : (count n : ℕ) (ms : List Message) (k to : ℕ) → IsGoalAt count ms k to → to ≡ n → AreRouted count n (take k ms)

@@ -33,7 +33,6 @@ use Rattle.id_instr.specs.contracts.dests.Dests as the_dests
 use Rattle.id_instr.specs.contracts.dests.Others as the_others
 use Rattle.id_valid.specs.contracts.Valid as the_valid
 use Rattle.id_flight.specs.contracts.queue.Queue as the_queue
-use Rattle.id_core.specs.contracts.in_flight.InFlight as the_flight
 use Rattle.id_inbox.specs.contracts.door.Door as the_door
 use Rattle.id_elements.specs.contracts.worker.Worker as the_worker
 use Rattle.id_elements.specs.contracts.worker.Worker.TheInside as the_worker_inside
@@ -107,9 +106,6 @@ Element-send κ = search (sendable, Inside-send)
 Queue-send : IsSend the_queue.the_row
 Queue-send = search (sendable, crosses) fits 20000 depth 60
 
-Flight-send : IsSend the_flight.the_row
-Flight-send = search (sendable, crosses, Queue-send) fits 20000 depth 60
-
 -- a door, by what a call ensures that asks it of a door
 pub Door-send : (δ : Ty) → IsSend (param 0 (arg δ no the_door.the_row)) → IsSend the_door.the_row
 Door-send δ d = record { owned = d.owned; leaving = λ k x w. tt }
@@ -118,7 +114,7 @@ Door-send δ d = record { owned = d.owned; leaving = λ k x w. tt }
 Parts-send : IsSend the_door.the_row → (κ : NamedLft) → AllSend (shape (the_worker_inside.the_type κ)).fields
 Parts-send d κ =
     let letters = Vec-send the_queue.the_row Queue-send in
-    search (tt, plain_send, Vec-send, d, Element-send, Flight-send, Queue-send, letters) depth 30
+    search (tt, plain_send, Vec-send, d, Element-send, Queue-send, letters) depth 30
 
 WorkerInside-send : IsSend the_door.the_row → (κ : NamedLft) → IsSend (the_worker_inside.the_row κ)
 WorkerInside-send d κ =

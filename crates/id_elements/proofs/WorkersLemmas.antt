@@ -22,13 +22,15 @@ use Rattle.id_flight.specs.Queues.{QueueView}
 use Rattle.id_inbox.specs.Doors.{DoorView}
 use Rattle.id_inbox.specs.Hands.{sending, weight_in}
 use Rattle.id_record.specs.declared.kept.Keeps.{Keeps}
+use Rattle.id_record.specs.declared.step.Step.{Step}
 use Rattle.id_record.specs.declared.step.Step.TheVariants.{Went}
 use Rattle.id_record.specs.Events.{AllWent, EventView}
 use Rattle.id_element.specs.Fits.{Fits}
 use Rattle.id_element.specs.Steps.{State, event_of, outputs_of, state_after}
 use Rattle.id_element.specs.Replays.{ElementView}
 use Rattle.id_elements.specs.Doors.{HaveParts, queues_of}
-use Rattle.id_elements.specs.Passing.{AreFor, AreRouted, IsGiven, IsSentOn}
+use Rattle.id_element.specs.Takes.{HandlesAt}
+use Rattle.id_elements.specs.Passing.{AreFor, AreRouted, IsSentOn}
 use Rattle.id_elements.specs.Workers.{AreWorkers, IsKept, IsSame, IsSameWithin, IsWorker, StopsAtFault, WorkerView, sent_in, weight_taken}
 use Rattle.id_elements.proofs.DoorsLemmas.{parts_set, queues_set, sent_by-set, taken_by-set}
 use Rattle.id_elements.proofs.PassingLemmas.{before_last}
@@ -111,68 +113,69 @@ taken_after f g n s m = sum_by_push (λ (v : EventView). f v.message) s.events (
 stops_after : (es : List EventView) (v : EventView) → AllWent es → StopsAtFault (es ++ v ∷ [])
 stops_after es v went = subst AllWent (before_last (es ++ v ∷ []) es v refl) went
 
-module _ (k : ℕ) (own : List Message) (e : ElementView) (own' : List Message) (e' : ElementView) (b : Bool) (p : IsGiven k own e own' e' b) where
+module _ (k : ℕ) (own : List Message) (e : ElementView) (own' : List Message) (e' : ElementView) (step : Step)
+    (p : HandlesAt k e e' own own' (Ok step)) where
   -- it is the same element
   pub number_given : e'.number ≡ e.number
-  number_given = ap (λ (x : ElementView). x.number) p.element_is
+  number_given = ap (λ (x : ElementView). x.number) p.handles.becomes.element
 
   pub count_given : e'.count ≡ e.count
-  count_given = ap (λ (x : ElementView). x.count) p.element_is
+  count_given = ap (λ (x : ElementView). x.count) p.handles.becomes.element
 
   -- its own has lost one message, and got those that were sent
   pub length_given : length own' + 1 ≡ length own + length (outputs_of e.graph e.number e.state p.message)
   length_given =
       let sent = outputs_of e.graph e.number e.state p.message in
-      let a : length own' ≡ length (remove own k ++ sent) = ap length p.own_is in
-      let r = length-remove own k (slice_get_within own k p.message p.there) in
+      let a : length own' ≡ length (remove own k ++ sent) = ap length p.handles.becomes.outputs in
+      let r = length-remove own k (slice_get_within own k p.message p.at) in
       omega (arith, a, r, length-append (remove own k) sent)
 
   before_sent : (rest : ℕ) → rest ≡ length own - 1 → take rest own' ≡ remove own k
   before_sent rest is =
       let sent = outputs_of e.graph e.number e.state p.message in
-      let r = length-remove own k (slice_get_within own k p.message p.there) in
+      let r = length-remove own k (slice_get_within own k p.message p.at) in
       let at : rest ≡ length (remove own k) = omega (arith, r, is) in
-      ap (λ (n : ℕ). take n own') at ∙ ap (λ ms. take (length (remove own k)) ms) p.own_is ∙ take-append_seam (remove own k) sent
+      ap (λ (n : ℕ). take n own') at ∙ ap (λ ms. take (length (remove own k)) ms) p.handles.becomes.outputs ∙ take-append_seam (remove own k) sent
 
   fits_given : AreFor e own → All (Fits e.graph) own'
   fits_given are =
       let sent = outputs_of e.graph e.number e.state p.message in
-      subst (All (Fits e.graph)) (sym p.own_is) (All-append (Fits e.graph) (remove own k) sent
-      (All-removed (Fits e.graph) own k (fits_for e own are)) p.fits)
+      subst (All (Fits e.graph)) (sym p.handles.becomes.outputs) (All-append (Fits e.graph) (remove own k) sent
+      (All-removed (Fits e.graph) own k (fits_for e own are)) p.handles.fits)
 
 module _ (goes : Bool) (ds : List DoorView) (e : ElementView) (own came back stray : List Message) (ls : List QueueView) (on : IsTrue goes)
     (kept : IsKept (worker_of goes ds e own came back stray ls))
-    (k : ℕ) (own1 : List Message) (e' : ElementView) (b : Bool) (p : IsGiven k own e own1 e' b) where
+    (k : ℕ) (own1 : List Message) (e' : ElementView) (step : Step) (p : HandlesAt k e e' own own1 (Ok step)) where
   -- wherever the messages of its own have gone
   IsKept-moved : (goes' : Bool) (own' back' : List Message) (ls' : List QueueView)
       → ((f : Message → ℕ) → sum_by f own' + sum_by f back' + weight_in f ls' ≡ sum_by f own1 + sum_by f back + weight_in f ls)
-      → length ls' ≡ length ls → (IsTrue goes' → AreFor e own') → (IsTrue goes' → back' ≡ []) → (IsTrue goes' → IsTrue b)
+      → length ls' ≡ length ls → (IsTrue goes' → AreFor e own') → (IsTrue goes' → back' ≡ []) → (IsTrue goes' → step ≡ Went)
       → IsKept (worker_of goes' ds e' own' came back' stray ls')
   IsKept-moved goes' own' back' ls' moved long are none went =
       let g = e.graph in
       let n = e.number in
       let m = p.message in
-      let state_is : e'.state ≡ state_after g n e.state m = ap (λ (x : ElementView). x.state) p.element_is in
+      let state_is : e'.state ≡ state_after g n e.state m = ap (λ (x : ElementView). x.state) p.handles.becomes.element in
       let events_are : e'.state.events ≡ e.state.events ++ event_of g n e.state m ∷ [] = ap (λ (s : State). s.events) state_is in
       let sent_is : sent_in e'.state ≡ sent_in e.state ++ outputs_of g n e.state m = ap sent_in state_is ∙ sent_after g n e.state m in
       let all_went : AllWent e.state.events = kept.went on in
       record {
         parts = kept.parts;
-        count = ap (λ (x : ElementView). x.count) p.element_is ∙ kept.count;
-        number = subst (λ (x : ℕ). x < length ds) (sym (ap (λ (x : ElementView). x.number) p.element_is)) kept.number;
+        count = ap (λ (x : ElementView). x.count) p.handles.becomes.element ∙ kept.count;
+        number = subst (λ (x : ℕ). x < length ds) (sym (ap (λ (x : ElementView). x.number) p.handles.becomes.element)) kept.number;
         letters = length_letters ls' ∙ long ∙ sym (length_letters ls) ∙ kept.letters;
-        own = λ so. subst (λ (x : ElementView). AreFor x own') (sym p.element_is) (are so);
+        own = λ so. subst (λ (x : ElementView). AreFor x own') (sym p.handles.becomes.element) (are so);
         back = none;
         went = λ so. subst AllWent (sym events_are)
-            (All-push (λ (v : EventView). v.step ≡ Went) e.state.events (event_of g n e.state m) all_went (p.went.0 (went so)));
+            (All-push (λ (v : EventView). v.step ≡ Went) e.state.events (event_of g n e.state m) all_went (sym p.handles.becomes.step ∙ went so));
         stops = subst StopsAtFault (sym events_are) (stops_after e.state.events (event_of g n e.state m) all_went);
-        sent = subst (λ (x : Parts). All (Fits x) (sent_in e'.state)) (sym (ap (λ (x : ElementView). x.graph) p.element_is))
-            (subst (All (Fits g)) (sym sent_is) (All-append (Fits g) (sent_in e.state) (outputs_of g n e.state m) kept.sent p.fits));
+        sent = subst (λ (x : Parts). All (Fits x) (sent_in e'.state)) (sym (ap (λ (x : ElementView). x.graph) p.handles.becomes.element))
+            (subst (All (Fits g)) (sym sent_is) (All-append (Fits g) (sent_in e.state) (outputs_of g n e.state m) kept.sent p.handles.fits));
         square = λ f.
             let a : sum_by f (sent_in e'.state) ≡ sum_by f (sent_in e.state ++ outputs_of g n e.state m) = ap (sum_by f) sent_is in
             let w : weight_taken f e'.state ≡ weight_taken f e.state + f m = ap (weight_taken f) state_is ∙ taken_after f g n e.state m in
-            let c : sum_by f own1 ≡ sum_by f (remove own k ++ outputs_of g n e.state m) = ap (sum_by f) p.own_is in
-            let r = weight_removed f own k m p.there in
+            let c : sum_by f own1 ≡ sum_by f (remove own k ++ outputs_of g n e.state m) = ap (sum_by f) p.handles.becomes.outputs in
+            let r = weight_removed f own k m p.at in
             let q = moved f in
             let s = kept.square f in
             omega (
@@ -195,26 +198,26 @@ module _ (goes : Bool) (ds : List DoorView) (e : ElementView) (own came back str
   IsKept-failed = IsKept-moved false own1 back ls (λ f. refl) refl (λ so. absurd (false≢true so)) (λ so. absurd (false≢true so)) (λ so. absurd (false≢true so))
 
   -- what the only element sends is for it
-  pub IsKept-alone : IsTrue b → e.count ≡ 1 → IsKept (worker_of goes ds e' own1 came back stray ls)
+  pub IsKept-alone : step ≡ Went → e.count ≡ 1 → IsKept (worker_of goes ds e' own1 came back stray ls)
   IsKept-alone went one =
       let first : e.number ≡ 0 = (let c = kept.count in let l = kept.number in omega (arith, c, l, one)) in
       IsKept-moved goes own1 back ls (λ f. refl) refl
-      (λ so. AreFor-only e own1 one first (fits_given k own e own1 e' b p (kept.own on))) kept.back (λ so. went)
+      (λ so. AreFor-only e own1 one first (fits_given k own e own1 e' step p (kept.own on))) kept.back (λ so. went)
 
   -- what is for others was sent on
   module _ (sent : ℕ) (own' back' : List Message) (ls' : List QueueView) where
-    pub IsKept-sent : (n : ℕ) → n ≡ e.number → IsTrue b → length own1 - sent ≡ length own - 1
+    pub IsKept-sent : (n : ℕ) → n ≡ e.number → step ≡ Went → length own1 - sent ≡ length own - 1
         → IsSentOn n sent own1 back ls own' back' ls' (Ok tt) → IsKept (worker_of goes ds e' own' came back' stray ls')
     IsKept-sent n mine went from on_n =
         let s : IsSentOn e.number sent own1 back ls own' back' ls' (Ok tt) =
         subst (λ (x : ℕ). IsSentOn x sent own1 back ls own' back' ls' (Ok tt)) mine on_n in
         let many : length ls ≡ e.count = sym (length_letters ls) ∙ kept.letters ∙ sym kept.count in
         let front : AreRouted (length ls) e.number (take (length own1 - sent) own1) =
-        subst (λ (ms : List Message). AreRouted (length ls) e.number ms) (sym (before_sent k own e own1 e' b p (length own1 - sent) from))
+        subst (λ (ms : List Message). AreRouted (length ls) e.number ms) (sym (before_sent k own e own1 e' step p (length own1 - sent) from))
         (subst (λ (c : ℕ). AreRouted c e.number (remove own k)) (sym many)
         (All-removed (λ m. route_of m.payload e.count ≡ e.number) own k (routed_for e own (kept.own on)))) in
         let here = s.routed (kept.back on) front in
-        let fit : All (Fits e.graph) own' = s.fits e.graph (fits_given k own e own1 e' b p (kept.own on))
+        let fit : All (Fits e.graph) own' = s.fits e.graph (fits_given k own e own1 e' step p (kept.own on))
         (subst (All (Fits e.graph)) (sym (kept.back on)) (All-nil (Fits e.graph))) in
         IsKept-moved goes own' back' ls' s.weight s.count
         (λ so. AreFor-both e own' (subst (λ (c : ℕ). AreRouted c e.number own') many here.1) fit) (λ so. here.0) (λ so. went)

@@ -1,18 +1,14 @@
--- How an element is given a message of its own, and how messages move between a worker's lists (docs/THREADS.md, "A
--- worker").
-use Rattle.std.specs.Prelude.{◌≡◌, ◌↔◌, ◌+◌, ◌-◌, ℕ, List, [], ◌++◌, ◌∷◌, All, Bool}
-use Rattle.std.specs.Prelude.{IsTrue, length, slice_get, take, IfOk, OnErr, OnOk, Result, Some}
-use Rattle.std.specs.List.{remove, sum_by}
+-- How messages move between a worker's lists (docs/THREADS.md, "A worker").
+use Rattle.std.specs.Prelude.{◌≡◌, ◌+◌, ◌-◌, ℕ, List, [], ◌++◌, ◌∷◌, All}
+use Rattle.std.specs.Prelude.{length, slice_get, take, OnErr, OnOk, Result, Some}
+use Rattle.std.specs.List.{sum_by}
 use Rattle.std.specs.declared.alloc.AllocError.{AllocError}
 use Rattle.id_instr.specs.Graph.{Parts}
 use Rattle.id_tag.specs.declared.Message.{Message}
 use Rattle.id_tag.specs.Routes.{route_of}
 use Rattle.id_flight.specs.Queues.{QueueView}
 use Rattle.id_inbox.specs.Hands.{weight_in}
-use Rattle.id_record.specs.declared.step.Step.TheVariants.{Went}
 use Rattle.id_element.specs.Fits.{Fits, IsFor}
-use Rattle.id_element.specs.Steps.{outputs_of, state_after, step_of}
-use Rattle.id_element.specs.declared.step.TakeError.{TakeError}
 use Rattle.id_element.specs.Replays.{ElementView}
 
 -- these messages are for the element
@@ -22,24 +18,6 @@ AreFor e ms = All (IsFor e.graph e.count e.number) ms
 -- the element of this number, of so many, is the one that these messages are for
 abbrev pub AreRouted : ℕ → ℕ → List Message → Type 0
 AreRouted count n ms = All (λ m. route_of m.payload count ≡ n) ms
-
--- the element has handled the message at a position of its own, which has left; what was sent is at the end of its own,
--- and fits; the run goes on where all went well
-pub record IsGiven (k : ℕ) (own : List Message) (e : ElementView) (own' : List Message)
-    (e' : ElementView) (goes : Bool) : Type 0 where
-  pub message : Message
-  pub there : slice_get own k ≡ Some message
-  pub own_is : own' ≡ remove own k ++ outputs_of e.graph e.number e.state message
-  pub element_is : e' ≡ record e { state = state_after e.graph e.number e.state message }
-  pub fits : All (Fits e.graph) (outputs_of e.graph e.number e.state message)
-  pub went : IsTrue goes ↔ (step_of e.graph e.number e.state message ≡ Went)
-
--- the message at a position of its own was given to the element, or nothing has changed
-pub record Gives (k : ℕ) (own : List Message) (e : ElementView) (own' : List Message) (e' : ElementView)
-    (r : Result Bool TakeError) : Type 0 where
-  pub given : IfOk r (IsGiven k own e own' e')
-  pub same_own : OnErr r (own' ≡ own)
-  pub same_element : OnErr r (e' ≡ e)
 
 -- the element of this number is the one, of so many, that the message at this position is for
 pub record IsGoalAt (count : ℕ) (ms : List Message) (k n : ℕ) : Type 0 where
@@ -59,16 +37,16 @@ pub record IsSentOn (n sent : ℕ) (own back : List Message) (letters : List Que
       → (back' ≡ []) × AreRouted (length letters) n own')
 
 -- the first message of the first list has gone to the end of the second
-pub record IsFirstPut (from to from' to' : List Message) : Type 0 where
+pub record IsFirstMoved (from to from' to' : List Message) : Type 0 where
   pub message : Message
   pub from_is : from ≡ message ∷ from'
   pub to_is : to' ≡ to ++ message ∷ []
 
 -- the last message of the first list has gone to the end of the second
-pub record IsLastPut (own list own' list' : List Message) : Type 0 where
+pub record IsLastMoved (from to from' to' : List Message) : Type 0 where
   pub message : Message
-  pub own_is : own ≡ own' ++ message ∷ []
-  pub list_is : list' ≡ list ++ message ∷ []
+  pub from_is : from ≡ from' ++ message ∷ []
+  pub to_is : to' ≡ to ++ message ∷ []
 
 -- the last message of its own was sent on, or moved back, where it is for the element of this number: no message is
 -- lost, and after an error it has not moved

@@ -8,10 +8,10 @@ ghost use Rattle.id_elements.specs.Runs.{IsFree, IsRefusedRun, IsRun, MovesOn, S
 ghost use Rattle.id_elements.specs.declared.settings.RunError.TheVariants.{BadElements, BadSteps};
 
 use crate::ended::Run;
-use crate::finish::{first_free, is_held_back};
+use crate::finish::{deliver, first_free, is_held_back};
 use crate::running::{moves_on, replay_all};
 use crate::settings::{MAX_STEPS, RunError, Settings};
-use id_core::{Keeps, MAX_ELEMENTS, Machine, MachineError, Step, TakeError};
+use id_core::{Keeps, MAX_ELEMENTS, Machine, MachineError};
 use id_source::Inputs;
 use id_valid::Valid;
 use rand_core::{Rng, SeedableRng};
@@ -92,31 +92,6 @@ fn choose(machine: &Machine<'_>, rng: &mut Pcg64Mcg, from: usize, count: u32, st
     match draw_free(machine, rng, from, count, steps) {
         Some(position) => position,
         None => from,
-    }
-}
-
-/// Delivers the message at a position, which is not held back, and says whether its event went well.
-fn deliver(
-    machine: &mut Machine<'_>,
-    position: usize,
-    count: u32,
-    steps: u64,
-) -> Result<bool, AllocError>
-    requires count { machine.old.count ≡ count }
-    requires free { IsFree count steps machine.old.world position }
-    ensures world { OnOk result (machine.new ≡ record machine.old {
-      world = delivered machine.old.graph machine.old.count machine.old.world position;
-    }) }
-    ensures failed { IfOk result (λ b. IsFalse b → HasWent machine.new.world → ⊥) }
-    ensures went { IfOk result (λ b. HasWent machine.old.world
-        → (IsTrue b → HasWent machine.new.world) × StopAtFaults machine.new.world) }
-{
-    match machine.deliver(position) {
-        Ok(Step::Went) => Ok(true),
-        Ok(Step::Fault(_)) => Ok(false),
-        Ok(Step::Stuck) => Ok(false),
-        Err(TakeError::StampEnd) => unreachable!(),
-        Err(TakeError::Memory) => Err(AllocError),
     }
 }
 

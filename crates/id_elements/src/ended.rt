@@ -2,7 +2,8 @@
 
 ghost use Rattle.std.specs.Prelude.{◌≡◌};
 
-use id_core::{Element, Flight, Machine, Merged, merge_records};
+use id_core::{Element, Machine, Merged, merge_records};
+use id_flight::Queue;
 use std::alloc::{AllocError, Global};
 use std::marker::Model;
 
@@ -55,8 +56,8 @@ impl<'a> Run<'a> {
     }
 
     /// The messages that are left. Takes no memory.
-    pub fn left(&self) -> Flight<'_>
-        ensures { result ≡ self.now.world.flight }
+    pub fn left(&self) -> &Queue
+        ensures { result.now.messages ≡ self.now.world.flight }
     {
         self.machine.in_flight()
     }

@@ -3,6 +3,7 @@
 ghost use Rattle.std.specs.Prelude.{◌≡◌, ◌≢◌, ◌<◌, ◌≤◌, ◌⊎◌, ◌↔◌, All, length};
 ghost use Rattle.std.specs.Prelude.{slice_get, IfOk, IsFalse, IsTrue, OnOk};
 ghost use Rattle.std.specs.Prelude.{Some};
+ghost use Rattle.id_core.specs.Machines.{delivered};
 ghost use Rattle.id_core.specs.Steps.{is_ended};
 ghost use Rattle.id_record.specs.Events.{AllWent};
 ghost use Rattle.id_tag.specs.Routes.{route_of};
@@ -87,21 +88,17 @@ fn all_went(machine: &Machine<'_>) -> bool
 }
 
 /// Delivers the message at a position, which is not held back, and says whether its event went well.
-fn deliver(
+pub fn deliver(
     machine: &mut Machine<'_>,
     position: usize,
     count: u32,
     steps: u64,
 ) -> Result<bool, AllocError>
     requires count { machine.old.count ≡ count }
-    requires elements { HasCount machine.old }
     requires free { IsFree count steps machine.old.world position }
-    requires few { All (λ s. length s.events ≤ steps) machine.old.world.elements }
-    requires held { AreHeldBefore count steps machine.old.world position }
-    ensures on { OnOk result (GoesOn steps machine.old machine.new) }
-    ensures elements { OnOk result (HasCount machine.new) }
-    ensures bound { OnOk result (position ≤ length machine.new.world.flight) }
-    ensures held { OnOk result (AreHeldBefore count steps machine.new.world position) }
+    ensures world { OnOk result (machine.new ≡ record machine.old {
+      world = delivered machine.old.graph machine.old.count machine.old.world position;
+    }) }
     ensures failed { IfOk result (λ b. IsFalse b → HasWent machine.new.world → ⊥) }
     ensures went { IfOk result (λ b. HasWent machine.old.world
         → (IsTrue b → HasWent machine.new.world) × StopAtFaults machine.new.world) }

@@ -2,7 +2,7 @@
 
 ghost use Rattle.std.specs.Prelude.{◌≡◌, ◌<◌, ◌≤◌, length, IsTrue};
 
-use id_core::InFlight;
+use id_flight::Queue;
 use id_tag::Context;
 
 /// What a worker has at hand: the position at which its last message stood, its context, and whether the one right in
@@ -37,7 +37,7 @@ impl Hand {
 
     /// Takes the next message behind what is at hand to hand, if there is any.
     #[inline(always)]
-    pub fn turn(&mut self, own: &InFlight) -> bool
+    pub fn turn(&mut self, own: &Queue) -> bool
         ensures { IsTrue result → self.new.position < length own.now.messages }
     {
         let len = own.len();
@@ -60,7 +60,7 @@ impl Hand {
 
     /// Takes the last message to hand, if there is one.
     #[inline(always)]
-    fn turn_to_last(&mut self, own: &InFlight) -> bool
+    fn turn_to_last(&mut self, own: &Queue) -> bool
         ensures { IsTrue result → self.new.position < length own.now.messages }
     {
         let len = own.len();
@@ -77,7 +77,7 @@ impl Hand {
 
 /// Whether the message right in front of a position is of this context.
 #[inline(never)]
-fn is_in_front(own: &InFlight, position: usize, context: Context) -> bool
+fn is_in_front(own: &Queue, position: usize, context: Context) -> bool
     requires { position ≤ length own.now.messages }
     ensures { IsTrue result → 0 < position }
 {

@@ -1,99 +1,23 @@
-//! How messages move between a worker's lists, and how its element is given one.
+//! How messages move between a worker's lists.
 
 ghost use Rattle.std.specs.Prelude.{◌≡◌, ◌↔◌, ◌<◌, ◌≤◌, ◌+◌, ◌++◌, [], ℕ, length};
 ghost use Rattle.std.specs.Prelude.{reverse, take, vec_len, IsTrue, OnOk};
 ghost use Rattle.std.specs.List.{sum_by};
 ghost use Rattle.id_tag.specs.declared.Message.{Message};
-ghost use Rattle.id_record.specs.declared.step.Step.TheVariants.{Went};
 ghost use Rattle.id_element.specs.Fits.{IsFor};
-ghost use Rattle.id_elements.specs.Passing.{AreFor, AreRouted, Gives, IsFirstPut, IsGoalAt, IsLastPut, IsLastSent};
+ghost use Rattle.id_elements.specs.Passing.{AreFor, AreRouted, IsFirstMoved, IsGoalAt, IsLastMoved, IsLastSent};
 ghost use Rattle.id_elements.specs.Passing.{IsSentOn};
 
-use id_core::InFlight;
-use id_element::{Element, Gate, Short, TakeError, fits};
+use id_element::{Element, fits};
 use id_flight::Queue;
-use id_record::Step;
 use id_tag::{Message, route, route_tag};
 use std::alloc::AllocError;
-
-/// Whether a run goes on after an event.
-fn goes_on(step: &Step) -> bool
-    ensures { IsTrue result ↔ (step.now ≡ Went) }
-{
-    match *step {
-        Step::Went => true,
-        Step::Fault(_) | Step::Stuck => false,
-    }
-}
-
-/// Gives the element the message at a position of its own, and says whether the run goes on after its event. What is
-/// sent goes to the end of its own.
-#[inline(always)]
-pub fn give<G: Gate>(
-    own: &mut InFlight,
-    element: &mut Element<'_>,
-    position: usize,
-    gate: &G,
-) -> Result<bool, TakeError>
-    requires there { position < length own.old.messages }
-    requires own { AreFor element.old own.old.messages }
-    ensures { Gives position own.old.messages element.old own.new.messages element.new result }
-{
-    let token = match own.plain(position) {
-        Some(token) => *token,
-        None => return give_any(own, element, position, gate),
-    };
-    match own.give_plain_at(position, &token, element, gate)? {
-        Short::Went => Ok(true),
-        Short::Failed(_) => Ok(false),
-        Short::Apart => give_any(own, element, position, gate),
-    }
-}
-
-/// The same of what is no plain token that is handled in short.
-#[inline(never)]
-fn give_any<G: Gate>(
-    own: &mut InFlight,
-    element: &mut Element<'_>,
-    position: usize,
-    gate: &G,
-) -> Result<bool, TakeError>
-    requires there { position < length own.old.messages }
-    requires own { AreFor element.old own.old.messages }
-    ensures { Gives position own.old.messages element.old own.new.messages element.new result }
-{
-    let demand = match own.demand(position) {
-        Some(demand) => demand,
-        None => return give_full(own, element, position, gate),
-    };
-    if own.give_demand_at(position, &demand, element, gate)? {
-        return Ok(true);
-    }
-    give_full(own, element, position, gate)
-}
-
-/// The same in full.
-#[inline(never)]
-fn give_full<G: Gate>(
-    own: &mut InFlight,
-    element: &mut Element<'_>,
-    position: usize,
-    gate: &G,
-) -> Result<bool, TakeError>
-    requires there { position < length own.old.messages }
-    requires own { AreFor element.old own.old.messages }
-    ensures { Gives position own.old.messages element.old own.new.messages element.new result }
-{
-    let message = own.message(position);
-    let step = own.give_at(position, &message, element, gate)?;
-    Ok(goes_on(&step))
-}
 
 /// Moves the messages of a letter that came out of the inbox of the element of this number, of so many: to its own,
 /// where they are for the element and fit the graph, or else apart. What stands in an inbox is known by its type alone,
 /// so that is tested. After an error the rest is still in the letter.
 pub fn sort(
-    own: &mut InFlight,
+    own: &mut Queue,
     stray: &mut Queue,
     element: &Element<'_>,
     number: u32,
@@ -120,7 +44,7 @@ pub fn sort(
 /// Moves the first message of a letter. There is room for it. Takes no memory.
 #[inline(always)]
 fn sort_first(
-    own: &mut InFlight,
+    own: &mut Queue,
     stray: &mut Queue,
     element: &Element<'_>,
     number: u32,
@@ -141,26 +65,26 @@ fn sort_first(
 {
     let message = letter.message(0);
     if is_for(element, number, count, &message) {
-        take_first(own, letter);
+        move_first(letter, own);
     } else {
         stray.push_back_reserved(message);
-        letter.drop_front();
+        letter.remove(0);
     }
 }
 
-/// Moves the first message of a letter, which is there, to the end of an element's own, in which there is room for it.
-/// Takes no memory.
+/// Moves the first message of a list, which is there, to the end of another, in which there is room for it. Takes no
+/// memory.
 #[inline(always)]
-fn take_first(own: &mut InFlight, letter: &mut Queue)
-    requires there { 0 < length letter.old.messages }
-    requires room { 0 < own.old.room }
-    ensures { IsFirstPut letter.old.messages own.old.messages letter.new.messages own.new.messages }
+fn move_first(from: &mut Queue, to: &mut Queue)
+    requires there { 0 < length from.old.messages }
+    requires room { 0 < to.old.room }
+    ensures { IsFirstMoved from.old.messages to.old.messages from.new.messages to.new.messages }
 {
-    match letter.token(0) {
-        Some(token) => own.push_plain_reserved(token),
-        None => own.push_back_reserved(letter.message(0)),
+    match from.token(0) {
+        Some(token) => to.push_plain_reserved(token),
+        None => to.push_back_reserved(from.message(0)),
     }
-    letter.drop_front();
+    from.remove(0);
 }
 
 /// Whether a message is for the element of this number, of so many, and fits its graph.
@@ -173,13 +97,13 @@ fn is_for(element: &Element<'_>, number: u32, count: u32, message: &Message) -> 
 
 /// The element that the message at a position is for, of so many.
 #[inline(always)]
-fn goal_at(own: &InFlight, position: usize, count: u32) -> u32
+fn goal_at(own: &Queue, position: usize, count: u32) -> u32
     requires there { position < length own.now.messages }
     requires count { 0 < count }
     ensures is { IsGoalAt count own.now.messages position result }
     ensures below { result < count }
 {
-    match own.plain(position) {
+    match own.token(position) {
         Some(token) => route_tag(token.tag(), count),
         None => route(&own.message(position), count),
     }
@@ -189,7 +113,7 @@ fn goal_at(own: &InFlight, position: usize, count: u32) -> u32
 /// them. After an error some of the last may stand in `back`, or still be for others.
 #[inline(always)]
 pub fn send_on(
-    own: &mut InFlight,
+    own: &mut Queue,
     back: &mut Queue,
     letters: &mut Vec<Queue>,
     number: u32,
@@ -213,7 +137,7 @@ pub fn send_on(
 /// The first position from this one on whose message is for another element than that of this number, of so many, or
 /// how many messages there are, if there is none.
 #[inline(always)]
-fn first_for_others(own: &InFlight, from: usize, number: u32, count: u32) -> usize
+fn first_for_others(own: &Queue, from: usize, number: u32, count: u32) -> usize
     requires from { from ≤ length own.now.messages }
     requires count { 0 < count }
     ensures bound { result ≤ length own.now.messages }
@@ -232,7 +156,7 @@ fn first_for_others(own: &InFlight, from: usize, number: u32, count: u32) -> usi
 /// The same where some of them are.
 #[inline(never)]
 fn send_some(
-    own: &mut InFlight,
+    own: &mut Queue,
     back: &mut Queue,
     letters: &mut Vec<Queue>,
     number: u32,
@@ -258,7 +182,7 @@ fn send_some(
 /// there is room for it, where that is this one. After an error it has not moved.
 #[inline(always)]
 fn send_last(
-    own: &mut InFlight,
+    own: &mut Queue,
     back: &mut Queue,
     letters: &mut Vec<Queue>,
     number: u32,
@@ -275,57 +199,40 @@ fn send_last(
     let last = own.len() - 1;
     let to = goal_at(own, last, count);
     if to == number {
-        put_last(own, back);
+        move_last(own, back);
         return Ok(());
     }
     let letter = &mut letters[to as usize];
     letter.reserve(1)?;
-    put_last(own, letter);
+    move_last(own, letter);
     Ok(())
 }
 
-/// Moves the last message of an element's own, which is there, to the end of a list, in which there is room for it.
-/// Takes no memory.
+/// Moves the last message of a list, which is there, to the end of another, in which there is room for it. Takes no
+/// memory.
 #[inline(always)]
-fn put_last(own: &mut InFlight, list: &mut Queue)
-    requires there { 0 < length own.old.messages }
-    requires room { 0 < list.old.room }
-    ensures put { IsLastPut own.old.messages list.old.messages own.new.messages list.new.messages }
-    ensures room { list.old.room ≤ list.new.room + 1 }
+fn move_last(from: &mut Queue, to: &mut Queue)
+    requires there { 0 < length from.old.messages }
+    requires room { 0 < to.old.room }
+    ensures moved { IsLastMoved from.old.messages to.old.messages from.new.messages to.new.messages }
+    ensures room { to.old.room ≤ to.new.room + 1 }
 {
-    let last = own.len() - 1;
-    match own.plain(last) {
-        Some(token) => list.push_plain_reserved(token),
-        None => list.push_back_reserved(own.message(last)),
+    let last = from.len() - 1;
+    match from.token(last) {
+        Some(token) => to.push_plain_reserved(token),
+        None => to.push_back_reserved(from.message(last)),
     }
-    own.pop_back();
+    from.pop_back();
 }
 
 /// Moves all messages of a list, for which there is room, to the end of an element's own, the last one first. Takes no
 /// memory.
-fn take_back(own: &mut InFlight, back: &mut Queue)
+fn take_back(own: &mut Queue, back: &mut Queue)
     requires { length back.old.messages ≤ own.old.room }
     ensures own { own.new.messages ≡ own.old.messages ++ reverse back.old.messages }
     ensures empty { back.new.messages ≡ [] }
 {
     while !back.is_empty() {
-        take_last(own, back);
+        move_last(back, own);
     }
-}
-
-/// Moves the last message of a list, which is there, to the end of an element's own, in which there is room for it.
-/// Takes no memory.
-#[inline(always)]
-fn take_last(own: &mut InFlight, list: &mut Queue)
-    requires there { 0 < length list.old.messages }
-    requires room { 0 < own.old.room }
-    ensures put { IsLastPut list.old.messages own.old.messages list.new.messages own.new.messages }
-    ensures room { own.old.room ≤ own.new.room + 1 }
-{
-    let last = list.len() - 1;
-    match list.token(last) {
-        Some(token) => own.push_plain_reserved(token),
-        None => own.push_back_reserved(list.message(last)),
-    }
-    list.pop_back();
 }

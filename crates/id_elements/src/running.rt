@@ -26,7 +26,7 @@ use crate::finish::finish;
 use crate::settings::{MAX_STEPS, RunError, Settings};
 use crate::shared::Shared;
 use crate::worker::Worker;
-use id_core::{Element, Gate, InFlight, Keeps, MAX_ELEMENTS, Machine, start_flight};
+use id_core::{Element, Gate, Keeps, MAX_ELEMENTS, Machine, start_flight};
 use id_flight::Queue;
 use id_inbox::Door;
 use id_source::Inputs;
@@ -119,19 +119,6 @@ fn make_workers<'a>(
     Ok(workers)
 }
 
-/// Keeps what a worker had at hand of its own, the first one last.
-fn keep_own(left: &mut Queue, own: InFlight) -> Result<(), AllocError>
-    ensures { OnOk result ((f : Message → ℕ)
-        → sum_by f left.new.messages ≡ sum_by f left.old.messages + sum_by f own.messages) }
-{
-    let mut own = own;
-    left.reserve(own.len())?;
-    while let Some(message) = own.pop_back() {
-        left.push_back_reserved(message);
-    }
-    Ok(())
-}
-
 /// Keeps all messages of some letters.
 fn keep_all(left: &mut Queue, mut letters: Vec<Queue>) -> Result<(), AllocError>
     ensures { OnOk result ((f : Message → ℕ)
@@ -163,7 +150,7 @@ fn gather_one<'a>(
 {
     let (theirs, element, own, came, back, stray, letters) = worker.into_parts();
     absorb_all(doors, theirs);
-    keep_own(left, own)?;
+    keep_rest(left, own)?;
     keep_rest(left, came)?;
     keep_rest(left, back)?;
     keep_rest(left, stray)?;
@@ -279,7 +266,7 @@ fn machine_of<'a, R: Threads + Wait + Sync, G: Gate + Sync>(
     id_runs::orders_are_runs();
     let start = start_flight(alloc, graph, inputs)?;
     let Gathered { elements, left } = run_workers(rt, alloc, graph, &start, settings, limit, gate)?;
-    Ok(Machine::resume(alloc, graph, settings.keeps, elements, left))
+    Ok(Machine::resume(graph, settings.keeps, elements, left))
 }
 
 /// Whether no event of the machine was `Stuck`.

@@ -3,9 +3,9 @@
 ghost use Rattle.std.specs.Prelude.{◌≡◌, [], map, replicate, IfOk};
 
 use crate::hand::Hand;
-use crate::passing::{give, send_on, sort};
+use crate::passing::{send_on, sort};
 use crate::shared::Shared;
-use id_core::{InFlight, Keeps};
+use id_core::{Keeps, Step};
 use id_element::{Element, Gate, TakeError};
 use id_flight::Queue;
 use id_inbox::Door;
@@ -37,7 +37,7 @@ pub struct Worker<'a> {
     doors: Vec<Door>,
     element: Element<'a>,
     // What is for the element, in order.
-    own: InFlight,
+    own: Queue,
     // What is left of the letter that came last.
     came: Queue,
     // What is moved from the end of its own and back.
@@ -122,7 +122,7 @@ impl<'a> Worker<'a> {
             goes: true,
             doors,
             element: Element::keeping(alloc, number, count, graph, keeps),
-            own: InFlight::new(alloc, Queue::new(alloc)),
+            own: Queue::new(alloc),
             came: Queue::new(alloc),
             back: Queue::new(alloc),
             stray: Queue::new(alloc),
@@ -137,7 +137,7 @@ impl<'a> Worker<'a> {
     ) -> (
         Vec<Door>,
         Element<'a>,
-        InFlight,
+        Queue,
         Queue,
         Queue,
         Queue,
@@ -206,9 +206,12 @@ impl<'a> Worker<'a> {
         ensures goes { result ≡ Ok true → IsTrue self.new.goes }
     {
         let others = self.own.len() - 1;
-        if !give(&mut self.own, &mut self.element, position, gate)? {
-            self.goes = false;
-            return Ok(false);
+        match self.element.take_from(&mut self.own, position, gate)? {
+            Step::Went => {}
+            Step::Fault(_) | Step::Stuck => {
+                self.goes = false;
+                return Ok(false);
+            }
         }
         if self.count == 1 {
             return Ok(true);

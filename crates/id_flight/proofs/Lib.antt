@@ -1,2 +1,3 @@
+pub mod BuffersLemmas
 pub mod ParcelsLemmas
 pub mod RowsLemmas

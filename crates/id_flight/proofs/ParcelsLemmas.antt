@@ -1,13 +1,13 @@
 -- Lemmas on specs/Parcels.antt: a parcel that says what a message says has the message, and what stands aside stays
 -- there.
-use Rattle.std.proofs.Common.{Result, Ok, Err, OnErr}
-use Rattle.std.proofs.Common.{◌≡◌, suc, List, [], ◌∷◌, ◌++◌, Option, None, Some, IfSome, get_or, length, length-append, map, refl, ap, subst, ◌∙◌, arith}
+use Rattle.std.proofs.Common.{◌≡◌, ◌<◌, ℕ, zero, suc, List, [], ◌∷◌, ◌++◌, Option, None, Some, IfSome, get_or}
+use Rattle.std.proofs.Common.{length, length-append, map, refl, ap, subst, ◌∙◌, arith}
 use Rattle.std.proofs.Math.ListN.{get_or-append}
 use Rattle.std.proofs.Math.Seq.{get_or-append_seam}
 use Rattle.std.specs.Prelude.{All}
-use Rattle.std.specs.List.{AllByRecursion}
+use Rattle.std.specs.List.{AllByRecursion, remove}
 use Rattle.std.proofs.lemmas.List.{map-append}
-use Rattle.std.proofs.lemmas.List.Elements.{recursion_from_All}
+use Rattle.std.proofs.lemmas.List.Elements.{All-cons, recursion_from_All}
 use Rattle.id_instr.specs.declared.dests.Port.{Port}
 use Rattle.id_tag.specs.declared.Tag.{Tag}
 use Rattle.id_tag.specs.declared.Message.{Message}
@@ -93,15 +93,10 @@ messages-more asides more ps qs p m keeps within is at =
     ∙ ap (λ ms. ms ++ unpacked more p ∷ []) (messages-kept asides more ps keeps within)
     ∙ ap (λ x. map (unpacked asides) ps ++ x ∷ []) is
 
--- and so it is at the front
-pub messages-before : (asides more : List Message) (ps qs : List Parcel) (p : Parcel) (m : Message) → Keeps asides more → All (IsWithin asides) ps
-    → unpacked more p ≡ m → qs ≡ p ∷ ps → map (unpacked more) qs ≡ m ∷ map (unpacked asides) ps
-messages-before asides more ps qs p m keeps within is at =
-    ap (map (unpacked more)) at
-    ∙ ap (λ ms. unpacked more p ∷ ms) (messages-kept asides more ps keeps within)
-    ∙ ap (λ x. x ∷ map (unpacked asides) ps) is
-
--- what holds at any rate holds after an error
-pub on-err : {A B P : Type 0} → (r : Result A B) → P → OnErr r P
-on-err (Ok a) p = tt
-on-err (Err e) p = p
+-- the others have what all have where one is removed
+pub all-removed : (P : Parcel → Type 0) (ps : List Parcel) (k : ℕ) → k < length ps → All P ps → All P (remove ps k)
+all-removed P [] k there all = absurd (omega arith)
+all-removed P (p ∷ ps) zero there all = all-rest P p ps (p ∷ ps) refl all
+all-removed P (p ∷ ps) (suc k) there all =
+    let within : k < length ps = omega arith in
+    All-cons P p (remove ps k) (all 0 p (omega arith)) (all-removed P ps k within (all-rest P p ps (p ∷ ps) refl all))

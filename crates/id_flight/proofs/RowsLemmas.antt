@@ -1,5 +1,6 @@
 -- Lemmas on the list of a row.
 use Rattle.std.proofs.Common.{◌≡◌, ℕ, zero, suc, ◌+◌, ◌<◌, List, [], ◌∷◌, length, drop, refl, ap, ◌∙◌, arith}
+use Rattle.std.specs.List.{remove}
 use Rattle.id_flight.specs.declared.parcel.Parcel.{Parcel}
 
 next-left : (left : ℕ) (ps : List Parcel) → left < length ps → drop (suc left) ps ≡ drop 1 (drop left ps)
@@ -23,3 +24,15 @@ last-left (suc left) (p ∷ ps) few = last-left left ps (omega arith)
 -- none is left where at most one was
 pub none-left : (left : ℕ) (ps : List Parcel) → length ps < left + 2 → drop 1 (drop left ps) ≡ []
 none-left left ps few = last-left left ps (omega (arith, few))
+
+none-removed : (k : ℕ) → remove {X = Parcel} [] k ≡ []
+none-removed zero = refl
+none-removed (suc k) = refl
+
+-- one of those that have not left leaves
+pub one-removed : (left k : ℕ) (ps : List Parcel) → drop left (remove ps (left + k)) ≡ remove (drop left ps) k
+one-removed zero k ps = grind arith
+one-removed (suc left) k [] = grind (arith, none-removed (suc left + k), none-removed k)
+one-removed (suc left) k (p ∷ ps) =
+    let at : suc left + k ≡ suc (left + k) = omega arith in
+    rw at (one-removed left k ps)

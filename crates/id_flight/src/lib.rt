@@ -3,10 +3,11 @@
 //! Keeps: each message in the queue, whole and in order.
 //! Errors: want of memory alone, and then the messages are the same.
 //! Read first: `Queue`, then `specs/Parcels.antt`.
-//! Not here: the element that a message goes to (`id_tag`), the order in which messages are taken out
-//! (`id_core`, `id_inbox`).
+//! Not here: the element that a message goes to (`id_tag`), what it makes of a message (`id_element`), which message
+//! comes next (`id_core`, `id_elements`).
 #![tactic(auto)]
 
+mod buffer;
 mod demand;
 mod parcel;
 mod queue;

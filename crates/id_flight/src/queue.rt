@@ -1,15 +1,15 @@
-//! A queue of messages, each in a parcel of 64 bytes.
+//! The list of messages in flight, each in a parcel of 64 bytes.
 
 ghost use Rattle.std.specs.Prelude.{◌≡◌, ◌<◌, ◌≤◌, ◌+◌, vec_capacity, vec_len};
 ghost use Rattle.id_flight.specs.declared.parcel.Parcel.{Parcel};
 ghost use Rattle.id_flight.specs.Parcels.{IsWithin, unpacked};
 
+use crate::buffer::Buffer;
 use crate::demand::Demand;
 use crate::parcel::{
     Parcel, context_in, demand_in, packed, packed_plain, packed_read, packed_write, parcel_aside,
     plain_in, unpack,
 };
-use crate::row::Row;
 use id_tag::{Context, Message, Plain, PlainCell, PlainToken};
 use std::alloc::{AllocError, Global};
 use std::marker::Model;
@@ -17,11 +17,11 @@ use std::marker::Model;
 /// Room aside is asked for so many messages at least, since both lists are asked again where one has none left.
 const MANY: usize = 128;
 
-/// Messages in a row, in 64 bytes each, but for the few whose numbers don't fit: those stand aside until the queue is
-/// empty.
+/// Messages in the order in which they were sent, in 64 bytes each, but for the few whose numbers don't fit: those
+/// stand aside until the queue is empty. A message leaves at any position.
 #[derive(Drop)]
 pub struct Queue {
-    parcels: Row,
+    parcels: Buffer,
     asides: Vec<Message>,
     // For how many messages more both lists have room, when they were last asked: so an event asks one number.
     room: usize,
@@ -45,10 +45,11 @@ impl Model for Queue {
 
 impl Queue {
     ghost use Rattle.std.specs.Prelude.{◌≡◌, ◌<◌, ◌≤◌, ◌+◌, ◌^◌, ◌==◌, ◌++◌, ◌∷◌};
-    ghost use Rattle.std.specs.Prelude.{◌↔◌, [], drop};
-    ghost use Rattle.std.specs.Prelude.{length, slice_get, Some};
-    ghost use Rattle.id_flight.specs.Queues.{context_at};
-    ghost use Rattle.std.specs.Prelude.{option_to_list, IfOk, IfSome, IsSome, IsTrue, OnErr, OnOk};
+    ghost use Rattle.std.specs.Prelude.{◌↔◌, []};
+    ghost use Rattle.std.specs.Prelude.{length, slice_get, MatchOption, Some};
+    ghost use Rattle.std.specs.List.{remove};
+    ghost use Rattle.id_flight.specs.Queues.{AreOthers, IsFirstOf, context_at};
+    ghost use Rattle.std.specs.Prelude.{option_to_list, IfOk, IfSome, IsSome, OnErr, OnOk};
     ghost use Rattle.id_flight.specs.Demands.{demanded};
     ghost use Rattle.id_tag.specs.Plains.{cell_of, message_of, tag_in, whole};
     ghost use Rattle.id_tag.specs.declared.Payload.TheVariants.{Read, Write};
@@ -58,7 +59,7 @@ impl Queue {
         ensures { result.messages ≡ [] }
     {
         Queue {
-            parcels: Row::new(alloc),
+            parcels: Buffer::new(alloc),
             asides: Vec::new(alloc),
             room: 0,
         }
@@ -67,9 +68,7 @@ impl Queue {
     /// How many messages there are. Takes no memory.
     #[inline(always)]
     pub fn len(&self) -> usize
-        ensures len { result ≡ length self.now.messages }
-        // So the lengths of two queues can be added.
-        ensures bound { result < 2 ^ 63 }
+        ensures { result ≡ length self.now.messages }
     {
         self.parcels.len()
     }
@@ -92,19 +91,7 @@ impl Queue {
         unpack(self.asides.as_slice(), parcel)
     }
 
-    /// The plain token at a position, from 0, where a parcel keeps one there. Takes no memory.
-    #[inline(always)]
-    pub fn plain(&self, position: usize) -> Option<PlainToken>
-        requires { position < length self.now.messages }
-        ensures { IfSome result (λ t. slice_get self.now.messages position ≡ Some (message_of t)) }
-    {
-        match self.token(position) {
-            Some(token) => Some(*token),
-            None => None,
-        }
-    }
-
-    /// The same where it stands, so that it is copied once. Takes no memory.
+    /// The plain token at a position, from 0, where it stands, if one is kept there so. Takes no memory.
     #[inline(always)]
     pub fn token(&self, position: usize) -> Option<&PlainToken>
         requires { position < length self.now.messages }
@@ -113,8 +100,7 @@ impl Queue {
         plain_in(self.parcels.at(position))
     }
 
-    /// The read of a cell, or the write of a number to one, at a position, from 0, where a parcel keeps one there.
-    /// Takes no memory.
+    /// The read or the write of a cell at a position, from 0, if one is kept there in short. Takes no memory.
     #[inline(always)]
     pub fn demand(&self, position: usize) -> Option<Demand>
         requires { position < length self.now.messages }
@@ -133,15 +119,33 @@ impl Queue {
         context_in(self.asides.as_slice(), parcel)
     }
 
-    /// Whether the first message is there and of this context. Takes no memory.
+    /// The first position from this one on whose message is of this context, if there is one. Takes no memory.
     #[inline(always)]
-    pub fn is_first_of(&self, context: Context) -> bool
-        ensures { IsTrue result ↔ (context_at self.now.messages 0 ≡ Some context) }
+    pub fn first_of(&self, from: usize, context: Context) -> Option<usize>
+        requires { from ≤ length self.now.messages }
+        ensures { MatchOption result (AreOthers self.now.messages from (length self.now.messages) (Some context))
+            (IsFirstOf context self.now.messages from) }
     {
-        match self.parcels.first() {
-            Some(parcel) => context_in(self.asides.as_slice(), parcel) == context,
-            None => false,
+        // Most often it is the very next.
+        if from < self.len() && self.context(from) == context {
+            return Some(from);
         }
+        self.first_behind(from, context)
+    }
+
+    /// The same where it may be any.
+    #[inline(never)]
+    fn first_behind(&self, from: usize, context: Context) -> Option<usize>
+        requires { from ≤ length self.now.messages }
+        ensures { MatchOption result (AreOthers self.now.messages from (length self.now.messages) (Some context))
+            (IsFirstOf context self.now.messages from) }
+    {
+        for position in from..self.len() {
+            if self.context(position) == context {
+                return Some(position);
+            }
+        }
+        None
     }
 
     /// Makes room for so many messages more.
@@ -235,16 +239,30 @@ impl Queue {
             .push_back_reserved(packed_write(like, cell, value));
     }
 
-    /// Adds a message at the front. After an error nothing has changed.
-    pub fn push_front(&mut self, message: Message) -> Result<(), AllocError>
-        ensures messages { OnOk result (self.new.messages ≡ message ∷ self.old.messages) }
-        ensures err { OnErr result (self.new.messages ≡ self.old.messages) }
+    /// Makes ready for the message at a position to be removed in short time, which moves no message: those that are
+    /// removed at positions that rise are moved once each, however many there are.
+    #[inline(always)]
+    pub fn open(&mut self, position: usize) -> Result<(), AllocError>
+        requires { position < length self.old.messages }
+        ensures { self.new.messages ≡ self.old.messages }
     {
+        if self.parcels.is_open_at(position) {
+            return Ok(());
+        }
         self.room = 0;
-        self.asides.reserve(1)?;
-        let parcel = parcel_for(&mut self.asides, message);
-        self.parcels.push_front(parcel)?;
-        Ok(())
+        self.parcels.move_to(position)
+    }
+
+    /// Removes the message at a position, from 0: the list closes up. Takes no memory.
+    #[inline(always)]
+    pub fn remove(&mut self, position: usize)
+        requires { position < length self.old.messages }
+        ensures messages { self.new.messages ≡ remove self.old.messages position }
+        ensures room { self.old.room ≤ self.new.room }
+    {
+        if self.parcels.remove(position) {
+            self.asides.clear();
+        }
     }
 
     /// Takes out the first message, if there is one. Takes no memory.
@@ -258,16 +276,6 @@ impl Queue {
             self.asides.clear();
         }
         Some(message)
-    }
-
-    /// Drops the first message, if there is one. Takes no memory.
-    #[inline(always)]
-    pub fn drop_front(&mut self)
-        ensures { self.new.messages ≡ drop 1 self.old.messages }
-    {
-        if self.parcels.drop_front() {
-            self.asides.clear();
-        }
     }
 
     /// Takes out the last message, if there is one. Takes no memory.

@@ -39,7 +39,8 @@ impl Model for Row {
 impl Row {
     ghost use Rattle.std.specs.Prelude.{◌≡◌, ◌<◌, ◌≤◌, ◌+◌, ◌^◌, ◌++◌, ◌∷◌, ◌==◌};
     ghost use Rattle.std.specs.Prelude.{◌↔◌, [], drop, length, slice_get};
-    ghost use Rattle.std.specs.Prelude.{option_copied, option_to_list, IsTrue, IsSome, OnErr, OnOk, Some};
+    ghost use Rattle.std.specs.Prelude.{option_to_list, IsTrue, IsSome, OnErr, OnOk, Some};
+    ghost use Rattle.std.specs.List.{remove};
 
     /// The empty row. Takes no memory.
     pub(crate) fn new(alloc: Global) -> Row
@@ -68,14 +69,6 @@ impl Row {
         ensures { slice_get self.now.items position ≡ Some result.now }
     {
         &self.parcels[self.left + position]
-    }
-
-    /// The first parcel, if there is one. Takes no memory.
-    #[inline(always)]
-    pub(crate) fn first(&self) -> Option<&Parcel>
-        ensures { option_copied result ≡ slice_get self.now.items 0 }
-    {
-        self.parcels.get(self.left)
     }
 
     /// For how many parcels more there is room at the end. Takes no memory.
@@ -188,6 +181,22 @@ impl Row {
             return None;
         }
         self.parcels.pop()
+    }
+
+    /// Drops the parcel at a position, from 0: those behind it move up, unless it is the first, and then it answers
+    /// whether none is left. Takes no memory.
+    #[inline(always)]
+    pub(crate) fn remove(&mut self, position: usize) -> bool
+        requires { position < length self.old.items }
+        ensures items { self.new.items ≡ remove self.old.items position }
+        ensures empty { IsTrue result → self.new.items ≡ [] }
+        ensures room { self.old.room ≤ self.new.room }
+    {
+        if position == 0 {
+            return self.drop_front();
+        }
+        self.parcels.remove(self.left + position);
+        false
     }
 }
 

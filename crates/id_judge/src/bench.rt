@@ -110,7 +110,7 @@ fn send(flight: &mut Pool, sent: &mut Queue) -> Result<(), AllocError>
     while !sent.is_empty() {
         let message = sent.message(0);
         flight.add(message)?;
-        sent.drop_front();
+        sent.remove(0);
     }
     Ok(())
 }
@@ -224,7 +224,7 @@ pub fn end_bench<'a>(alloc: Global, bench: Bench<'a>) -> Result<Machine<'a>, All
     }) }
 {
     let queue = queue_of(alloc, &bench.flight)?;
-    Ok(Machine::resume(alloc, bench.graph, bench.keeps, bench.elements, queue))
+    Ok(Machine::resume(bench.graph, bench.keeps, bench.elements, queue))
 }
 
 /// Messages in a queue, in the order in which they stand.

@@ -1,4 +1,3 @@
 pub mod Operators
 pub mod Operands
-pub mod Shots
-pub mod Deeds
+pub mod PlainFired

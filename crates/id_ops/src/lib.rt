@@ -17,17 +17,15 @@ ghost use Rattle.id_ops.specs.Operators.{fired_switch, fired_back, fired_enter, 
 ghost use Rattle.id_ops.specs.Operators.{fired_reset, structure_in, fired_alloc, address_in};
 ghost use Rattle.id_ops.specs.Operators.{fired_address, fired_fetch, fired_store, fired, may_hold};
 
-mod deed;
-mod shot;
+mod plain_fired;
 
-pub use deed::{Deed, deed_on, deed_on_two};
 use id_instr::{Dyadic, Instr, Op, PortKind};
 use id_tag::{Cell, Context, Structure, Tag, Value};
 use id_value::{
     Constant, FaultKind, Outcome, UnaryOp, bounds_are_good, calculate, compare, decide, is_inside,
     unary_result,
 };
-pub use shot::{Shot, Target, shoot_one, shoot_two};
+pub use plain_fired::{PlainFired, Target, fire_one, fire_one_else, fire_two, fire_two_else};
 
 /// The operands of one firing, by port.
 #[derive(Clone, Copy)]

@@ -2,7 +2,7 @@
 pub mod Events
 pub mod Pasts
 pub mod Handlings
-pub mod Shootings
+pub mod PlainFirings
 pub mod Visits
 pub mod Tellings
 pub mod Kept

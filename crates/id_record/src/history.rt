@@ -12,7 +12,7 @@ use crate::kept::{Keeps, Kept};
 use crate::outputs::{Envelope, Outputs, chosen};
 use crate::past::History;
 use crate::payload::{tag_of, value_of};
-use crate::shooting::{Doing, Shooting, done, shot};
+use crate::plain_firing::{PlainFiring, plain_handled};
 use crate::step::{Step, full_step};
 use crate::telling::{Faulted, Telling};
 use crate::visiting::{Visiting, visited};
@@ -89,10 +89,10 @@ impl<'a> Record<'a> {
     ghost use Rattle.id_record.specs.declared.kept.Keeps.TheVariants as keeps;
     ghost use Rattle.id_record.specs.Handlings.{AreThere, handled};
     ghost use Rattle.id_record.specs.Records.{GoesOn, HasPlace, event_of_handled};
-    ghost use Rattle.id_record.specs.Shootings.{doing, shooting};
+    ghost use Rattle.id_record.specs.PlainFirings.{plain_firing};
     ghost use Rattle.id_record.specs.Tellings.{any_stuck, first_fault, merged, tellings};
     ghost use Rattle.id_record.specs.Visits.{visiting};
-    ghost use Rattle.id_ops.specs.Shots.{IsOwn};
+    ghost use Rattle.id_ops.specs.PlainFired.{MakesNone};
 
     /// The empty record of the element of this number, which will keep so much. Takes no memory.
     pub fn new(alloc: Global, element: u32, graph: &'a Valid, keeps: Keeps) -> Record<'a>
@@ -174,49 +174,26 @@ impl<'a> Record<'a> {
 
     /// Adds the event of a plain token at the end. Takes no memory.
     #[inline(always)]
-    pub fn push_shot(&mut self, event: Shooting<'_>)
+    pub fn push_plain(&mut self, event: PlainFiring<'_>)
         requires room { 0 < self.old.room }
-        requires own { IsOwn event.shot event.token.now.value }
-        ensures { GoesOn self.old (shooting event.entry) self.new }
+        requires makes_none { MakesNone event.fired event.token.now.value }
+        ensures { GoesOn self.old (plain_firing event.entry) self.new }
     {
         if self.keeps_little() && event.token.instr != 0 {
-            self.handled.push(&shot(&event));
+            self.handled.push(&plain_handled(&event));
             self.kept.pass();
         } else {
-            self.note_shot(event);
+            self.note_plain(event);
         }
     }
 
     /// The same where something is to be kept of it. Takes no memory.
     #[inline(never)]
-    fn note_shot(&mut self, event: Shooting<'_>)
+    fn note_plain(&mut self, event: PlainFiring<'_>)
         requires { HasPlace self.old }
-        ensures { GoesOn self.old (shooting event.entry) self.new }
+        ensures { GoesOn self.old (plain_firing event.entry) self.new }
     {
-        self.note(&shot(&event));
-    }
-
-    /// Adds the event of a plain token with a deed at the end. Takes no memory.
-    #[inline(always)]
-    pub fn push_deed(&mut self, event: Doing<'_>)
-        requires room { 0 < self.old.room }
-        ensures { GoesOn self.old (doing event.entry) self.new }
-    {
-        if self.keeps_little() && event.token.instr != 0 {
-            self.handled.push(&done(&event));
-            self.kept.pass();
-        } else {
-            self.note_deed(event);
-        }
-    }
-
-    /// The same where something is to be kept of it. Takes no memory.
-    #[inline(never)]
-    fn note_deed(&mut self, event: Doing<'_>)
-        requires { HasPlace self.old }
-        ensures { GoesOn self.old (doing event.entry) self.new }
-    {
-        self.note(&done(&event));
+        self.note(&plain_handled(&event));
     }
 
     /// Adds the event of a read or a write of a cell at the end. Takes no memory.

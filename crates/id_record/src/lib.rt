@@ -13,7 +13,7 @@ mod kept;
 mod outputs;
 mod past;
 mod payload;
-mod shooting;
+mod plain_firing;
 mod step;
 mod telling;
 mod visiting;
@@ -26,7 +26,7 @@ pub use outputs::{
 };
 pub use past::History;
 pub use payload::{tag_of, value_of};
-pub use shooting::{Doing, Shooting};
+pub use plain_firing::PlainFiring;
 pub use step::{Fault, Step, Verdict, full_step};
 pub use telling::{Faulted, Telling, Told, is_value_merge};
 pub use visiting::{Fate, Visiting};

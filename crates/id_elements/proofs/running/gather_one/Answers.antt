@@ -15,10 +15,10 @@ returns-clause-whole c start whole =
     p.ensures.doors p.ensures.element p.ensures.own p.ensures.came p.ensures.back p.ensures.stray p.ensures.letters c.absorb_all.ensures p.ensures.kept
     (λ f.
     (
-    let a = c.in_ok-keep_own.ensures f in
-    let b = c.in_ok-keep_rest.ensures f in
-    let d = c.in_ok-keep_rest-2.ensures f in
-    let e = c.in_ok-keep_rest-3.ensures f in
+    let a = c.in_ok-keep_rest.ensures f in
+    let b = c.in_ok-keep_rest-2.ensures f in
+    let d = c.in_ok-keep_rest-3.ensures f in
+    let e = c.in_ok-keep_rest-4.ensures f in
     let h = c.in_ok-keep_all.ensures f in
     omega (arith, a, b, d, e, h)
     )) whole)

@@ -43,13 +43,13 @@ both c =
     } in
     let flight : mid.flight ≡ b.flight = ap (λ (v : BenchView). v.flight) c.bench.view_is in
     let sent : mid.sent ≡ b.sent ++ outputs_of e.graph e.number e.state m =
-    h.outputs ∙ ap (λ (v : BenchView). v.sent ++ outputs_of e.graph e.number e.state m) c.bench.view_is in
+    h.becomes.outputs ∙ ap (λ (v : BenchView). v.sent ++ outputs_of e.graph e.number e.state m) c.bench.view_is in
     let at : slice_get mid.flight c.args.position ≡ Some m = ap (λ ms. slice_get ms c.args.position) flight ∙ c.requires.there in
     let elements : c.replace.new.bench.elements ≡ set b.elements (number_for b m) (taken e m) =
-    r.elements ∙ (λ i. set (c.bench.view_is i).elements (number_is a i) (h.state i)) in
-    done b c.requires.bench c.args.position m c.requires.there e (there a) (left_ok c.in-Ok.step StampEnd (is_ended e.state m) h.end)
+    r.elements ∙ (λ i. set (c.bench.view_is i).elements (number_is a i) (h.becomes.element i)) in
+    done b c.requires.bench c.args.position m c.requires.there e (there a) (left_ok c.in-Ok.step StampEnd (is_ended e.state m) h.ended)
     h.fits mid c.replace.new.bench flight sent (r.flight m at) (r.graph ∙ ap (λ (v : BenchView). v.graph) c.bench.view_is)
-    (r.keeps ∙ ap (λ (v : BenchView). v.keeps) c.bench.view_is) elements r.sent c.in-Ok.step h.step
+    (r.keeps ∙ ap (λ (v : BenchView). v.keeps) c.bench.view_is) elements r.sent c.in-Ok.step h.becomes.step
 
 pub returns-in-Ok-replace-clause-bench : goal.returns-in-Ok-replace-clause-bench
 returns-in-Ok-replace-clause-bench c = (both c).0
@@ -61,5 +61,5 @@ pub returns-in-Err-clause-end : goal.returns-in-Err-clause-end
 returns-in-Err-clause-end c = λ is. (
   c.index_mut.result.now,
   there (goal.at.returns-in-Err-clause-end c).After-index_mut,
-  c.in-Err.ensures.end.0 (other_err c.in-Err.error StampEnd is),
+  c.in-Err.ensures.ended.0 (other_err c.in-Err.error StampEnd is),
 )

@@ -1,12 +1,13 @@
 -- The delivery is the one that the definitions speak of: the message at the position, given to the element that it is for.
-use Rattle.std.proofs.Common.{◌≡◌, ◌<◌, length, inl, refl, sym, ap, subst, ◌∙◌}
-use Rattle.std.specs.Prelude.{⊤}
+use Rattle.std.proofs.Common.{◌≡◌, ◌<◌, ◌∙◌, Some, length, refl, sym, ap, subst}
+use Rattle.std.specs.Prelude.{IfSome}
+use Rattle.std.specs.List.{remove}
 use Rattle.std.proofs.lemmas.Option.{slice_get_read}
-use Rattle.std.proofs.lemmas.Result.{IfOk-weaker}
+use Rattle.id_tag.specs.declared.Message.{Message}
 use Rattle.id_tag.specs.Routes.{route_of}
-use Rattle.id_record.specs.declared.step.Step.{Step}
-use Rattle.id_element.specs.Steps.{step_of}
-use Rattle.id_core.proofs.MachinesLemmas.{IsGiven, IsGiving, IsMachine-given, always, giving_any, is_for, told-given}
+use Rattle.id_element.specs.Fits.{IsFor}
+use Rattle.id_element.specs.Takes.{Handles}
+use Rattle.id_core.proofs.MachinesLemmas.{IsGiven, IsMachine-given, is_for, told-given}
 use Rattle.id_core.proofs.machine.Machine.deliver.Goals as goal
 use Rattle.id_core.proofs.machine.Machine.deliver.Goals.{After-index_mut}
 
@@ -23,31 +24,27 @@ given c =
       element = slice_get_read es _ _ _ refl below c.index_mut.ensures.value;
     }
 
-giving : (c : goal.After-self-1)
-    → IsGiving (λ _. ⊤) (λ _. ⊥) c.self.inside.flight.messages c.args.position c.message-message.result c.index_mut.result.now
-    c.give_at.new.element c.give_at.new.self.messages c.give_at.result
-giving c =
-    let told = c.give_at.ensures in
-    giving_any c.give_at.result told.state told.messages told.fits told.end told.err told.err_messages
+-- it is the message at the position that the element was given
+handles : (c : goal.After-self-1)
+    → Handles c.index_mut.result.now c.take_from.new.self c.message-message.result c.self.inside.flight.messages
+    (remove c.self.inside.flight.messages c.args.position) c.take_from.new.list.messages c.take_from.result
+handles c =
+    let told = c.take_from.ensures in
+    let same : told.message ≡ c.message-message.result =
+    let both : Some told.message ≡ Some c.message-message.result = sym told.at ∙ c.message-message.ensures in cc in
+    subst (λ (m : Message). Handles c.index_mut.result.now c.take_from.new.self m c.self.inside.flight.messages
+    (remove c.self.inside.flight.messages c.args.position) c.take_from.new.list.messages c.take_from.result) same told.handles
 
-pub give_at-requires-clause-next : goal.give_at-requires-clause-next
-give_at-requires-clause-next c = (given (goal.at.give_at-requires-clause-next c).After-index_mut).there
-
-pub give_at-requires-clause-is_for : goal.give_at-requires-clause-is_for
-give_at-requires-clause-is_for c = is_for (given (goal.at.give_at-requires-clause-is_for c).After-index_mut) c.self.invariant
+pub take_from-requires-clause-for_it : goal.take_from-requires-clause-for_it
+take_from-requires-clause-for_it c =
+    let e = c.index_mut.result.now in
+    subst (λ o. IfSome o (IsFor e.graph e.count e.number)) (sym c.message-message.ensures)
+    (is_for (given (goal.at.take_from-requires-clause-for_it c).After-index_mut) c.self.invariant)
 
 pub invariant_of-self : goal.invariant_of-self
-invariant_of-self c = IsMachine-given (given (goal.at.invariant_of-self c).After-index_mut) c.self.invariant (λ _. inl tt) c.give_at.result (giving c)
+invariant_of-self c = IsMachine-given (given (goal.at.invariant_of-self c).After-index_mut) c.self.invariant c.take_from.result (handles c)
 
 pub returns : goal.returns
 returns c =
-    let e = c.index_mut.result.now in
-    let Goes : Step → Type 0 = λ s. s ≡ step_of e.graph e.number e.state c.message-message.result in
-    let goes = IfOk-weaker c.give_at.result Goes (λ s. ⊤ → Goes s) (λ _ is _. is) c.give_at.ensures.step in
-    let told = told-given (given (goal.at.returns c).After-index_mut) c.self.invariant c.self.view_is (λ s. s) c.give_at.result (giving c) goes in
-    record {
-      world = always _ c.give_at.result told.world;
-      step = always _ c.give_at.result told.step;
-      end = told.end;
-      err = told.err;
-    }
+    let told = told-given (given (goal.at.returns c).After-index_mut) c.self.invariant c.self.view_is c.take_from.result (handles c) in
+    record { world = told.world; step = told.step; end = told.end; err = told.err }

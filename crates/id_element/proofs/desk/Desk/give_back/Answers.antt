@@ -1,10 +1,10 @@
--- where nothing waits, the store is one in which nothing waits
+-- Where nothing waits, the store is one in which nothing waits.
 use Rattle.std.proofs.Common.{◌∙◌, ap, sym}
 use Rattle.std.specs.FinMap.{empty_of_len}
-use Rattle.id_element.specs.Desks.{state_of}
+use Rattle.id_element.specs.Desks.{element_at}
 use Rattle.id_element.proofs.desk.Desk.give_back.Goals as goal
 
-pub returns-then-len-eq0-clause-state : goal.returns-then-len-eq0-clause-state
-returns-then-len-eq0-clause-state c =
+pub returns-then-len-eq0 : goal.returns-then-len-eq0
+returns-then-len-eq0 c =
     let none = empty_of_len c.args.self.now.waiting (sym c.len.ensures.len ∙ c.if-len-eq0.true) in
-    ap (λ w. state_of (record c.args.self.now { waiting = w })) (c.new.ensures.empty ∙ sym none)
+    ap (λ w. element_at (record c.args.self.now { waiting = w })) (c.new.ensures.empty ∙ sym none)

@@ -1,6 +1,11 @@
 -- Nothing was handled, so the empty record replays.
-use Rattle.id_element.proofs.ReplaysLemmas.{IsKept-fresh}
+use Rattle.std.proofs.Common.{ap}
+use Rattle.id_element.proofs.ReplaysLemmas.{Replays-fresh}
 use Rattle.id_element.proofs.element.Element.keeping.Goals as goal
 
 pub invariant_of-result : goal.invariant_of-result
-invariant_of-result c = (IsKept-fresh _ c.new.ensures.state, rw (c.new.ensures.graph, c.new.ensures.number, ← c.graph.ensures.value) c.bound.ensures)
+invariant_of-result c = record {
+  replays = Replays-fresh _ (ap (λ e. e.state) c.new.ensures);
+  valid = rw (ap (λ e. e.graph) c.new.ensures) c.graph.ensures.kept;
+  bound = rw (ap (λ e. e.graph) c.new.ensures, ap (λ e. e.number) c.new.ensures, ← c.graph.ensures.value) c.bound.ensures;
+}

@@ -1,7 +1,0 @@
--- None so far is of the context.
-use Rattle.std.proofs.Common.{Some}
-use Rattle.id_core.specs.Flights.{AreOthers}
-use Rattle.id_core.proofs.in_flight.InFlight.first_behind.Given as goal
-
-abbrev pub invariant-loop-position : goal.invariant-loop-position
-invariant-loop-position l = AreOthers l.self.messages l.from l.position (Some l.context)
