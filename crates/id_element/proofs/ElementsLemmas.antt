@@ -1,12 +1,12 @@
--- What an element keeps, by what its desk says of a message.
+-- What an element keeps, by what its storage says of a message.
 use Rattle.std.proofs.Common.{◌≡◌, ℕ, List, Option, None, Some, sym, ap, subst}
 use Rattle.std.specs.Prelude.{All}
 use Rattle.id_instr.specs.Graph.{Parts}
 use Rattle.id_valid.specs.Validator.{IsValid}
 use Rattle.id_tag.specs.declared.Message.{Message}
 use Rattle.id_record.specs.declared.step.Step.{Step}
-use Rattle.id_element.specs.declared.desk.Desk.{Desk}
-use Rattle.id_element.specs.Desks.{element_at, state_of}
+use Rattle.id_element.specs.declared.storage.Storage.{Storage}
+use Rattle.id_element.specs.Storage.{element_at, state_of}
 use Rattle.id_element.specs.Firings.{IsBound}
 use Rattle.id_element.specs.Fits.{Fits, IsFor}
 use Rattle.id_element.specs.Kept.{IsKept}
@@ -27,7 +27,7 @@ number_stays e e' m list rest list' (Some s) done = ap (λ v. v.number) done.ele
 number_stays e e' m list rest list' None done = ap (λ v. v.number) done.element
 
 -- what it keeps it keeps, whatever became of a message for it
-pub stays : (e : ElementView) (d d' : Desk) (m : Message) (list rest list' : List Message) (o : Option Step) (most : ℕ) → element_at d ≡ e
+pub stays : (e : ElementView) (d d' : Storage) (m : Message) (list rest list' : List Message) (o : Option Step) (most : ℕ) → element_at d ≡ e
     → IsFor e.graph e.count e.number m → Becomes (element_at d) (element_at d') m list rest list' o → IsKept (element_at d) most
     → IsKept (element_at d') most
 stays e d d' m list rest list' o most is for done kept =
@@ -41,7 +41,7 @@ stays e d d' m list rest list' o most is for done kept =
     }
 
 -- what a message for it sends fits
-pub sends_fit : (e : ElementView) (d : Desk) (m : Message) (most : ℕ) → element_at d ≡ e → IsKept (element_at d) most → IsFor e.graph e.count e.number m
+pub sends_fit : (e : ElementView) (d : Storage) (m : Message) (most : ℕ) → element_at d ≡ e → IsKept (element_at d) most → IsFor e.graph e.count e.number m
     → All (Fits e.graph) (outputs_of e.graph e.number e.state m)
 sends_fit e d m most is kept for =
     let P : ElementView → Type 0 = λ v. All (Fits v.graph) (outputs_of v.graph v.number v.state m) in

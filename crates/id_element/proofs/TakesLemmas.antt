@@ -1,17 +1,31 @@
--- Lemmas on specs/Takes.antt: what is recorded and sent at a desk is the element step, also where what waits and the
--- cells have changed before; and a message leaves the list that its outputs go to.
-use Rattle.std.proofs.Common.{◌≡◌, ◌<◌, ◌^◌, ◌++◌, ℕ, List, length, sym, ap, subst, ◌∙◌}
+-- Lemmas on specs/Takes.antt: what is recorded and sent at a storage is the element step, also where what waits and the
+-- cells have changed before; and whether it went well.
+use Rattle.std.proofs.Common.{◌≡◌, ◌<◌, ◌^◌, ◌-◌, ◌++◌, ◌||◌, ℕ, Bool, List, true, false, Ok, Err, length, refl, sym, ap, subst, ◌∙◌}
+use Rattle.std.proofs.Common.{◌==◌, arith}
+use Rattle.std.specs.Prelude.{IsTrue}
+use Rattle.std.proofs.lemmas.Bool.{eqb-true}
+use Rattle.std.proofs.Math.Nat.{le-max_left, le-max_right}
 use Rattle.id_tag.specs.declared.Message.{Message}
+use Rattle.id_tag.specs.declared.Tag.{Tag}
 use Rattle.id_match.specs.Waiting.{Store}
 use Rattle.id_bank.specs.Cells.{Cells}
+use Rattle.id_value.specs.declared.FaultKind.{FaultKind}
+use Rattle.id_record.specs.declared.step.Fault.TheVariants.{Operator}
 use Rattle.id_record.specs.declared.step.Step.{Step}
+use Rattle.id_record.specs.declared.step.Step.TheVariants as step
+use Rattle.id_record.specs.Events.{tag_of}
 use Rattle.id_record.specs.Sends.{numbered}
-use Rattle.id_element.specs.declared.desk.Desk.{Desk}
-use Rattle.id_element.specs.Desks.{element_at}
+use Rattle.id_element.specs.declared.step.Short.{Short}
+use Rattle.id_element.specs.declared.step.Short.TheVariants as short
+use Rattle.id_element.specs.declared.step.TakeError.{TakeError}
+use Rattle.id_element.specs.declared.step.TakeError.TheVariants.{StampEnd}
+use Rattle.id_element.specs.declared.storage.Storage.{Storage}
+use Rattle.id_element.specs.Storage.{element_at}
 use Rattle.id_element.specs.Handled.{IsRecorded, IsSent, recorded}
 use Rattle.id_element.specs.Replays.{ElementView}
-use Rattle.id_element.specs.Steps.{Outcome, next_stamp}
-use Rattle.id_element.specs.Takes.{Takes}
+use Rattle.id_element.specs.Shorts.{HandlesShortAt}
+use Rattle.id_element.specs.Steps.{Outcome, State, is_ended, next_stamp}
+use Rattle.id_element.specs.Takes.{GoesAt, HandlesAt, Takes}
 use Rattle.id_element.proofs.FiringsLemmas.{IsStepBy}
 
 -- the element e, where this waits and the cells have this
@@ -19,7 +33,7 @@ abbrev pub changed : ElementView → Store → Cells → ElementView
 changed e w b = record e { state = record e.state { waiting = w; cells = b } }
 
 -- a message that was recorded with its outcome at this stamp, which is the next, and sent for was taken
-pub takes_recorded : (e : ElementView) (w : Store) (b : Cells) (d new : Desk) (m : Message) (n : ℕ) (o p : Outcome) (s : Step) (rest before list : List Message)
+pub takes_recorded : (e : ElementView) (w : Store) (b : Cells) (d new : Storage) (m : Message) (n : ℕ) (o p : Outcome) (s : Step) (rest before list : List Message)
     → IsStepBy e.graph e.number e.state m p → element_at d ≡ changed e w b → n ≡ next_stamp e.state m → n < 2 ^ 64 → o ≡ p → s ≡ p.step → before ≡ rest
     → IsRecorded d new m n o → IsSent d before list n o.sends → Takes e (element_at new) m rest list s
 takes_recorded e w b d new m n o p s rest before list by at is below comes step same done sends = record {
@@ -39,3 +53,42 @@ takes_recorded e w b d new m n o p s rest before list by at is below comes step 
       ∙ ap (λ (x : Outcome). rest ++ numbered e.number (length e.state.events) (next_stamp e.state m) 0 x.sends) comes
       ∙ ap (λ xs. rest ++ xs) (sym by.outputs);
 }
+
+-- ---- messages that leave their list
+
+-- no stamp is left where the next would not be small
+not_ended : (s : State) (m : Message) → next_stamp s m < 2 ^ 64 → IsTrue (is_ended s m) → ⊥
+not_ended s m small end = go (s.stamp == 2 ^ 64 - 1) (m.stamp == 2 ^ 64 - 1) refl refl end
+  where
+    go : (a b : Bool) → (s.stamp == 2 ^ 64 - 1) ≡ a → (m.stamp == 2 ^ 64 - 1) ≡ b → IsTrue (a || b) → ⊥
+    go true b l r t = let is = eqb-true s.stamp (2 ^ 64 - 1) l in omega (arith, is, le-max_left s.stamp m.stamp, small)
+    go false true l r t = let is = eqb-true m.stamp (2 ^ 64 - 1) r in omega (arith, is, le-max_right s.stamp m.stamp, small)
+    go false false l r t = cc
+
+-- ---- whether it went well
+
+pub goes_well : {k : ℕ} {e e' : ElementView} {list list' : List Message} → HandlesAt k e e' list list' (Ok step.Went)
+    → GoesAt k e e' list list' (Ok true)
+goes_well h = record { step = Ok step.Went; handles = h; well = refl }
+
+pub goes_not : {k : ℕ} {e e' : ElementView} {list list' : List Message} (x : TakeError) → HandlesAt k e e' list list' (Err x)
+    → GoesAt k e e' list list' (Err x)
+goes_not x h = record { step = Err x; handles = h; well = refl }
+
+pub goes_ill : (k : ℕ) (e e' : ElementView) (list list' : List Message) (s : Short) (f : FaultKind) → s ≡ short.Failed f
+    → HandlesShortAt k e e' list list' (Ok s) → GoesAt k e e' list list' (Ok false)
+goes_ill k e e' list list' s f is short =
+    let h = subst (λ (q : Short). HandlesShortAt k e e' list list' (Ok q)) is short in
+    record {
+      step = Ok (step.Fault (Operator f (tag_of h.message.payload)));
+      handles = record {
+        message = h.message;
+        at = h.at;
+        handles = record {
+          becomes = h.becomes;
+          fits = h.fits;
+          ended = (λ i. cc, λ end. absurd (not_ended e.state h.message h.becomes.stamp end));
+        };
+      };
+      well = refl;
+    }

@@ -1,5 +1,5 @@
 -- A message's outcome in the two parts that the code computes: what fires, and what the record keeps.
-use Rattle.std.specs.Prelude.{◌≡◌, ℕ, ◌+◌, ◌<◌, ◌≤◌, ◌^◌, All, length}
+use Rattle.std.specs.Prelude.{◌≡◌, ℕ, ◌+◌, ◌<◌, ◌≤◌, All, length}
 use Rattle.id_instr.specs.Graph.{Parts}
 use Rattle.id_instr.specs.declared.instr.Instr.{Instr}
 use Rattle.id_tag.specs.declared.Tag.{Tag}
@@ -19,7 +19,6 @@ use Rattle.id_match.specs.Waiting.{Store}
 use Rattle.id_ops.specs.declared.Operands.{Operands}
 use Rattle.id_ops.specs.declared.Operands.TheVariants.{One, Two}
 use Rattle.id_ops.specs.declared.plain_fired.PlainFired.{PlainFired}
-use Rattle.id_ops.specs.declared.plain_fired.PlainFired.TheVariants as plain_fired
 use Rattle.id_ops.specs.PlainFired.{MakesNone, fired_of}
 use Rattle.id_element.specs.declared.step.PlainOperands.{PlainOperands}
 use Rattle.id_element.specs.declared.step.PlainOperands.TheVariants as plain
@@ -37,11 +36,10 @@ abbrev pub IsMost : Parts → ℕ → Type 0
 IsMost g m = All (λ i. most_sent i ≤ m) g.instrs
 
 -- no message at an instruction of the graph sends more than m, and where that is 256 at the most, the number of the
--- element e and those of the instructions are small
+-- element e is small
 pub record IsBound (g : Parts) (e m : ℕ) : Type 0 where
   pub most : IsMost g m
   pub element : m ≤ 256 → e < 256
-  pub instrs : m ≤ 256 → length g.instrs ≤ 2 ^ 24
 
 -- what the instruction does with what arrived, with the element's next numbers: nothing where the token waits or is
 -- blocked
@@ -81,8 +79,6 @@ pub record IsFiring (op : Op) (w later : Store) (t : PlainToken) (o : PlainOpera
 
 -- this comes of a plain token, and these wait afterwards
 abbrev pub IsReaction : Op → Store → Store → PlainToken → Reacted → Type 0
-IsReaction op w later t reacted.Waits = IsPlainFiring op w later t plain_fired.Nothing
-IsReaction op w later t (reacted.One p) = IsPlainFiring op w later t p
-IsReaction op w later t (reacted.Two p) = IsPlainFiring op w later t p
+IsReaction op w later t (reacted.Plain p) = IsPlainFiring op w later t p
 IsReaction op w later t (reacted.Fires o) = IsFiring op w later t o
 IsReaction op w later t reacted.Apart = later ≡ w

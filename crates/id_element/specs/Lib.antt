@@ -3,11 +3,11 @@ pub mod Firings
 pub mod Fits
 pub mod Shorts
 pub mod Steps
-pub mod Desks
+pub mod Storage
 pub mod Replays
 pub mod Takes
 pub mod Codes
 -- For use inside.
 pub mod Handled
 pub mod Kept
-pub mod Visited
+pub mod Accesses

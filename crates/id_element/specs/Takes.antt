@@ -1,10 +1,11 @@
 -- What an element does with a message (docs/MACHINE.md, "Element step"): said once, of the element, of the list that
 -- the message comes from and of the list that its messages go to.
-use Rattle.std.specs.Prelude.{◌≡◌, ◌↔◌, ◌<◌, ◌^◌, ◌++◌, ℕ, All, IfSome, IsTrue, List, OnOk}
-use Rattle.std.specs.Prelude.{Option, None, Some, Result, Ok, Err, slice_get}
+use Rattle.std.specs.Prelude.{◌≡◌, ◌↔◌, ◌<◌, ◌^◌, ◌++◌, ℕ, All, Bool, IfSome, IsTrue, List}
+use Rattle.std.specs.Prelude.{OnOk, true, false, Option, None, Some, Result, Ok, Err, slice_get}
 use Rattle.std.specs.List.{remove}
 use Rattle.id_tag.specs.declared.Message.{Message}
 use Rattle.id_record.specs.declared.step.Step.{Step}
+use Rattle.id_record.specs.declared.step.Step.TheVariants.{Went, Fault, Stuck}
 use Rattle.id_element.specs.declared.step.TakeError.{TakeError}
 use Rattle.id_element.specs.declared.step.TakeError.TheVariants.{StampEnd}
 use Rattle.id_element.specs.Fits.{Fits, IsFor}
@@ -50,6 +51,19 @@ pub record HandlesAt (k : ℕ) (e e' : ElementView) (list list' : List Message) 
   pub message : Message
   pub at : slice_get list k ≡ Some message
   pub handles : Handles e e' message list (remove list k) list' r
+
+-- whether what the message came to went well
+abbrev pub came_well : Result Step TakeError → Result Bool TakeError
+came_well (Ok Went) = Ok true
+came_well (Ok (Fault f)) = Ok false
+came_well (Ok Stuck) = Ok false
+came_well (Err x) = Err x
+
+-- the same, where the answer is whether it went well
+pub record GoesAt (k : ℕ) (e e' : ElementView) (list list' : List Message) (r : Result Bool TakeError) : Type 0 where
+  pub step : Result Step TakeError
+  pub handles : HandlesAt k e e' list list' step
+  pub well : r ≡ came_well step
 
 -- the message at a position is for the element, and fits its graph
 abbrev pub IsForAt : ElementView → List Message → ℕ → Type 0

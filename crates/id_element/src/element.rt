@@ -1,18 +1,15 @@
 //! An element: what waits at it, its cells, its last stamp and its record (docs/MACHINE.md, "Element step").
 
-ghost use Rattle.std.specs.Prelude.{◌≡◌};
-ghost use Rattle.id_element.specs.Shorts.{short_step};
-
-use crate::cells::take_demand;
-use crate::desk::Desk;
+use crate::cells::take_access;
 use crate::gate::{Gate, Open};
 use crate::outcome::bound;
 use crate::step::{Short, TakeError};
+use crate::storage::Storage;
 use crate::taking::take;
 use id_bank::{Cells, Reader};
-use id_flight::{Demand, Queue};
-use id_record::{Events, Fault, Faulted, Keeps, Step, Telling, full_step};
-use id_tag::{Message, Payload, PlainToken, Tag};
+use id_flight::{Access, Queue};
+use id_record::{Events, Fault, Faulted, Keeps, Step, Telling, full_step, tag_of};
+use id_tag::{Message, Payload, PlainToken};
 use id_valid::Valid;
 use std::alloc::{AllocError, Global};
 use std::marker::Model;
@@ -20,15 +17,15 @@ use std::marker::Model;
 /// An element of the machine: it handles the messages that are routed to it, one at a time.
 #[derive(Drop)]
 pub struct Element<'a> {
-    desk: Desk<'a>,
+    storage: Storage<'a>,
     // What a message sends at the most, at any instruction of the graph, and more than 256 where the number of the
-    // element or those of the instructions are not small: asked for once.
+    // element is not small: asked for once.
     most: usize,
 }
 
 impl<'a> Model for Element<'a> {
     ghost use Rattle.id_element.specs.Codes.{coded_element};
-    ghost use Rattle.id_element.specs.Desks.{element_at};
+    ghost use Rattle.id_element.specs.Storage.{element_at};
     ghost use Rattle.id_element.specs.Kept.{IsKept};
     ghost use Rattle.id_element.specs.Replays.{ElementView};
 
@@ -36,9 +33,9 @@ impl<'a> Model for Element<'a> {
 
     ghost coded = { coded_element };
 
-    ghost view = { λ e. element_at e.desk };
+    ghost view = { λ e. element_at e.storage };
 
-    ghost invariant = { λ e. IsKept (element_at e.desk) e.most };
+    ghost invariant = { λ e. IsKept (element_at e.storage) e.most };
 }
 
 impl<'a> Element<'a> {
@@ -46,7 +43,7 @@ impl<'a> Element<'a> {
     ghost use Rattle.std.specs.Prelude.{◌==◌, ◌||◌, All, IfOk, IsTrue, length};
     ghost use Rattle.std.specs.FinMap.{empty};
     ghost use Rattle.id_tag.specs.Plains.{message_of, tag_in};
-    ghost use Rattle.id_flight.specs.Demands.{demanded};
+    ghost use Rattle.id_flight.specs.Accesses.{accessed};
     ghost use Rattle.id_bank.specs.Cells.{cells_of, deferred_of};
     ghost use Rattle.id_record.specs.declared.kept.Keeps.TheVariants as keeps;
     ghost use Rattle.id_record.specs.Events.{AllWent};
@@ -54,9 +51,9 @@ impl<'a> Element<'a> {
     ghost use Rattle.id_element.specs.declared.step.TakeError.TheVariants.{StampEnd};
     ghost use Rattle.id_element.specs.Fits.{Fits, IsFor};
     ghost use Rattle.id_element.specs.Replays.{Replays};
-    ghost use Rattle.id_element.specs.Shorts.{came_short};
+    ghost use Rattle.id_element.specs.Shorts.{HandlesShortAt, came_short};
     ghost use Rattle.id_element.specs.Steps.{fresh, is_ended, outputs_of};
-    ghost use Rattle.id_element.specs.Takes.{Becomes, Handles, HandlesAt, IsForAt};
+    ghost use Rattle.id_element.specs.Takes.{Becomes, GoesAt, Handles, HandlesAt, IsForAt};
 
     /// The element of this number, of so many, that has handled nothing and keeps all events. Takes no memory, and
     /// looks at each instruction once.
@@ -85,7 +82,7 @@ impl<'a> Element<'a> {
             ≡ record { number = number; count = count; graph = graph.now; keeps = keeps; state = fresh } }
     {
         Element {
-            desk: Desk::new(alloc, number, count, graph, keeps),
+            storage: Storage::new(alloc, number, count, graph, keeps),
             most: bound(number, graph.graph()),
         }
     }
@@ -115,67 +112,70 @@ impl<'a> Element<'a> {
         ensures { Handles self.old self.new message.now outputs.old.messages outputs.old.messages
             outputs.new.messages result }
     {
-        let graph = self.desk.log.graph();
-        let verdict = take(&mut self.desk, graph.graph(), message, outputs, gate)?;
+        let graph = self.storage.log.graph();
+        let verdict = take(&mut self.storage, graph.graph(), message, outputs, gate)?;
         Ok(full_step(&message.payload, verdict))
     }
 
     /// Handles the message at a position of a list, from 0, which is for this element, as `take_held` does: it leaves
     /// the list, which closes up, and what is sent for it goes to the end. After an error nothing has changed.
+    pub fn take_at<G: Gate>(
+        &mut self,
+        list: &mut Queue,
+        position: usize,
+        gate: &G,
+    ) -> Result<Step, TakeError>
+        requires there { position < length list.old.messages }
+        requires for_it { IsForAt self.old list.old.messages position }
+        ensures { HandlesAt position self.old self.new list.old.messages list.new.messages result }
+    {
+        let tag = tag_of(&list.message(position).payload);
+        match self.take_short(list, position, gate)? {
+            Short::Went => Ok(Step::Went),
+            Short::Failed(fault) => Ok(Step::Fault(Fault::Operator { fault, tag })),
+            Short::Apart => self.take_whole(list, position, gate),
+        }
+    }
+
+    /// The same, and answers whether it went well.
     #[inline(always)]
+    #[tactic(auto, using(crate::proofs::TakesLemmas::goes_well, crate::proofs::TakesLemmas::goes_not))]
     pub fn take_from<G: Gate>(
         &mut self,
         list: &mut Queue,
         position: usize,
         gate: &G,
-    ) -> Result<Step, TakeError>
+    ) -> Result<bool, TakeError>
         requires there { position < length list.old.messages }
         requires for_it { IsForAt self.old list.old.messages position }
-        ensures { HandlesAt position self.old self.new list.old.messages list.new.messages result }
+        ensures { GoesAt position self.old self.new list.old.messages list.new.messages result }
     {
-        let token = match list.token(position) {
-            Some(token) => *token,
-            None => return self.take_other(list, position, gate),
-        };
-        self.open(list, position, u64::from(token.stamp))?;
-        let short = self.take_plain(&token, list, gate)?;
-        match short_step(token.tag(), short) {
-            Some(step) => {
-                list.remove(position);
-                Ok(step)
-            }
-            None => self.take_whole(list, position, gate),
+        match self.take_short(list, position, gate)? {
+            Short::Went => Ok(true),
+            Short::Failed(_) => Ok(false),
+            Short::Apart => self.take_apart(list, position, gate),
         }
     }
 
-    /// The same of what is no plain token.
+    /// The same of what is not handled in short.
     #[inline(never)]
-    fn take_other<G: Gate>(
+    fn take_apart<G: Gate>(
         &mut self,
         list: &mut Queue,
         position: usize,
         gate: &G,
-    ) -> Result<Step, TakeError>
+    ) -> Result<bool, TakeError>
         requires there { position < length list.old.messages }
         requires for_it { IsForAt self.old list.old.messages position }
-        ensures { HandlesAt position self.old self.new list.old.messages list.new.messages result }
+        ensures { GoesAt position self.old self.new list.old.messages list.new.messages result }
     {
-        let demand = match list.demand(position) {
-            Some(demand) => demand,
-            None => return self.take_whole(list, position, gate),
-        };
-        self.open(list, position, u64::from(demand.like.stamp))?;
-        let short = self.take_short_demand(&demand, list, gate)?;
-        match short_step(demand.like.tag(), short) {
-            Some(step) => {
-                list.remove(position);
-                Ok(step)
-            }
-            None => self.take_whole(list, position, gate),
+        match self.take_whole(list, position, gate)? {
+            Step::Went => Ok(true),
+            Step::Fault(_) | Step::Stuck => Ok(false),
         }
     }
 
-    /// The same of any message.
+    /// Handles the message at a position of a list in full, as `take_at` does.
     #[inline(never)]
     fn take_whole<G: Gate>(
         &mut self,
@@ -194,6 +194,54 @@ impl<'a> Element<'a> {
         Ok(step)
     }
 
+    /// Handles the message at a position of a list as `take_at` does, where that is short, and says what became of it.
+    #[inline(always)]
+    fn take_short<G: Gate>(
+        &mut self,
+        list: &mut Queue,
+        position: usize,
+        gate: &G,
+    ) -> Result<Short, TakeError>
+        requires there { position < length list.old.messages }
+        requires for_it { IsForAt self.old list.old.messages position }
+        ensures { HandlesShortAt position self.old self.new list.old.messages list.new.messages result }
+    {
+        let token = match list.token(position) {
+            Some(token) => *token,
+            None => return self.take_other(list, position, gate),
+        };
+        self.open(list, position, u64::from(token.stamp))?;
+        let short = self.take_plain(&token, list, gate)?;
+        if !matches!(short, Short::Apart) {
+            list.remove(position);
+        }
+        Ok(short)
+    }
+
+    /// The same of what is no plain token.
+    #[inline(never)]
+    fn take_other<G: Gate>(
+        &mut self,
+        list: &mut Queue,
+        position: usize,
+        gate: &G,
+    ) -> Result<Short, TakeError>
+        requires there { position < length list.old.messages }
+        requires for_it { IsForAt self.old list.old.messages position }
+        ensures { HandlesShortAt position self.old self.new list.old.messages list.new.messages result }
+    {
+        let access = match list.access(position) {
+            Some(access) => access,
+            None => return Ok(Short::Apart),
+        };
+        self.open(list, position, u64::from(access.like.stamp))?;
+        let short = self.take_short_access(&access, list, gate)?;
+        if !matches!(short, Short::Apart) {
+            list.remove(position);
+        }
+        Ok(short)
+    }
+
     /// Makes a list ready for its message at a position, which has this stamp, to leave it, where a stamp is left.
     #[inline(always)]
     fn open(&self, list: &mut Queue, position: usize, stamp: u64) -> Result<(), TakeError>
@@ -202,7 +250,7 @@ impl<'a> Element<'a> {
         ensures end { (result ≡ Err StampEnd)
             ↔ IsTrue ((self.now.state.stamp == 2 ^ 64 - 1) || (stamp == 2 ^ 64 - 1)) }
     {
-        if self.desk.stamp == u64::MAX || stamp == u64::MAX {
+        if self.storage.stamp == u64::MAX || stamp == u64::MAX {
             return Err(TakeError::StampEnd);
         }
         list.open(position)?;
@@ -225,34 +273,34 @@ impl<'a> Element<'a> {
             (outputs_of self.old.graph self.old.number self.old.state (message_of token.now)) }
         ensures end { (result ≡ Err StampEnd) ↔ IsTrue (is_ended self.old.state (message_of token.now)) }
     {
-        let graph = self.desk.log.graph();
-        self.desk
+        let graph = self.storage.log.graph();
+        self.storage
             .take_plain(graph.graph(), token, self.most, outputs, gate)
     }
 
     /// The same of a read or a write of a cell.
     #[inline(always)]
-    fn take_short_demand<G: Gate>(
+    fn take_short_access<G: Gate>(
         &mut self,
-        demand: &Demand,
+        access: &Access,
         outputs: &mut Queue,
         gate: &G,
     ) -> Result<Short, TakeError>
-        requires { IsFor self.old.graph self.old.count self.old.number (demanded demand.now) }
-        ensures becomes { Becomes self.old self.new (demanded demand.now) outputs.old.messages outputs.old.messages
-            outputs.new.messages (came_short (tag_in demand.now.like) result) }
+        requires { IsFor self.old.graph self.old.count self.old.number (accessed access.now) }
+        ensures becomes { Becomes self.old self.new (accessed access.now) outputs.old.messages outputs.old.messages
+            outputs.new.messages (came_short (tag_in access.now.like) result) }
         ensures fits { All (Fits self.old.graph)
-            (outputs_of self.old.graph self.old.number self.old.state (demanded demand.now)) }
-        ensures end { (result ≡ Err StampEnd) ↔ IsTrue (is_ended self.old.state (demanded demand.now)) }
+            (outputs_of self.old.graph self.old.number self.old.state (accessed access.now)) }
+        ensures end { (result ≡ Err StampEnd) ↔ IsTrue (is_ended self.old.state (accessed access.now)) }
     {
-        take_demand(&mut self.desk, demand, outputs, gate)
+        take_access(&mut self.storage, access, outputs, gate)
     }
 
     /// Gives back the memory of what waits, where nothing does: it shows the same as before.
     pub fn give_back(&mut self, alloc: Global)
         ensures { self.new ≡ self.old }
     {
-        self.desk.give_back(alloc);
+        self.storage.give_back(alloc);
     }
 
     /// Whether no stamp is left for the message. Takes no memory.
@@ -260,42 +308,42 @@ impl<'a> Element<'a> {
     pub fn is_ended(&self, message: &Message) -> bool
         ensures { result ≡ is_ended self.now.state message.now }
     {
-        self.desk.stamp == u64::MAX || message.stamp == u64::MAX
+        self.storage.stamp == u64::MAX || message.stamp == u64::MAX
     }
 
     /// Whether no event was a fault or `Stuck`. Takes no memory.
     pub fn all_went(&self) -> bool
         ensures { IsTrue result ↔ AllWent self.now.state.events }
     {
-        !self.desk.log.is_stuck() && self.desk.log.fault().is_none()
+        !self.storage.log.is_stuck() && self.storage.log.fault().is_none()
     }
 
     /// Whether no cell was read or written here. Takes no memory.
     pub fn has_no_cells(&self) -> bool
         ensures { IsTrue result ↔ (self.now.state.cells ≡ empty) }
     {
-        self.desk.cells.is_empty()
+        self.storage.cells.is_empty()
     }
 
     /// The cells that hold a value, in the order of cells.
     pub fn cells(&self, alloc: Global) -> Result<Cells<'_>, AllocError>
         ensures { IfOk result (λ cs. cs ≡ cells_of self.now.state.cells) }
     {
-        self.desk.cells.cells(alloc)
+        self.storage.cells.cells(alloc)
     }
 
     /// The replies that wait for the value of a cell, in the order of their cells, and of one cell in order of arrival.
     pub fn deferred(&self, alloc: Global) -> Result<Vec<Reader>, AllocError>
         ensures { IfOk result (λ rs. rs.items ≡ deferred_of self.now.state.cells) }
     {
-        self.desk.cells.deferred(alloc)
+        self.storage.cells.deferred(alloc)
     }
 
     /// The graph that it runs. Takes no memory.
     pub fn graph(&self) -> &'a Valid
         ensures { result.now ≡ self.now.graph }
     {
-        self.desk.log.graph()
+        self.storage.log.graph()
     }
 
     /// How much it keeps of its events. Takes no memory.
@@ -303,7 +351,7 @@ impl<'a> Element<'a> {
     pub fn keeps(&self) -> Keeps
         ensures { result ≡ self.now.keeps }
     {
-        self.desk.log.keeps()
+        self.storage.log.keeps()
     }
 
     /// The record: the events, in order, of an element that keeps them all. Takes no memory.
@@ -313,7 +361,7 @@ impl<'a> Element<'a> {
         // The record leads to the element's state, by legal events.
         ensures kept { Replays self.now }
     {
-        self.desk.log.events()
+        self.storage.log.events()
     }
 
     /// How many messages it has handled, which is how many events its record has. Takes no memory.
@@ -323,14 +371,14 @@ impl<'a> Element<'a> {
         // The record leads to the element's state, by legal events.
         ensures kept { Replays self.now }
     {
-        self.desk.log.len()
+        self.storage.log.len()
     }
 
     /// What its events tell of contexts, of structures and of instruction 0, in order. Takes no memory.
     pub fn tellings(&self) -> &[Telling]
         ensures { result.now ≡ tellings self.now.state.events }
     {
-        self.desk.log.tellings()
+        self.storage.log.tellings()
     }
 
     /// What came to merges for values of the source, in order, where that is kept. Takes no memory.
@@ -338,32 +386,20 @@ impl<'a> Element<'a> {
         requires { self.now.keeps ≢ keeps.Tellings }
         ensures { result.now ≡ merged self.now.graph self.now.state.events }
     {
-        self.desk.log.merged()
+        self.storage.log.merged()
     }
 
     /// The first event that was a fault. Takes no memory.
     pub fn fault(&self) -> Option<Faulted>
         ensures { result ≡ first_fault self.now.state.events }
     {
-        self.desk.log.fault()
+        self.storage.log.fault()
     }
 
     /// Whether an event came to `Stuck`. Takes no memory.
     pub fn is_stuck(&self) -> bool
         ensures { result ≡ any_stuck self.now.state.events }
     {
-        self.desk.log.is_stuck()
-    }
-}
-
-/// What the event of a message under this tag came to, where it was handled in short.
-#[inline(always)]
-fn short_step(tag: Tag, short: Short) -> Option<Step>
-    ensures { result ≡ short_step tag short }
-{
-    match short {
-        Short::Went => Some(Step::Went),
-        Short::Failed(fault) => Some(Step::Fault(Fault::Operator { fault, tag })),
-        Short::Apart => None,
+        self.storage.log.is_stuck()
     }
 }

@@ -1,6 +1,6 @@
 //! A gate in the element step, at which its caller may hold it.
 
-use crate::desk::Desk;
+use crate::storage::Storage;
 
 /// What is called once in each handling of a message, after its last growth and before its event is recorded; its
 /// implementation is the caller's and is assumed to return.
@@ -9,7 +9,7 @@ pub trait Gate {
     fn hold(&self, at: &Handling);
 }
 
-/// A handling of a message: at which element, and how many it has handled before. Only a desk makes one.
+/// A handling of a message: at which element, and how many it has handled before. Only the element step makes one.
 #[derive(Drop)]
 pub struct Handling {
     element: u32,
@@ -43,7 +43,7 @@ impl Gate for Open {
     fn hold(&self, _at: &Handling) {}
 }
 
-impl<'a> Desk<'a> {
+impl<'a> Storage<'a> {
     /// Lets the gate hold the handling of a message whose event is not recorded yet. Takes no memory.
     #[inline(always)]
     pub fn hold<G: Gate>(&self, gate: &G) {

@@ -3,18 +3,18 @@
 //! Keeps: an element's state, its store, its cells and its numbers, is what its record leads to.
 //! Errors: `TakeError`; after each of them nothing has changed.
 //! Read first: `specs/Steps.antt` and `specs/Takes.antt`, then `Element::take`; `specs/Firings.antt`, then
-//! `outcome::react`; `specs/Desks.antt`, then `Desk::take_token`.
+//! `outcome::react`; `specs/Storage.antt`, then `Storage::take_token`.
 //! Not here: what an operator does (`id_ops`), matching (`id_match`), how events are kept (`id_record`), runs
 //! (`id_core`).
 #![tactic(auto)]
 
 mod cells;
-mod desk;
 mod element;
 mod fitting;
 mod gate;
 mod outcome;
 mod step;
+mod storage;
 mod taking;
 
 pub use element::Element;

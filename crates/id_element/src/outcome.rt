@@ -36,10 +36,7 @@ use id_bank::{ReadAnswer, WriteAnswer};
 use id_flight::Queue;
 use id_instr::{Dest, Graph, Instr, Op, Port};
 use id_match::{Met, Offered, Waiting};
-use id_ops::{
-    Fired, Fresh, Operands, PlainFired, Target, fire, fire_one, fire_one_else, fire_two,
-    fire_two_else,
-};
+use id_ops::{Fired, Fresh, Operands, PlainFired, Target, fire, fire_one, fire_two};
 use id_record::{
     Envelope, Reaction, Record, Verdict, chosen, count_started, message, moved_to, start, token_at,
     token_to,
@@ -87,13 +84,12 @@ pub fn greatest(graph: &Graph) -> usize
 }
 
 /// An upper bound on what one message sends at any instruction of the graph: above 256 too where the number of the
-/// element or those of the instructions are not small, so that one number tells of all.
+/// element is not small, so that one number tells of both.
 pub fn bound(number: u32, graph: &Graph) -> usize
     ensures { IsBound graph.now number result }
 {
     let most = greatest(graph);
-    let is_small = number <= 0xff && graph.instrs().len() <= 0x100_0000;
-    if is_small || most > 0x100 {
+    if number <= 0xff || most > 0x100 {
         most
     } else {
         0x101
@@ -169,7 +165,7 @@ pub fn react_plain(waiting: &mut Waiting, op: Op, token: &PlainToken) -> Result<
         return Ok(fires(op, token));
     }
     match waiting.offer_plain(token)? {
-        Met::Kept => Ok(Reacted::Waits),
+        Met::Kept => Ok(Reacted::Plain(PlainFired::Nothing)),
         Met::Apart => Ok(Reacted::Apart),
         Met::Partner(partner) => Ok(met(op, token, partner)),
     }
@@ -183,7 +179,7 @@ fn fires(op: Op, token: &PlainToken) -> Reacted
     ensures { (w : Store) → IsReaction op w w token.now result }
 {
     match fire_one(op, token.iteration, token.value) {
-        Some(fired) => Reacted::One(fired),
+        Some(fired) => Reacted::Plain(fired),
         None => Reacted::Fires(PlainOperands::One(token.value)),
     }
 }
@@ -200,23 +196,8 @@ fn met(op: Op, token: &PlainToken, partner: Plain) -> Reacted
 {
     let (left, right) = by_port(token.port, token.value, partner);
     match fire_two(op, left, right) {
-        Some(fired) if is_own(fired, token) && allocated_by_plain(op, fired) == 0 => {
-            Reacted::Two(fired)
-        }
-        _ => Reacted::Fires(PlainOperands::Two(left, right)),
-    }
-}
-
-/// Whether the token's own value is fired, where that came to port 1, or a word for a word, as mostly: what else is
-/// fired is told out of line.
-#[inline(always)]
-fn is_own(fired: PlainFired, token: &PlainToken) -> bool {
-    match fired {
-        PlainFired::Out(sent) => token.value.is_word() && sent.is_word(),
-        PlainFired::Side(_, sent) => {
-            token.port == Port::One || (token.value.is_word() && sent.is_word())
-        }
-        _ => token.port == Port::One,
+        Some(fired) => Reacted::Plain(fired),
+        None => Reacted::Fires(PlainOperands::Two(left, right)),
     }
 }
 
@@ -300,17 +281,6 @@ pub fn allocated_by(op: Op, fired: &Fired) -> u64
             Fired::Out(_) => 1,
             _ => 0,
         },
-        _ => 0,
-    }
-}
-
-/// How many structures the operator takes where it fires this in small numbers. Takes no memory.
-#[inline(always)]
-pub fn allocated_by_plain(op: Op, fired: PlainFired) -> u64
-    ensures { (t : Tag) → result ≡ allocated_by op (fired_of t fired) }
-{
-    match (op, fired) {
-        (Op::Alloc { .. }, PlainFired::Out(_) | PlainFired::Addressed(_)) => 1,
         _ => 0,
     }
 }
@@ -494,20 +464,6 @@ fn envelope_of(like: &PlainToken) -> Envelope
         number: u32::from(like.sender),
         position: like.position as usize,
         stamp: u64::from(like.stamp),
-    }
-}
-
-/// What an operator fires on plain operands in small numbers, where that is nothing that `react_plain` tells. Takes no
-/// memory.
-#[inline(always)]
-pub fn fire_else(op: Op, operands: PlainOperands) -> Option<PlainFired>
-    ensures fired { IfSome result
-        (λ p. (t : Tag) (f : Fresh) → fired op t (operands_in operands) f ≡ fired_of t p) }
-    ensures makes_none { IfSome result (λ p. (v : Plain) → MakesNone p v) }
-{
-    match operands {
-        PlainOperands::One(value) => fire_one_else(op, value),
-        PlainOperands::Two(left, right) => fire_two_else(op, left, right),
     }
 }
 

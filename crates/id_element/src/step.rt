@@ -57,16 +57,11 @@ pub enum PlainOperands {
     Two(Plain, Plain),
 }
 
-/// What comes of a plain token at its instruction, in short: each way is known apart from the others, so that none asks
-/// what another needs.
+/// What comes of a plain token at its instruction.
 #[derive(Clone, Copy)]
 pub enum Reacted {
-    /// It waits for its partner.
-    Waits,
-    /// A plain value is sent, or nothing, by an operator of one port.
-    One(PlainFired),
-    /// The same by one of two ports.
-    Two(PlainFired),
+    /// This is fired in small numbers: nothing where it waits for its partner.
+    Plain(PlainFired),
     /// It fires its instruction, and these operands have something else come of them.
     Fires(PlainOperands),
     /// Something else comes of it, and nothing has changed yet.

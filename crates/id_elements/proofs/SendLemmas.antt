@@ -21,7 +21,7 @@ use Rattle.id_match.specs.contracts.rear.Frame as the_frame
 use Rattle.id_match.specs.contracts.rear.Name as the_name
 use Rattle.id_tag.specs.contracts.near.NearHasher as the_hasher
 use Rattle.id_bank.specs.contracts.slot.Slot as the_slot
-use Rattle.id_element.specs.contracts.desk.Desk as the_desk
+use Rattle.id_element.specs.contracts.storage.Storage as the_storage
 use Rattle.id_element.specs.contracts.element.Element.TheInside as the_inside
 use Rattle.id_bank.specs.contracts.Bank as the_bank
 use Rattle.id_element.specs.contracts.element.Element as the_element
@@ -94,11 +94,11 @@ BankSlot-send = search (sendable, crosses) fits 20000 depth 60
 Bank-send : IsSend the_bank.the_row
 Bank-send = search (sendable, crosses, BankSlot-send, Hasher-send) fits 20000 depth 60
 
-Desk-send : (κ : NamedLft) → IsSend (the_desk.the_field κ).row
-Desk-send κ = search (sendable, crosses, Waiting-send, Bank-send, Record-send) fits 20000 depth 60
+Storage-send : (κ : NamedLft) → IsSend (the_storage.the_field κ).row
+Storage-send κ = search (sendable, crosses, Waiting-send, Bank-send, Record-send) fits 20000 depth 60
 
 Inside-send : (κ : NamedLft) → IsSend (the_inside.the_row κ)
-Inside-send κ = search (sendable, crosses, Desk-send) fits 20000 depth 60
+Inside-send κ = search (sendable, crosses, Storage-send) fits 20000 depth 60
 
 pub Element-send : (κ : NamedLft) → IsSend (the_element.the_row κ)
 Element-send κ = search (sendable, Inside-send)

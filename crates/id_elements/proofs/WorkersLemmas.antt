@@ -1,6 +1,6 @@
 -- Each step of a worker keeps its accounts (specs/Workers.antt).
 use Rattle.std.proofs.Common.{◌≡◌, ℕ, zero, suc, ◌+◌, ◌-◌, ◌<◌, ◌≤◌, List, [], ◌∷◌, ◌++◌, All, length, map, set, get_or, take, refl, sym, ap, subst, ◌∙◌, arith, ⊎_elim, length-set, length-append}
-use Rattle.std.specs.Prelude.{Bool, false, IsTrue, Some, slice_get, Ok, Err}
+use Rattle.std.specs.Prelude.{Bool, true, false, IsTrue, Some, slice_get, Result, Ok, Err}
 use Rattle.std.specs.declared.alloc.AllocError.{AllocError}
 use Rattle.std.specs.List.{remove, sum_by}
 use Rattle.std.proofs.lemmas.Grind.{flat_map-append}
@@ -23,13 +23,14 @@ use Rattle.id_inbox.specs.Doors.{DoorView}
 use Rattle.id_inbox.specs.Hands.{sending, weight_in}
 use Rattle.id_record.specs.declared.kept.Keeps.{Keeps}
 use Rattle.id_record.specs.declared.step.Step.{Step}
-use Rattle.id_record.specs.declared.step.Step.TheVariants.{Went}
+use Rattle.id_record.specs.declared.step.Step.TheVariants.{Went, Fault, Stuck}
 use Rattle.id_record.specs.Events.{AllWent, EventView}
 use Rattle.id_element.specs.Fits.{Fits}
 use Rattle.id_element.specs.Steps.{State, event_of, outputs_of, state_after}
 use Rattle.id_element.specs.Replays.{ElementView}
 use Rattle.id_elements.specs.Doors.{HaveParts, queues_of}
-use Rattle.id_element.specs.Takes.{HandlesAt}
+use Rattle.id_element.specs.Takes.{GoesAt, HandlesAt, came_well}
+use Rattle.id_element.specs.declared.step.TakeError.{TakeError}
 use Rattle.id_elements.specs.Passing.{AreFor, AreRouted, IsSentOn}
 use Rattle.id_elements.specs.Workers.{AreWorkers, IsKept, IsSame, IsSameWithin, IsWorker, StopsAtFault, WorkerView, sent_in, weight_taken}
 use Rattle.id_elements.proofs.DoorsLemmas.{parts_set, queues_set, sent_by-set, taken_by-set}
@@ -112,6 +113,18 @@ taken_after f g n s m = sum_by_push (λ (v : EventView). f v.message) s.events (
 -- an element that has handled nothing, or whose events all went well, may handle one more
 stops_after : (es : List EventView) (v : EventView) → AllWent es → StopsAtFault (es ++ v ∷ [])
 stops_after es v went = subst AllWent (before_last (es ++ v ∷ []) es v refl) went
+
+-- what it came to, where it is known whether it went well
+pub handled : {k : ℕ} {e e' : ElementView} {own own' : List Message} {b : Bool} → GoesAt k e e' own own' (Ok b)
+    → (s : Step) × HandlesAt k e e' own own' (Ok s) × (b ≡ true → s ≡ Went)
+handled {k = k} {e = e} {e' = e'} {own = own} {own' = own'} {b = b} x = from x.step x.handles x.well
+  where
+    from : (r : Result Step TakeError) → HandlesAt k e e' own own' r → Ok b ≡ came_well r
+        → (s : Step) × HandlesAt k e e' own own' (Ok s) × (b ≡ true → s ≡ Went)
+    from (Ok Went) h is = (Went, h, λ well. refl)
+    from (Ok (Fault f)) h is = (Fault f, h, λ well. cc)
+    from (Ok Stuck) h is = (Stuck, h, λ well. cc)
+    from (Err x) h is = cc
 
 module _ (k : ℕ) (own : List Message) (e : ElementView) (own' : List Message) (e' : ElementView) (step : Step)
     (p : HandlesAt k e e' own own' (Ok step)) where

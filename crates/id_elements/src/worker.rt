@@ -5,7 +5,7 @@ ghost use Rattle.std.specs.Prelude.{◌≡◌, [], map, replicate, IfOk};
 use crate::hand::Hand;
 use crate::passing::{send_on, sort};
 use crate::shared::Shared;
-use id_core::{Keeps, Step};
+use id_core::Keeps;
 use id_element::{Element, Gate, TakeError};
 use id_flight::Queue;
 use id_inbox::Door;
@@ -206,12 +206,9 @@ impl<'a> Worker<'a> {
         ensures goes { result ≡ Ok true → IsTrue self.new.goes }
     {
         let others = self.own.len() - 1;
-        match self.element.take_from(&mut self.own, position, gate)? {
-            Step::Went => {}
-            Step::Fault(_) | Step::Stuck => {
-                self.goes = false;
-                return Ok(false);
-            }
+        if !self.element.take_from(&mut self.own, position, gate)? {
+            self.goes = false;
+            return Ok(false);
         }
         if self.count == 1 {
             return Ok(true);

@@ -13,22 +13,13 @@ use crate::judge::judge_text;
 use crate::run::engine;
 use id_args::{Request, Unasked};
 use id_compile::{Cause, EngineError, Source, of_engine_error, of_source_fault, plain, refuse};
-use id_core::{Gate, Handling, Keeps};
+use id_core::{Gate, Keeps, Open};
 use id_elements::Settings;
 use id_print::{Sink, put};
 use id_sink::{ReadFault, source_fault};
 use std::alloc::Global;
 use std::sync::Wait;
 use std::thread::Threads;
-
-/// The gate of a run of the program: it holds nothing. It is a type of its own, so that what workers call for each
-/// message has no other caller, and stands where it is called.
-struct Free;
-
-impl Gate for Free {
-    #[inline(always)]
-    fn hold(&self, _at: &Handling) {}
-}
 
 /// The status of a command line that is refused.
 const BAD_WORDS: u8 = 4;
@@ -263,7 +254,7 @@ fn serve_text<R: Threads + Wait + Sync, S: Source, O: Sink, E: Sink>(
         (E.told err.new) result }
 {
     match read_trace(alloc, request, source) {
-        Ok(trace) => serve(rt, alloc, request, text, trace.as_slice(), &Free, out, err),
+        Ok(trace) => serve(rt, alloc, request, text, trace.as_slice(), &Open, out, err),
         Err(fault) => refuse_plainly(of_source_fault(source_fault(fault)), err),
     }
 }

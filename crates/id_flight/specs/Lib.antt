@@ -1,4 +1,4 @@
-pub mod Demands
+pub mod Accesses
 pub mod Parcels
 pub mod Queues
 pub mod Rows

@@ -7,11 +7,11 @@
 //! comes next (`id_core`, `id_elements`).
 #![tactic(auto)]
 
+mod access;
 mod buffer;
-mod demand;
 mod parcel;
 mod queue;
 mod row;
 
-pub use demand::Demand;
+pub use access::Access;
 pub use queue::Queue;

@@ -10,11 +10,11 @@ ghost use Rattle.id_instr.specs.declared.dests.Port.{Port};
 ghost use Rattle.id_flight.specs.declared.parcel.What.TheVariants.{Aside};
 ghost use Rattle.id_flight.specs.Parcels.{IsPacked, IsWithin, cell_in, index_in, own, said, unpacked};
 ghost use Rattle.id_flight.specs.Queues.{context_of};
-ghost use Rattle.id_flight.specs.Demands.{demanded};
+ghost use Rattle.id_flight.specs.Accesses.{accessed};
 ghost use Rattle.id_tag.specs.declared.plain.Plain.{Plain};
 ghost use Rattle.id_tag.specs.Plains.{cell_of, made_by, message_of, tag_in as tag_of, whole};
 
-use crate::demand::Demand;
+use crate::access::Access;
 use id_instr::Port;
 use id_tag::{
     Cell, Context, Message, Payload, Plain, PlainCell, PlainToken, Sender, Structure, Tag, Value,
@@ -125,16 +125,16 @@ pub(crate) fn plain_in(parcel: &Parcel) -> Option<&PlainToken>
 
 /// The read of a cell, or the write to one, that a parcel is, if it is one.
 #[inline(always)]
-pub(crate) fn demand_in(parcel: &Parcel) -> Option<Demand>
-    ensures { IfSome result (λ d. (asides : List Message) → unpacked asides parcel.now ≡ demanded d) }
+pub(crate) fn access_in(parcel: &Parcel) -> Option<Access>
+    ensures { IfSome result (λ d. (asides : List Message) → unpacked asides parcel.now ≡ accessed d) }
 {
     match (parcel.what, parcel.token.value) {
-        (What::Read(element, serial, low, high), value) => Some(Demand {
+        (What::Read(element, serial, low, high), value) => Some(Access {
             like: parcel.token,
             cell: cell(element, serial, low, high, value),
             stored: None,
         }),
-        (What::Write(name, place), value) => Some(Demand {
+        (What::Write(name, place), value) => Some(Access {
             like: parcel.token,
             cell: PlainCell { name, place }.cell(),
             stored: Some(value),

@@ -4,10 +4,10 @@ ghost use Rattle.std.specs.Prelude.{◌≡◌, ◌<◌, ◌≤◌, ◌+◌, vec_
 ghost use Rattle.id_flight.specs.declared.parcel.Parcel.{Parcel};
 ghost use Rattle.id_flight.specs.Parcels.{IsWithin, unpacked};
 
+use crate::access::Access;
 use crate::buffer::Buffer;
-use crate::demand::Demand;
 use crate::parcel::{
-    Parcel, context_in, demand_in, packed, packed_plain, packed_read, packed_write, parcel_aside,
+    Parcel, access_in, context_in, packed, packed_plain, packed_read, packed_write, parcel_aside,
     plain_in, unpack,
 };
 use id_tag::{Context, Message, Plain, PlainCell, PlainToken};
@@ -50,7 +50,7 @@ impl Queue {
     ghost use Rattle.std.specs.List.{remove};
     ghost use Rattle.id_flight.specs.Queues.{AreOthers, IsFirstOf, context_at};
     ghost use Rattle.std.specs.Prelude.{option_to_list, IfOk, IfSome, IsSome, OnErr, OnOk};
-    ghost use Rattle.id_flight.specs.Demands.{demanded};
+    ghost use Rattle.id_flight.specs.Accesses.{accessed};
     ghost use Rattle.id_tag.specs.Plains.{cell_of, message_of, tag_in, whole};
     ghost use Rattle.id_tag.specs.declared.Payload.TheVariants.{Read, Write};
 
@@ -102,11 +102,11 @@ impl Queue {
 
     /// The read or the write of a cell at a position, from 0, if one is kept there in short. Takes no memory.
     #[inline(always)]
-    pub fn demand(&self, position: usize) -> Option<Demand>
+    pub fn access(&self, position: usize) -> Option<Access>
         requires { position < length self.now.messages }
-        ensures { IfSome result (λ d. slice_get self.now.messages position ≡ Some (demanded d)) }
+        ensures { IfSome result (λ d. slice_get self.now.messages position ≡ Some (accessed d)) }
     {
-        demand_in(self.parcels.at(position))
+        access_in(self.parcels.at(position))
     }
 
     /// The context of the message at a position, from 0. Takes no memory.

@@ -4,7 +4,7 @@ use Rattle.id_tag.specs.declared.Tag.{Tag}
 use Rattle.id_tag.specs.declared.Value.TheVariants as value
 use Rattle.id_tag.specs.declared.plain.Plain.{Plain}
 use Rattle.id_tag.specs.declared.plain.Plain.TheVariants.{Int, Structure}
-use Rattle.id_tag.specs.Plains.{cell_of, is_sent_on, whole}
+use Rattle.id_tag.specs.Plains.{cell_of, whole}
 use Rattle.id_ops.specs.declared.Fired.{Fired}
 use Rattle.id_ops.specs.declared.Fired.TheVariants as fired
 use Rattle.id_ops.specs.declared.plain_fired.PlainFired.{PlainFired}
@@ -32,17 +32,17 @@ fired_of t (Asked c r) =
     fired.Asked (cell_of c) (record { context = t.context; iteration = t.iteration; instr = r })
 fired_of t (Stored c v) = fired.Stored (cell_of c) (whole v) t
 
--- whether a firing sends a word or a structure to all destinations on a side
-abbrev pub sends_on : Fired → Bool
-sends_on (fired.Out v) = is_sent_on v
-sends_on (fired.Side b v) = is_sent_on v
-sends_on (fired.Moved i v) = is_sent_on v
-sends_on (fired.Entered c) = false
-sends_on (fired.Sent t v) = false
-sends_on (fired.Asked c r) = false
-sends_on (fired.Stored c v o) = false
-sends_on (fired.Failed f) = false
-sends_on fired.Nothing = false
+-- whether something is sent, and no context is entered
+abbrev pub is_sent : Fired → Bool
+is_sent (fired.Out v) = true
+is_sent (fired.Side b v) = true
+is_sent (fired.Moved i v) = true
+is_sent (fired.Sent t v) = true
+is_sent (fired.Asked c r) = true
+is_sent (fired.Stored c v o) = true
+is_sent (fired.Entered c) = false
+is_sent (fired.Failed f) = false
+is_sent fired.Nothing = false
 
 -- no structure goes out for a token of this value where that is a number, as one that was made would
 abbrev pub MakesNone : PlainFired → Plain → Type 0

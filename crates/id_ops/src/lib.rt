@@ -25,7 +25,7 @@ use id_value::{
     Constant, FaultKind, Outcome, UnaryOp, bounds_are_good, calculate, compare, decide, is_inside,
     unary_result,
 };
-pub use plain_fired::{PlainFired, Target, fire_one, fire_one_else, fire_two, fire_two_else};
+pub use plain_fired::{PlainFired, Target, fire_one, fire_two};
 
 /// The operands of one firing, by port.
 #[derive(Clone, Copy)]

@@ -3,20 +3,19 @@
 ghost use Rattle.std.specs.Prelude.{◌≡◌, ◌≢◌, ◌<◌, ◌-◌, ◌^◌, Bool, true, false, None};
 ghost use Rattle.std.specs.Prelude.{IfSome};
 ghost use Rattle.std.specs.Option.{is_some};
-ghost use Rattle.id_instr.specs.declared.instr.Op.TheVariants.{Alloc, Next};
+ghost use Rattle.id_instr.specs.declared.instr.Op.TheVariants.{Address, Alloc, Next};
 ghost use Rattle.id_instr.specs.declared.instr.PortKind.{PortKind};
 ghost use Rattle.id_tag.specs.Plains.{cell_of, context_of, is_word, structure_of, whole};
-ghost use Rattle.id_tag.specs.Kinds.{kind_of};
 ghost use Rattle.id_tag.specs.declared.Tag.{Tag};
 ghost use Rattle.id_tag.specs.declared.Value.TheVariants as values;
 ghost use Rattle.id_tag.specs.declared.plain.Plain.{Plain};
 ghost use Rattle.id_ops.specs.declared.Fired.TheVariants as fired;
 ghost use Rattle.id_ops.specs.declared.Fresh.{Fresh};
 ghost use Rattle.id_ops.specs.declared.Operands.TheVariants.{One, Two};
-ghost use Rattle.id_ops.specs.Operators.{address_in, constant_value, fired, fired_back, fired_binary, fired_by};
-ghost use Rattle.id_ops.specs.Operators.{fired_const, fired_fetch, fired_send, fired_store, fired_switch, fired_unary};
-ghost use Rattle.id_ops.specs.declared.plain_fired.PlainFired.TheVariants.{Sent};
-ghost use Rattle.id_ops.specs.PlainFired.{MakesNone, fired_of, sends_on, target_tag};
+ghost use Rattle.id_ops.specs.Operators.{address_in, constant_value, fired, fired_address, fired_back, fired_binary};
+ghost use Rattle.id_ops.specs.Operators.{fired_by, fired_const, fired_fetch, fired_send, fired_store, fired_switch};
+ghost use Rattle.id_ops.specs.Operators.{fired_unary};
+ghost use Rattle.id_ops.specs.PlainFired.{MakesNone, fired_of, is_sent, target_tag};
 
 use crate::Fired;
 use id_instr::{Dyadic, Op, PortKind};
@@ -102,90 +101,53 @@ impl PlainFired {
     }
 }
 
-/// What an operator of one port fires on a plain operand at this iteration, where it sends a word or a structure on.
-/// Takes no memory.
+/// What an operator of one port fires on a plain operand at this iteration, in small numbers: `enter` and what fails
+/// are not for this. Takes no memory.
 #[inline(always)]
 pub fn fire_one(op: Op, iteration: u32, operand: Plain) -> Option<PlainFired>
     requires { (k : PortKind) → op ≡ Next k → iteration < 2 ^ 32 - 1 }
     ensures exact { (t : Tag) (f : Fresh) → t.iteration ≡ iteration
-        → is_some result ≡ sends_on (fired op t (One (whole operand)) f) }
+        → is_some result ≡ is_sent (fired op t (One (whole operand)) f) }
     ensures fired { IfSome result (λ p. (t : Tag) (f : Fresh) → t.iteration ≡ iteration
         → fired op t (One (whole operand)) f ≡ fired_of t p) }
     ensures makes_none { IfSome result (λ p. MakesNone p operand) }
 {
-    if !operand.is_carried() {
-        return None;
-    }
     match op {
         Op::Const(constant) => plain_const(constant, operand),
         Op::Unary(operator) => Some(PlainFired::Out(plain_unary(operator, operand)?)),
         Op::Merge(kind) if operand.kind() == kind => Some(PlainFired::Out(operand)),
         Op::Next(kind) if operand.kind() == kind => Some(PlainFired::Moved(iteration + 1, operand)),
         Op::Reset(kind) if operand.kind() == kind => Some(PlainFired::Moved(0, operand)),
+        Op::Fetch { nested, reply } => plain_fetch(nested, operand.cell()?, reply),
         _ => None,
     }
 }
 
-/// What an operator of two ports fires on plain operands, where it sends a word, or a structure on. Where it sends a
-/// word to a tag, the number of an instruction of more than 24 bits is not for this. Takes no memory.
+/// What an operator of two ports fires on plain operands, in small numbers: `alloc`, the address of a cell of large
+/// numbers and what fails are not for this. Takes no memory.
 #[inline(always)]
 pub fn fire_two(op: Op, left: Plain, right: Plain) -> Option<PlainFired>
     ensures fired { IfSome result
         (λ p. (t : Tag) (f : Fresh) → fired op t (Two (whole left) (whole right)) f ≡ fired_of t p) }
-    ensures none { result ≡ None → ((b : Bool) → op ≢ Alloc b) → (t : Tag) (f : Fresh)
-        → sends_on (fired op t (Two (whole left) (whole right)) f) ≡ false }
+    ensures none { result ≡ None → ((b : Bool) → op ≢ Alloc b) → ((b : Bool) → op ≢ Address b)
+        → (t : Tag) (f : Fresh) → is_sent (fired op t (Two (whole left) (whole right)) f) ≡ false }
     ensures makes_none { IfSome result (λ p. (v : Plain) → MakesNone p v) }
+    ensures takes_none { IfSome result (λ _. (b : Bool) → op ≢ Alloc b) }
 {
     match op {
         Op::Binary(operator) => Some(PlainFired::Out(plain_binary(operator, left, right)?)),
         Op::Switch(kind) => plain_switch(kind, left, right),
         Op::Send { kind, target } => plain_send(kind, target, left, right),
         Op::Back(kind) => plain_back(kind, left, right),
-        _ => None,
-    }
-}
-
-/// What an operator fires on one plain operand, where that is none of what `fire_one` gives. Takes no memory.
-#[inline(always)]
-pub fn fire_one_else(op: Op, operand: Plain) -> Option<PlainFired>
-    ensures fired { IfSome result
-        (λ p. (t : Tag) (f : Fresh) → fired op t (One (whole operand)) f ≡ fired_of t p) }
-    ensures makes_none { IfSome result (λ p. (v : Plain) → MakesNone p v) }
-{
-    match op {
-        Op::Fetch { nested, reply } => plain_fetch(nested, operand.cell()?, reply),
-        _ => None,
-    }
-}
-
-/// What an operator fires on two plain operands, where that is no fault and has small numbers: a switch and a `send`
-/// too, whatever came first of their operands. Takes no memory.
-#[inline(always)]
-pub fn fire_two_else(op: Op, left: Plain, right: Plain) -> Option<PlainFired>
-    ensures fired { IfSome result
-        (λ p. (t : Tag) (f : Fresh) → fired op t (Two (whole left) (whole right)) f ≡ fired_of t p) }
-    ensures makes_none { IfSome result (λ p. (v : Plain) → MakesNone p v) }
-{
-    match (op, left, right) {
-        (Op::Switch(kind), Plain::Bool(_), _) => plain_switch(kind, left, right),
-        (Op::Address { nested }, Plain::Structure(name, low, high), Plain::Int(index))
-            if left.kind() == PortKind::of_structure(nested) => {
-            Some(PlainFired::Addressed(plain_address(name, low, high, index)?))
-        }
-        (Op::Store { nested }, Plain::Address(name, place), _) => {
-            plain_store(nested, PlainCell { name, place }, right)
-        }
-        (Op::Send { kind, target }, Plain::Context(name), _)
-            if right.is_carried() && right.kind() == kind => {
-            Some(PlainFired::Sent(target_in(name, 0, target), right))
-        }
+        Op::Address { nested } => plain_address(nested, left, right),
+        Op::Store { nested } => plain_store(nested, left.cell()?, right),
         _ => None,
     }
 }
 
 #[inline(always)]
 fn plain_const(constant: Constant, operand: Plain) -> Option<PlainFired>
-    ensures exact { is_some result ≡ sends_on (fired_const constant (One (whole operand))) }
+    ensures exact { is_some result ≡ is_sent (fired_const constant (One (whole operand))) }
     ensures fired { IfSome result (λ p. (t : Tag) → fired_const constant (One (whole operand)) ≡ fired_of t p) }
     ensures makes_none { IfSome result (λ p. MakesNone p operand) }
 {
@@ -209,7 +171,7 @@ fn plain_constant(constant: Constant) -> Plain
 
 /// The word that goes out of an operator on one value, where it gives one.
 fn plain_unary(operator: UnaryOp, operand: Plain) -> Option<Plain>
-    ensures exact { is_some result ≡ sends_on (fired_unary operator (One (whole operand))) }
+    ensures exact { is_some result ≡ is_sent (fired_unary operator (One (whole operand))) }
     ensures out { IfSome result (λ w. fired_unary operator (One (whole operand)) ≡ fired.Out (whole w)) }
     ensures word { IfSome result (λ w. is_word w ≡ true) }
 {
@@ -223,7 +185,7 @@ fn plain_unary(operator: UnaryOp, operand: Plain) -> Option<Plain>
 /// The word that goes out of an operator on two values, where it gives one.
 #[inline(always)]
 fn plain_binary(operator: Dyadic, left: Plain, right: Plain) -> Option<Plain>
-    ensures exact { is_some result ≡ sends_on (fired_binary operator (Two (whole left) (whole right))) }
+    ensures exact { is_some result ≡ is_sent (fired_binary operator (Two (whole left) (whole right))) }
     ensures out { IfSome result (λ w. fired_binary operator (Two (whole left) (whole right)) ≡ fired.Out (whole w)) }
     ensures word { IfSome result (λ w. is_word w ≡ true) }
 {
@@ -244,7 +206,7 @@ fn plain_binary(operator: Dyadic, left: Plain, right: Plain) -> Option<Plain>
 /// What an operator comes to, as a word, where it gives a value.
 #[inline(always)]
 fn plain_outcome(outcome: Outcome) -> Option<Plain>
-    ensures exact { is_some result ≡ sends_on (fired_by outcome) }
+    ensures exact { is_some result ≡ is_sent (fired_by outcome) }
     ensures out { IfSome result (λ w. fired_by outcome ≡ fired.Out (whole w)) }
     ensures word { IfSome result (λ w. is_word w ≡ true) }
 {
@@ -256,41 +218,42 @@ fn plain_outcome(outcome: Outcome) -> Option<Plain>
 
 #[inline(always)]
 fn plain_switch(kind: PortKind, left: Plain, right: Plain) -> Option<PlainFired>
-    ensures exact { is_some result ≡ sends_on (fired_switch kind (Two (whole left) (whole right))) }
+    ensures exact { is_some result ≡ is_sent (fired_switch kind (Two (whole left) (whole right))) }
     ensures fired { IfSome result
         (λ p. (t : Tag) → fired_switch kind (Two (whole left) (whole right)) ≡ fired_of t p) }
     ensures makes_none { IfSome result (λ p. (v : Plain) → MakesNone p v) }
 {
     match left.truth() {
-        Some(side) if right.is_carried() && right.kind() == kind => {
-            Some(PlainFired::Side(side, right))
-        }
+        Some(side) if right.kind() == kind => Some(PlainFired::Side(side, right)),
         _ => None,
     }
 }
 
-/// What a `send` of this kind to this instruction fires, where that is a word's going to a tag.
 #[inline(always)]
 fn plain_send(kind: PortKind, target: u32, left: Plain, right: Plain) -> Option<PlainFired>
+    ensures exact { is_some result ≡ is_sent (fired_send kind target (Two (whole left) (whole right))) }
     ensures fired { IfSome result
         (λ p. (t : Tag) → fired_send kind target (Two (whole left) (whole right)) ≡ fired_of t p) }
     ensures makes_none { IfSome result (λ p. (v : Plain) → MakesNone p v) }
 {
     match left {
-        Plain::Context(name) => plain_sent(target_in(name, 0, target), kind, right),
+        Plain::Context(name) if right.kind() == kind => {
+            Some(PlainFired::Sent(target_in(name, 0, target), right))
+        }
         _ => None,
     }
 }
 
 #[inline(always)]
 fn plain_back(kind: PortKind, left: Plain, right: Plain) -> Option<PlainFired>
+    ensures exact { is_some result ≡ is_sent (fired_back kind (Two (whole left) (whole right))) }
     ensures fired { IfSome result
         (λ p. (t : Tag) → fired_back kind (Two (whole left) (whole right)) ≡ fired_of t p) }
     ensures makes_none { IfSome result (λ p. (v : Plain) → MakesNone p v) }
 {
     match left {
-        Plain::Continuation(name, iteration, instr) => {
-            plain_sent(target_in(name, iteration, instr), kind, right)
+        Plain::Continuation(name, iteration, instr) if right.kind() == kind => {
+            Some(PlainFired::Sent(target_in(name, iteration, instr), right))
         }
         _ => None,
     }
@@ -310,23 +273,27 @@ fn target_in(name: u32, iteration: u32, instr: u32) -> Target
     }
 }
 
-/// The going of a word of this kind to a tag, whose instruction has a number of 24 bits.
+/// What an `address` into structures that are nested or not fires, where that is an address in small numbers.
 #[inline(always)]
-fn plain_sent(target: Target, kind: PortKind, value: Plain) -> Option<PlainFired>
-    ensures kind { IfSome result (λ _. kind_of (whole value) ≡ kind) }
-    ensures sent { IfSome result (λ p. p ≡ Sent target value) }
-    ensures word { IfSome result (λ _. is_word value ≡ true) }
+fn plain_address(nested: bool, left: Plain, right: Plain) -> Option<PlainFired>
+    ensures fired { IfSome result
+        (λ p. (t : Tag) → fired_address nested (Two (whole left) (whole right)) ≡ fired_of t p) }
+    ensures makes_none { IfSome result (λ p. (v : Plain) → MakesNone p v) }
 {
-    if target.instr <= 0xff_ffff && value.is_word() && value.kind() == kind {
-        Some(PlainFired::Sent(target, value))
-    } else {
-        None
+    match (left, right) {
+        (Plain::Structure(name, low, high), Plain::Int(index))
+            if left.kind() == PortKind::of_structure(nested) => {
+            Some(PlainFired::Addressed(plain_cell(name, low, high, index)?))
+        }
+        _ => None,
     }
 }
 
 /// What a `fetch` from structures that are nested or not fires on the address of this cell.
 #[inline(always)]
 fn plain_fetch(nested: bool, cell: PlainCell, reply: u32) -> Option<PlainFired>
+    ensures exact { (t : Tag)
+        → is_some result ≡ is_sent (fired_fetch nested reply t (One (values.Address (cell_of cell)))) }
     ensures fired { IfSome result
         (λ p. (t : Tag) → fired_fetch nested reply t (One (values.Address (cell_of cell))) ≡ fired_of t p) }
     ensures makes_none { IfSome result (λ p. (v : Plain) → MakesNone p v) }
@@ -341,6 +308,8 @@ fn plain_fetch(nested: bool, cell: PlainCell, reply: u32) -> Option<PlainFired>
 /// What a `store` to structures that are nested or not fires on this value for a cell.
 #[inline(always)]
 fn plain_store(nested: bool, cell: PlainCell, value: Plain) -> Option<PlainFired>
+    ensures exact { (t : Tag)
+        → is_some result ≡ is_sent (fired_store nested t (Two (values.Address (cell_of cell)) (whole value))) }
     ensures fired { IfSome result (λ p. (t : Tag)
         → fired_store nested t (Two (values.Address (cell_of cell)) (whole value)) ≡ fired_of t p) }
     ensures makes_none { IfSome result (λ p. (v : Plain) → MakesNone p v) }
@@ -354,7 +323,7 @@ fn plain_store(nested: bool, cell: PlainCell, value: Plain) -> Option<PlainFired
 
 /// The cell of the structure of a name at an index, where that is inside its bounds and the numbers are small.
 #[inline(always)]
-fn plain_address(name: u32, low: i32, high: i32, index: i64) -> Option<PlainCell>
+fn plain_cell(name: u32, low: i32, high: i32, index: i64) -> Option<PlainCell>
     ensures { IfSome result
         (λ c. address_in (structure_of name low high) index ≡ fired.Out (values.Address (cell_of c))) }
 {

@@ -1,29 +1,25 @@
 -- Lemmas on specs/Records.antt: a record goes on by one event.
 use Rattle.std.proofs.Common.{Bool, true, false, ◌≡◌, ◌||◌, ℕ, zero, suc, ◌+◌, List, [], ◌∷◌, ◌++◌, Some, None, Option}
 use Rattle.std.proofs.Common.{length, refl, sym, ap, ◌∙◌, length-append, arith}
-use Rattle.std.specs.Prelude.{◌≤◌, ◌-◌, drop, slice_get, option_map, take, if◌then◌else◌}
+use Rattle.std.specs.Prelude.{◌≤◌, ◌-◌, drop, slice_get, take, if◌then◌else◌}
 use Rattle.std.specs.List.{AllByRecursion, cons_option}
-use Rattle.std.specs.Option.{option_map_or, option_or}
-use Rattle.std.proofs.lemmas.List.{append-nil, drop-append-le, length-take, take-append-drop, take-append-le, take_all}
-use Rattle.std.proofs.Math.Seq.{drop-append_seam}
+use Rattle.std.specs.Option.{option_or}
+use Rattle.std.proofs.lemmas.List.{append-nil, drop-append-le, length-take, take-append-drop, take-append-le}
 use Rattle.std.proofs.lemmas.List.Concat.{flat_map-append}
 use Rattle.std.proofs.lemmas.List.Elements.{filter_map-append}
-use Rattle.id_instr.specs.declared.instr.Instr.{Instr}
-use Rattle.id_instr.specs.Graph.{Parts, arcs_on}
-use Rattle.id_ops.specs.declared.Fired.TheVariants as fired
-use Rattle.id_ops.specs.Operators.{side_of}
+use Rattle.id_instr.specs.Graph.{Parts}
 use Rattle.id_tag.specs.declared.Payload.{Payload}
 use Rattle.id_tag.specs.declared.Tag.{Tag}
 use Rattle.id_record.specs.declared.handled.Handled.{Handled}
 use Rattle.id_record.specs.declared.handled.Replies.{Replies}
 use Rattle.id_record.specs.declared.kept.Keeps.TheVariants as keeps
 use Rattle.id_record.specs.declared.step.Step.TheVariants.{Went}
-use Rattle.id_record.specs.Events.{EventView, full_step, tag_of, value_of}
-use Rattle.id_record.specs.Handlings.{AreThere, HasThere, no_replies}
+use Rattle.id_record.specs.Events.{EventView, full_step}
+use Rattle.id_record.specs.Handlings.{AreThere, HasThere}
 use Rattle.id_record.specs.Kept.{KeptView, keeps_all, keeps_names, merged_by, noted, replied}
-use Rattle.id_record.specs.Sends.{numbered, replies, sent}
+use Rattle.id_record.specs.Sends.{numbered, replies}
 use Rattle.id_record.specs.Tellings.{any_stuck, fault_in, first_fault, is_stuck, merged, merged_in, tellings, told_in}
-use Rattle.id_record.specs.Records.{AreKept, event_of_handled, events_from, replies_in, sent_by, sent_for}
+use Rattle.id_record.specs.Records.{AreKept, event_of_handled, events_from, replies_in, sent_for}
 use Rattle.id_record.proofs.EachLemmas.{each-append, each-weaker}
 
 -- as many events as were handled
@@ -78,14 +74,6 @@ replies_in-append ts more r there =
     ap length (take-append-drop r.from ts) in
     let left : r.count ≤ length (drop r.from ts) = omega (arith, there, parts, length-take r.from ts, first) in
     ap (take r.count) (drop-append-le r.from ts more first) ∙ take-append-le r.count (drop r.from ts) more left
-
--- the replies that were added last
-pub replies_in-last : (ts more : List Tag) (r : Replies) → r.from ≡ length ts → r.count ≡ length more → replies_in (ts ++ more) r ≡ more
-replies_in-last ts more r from count =
-    ap (λ k. take r.count (drop k (ts ++ more))) from
-    ∙ ap (take r.count) (drop-append_seam ts more)
-    ∙ ap (λ k. take k more) count
-    ∙ take_all (length more) more (omega arith)
 
 pub events_from-replies : (g : Parts) (n : ℕ) (ts more : List Tag) (k : ℕ) (hs : List Handled) → AllByRecursion (HasThere ts) hs
     → events_from g n (ts ++ more) k hs ≡ events_from g n ts k hs
@@ -210,54 +198,3 @@ AreKept-reply g n ts hs k t kept =
       fault = kept.fault ∙ ap first_fault (sym same);
       stuck = kept.stuck ∙ ap any_stuck (sym same);
     }
-
--- room changes nothing
-pub AreKept-room : (g : Parts) (n : ℕ) (ts : List Tag) (hs : List Handled) (k : KeptView) (room more : ℕ) → AreKept g n ts hs k
-    → AreKept g n ts hs (record k { room = room; room_for_replies = more })
-AreKept-room g n ts hs k room more kept = record {
-  there = kept.there;
-  len = kept.len;
-  replied = kept.replied;
-  tellings = kept.tellings;
-  merged = kept.merged;
-  events = kept.events;
-  replies = kept.replies;
-  fault = kept.fault;
-  stuck = kept.stuck;
-}
-
--- an event with no replies
-pub event_alone : (g : Parts) (n : ℕ) (ts : List Tag) (k : ℕ) (h : Handled) → h.replies ≡ no_replies
-    → event_of_handled g n ts k h ≡ event_sending n k h (sent_by g (tag_of h.message.payload) h.reaction.fired)
-event_alone g n ts k h none =
-    let sends = sent_by g (tag_of h.message.payload) h.reaction.fired in
-    ap (λ r. event_sending n k h (sends ++ replies (value_of h.message.payload) (replies_in ts r))) none
-    ∙ ap (event_sending n k h) (append-nil sends)
-
--- an event that fires nothing, and whose replies were added last
-pub event_of_fill : (g : Parts) (n : ℕ) (ts more : List Tag) (k : ℕ) (h : Handled) → h.reaction.fired ≡ fired.Nothing
-    → h.replies.from ≡ length ts → h.replies.count ≡ length more
-    → event_of_handled g n (ts ++ more) k h ≡ event_sending n k h (replies (value_of h.message.payload) more)
-event_of_fill g n ts more k h nothing from count =
-    let v = value_of h.message.payload in
-    ap (λ f. event_sending n k h (sent_by g (tag_of h.message.payload) f ++ replies v (replies_in (ts ++ more) h.replies))) nothing
-    ∙ ap (λ us. event_sending n k h (replies v us)) (replies_in-last ts more h.replies from count)
-
--- an event with no replies, at an instruction that there is
-pub event_at_instr : (g : Parts) (n : ℕ) (ts : List Tag) (k : ℕ) (h : Handled) (i : Instr) (t : Tag) → h.replies ≡ no_replies
-    → slice_get g.instrs (tag_of h.message.payload).instr ≡ Some i → t ≡ tag_of h.message.payload
-    → event_of_handled g n ts k h ≡ record {
-      element = n;
-      stamp = h.stamp;
-      message = h.message;
-      fired = h.reaction.fired;
-      outputs = numbered n k h.stamp 0 (sent (Some i.op) (arcs_on (side_of h.reaction.fired) i) t h.reaction.fired);
-      step = full_step h.message.payload h.reaction.verdict;
-    }
-event_at_instr g n ts k h i t none there tag =
-    let f = h.reaction.fired in
-    let event = event_sending n k h in
-    let b = side_of f in
-    event_alone g n ts k h none
-    ∙ ap (λ o. event (sent (option_map (λ j. j.op) o) (option_map_or (arcs_on b) o []) (tag_of h.message.payload) f)) there
-    ∙ ap (λ u. event (sent (Some i.op) (arcs_on b i) u f)) (sym tag)

@@ -10,11 +10,11 @@ use Rattle.id_ops.specs.declared.plain_fired.PlainFired.{PlainFired}
 use Rattle.id_ops.specs.declared.plain_fired.PlainFired.TheVariants.{Nothing, Out, Side, Moved, Sent, Addressed, Asked, Stored}
 use Rattle.id_ops.specs.PlainFired.{MakesNone, fired_of}
 use Rattle.id_record.specs.declared.plain_firing.PlainFiring.{PlainFiring}
-use Rattle.id_record.specs.declared.visiting.Fate.{Fate}
-use Rattle.id_record.specs.declared.visiting.Fate.TheVariants.{Deferred, Answered, Filled}
-use Rattle.id_record.specs.declared.visiting.Visiting.{Visiting}
+use Rattle.id_record.specs.declared.cell_event.CellAnswer.{CellAnswer}
+use Rattle.id_record.specs.declared.cell_event.CellAnswer.TheVariants.{Deferred, Answered, Filled}
+use Rattle.id_record.specs.declared.cell_event.CellEvent.{CellEvent}
 use Rattle.id_record.specs.PlainFirings.{plain_firing}
-use Rattle.id_record.specs.Visits.{fated, visiting}
+use Rattle.id_record.specs.CellEvents.{cell_content, cell_event}
 use Rattle.id_record.specs.declared.telling.Told.TheVariants.{Came}
 use Rattle.id_record.specs.Tellings.{came_in, made_in, told_in}
 
@@ -64,10 +64,10 @@ pub plain-silent : (p : PlainFiring) → MakesNone p.fired p.token.now.value →
 plain-silent p none other = rw (came-elsewhere p.token.now other, made-none p.token.now p.token.now.value p.fired none) refl
 
 -- a read or a write of a cell tells nothing
-pub visit-silent : (v : Visiting) → told_in (visiting v).message.payload (visiting v).reaction.fired ≡ []
-visit-silent v = from v.fate
+pub cell_event-silent : (v : CellEvent) → told_in (cell_event v).message.payload (cell_event v).reaction.fired ≡ []
+cell_event-silent v = from v.answer
   where
-    from : (f : Fate) → told_in (fated f v.cell (tag_in v.token.now)).payload (fated f v.cell (tag_in v.token.now)).fired ≡ []
+    from : (f : CellAnswer) → told_in (cell_content f v.cell (tag_in v.token.now)).payload (cell_content f v.cell (tag_in v.token.now)).fired ≡ []
     from Deferred = refl
     from (Answered w) = refl
     from (Filled w r) = refl

@@ -3,7 +3,7 @@ pub mod Events
 pub mod Pasts
 pub mod Handlings
 pub mod PlainFirings
-pub mod Visits
+pub mod CellEvents
 pub mod Tellings
 pub mod Kept
 pub mod Sends

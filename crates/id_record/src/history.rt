@@ -7,6 +7,7 @@ ghost use Rattle.id_record.specs.Records.{dests_at, replies_in};
 ghost use Rattle.id_valid.specs.Roles.{op_at};
 ghost use Rattle.id_instr.specs.Graph.{IsGraph};
 
+use crate::cell_event::{CellEvent, cell_handled};
 use crate::handled::{Handled, Handling, Replies, whole};
 use crate::kept::{Keeps, Kept};
 use crate::outputs::{Envelope, Outputs, chosen};
@@ -15,7 +16,6 @@ use crate::payload::{tag_of, value_of};
 use crate::plain_firing::{PlainFiring, plain_handled};
 use crate::step::{Step, full_step};
 use crate::telling::{Faulted, Telling};
-use crate::visiting::{Visiting, visited};
 use id_instr::{Dest, Graph, Op};
 use id_ops::Fired;
 use id_tag::{Message, Payload, Tag};
@@ -91,7 +91,7 @@ impl<'a> Record<'a> {
     ghost use Rattle.id_record.specs.Records.{GoesOn, HasPlace, event_of_handled};
     ghost use Rattle.id_record.specs.PlainFirings.{plain_firing};
     ghost use Rattle.id_record.specs.Tellings.{any_stuck, first_fault, merged, tellings};
-    ghost use Rattle.id_record.specs.Visits.{visiting};
+    ghost use Rattle.id_record.specs.CellEvents.{cell_event};
     ghost use Rattle.id_ops.specs.PlainFired.{MakesNone};
 
     /// The empty record of the element of this number, which will keep so much. Takes no memory.
@@ -198,27 +198,27 @@ impl<'a> Record<'a> {
 
     /// Adds the event of a read or a write of a cell at the end. Takes no memory.
     #[inline(always)]
-    pub fn push_visit(&mut self, event: Visiting<'_>)
+    pub fn push_cell_event(&mut self, event: CellEvent<'_>)
         requires room { 0 < self.old.room }
-        requires replies { AreThere self.old.replies (visiting event).replies }
-        ensures { GoesOn self.old (visiting event.entry) self.new }
+        requires replies { AreThere self.old.replies (cell_event event).replies }
+        ensures { GoesOn self.old (cell_event event.entry) self.new }
     {
         if self.keeps_little() {
-            self.handled.push(&visited(&event));
+            self.handled.push(&cell_handled(&event));
             self.kept.pass();
         } else {
-            self.note_visit(event);
+            self.note_cell_event(event);
         }
     }
 
     /// The same where something is to be kept of it. Takes no memory.
     #[inline(never)]
-    fn note_visit(&mut self, event: Visiting<'_>)
+    fn note_cell_event(&mut self, event: CellEvent<'_>)
         requires place { HasPlace self.old }
-        requires replies { AreThere self.old.replies (visiting event).replies }
-        ensures { GoesOn self.old (visiting event.entry) self.new }
+        requires replies { AreThere self.old.replies (cell_event event).replies }
+        ensures { GoesOn self.old (cell_event event.entry) self.new }
     {
-        self.note(&visited(&event));
+        self.note(&cell_handled(&event));
     }
 
     /// Whether it keeps tellings alone. Takes no memory.

@@ -7,6 +7,7 @@
 //! Not here: handling a message (`id_element`), the records of several elements as one (`id_observe`).
 #![tactic(auto)]
 
+mod cell_event;
 mod handled;
 mod history;
 mod kept;
@@ -16,8 +17,8 @@ mod payload;
 mod plain_firing;
 mod step;
 mod telling;
-mod visiting;
 
+pub use cell_event::{CellAnswer, CellEvent};
 pub use handled::{Handled, Handling, NO_REPLIES, Reaction, Replies};
 pub use history::{Event, Events, Record};
 pub use kept::Keeps;
@@ -29,4 +30,3 @@ pub use payload::{tag_of, value_of};
 pub use plain_firing::PlainFiring;
 pub use step::{Fault, Step, Verdict, full_step};
 pub use telling::{Faulted, Telling, Told, is_value_merge};
-pub use visiting::{Fate, Visiting};

@@ -89,26 +89,6 @@ is_word (Continuation n k j) = false
 is_word (Structure n l h) = false
 is_word (Address n p) = false
 
--- whether a value is one that instructions send on in short: a word or a structure
-abbrev pub is_sent_on : Value → Truth
-is_sent_on value.Signal = true
-is_sent_on (value.Int n) = true
-is_sent_on (value.Bool b) = true
-is_sent_on (value.Structure s) = true
-is_sent_on (value.Address c) = false
-is_sent_on (value.Context c) = false
-is_sent_on (value.Continuation t) = false
-
--- whether a plain value is a word or a structure
-abbrev pub is_carried : Plain → Truth
-is_carried Signal = true
-is_carried (Int n) = true
-is_carried (Bool b) = true
-is_carried (Context n) = false
-is_carried (Continuation n k j) = false
-is_carried (Structure n l h) = true
-is_carried (Address n p) = false
-
 -- the word that a value is, if it is one, as a plain value
 abbrev pub word_of : Value → Option Plain
 word_of value.Signal = Some Signal

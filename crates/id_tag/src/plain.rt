@@ -4,7 +4,7 @@ ghost use Rattle.std.specs.Prelude.{◌≡◌, ◌≢◌, ◌≤◌, ◌<◌, �
 ghost use Rattle.std.specs.Prelude.{◌-ℤ◌, ◌≤ℤ◌, ◌<ℤ◌, neg_ℤ, pos, None, IfSome, IsSome, true};
 ghost use Rattle.id_tag.specs.Kinds.{kind_of};
 ghost use Rattle.id_tag.specs.Plains.{HasPlace, cell_of, context_of, element_of};
-ghost use Rattle.id_tag.specs.Plains.{high_of, index_of, is_carried, is_word};
+ghost use Rattle.id_tag.specs.Plains.{high_of, index_of, is_word};
 ghost use Rattle.id_tag.specs.Plains.{low_of, made_by, serial_of, structure_of, truth_of, whole, word_of};
 ghost use Rattle.id_tag.specs.declared.Cell.{Cell};
 ghost use Rattle.id_tag.specs.declared.Value.TheVariants as value;
@@ -160,29 +160,6 @@ impl Plain {
             Plain::Continuation(_, _, _) => PortKind::Continuation,
             Plain::Structure(name, _, _) => PortKind::of_structure(is_nested(name)),
             Plain::Address(name, _) => PortKind::of_address(is_nested(name)),
-        }
-    }
-
-    /// Whether it is a word. Takes no memory.
-    #[inline(always)]
-    pub fn is_word(self) -> bool
-        ensures { result ≡ is_word self }
-    {
-        match self {
-            Plain::Signal | Plain::Bool(_) | Plain::Int(_) => true,
-            _ => false,
-        }
-    }
-
-    /// Whether it is a word or a structure: what instructions send on in short. Takes no memory.
-    #[inline(always)]
-    pub fn is_carried(self) -> bool
-        ensures { result ≡ is_carried self }
-    {
-        match self {
-            Plain::Context(_) | Plain::Continuation(_, _, _) => false,
-            Plain::Address(_, _) => false,
-            _ => true,
         }
     }
 }

@@ -26,25 +26,25 @@ given c =
 
 -- it is the message at the position that the element was given
 handles : (c : goal.After-self-1)
-    → Handles c.index_mut.result.now c.take_from.new.self c.message-message.result c.self.inside.flight.messages
-    (remove c.self.inside.flight.messages c.args.position) c.take_from.new.list.messages c.take_from.result
+    → Handles c.index_mut.result.now c.take_at.new.self c.message-message.result c.self.inside.flight.messages
+    (remove c.self.inside.flight.messages c.args.position) c.take_at.new.list.messages c.take_at.result
 handles c =
-    let told = c.take_from.ensures in
+    let told = c.take_at.ensures in
     let same : told.message ≡ c.message-message.result =
     let both : Some told.message ≡ Some c.message-message.result = sym told.at ∙ c.message-message.ensures in cc in
-    subst (λ (m : Message). Handles c.index_mut.result.now c.take_from.new.self m c.self.inside.flight.messages
-    (remove c.self.inside.flight.messages c.args.position) c.take_from.new.list.messages c.take_from.result) same told.handles
+    subst (λ (m : Message). Handles c.index_mut.result.now c.take_at.new.self m c.self.inside.flight.messages
+    (remove c.self.inside.flight.messages c.args.position) c.take_at.new.list.messages c.take_at.result) same told.handles
 
-pub take_from-requires-clause-for_it : goal.take_from-requires-clause-for_it
-take_from-requires-clause-for_it c =
+pub take_at-requires-clause-for_it : goal.take_at-requires-clause-for_it
+take_at-requires-clause-for_it c =
     let e = c.index_mut.result.now in
     subst (λ o. IfSome o (IsFor e.graph e.count e.number)) (sym c.message-message.ensures)
-    (is_for (given (goal.at.take_from-requires-clause-for_it c).After-index_mut) c.self.invariant)
+    (is_for (given (goal.at.take_at-requires-clause-for_it c).After-index_mut) c.self.invariant)
 
 pub invariant_of-self : goal.invariant_of-self
-invariant_of-self c = IsMachine-given (given (goal.at.invariant_of-self c).After-index_mut) c.self.invariant c.take_from.result (handles c)
+invariant_of-self c = IsMachine-given (given (goal.at.invariant_of-self c).After-index_mut) c.self.invariant c.take_at.result (handles c)
 
 pub returns : goal.returns
 returns c =
-    let told = told-given (given (goal.at.returns c).After-index_mut) c.self.invariant c.self.view_is c.take_from.result (handles c) in
+    let told = told-given (given (goal.at.returns c).After-index_mut) c.self.invariant c.self.view_is c.take_at.result (handles c) in
     record { world = told.world; step = told.step; end = told.end; err = told.err }

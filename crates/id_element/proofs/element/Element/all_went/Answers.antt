@@ -7,7 +7,7 @@ use Rattle.id_element.proofs.element.Element.all_went.Goals as goal
 
 pub returns-then-not-is_stuck : goal.returns-then-not-is_stuck
 returns-then-not-is_stuck c =
-    let es = c.self.inside.desk.log.events in
+    let es = c.self.inside.storage.log.events in
     let stuck : any_stuck es ≡ false = sym c.is_stuck.ensures ∙ c.if-not-is_stuck.true in
     rw (← ap (λ v. v.state) c.self.view_is) (
       λ none. went_if es stuck (let fault : first_fault es ≡ None = grind (arith, common_steps) in fault),
@@ -16,7 +16,7 @@ returns-then-not-is_stuck c =
 
 pub returns-else-not-is_stuck : goal.returns-else-not-is_stuck
 returns-else-not-is_stuck c =
-    let es = c.self.inside.desk.log.events in
+    let es = c.self.inside.storage.log.events in
     let stuck : any_stuck es ≡ true = sym c.is_stuck.ensures ∙ c.if-not-is_stuck.false in
     rw (← ap (λ v. v.state) c.self.view_is) (
       λ none. let no = none in grind (arith, common_steps),

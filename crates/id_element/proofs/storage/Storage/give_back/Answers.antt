@@ -1,8 +1,8 @@
 -- Where nothing waits, the store is one in which nothing waits.
 use Rattle.std.proofs.Common.{◌∙◌, ap, sym}
 use Rattle.std.specs.FinMap.{empty_of_len}
-use Rattle.id_element.specs.Desks.{element_at}
-use Rattle.id_element.proofs.desk.Desk.give_back.Goals as goal
+use Rattle.id_element.specs.Storage.{element_at}
+use Rattle.id_element.proofs.storage.Storage.give_back.Goals as goal
 
 pub returns-then-len-eq0 : goal.returns-then-len-eq0
 returns-then-len-eq0 c =

@@ -3,7 +3,7 @@ use Rattle.std.proofs.Common.{ap}
 use Rattle.std.specs.Prelude.{Some, option_map}
 use Rattle.id_record.specs.Events.{tag_of}
 use Rattle.id_record.proofs.SendsLemmas.{HasSecond-valid}
-use Rattle.id_element.proofs.desk.Desk.conclude.Goals as goal
+use Rattle.id_element.proofs.storage.Storage.conclude.Goals as goal
 
 pub send-requires-clause-second : goal.send-requires-clause-second
 send-requires-clause-second c =

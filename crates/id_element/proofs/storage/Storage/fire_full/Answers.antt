@@ -2,7 +2,7 @@
 use Rattle.std.proofs.Common.{ap}
 use Rattle.std.specs.Prelude.{Some, option_map}
 use Rattle.id_record.proofs.SendsLemmas.{HasSecond-valid}
-use Rattle.id_element.proofs.desk.Desk.fire_full.Goals as goal
+use Rattle.id_element.proofs.storage.Storage.fire_full.Goals as goal
 
 pub send_like-requires-clause-second : goal.send_like-requires-clause-second
 send_like-requires-clause-second c =

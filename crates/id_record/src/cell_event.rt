@@ -1,7 +1,7 @@
 //! Events of reads and writes of cells in small numbers.
 
 ghost use Rattle.std.specs.Prelude.{◌≡◌};
-ghost use Rattle.id_record.specs.Visits.{fated, visiting};
+ghost use Rattle.id_record.specs.CellEvents.{cell_content, cell_event};
 
 use crate::handled::{Handled, NO_REPLIES, Replies, went};
 use id_ops::Fired;
@@ -9,17 +9,17 @@ use id_tag::{Cell, Message, Payload, Plain, PlainToken, Sender, Tag};
 
 /// A read or a write of a cell that is being handled, the stamp of that event, and what became of it.
 #[derive(Clone, Copy)]
-pub struct Visiting<'a> {
+pub struct CellEvent<'a> {
     /// A token of the tag that the message names, which is else like it.
     pub token: &'a PlainToken,
     pub stamp: u32,
     pub cell: Cell,
-    pub fate: Fate,
+    pub answer: CellAnswer,
 }
 
 /// What became of a read or a write of a cell.
 #[derive(Clone, Copy)]
-pub enum Fate {
+pub enum CellAnswer {
     /// The read waits for the cell's value.
     Deferred,
     /// The read's reply gets this value.
@@ -38,11 +38,11 @@ struct Content {
 
 /// What a record keeps of the event. Takes no memory.
 #[inline(always)]
-pub fn visited(event: &Visiting<'_>) -> Handled
-    ensures { result ≡ visiting event.now }
+pub fn cell_handled(event: &CellEvent<'_>) -> Handled
+    ensures { result ≡ cell_event event.now }
 {
     let token = event.token;
-    let content = content_of(event.fate, event.cell, token.tag());
+    let content = content_of(event.answer, event.cell, token.tag());
     Handled {
         message: Message {
             payload: content.payload,
@@ -57,23 +57,23 @@ pub fn visited(event: &Visiting<'_>) -> Handled
     }
 }
 
-/// What the event of this fate says, with the cell and the tag that the message names.
+/// What the event of this answer says, with the cell and the tag that the message names.
 #[inline(always)]
-fn content_of(fate: Fate, cell: Cell, tag: Tag) -> Content
-    ensures { result ≡ fated fate cell tag }
+fn content_of(answer: CellAnswer, cell: Cell, tag: Tag) -> Content
+    ensures { result ≡ cell_content answer cell tag }
 {
-    match fate {
-        Fate::Deferred => Content {
+    match answer {
+        CellAnswer::Deferred => Content {
             payload: Payload::Read { cell, reply: tag },
             fired: Fired::Nothing,
             replies: NO_REPLIES,
         },
-        Fate::Answered(value) => Content {
+        CellAnswer::Answered(value) => Content {
             payload: Payload::Read { cell, reply: tag },
             fired: Fired::Sent(tag, value.value()),
             replies: NO_REPLIES,
         },
-        Fate::Filled(value, replies) => Content {
+        CellAnswer::Filled(value, replies) => Content {
             payload: Payload::Write {
                 cell,
                 value: value.value(),

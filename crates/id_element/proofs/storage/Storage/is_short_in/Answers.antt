@@ -5,7 +5,7 @@ use Rattle.std.proofs.Math.Dec.{leb}
 use Rattle.std.proofs.lemmas.Bool.{leb-true}
 use Rattle.std.proofs.lemmas.Nat.{le_or_l, le_or_r}
 use Rattle.id_element.proofs.ShortLemmas.{IsShort-bound, both_true}
-use Rattle.id_element.proofs.desk.Desk.is_short_in.Goals as goal
+use Rattle.id_element.proofs.storage.Storage.is_short_in.Goals as goal
 
 pub returns : goal.returns
 returns c = λ h.

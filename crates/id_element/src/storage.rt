@@ -5,8 +5,8 @@ ghost use Rattle.std.specs.Prelude.{◌≡◌};
 
 use crate::gate::Gate;
 use crate::outcome::{
-    allocated_by, allocated_by_plain, fire_else, fresh_numbers, made_by, most_sent, next_stamp,
-    react, react_operands, react_plain, send, send_like, send_plain_fired, short_of,
+    allocated_by, fresh_numbers, made_by, most_sent, next_stamp, react, react_operands,
+    react_plain, send, send_like, send_plain_fired, short_of,
 };
 use crate::step::{PlainOperands, Reacted, Short, TakeError};
 use id_bank::Bank;
@@ -24,7 +24,7 @@ use std::alloc::{AllocError, Global};
 /// What waits at an element, its cells, its last stamp, how many contexts and structures it has made, its record, which
 /// knows its number, and how many elements there are.
 #[derive(Drop)]
-pub struct Desk<'a> {
+pub struct Storage<'a> {
     pub count: u32,
     pub waiting: Waiting,
     pub cells: Bank,
@@ -34,7 +34,7 @@ pub struct Desk<'a> {
     pub log: Record<'a>,
 }
 
-impl<'a> Desk<'a> {
+impl<'a> Storage<'a> {
     ghost use Rattle.std.specs.Prelude.{◌≡◌, ◌+◌, ◌^◌, ◌-◌, ◌<◌, ◌≤◌, ◌↔◌};
     ghost use Rattle.std.specs.Prelude.{IfErr, IfOk, IfSome, IsTrue, OnErr, OnOk, Some, slice_get};
     ghost use Rattle.id_instr.specs.Graph.{arcs_on, IsGraph};
@@ -48,7 +48,7 @@ impl<'a> Desk<'a> {
     ghost use Rattle.id_record.specs.Events.{full_step, tag_of};
     ghost use Rattle.id_record.specs.Sends.{sent};
     ghost use Rattle.id_element.specs.declared.step.TakeError.TheVariants.{StampEnd};
-    ghost use Rattle.id_element.specs.Desks.{IsShort, IsToken, Treats, TreatsFrom, element_at, fired_by, state_of};
+    ghost use Rattle.id_element.specs.Storage.{IsShort, IsToken, Treats, TreatsFrom, element_at, fired_by, state_of};
     ghost use Rattle.id_element.specs.Firings.{IsBound, IsReaction, most_sent};
     ghost use Rattle.id_element.specs.Fits.{Fits};
     ghost use Rattle.id_element.specs.Handled.{IsRecorded, IsSent, token_outcome, token_sends};
@@ -56,13 +56,19 @@ impl<'a> Desk<'a> {
     ghost use Rattle.id_element.specs.Steps.{allocated_by, at_instr, fired_verdict, fresh, is_ended, made_by};
     ghost use Rattle.id_element.specs.Steps.{next_numbers, next_stamp};
 
-    /// The desk of the element of this number, of so many, at which nothing was handled, and which will keep so much of
-    /// its events. Takes no memory.
-    pub fn new(alloc: Global, number: u32, count: u32, graph: &'a Valid, keeps: Keeps) -> Desk<'a>
+    /// The storage of the element of this number, of so many, that has handled nothing and will keep so much of its
+    /// events. Takes no memory.
+    pub fn new(
+        alloc: Global,
+        number: u32,
+        count: u32,
+        graph: &'a Valid,
+        keeps: Keeps,
+    ) -> Storage<'a>
         ensures { element_at result
             ≡ record { number = number; count = count; graph = graph.now; keeps = keeps; state = fresh } }
     {
-        Desk {
+        Storage {
             count,
             waiting: Waiting::new(alloc),
             cells: Bank::new(alloc),
@@ -155,8 +161,7 @@ impl<'a> Desk<'a> {
     }
 
     /// Handles a plain token that fits the graph, where that is short, and says what became of it: the element step. No
-    /// instruction sends more than the most, which is large too where the number of the element or those of the
-    /// instructions are.
+    /// instruction sends more than the most, which is large too where the number of the element is.
     #[inline(always)]
     pub fn take_plain<G: Gate>(
         &mut self,
@@ -251,21 +256,11 @@ impl<'a> Desk<'a> {
             (short_step (tag_in token.now) result) }
     {
         match reacted {
-            Reacted::Waits => {
-                self.conclude_short(instr, token, stamp, PlainFired::Nothing, outputs);
-                Short::Went
-            }
-            Reacted::One(fired) => {
+            Reacted::Plain(fired) => {
                 self.conclude_short(instr, token, stamp, fired, outputs);
                 Short::Went
             }
-            Reacted::Two(fired) => {
-                self.conclude_short(instr, token, stamp, fired, outputs);
-                Short::Went
-            }
-            Reacted::Fires(operands) => {
-                self.conclude_plain(instr, token, stamp, operands, outputs)
-            }
+            Reacted::Fires(operands) => self.conclude_full(instr, token, stamp, operands, outputs),
             Reacted::Apart => Short::Apart,
         }
     }
@@ -313,7 +308,7 @@ impl<'a> Desk<'a> {
     }
 
     /// The same of a token that fits the graph, at a stamp above its own, where the most is large too unless the number
-    /// of the element and those of the instructions are small: those of the token and its iteration follow.
+    /// of the element is small: that the iteration is small follows.
     #[inline(always)]
     fn is_short_in(&self, graph: &Graph, most: usize, token: &PlainToken, stamp: u64) -> bool
         requires bound { IsBound graph.now self.now.log.element most }
@@ -443,42 +438,6 @@ impl<'a> Desk<'a> {
 
     /// Fires the operands of which a plain token is one, sends what comes of them, and records the event. There is room
     /// for it. Takes no memory.
-    #[inline(never)]
-    fn conclude_plain(
-        &mut self,
-        instr: &Instr,
-        token: &PlainToken,
-        stamp: u32,
-        operands: PlainOperands,
-        outputs: &mut Queue,
-    ) -> Short
-        requires room { 0 < self.old.log.room }
-        requires own { slice_get self.old.log.graph.instrs token.now.instr ≡ Some instr.now }
-        requires short { IsShort self.old (most_sent instr.now) token.now stamp }
-        requires room_in_outputs { most_sent instr.now ≤ outputs.old.room }
-        requires graph { IsGraph self.old.log.graph }
-        requires valid { IsValid self.old.log.graph }
-        requires counted { self.old.contexts + 1 < 2 ^ 64 }
-        requires numbered { self.old.structures + 1 < 2 ^ 64 }
-
-        ensures step { short_step (tag_in token.now) result ≡ Some (full_step
-            (message_of token.now).payload (fired_verdict (fired_by self.old instr.now token.now operands))) }
-        ensures recorded { IsRecorded self.old self.new (message_of token.now) stamp (token_outcome self.old instr.now
-            (tag_in token.now) (fired_by self.old instr.now token.now operands) (full_step
-            (message_of token.now).payload (fired_verdict (fired_by self.old instr.now token.now operands)))) }
-        ensures sent { IsSent self.old outputs.old.messages outputs.new.messages stamp
-            (token_sends instr.now (tag_in token.now) (fired_by self.old instr.now token.now operands)) }
-    {
-        match fire_else(instr.op, operands) {
-            Some(fired) if allocated_by_plain(instr.op, fired) == 0 => {
-                self.conclude_short(instr, token, stamp, fired, outputs);
-                Short::Went
-            }
-            _ => self.conclude_full(instr, token, stamp, operands, outputs),
-        }
-    }
-
-    /// The same where its numbers are not small.
     #[inline(never)]
     fn conclude_full(
         &mut self,

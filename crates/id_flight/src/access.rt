@@ -1,13 +1,13 @@
 //! Reads and writes of cells in small numbers.
 
 ghost use Rattle.std.specs.Prelude.{◌≡◌};
-ghost use Rattle.id_flight.specs.Demands.{demanded};
+ghost use Rattle.id_flight.specs.Accesses.{accessed};
 
 use id_tag::{Cell, Message, Payload, Plain, PlainToken, Sender};
 
 /// A read or a write of a cell that an element sent, whose numbers are small: what most messages to cells are.
 #[derive(Clone, Copy)]
-pub struct Demand {
+pub struct Access {
     /// A token of the tag that the message names, which is else like it.
     pub like: PlainToken,
     pub cell: Cell,
@@ -15,11 +15,11 @@ pub struct Demand {
     pub stored: Option<Plain>,
 }
 
-impl Demand {
+impl Access {
     /// The same as any message. Takes no memory.
     #[inline(always)]
     pub fn message(&self) -> Message
-        ensures { result ≡ demanded self.now }
+        ensures { result ≡ accessed self.now }
     {
         let cell = self.cell;
         let tag = self.like.tag();

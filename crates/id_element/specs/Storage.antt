@@ -1,4 +1,4 @@
--- The state of an element, as its desk holds it, and which events are small.
+-- The state of an element, as its storage holds it, and which events are small.
 use Rattle.std.specs.Prelude.{◌-◌, ◌<◌, ◌^◌, ◌≤◌, ℕ, List, Option, length}
 use Rattle.id_instr.specs.declared.instr.Instr.{Instr}
 use Rattle.id_tag.specs.declared.plain.PlainToken.{PlainToken}
@@ -6,7 +6,7 @@ use Rattle.id_tag.specs.Plains.{tag_in}
 use Rattle.id_tag.specs.declared.Message.{Message}
 use Rattle.id_tag.specs.declared.Payload.{Payload}
 use Rattle.id_tag.specs.declared.Payload.TheVariants.{Token}
-use Rattle.id_element.specs.declared.desk.Desk.{Desk}
+use Rattle.id_element.specs.declared.storage.Storage.{Storage}
 use Rattle.id_ops.specs.declared.Fired.{Fired}
 use Rattle.id_ops.specs.Operators.{fired}
 use Rattle.id_element.specs.declared.step.PlainOperands.{PlainOperands}
@@ -18,7 +18,7 @@ use Rattle.id_element.specs.Steps.{State, fresh_numbers}
 use Rattle.id_element.specs.Takes.{Becomes}
 
 -- what waits, the cells, the last stamp, how many contexts and structures were made, and the record
-abbrev pub state_of : Desk → State
+abbrev pub state_of : Storage → State
 state_of d = record {
   waiting = d.waiting;
   cells = d.cells;
@@ -29,7 +29,7 @@ state_of d = record {
 }
 
 -- the element that works there
-abbrev pub element_at : Desk → ElementView
+abbrev pub element_at : Storage → ElementView
 element_at d = record {
   number = d.log.element;
   count = d.count;
@@ -38,13 +38,14 @@ element_at d = record {
   state = state_of d;
 }
 
--- what became of a message at a desk, and of the list that its messages go to: it was taken and came to this, or else
--- nothing has changed
-abbrev pub Treats : Desk → Desk → Message → List Message → List Message → Option Step → Type 0
+-- what became of a message at an element's storage, and of the list that its messages go to: it was taken and came to
+-- this, or else nothing has changed
+abbrev pub Treats : Storage → Storage → Message → List Message → List Message → Option Step → Type 0
 Treats d d' m list list' s = Becomes (element_at d) (element_at d') m list list list' s
 
 -- the same, where what waits has changed before
-abbrev pub TreatsFrom : Store → Desk → Desk → Message → List Message → List Message → Option Step → Type 0
+abbrev pub TreatsFrom : Store → Storage → Storage → Message → List Message → List Message → Option Step
+    → Type 0
 TreatsFrom w d d' m list list' s =
     Becomes (record (element_at d) { state = record (state_of d) { waiting = w } }) (element_at d') m list list list' s
 
@@ -54,7 +55,7 @@ IsToken (Token t p v) = Unit {0}
 IsToken x = ⊥
 
 -- all numbers of the event of a plain token are small, and so is this bound on what is sent for it
-pub record IsShort (d : Desk) (most : ℕ) (t : PlainToken) (stamp : ℕ) : Type 0 where
+pub record IsShort (d : Storage) (most : ℕ) (t : PlainToken) (stamp : ℕ) : Type 0 where
   pub stamp_is : stamp < 2 ^ 32
   pub position : length d.log.events < 2 ^ 32
   pub element : d.log.element < 256
@@ -62,6 +63,6 @@ pub record IsShort (d : Desk) (most : ℕ) (t : PlainToken) (stamp : ℕ) : Type
   pub few : most ≤ 256
 
 -- what the instruction fires on these operands under the tag of a plain token
-abbrev pub fired_by : Desk → Instr → PlainToken → PlainOperands → Fired
+abbrev pub fired_by : Storage → Instr → PlainToken → PlainOperands → Fired
 fired_by d i t o =
     fired i.op (tag_in t) (operands_in o) (fresh_numbers d.log.element d.contexts d.structures)

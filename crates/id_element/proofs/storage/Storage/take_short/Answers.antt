@@ -1,5 +1,5 @@
 -- What is concluded is the element step, as what was reserved left the element and the messages.
-use Rattle.id_element.proofs.desk.Desk.take_short.Goals as goal
+use Rattle.id_element.proofs.storage.Storage.take_short.Goals as goal
 
 pub returns-clause-treats : goal.returns-clause-treats
 returns-clause-treats g c =
