@@ -16,15 +16,15 @@ use Rattle.id_laws.specs.Laws.{Soundness, QuietIsComplete}
 use Rattle.id_sink.specs.declared.sink.PrintError.{PrintError}
 use Rattle.id_sink.specs.Told.{SinkView, Prints}
 use Rattle.id_trace.specs.Traces.{end_text, handled_text, line_text, trace_text}
-use Rattle.id_record.specs.declared.kept.Keeps.TheVariants as keeps
+use Rattle.id_record.specs.declared.kept.Keeps.{Keeps}
 use Rattle.id_record.specs.declared.step.Step.{Step}
 use Rattle.id_record.specs.declared.step.Step.TheVariants.{Went, Fault, Stuck}
 use Rattle.id_print.specs.Reports.{report_text}
 use Rattle.id_print.specs.declared.run_reports.Report.{Report}
 use Rattle.id_print.specs.RunReports.{IsReportFrom}
 use Rattle.id_judge.specs.declared.verdict.Cause.{Cause}
-use Rattle.id_judge.specs.declared.verdict.Verdict.TheVariants.{Legal, CannotFollow}
-use Rattle.id_judge.specs.Lines.{IsLineVerdict}
+use Rattle.id_judge.specs.declared.verdict.Verdict.TheVariants.{Legal}
+use Rattle.id_judge.specs.Lines.{IsFirstLine, IsLineVerdict}
 use Rattle.id_judge.proofs.ClearLines.{clear_lines}
 use Rattle.id_compile.specs.declared.error.EngineError.{EngineError}
 use Rattle.id_compile.specs.declared.error.EngineError.TheVariants.{Memory, Write}
@@ -37,7 +37,6 @@ use Rattle.id_engine.specs.Commands.Shows.{legal, other}
 use Rattle.id_engine.specs.Judged.{legal_text, other_text, why_text}
 use Rattle.id_engine.specs.Judgements.{IsJudged, IsOutput, IsPrintedSo, JudgesSo, PrintsJudged, PrintsLegal}
 use Rattle.id_engine.specs.Judgements.JudgesSo.{judged, unallowed}
-use Rattle.id_engine.specs.Judgements.PrintsCounted.{counted, uncounted}
 use Rattle.id_engine.specs.Judgements.PrintsJudged.{all_out, front_out, none_out}
 use Rattle.id_engine.specs.Judgements.PrintsLegal.{reported, unreported}
 use Rattle.id_engine.specs.Reports.{AreAllowed, IsTrueOf, status_of}
@@ -65,27 +64,27 @@ few_events (e ∷ es) = omega (
 
 module _ (g : Parts) (vs : List Constant) (count : ℕ) (trace : List ℕ) where
   -- the event that can't follow begins in the trace
-  pub within_trace : (k : ℕ) (c : Cause) → IsLineVerdict g vs count keeps.All trace (CannotFollow k c) → k < length trace
+  pub within_trace : (k : ℕ) (c : Cause) → IsFirstLine g vs count trace k c → k < length trace
   within_trace k c h =
       let all : length trace ≡ length (trace_text h.events) + length h.rest = ap (λ bs. length bs) h.parts ∙ length-append (trace_text h.events) h.rest in
       omega (arith, all, h.some, few_events h.events, h.many)
 
   -- a trace that is judged legal is that of a run, which leads to the machine but for the order of what is in flight
-  pub run_of : (m : MachineView) → LegalLists → IsLineVerdict g vs count keeps.All trace (Legal m)
+  pub run_of : (kept : Keeps) (m : MachineView) (n : ℕ) → LegalLists → IsLineVerdict g vs count kept trace (Legal m n)
       → (ks : List ℕ) × IsSameBut (run g count ks (start g vs count)) m.world
-  run_of m lists h =
+  run_of kept m n lists h =
       let t = h.3 in
       let o = t.legal in
       let l : IsLegalList g vs count t.events = record { end = record { elements = m.world.elements; flight = o.flight }; lead = o.lead } in
       let is = lists.are_runs g vs count t.events l in
       (is.positions, record { elements = (is.end).elements; flight = next (is.end).flight o.in_flight })
 
-  -- and that keeps all events
-  pub all_kept : (m : MachineView) → IsLineVerdict g vs count keeps.All trace (Legal m) → m.keeps ≡ keeps.All
-  all_kept m h = h.2
+  -- and that keeps so much
+  pub kept_so : (kept : Keeps) (m : MachineView) (n : ℕ) → IsLineVerdict g vs count kept trace (Legal m n) → m.keeps ≡ kept
+  kept_so kept m n h = h.2
 
-  pub of_graph : (m : MachineView) → IsLineVerdict g vs count keeps.All trace (Legal m) → m.graph ≡ g
-  of_graph m h = h.0
+  pub of_graph : (kept : Keeps) (m : MachineView) (n : ℕ) → IsLineVerdict g vs count kept trace (Legal m n) → m.graph ≡ g
+  of_graph kept m n h = h.0
 
 -- ---- what is printed
 
@@ -95,12 +94,12 @@ PrintsJudged-from output status old new (Ok u) result printed is = subst (Prints
 PrintsJudged-from output status old new (Err e) result printed is = subst (PrintsJudged output status old new) (sym is) (front_out e printed)
 
 -- a report is printed behind the number of the events
-pub IsOutput-from : (m : MachineView) (text : List ℕ) (b : Bool) (r : Report) (es : List EventView) (old new : SinkView) (n status : ℕ)
-    (u : Result (Unit {0}) PrintError) (result : Result ℕ EngineError) → n ≡ length es → status ≡ status_of r.ending
-    → Prints old new (legal_text n ++ report_text text b r) u → IsPrintedSo u status result → IsOutput m text b r es old new result
-IsOutput-from m text b r es old new n status u result many ended printed is =
-    PrintsJudged-from (legal_text (length es) ++ report_text text b r) (status_of r.ending) old new u result
-    (subst (λ (k : ℕ). Prints old new (legal_text k ++ report_text text b r) u) many printed) (subst (λ (k : ℕ). IsPrintedSo u k result) ended is)
+pub IsOutput-from : (text : List ℕ) (b : Bool) (r : Report) (old new : SinkView) (n status : ℕ) (u : Result (Unit {0}) PrintError)
+    (result : Result ℕ EngineError) → status ≡ status_of r.ending → Prints old new (legal_text n ++ report_text text b r) u
+    → IsPrintedSo u status result → IsOutput n text b r old new result
+IsOutput-from text b r old new n status u result ended printed is =
+    PrintsJudged-from (legal_text n ++ report_text text b r) (status_of r.ending) old new u result printed
+    (subst (λ (k : ℕ). IsPrintedSo u k result) ended is)
 
 -- why an event can't follow is printed behind its position
 pub PrintsOther-from : (trace : List ℕ) (k : ℕ) (c : Cause) (why : List ℕ) (old new : SinkView) (u : Result (Unit {0}) PrintError)
@@ -111,24 +110,25 @@ PrintsOther-from trace k c why old new u result same printed is =
 
 module _ (P : Checked) (vs : List Constant) (text trace : List ℕ) (count : ℕ) (b : Bool) (g : Parts) (inputs : AreInputs P vs) (schemas : Schemas P g) where
   -- what a report says of the machine that a trace leads to is so
-  pub IsTrueOf-judged : (m : MachineView) (r : Report) → Soundness → QuietIsComplete → LegalLists → IsLineVerdict g vs count keeps.All trace (Legal m)
-      → IsReportFrom m b r → IsTrueOf (source P vs) b r
-  IsTrueOf-judged m r sound complete lists h from =
-      let at = run_of g vs count trace m lists h in
-      IsTrueOf-laws (source P vs) g count at.0 m b r sound complete inputs schemas (of_graph g vs count trace m h) at.1 from
+  pub IsTrueOf-judged : (kept : Keeps) (m : MachineView) (n : ℕ) (r : Report) → Soundness → QuietIsComplete → LegalLists
+      → IsLineVerdict g vs count kept trace (Legal m n) → IsReportFrom m b r → IsTrueOf (source P vs) b r
+  IsTrueOf-judged kept m n r sound complete lists h from =
+      let at = run_of g vs count trace kept m n lists h in
+      IsTrueOf-laws (source P vs) g count at.0 m b r sound complete inputs schemas (of_graph g vs count trace kept m n h) at.1 from
 
   -- a trace of a run is judged one
-  pub JudgesSo-legal : (m : MachineView) → Soundness → QuietIsComplete → LegalLists → AreAllowed count 1 → IsLineVerdict g vs count keeps.All trace (Legal m)
-      → (old new : SinkView) (result : Result ℕ EngineError) → PrintsLegal m text b old new result → JudgesSo P vs text trace count b old new result
-  JudgesSo-legal m sound complete lists allowed h old new result (reported r from (counted es merged prints)) =
-      let true_of = IsTrueOf-judged m r sound complete lists h from in
-      judged (status_of r.ending) (legal_text (length es) ++ report_text text b r) allowed
-      (λ ws are. legal m es r are schemas h merged from (Shows-from_report P ws vs text b r r.ending are true_of.says)) prints
-  JudgesSo-legal m sound complete lists allowed h old new result (reported r from (uncounted same)) = unallowed Memory refl same
-  JudgesSo-legal m sound complete lists allowed h old new result (unreported same) = unallowed Memory refl same
+  pub JudgesSo-legal : (kept : Keeps) (m : MachineView) (n : ℕ) → Soundness → QuietIsComplete → LegalLists → AreAllowed count 1
+      → IsLineVerdict g vs count kept trace (Legal m n)
+      → (old new : SinkView) (result : Result ℕ EngineError) → PrintsLegal m n text b old new result → JudgesSo P vs text trace count b old new result
+  JudgesSo-legal kept m n sound complete lists allowed h old new result (reported r from prints) =
+      let true_of = IsTrueOf-judged kept m n r sound complete lists h from in
+      let told : IsLineVerdict g vs count m.keeps trace (Legal m n) = (h.0, h.1, refl, h.3) in
+      judged (status_of r.ending) (legal_text n ++ report_text text b r) allowed
+      (λ ws are. legal m n r are schemas told from (Shows-from_report P ws vs text b r r.ending are true_of.says)) prints
+  JudgesSo-legal kept m n sound complete lists allowed h old new result (unreported same) = unallowed Memory refl same
 
   -- and of any other the first event is told that can't follow
-  pub JudgesSo-other : (k : ℕ) (c : Cause) → AreAllowed count 1 → IsLineVerdict g vs count keeps.All trace (CannotFollow k c)
+  pub JudgesSo-other : (k : ℕ) (c : Cause) → AreAllowed count 1 → IsFirstLine g vs count trace k c
       → (old new : SinkView) (result : Result ℕ EngineError) → PrintsJudged (other_text k (why_text trace k c)) 6 old new result
       → JudgesSo P vs text trace count b old new result
   JudgesSo-other k c allowed h old new result prints =

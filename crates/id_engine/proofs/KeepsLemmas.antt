@@ -1,6 +1,5 @@
 -- What is kept of a run suffices for what is asked for.
 use Rattle.std.proofs.Common.{◌≡◌, ◌≢◌, Bool, true, false, refl}
-use Rattle.id_record.specs.declared.kept.Keeps.{Keeps}
 use Rattle.id_record.specs.declared.kept.Keeps.TheVariants as keeps
 use Rattle.id_engine.specs.Runs.{keeps_for}
 
@@ -12,7 +11,3 @@ keeps_names false false asked is = cc
 pub keeps_trace : (trace names : Bool) → trace ≡ true → keeps_for trace names ≡ keeps.All
 keeps_trace true names asked = refl
 keeps_trace false names asked = absurd cc
-
--- what keeps all keeps enough for names
-pub all_names : (k : Keeps) → k ≡ keeps.All → k ≢ keeps.Tellings
-all_names k all is = cc

@@ -1,6 +1,6 @@
 -- What a command prints of a program (docs/PROMISES.md, "The engine").
 use Rattle.std.specs.Prelude.{◌≡◌, ℕ, Bool, true, false, IsTrue, List, ◌++◌, codes, Option, Result, Ok, Err}
-use Rattle.std.specs.Prelude.{IfSome, length}
+use Rattle.std.specs.Prelude.{IfSome}
 use Rattle.id_check.specs.declared.checked.Checked.{Checked}
 use Rattle.id_value.specs.declared.Constant.{Constant}
 use Rattle.id_source.specs.declared.Ask.{Ask}
@@ -17,7 +17,6 @@ use Rattle.id_instr.specs.Graph.{Parts}
 use Rattle.id_graph.specs.Dot.{dot_text}
 use Rattle.id_graph.specs.Listing.{listing}
 use Rattle.id_pieces.specs.Schemas.{Schemas}
-use Rattle.id_record.specs.declared.kept.Keeps.TheVariants as keeps
 use Rattle.id_core.specs.Events.{EventView}
 use Rattle.id_core.specs.Firsts.{AreMergedOf}
 use Rattle.id_core.specs.Machines.{MachineView, World}
@@ -32,8 +31,8 @@ use Rattle.id_print.specs.declared.run_reports.Report.{Report}
 use Rattle.id_print.specs.RunReports.{IsReportFrom}
 use Rattle.id_trace.specs.Traces.{trace_text}
 use Rattle.id_judge.specs.declared.verdict.Cause.{Cause}
-use Rattle.id_judge.specs.declared.verdict.Verdict.TheVariants.{Legal, CannotFollow}
-use Rattle.id_judge.specs.Lines.{AreClear, IsLineVerdict}
+use Rattle.id_judge.specs.declared.verdict.Verdict.TheVariants.{Legal}
+use Rattle.id_judge.specs.Lines.{AreClear, IsFirstLine, IsLineVerdict}
 use Rattle.id_compile.specs.Programs.{IsProgramOf}
 use Rattle.id_engine.specs.Judged.{legal_text, other_text, why_text}
 
@@ -84,17 +83,17 @@ pub data Shows (P : Checked) (text : List ℕ) : Command → ℕ → List ℕ �
       → IsLegalOrder g vs count es w → Shows P text (Run b false ws) status output →
       Shows P text (Run b true ws) status (trace_text es ++ output)
   -- the trace of a run is judged one, with the number of its events, and what the run shows stands behind that: it is
-  -- the report of the machine that the run leads to, and has that status
+  -- the report of the machine that the run leads to, however much that keeps of its events, and has that status
   legal : {b : Bool} {ws : List (List ℕ)} {vs : List Constant} {g : Parts} {count : ℕ} {trace : List ℕ}
-      {status : ℕ} (m : MachineView) (es : List EventView) (r : Report) → AreInputsOf P ws vs → Schemas P g
-      → IsLineVerdict g vs count keeps.All trace (Legal m) → AreMergedOf m.world.elements es → IsReportFrom m b r
+      {status : ℕ} (m : MachineView) (n : ℕ) (r : Report) → AreInputsOf P ws vs → Schemas P g
+      → IsLineVerdict g vs count m.keeps trace (Legal m n) → IsReportFrom m b r
       → Shows P text (Run b false ws) status (report_text text b r) →
-      Shows P text (Judge b ws count trace) status (legal_text (length es) ++ report_text text b r)
+      Shows P text (Judge b ws count trace) status (legal_text n ++ report_text text b r)
   -- of any other the first event is told that can't follow on those before it, and why; since a line names one message
   -- at the most, no run has a trace with this line behind those before it
   other : {b : Bool} {ws : List (List ℕ)} {vs : List Constant} {g : Parts} {count : ℕ} {trace : List ℕ}
       (k : ℕ) (c : Cause) → AreInputsOf P ws vs → Schemas P g
-      → IsLineVerdict g vs count keeps.All trace (CannotFollow k c) → AreClear g vs count →
+      → IsFirstLine g vs count trace k c → AreClear g vs count →
       Shows P text (Judge b ws count trace) 6 (other_text k (why_text trace k c))
 
 -- what a command shows of the text's program, with this status, is printed with this result

@@ -1,10 +1,8 @@
 -- What comes of a trace that is judged, before an error is told (specs/Commands.antt).
-use Rattle.std.specs.Prelude.{◌≡◌, ℕ, Bool, List, ◌++◌, length, Result, Ok, Err}
+use Rattle.std.specs.Prelude.{◌≡◌, ℕ, Bool, List, ◌++◌, Result, Ok, Err}
 use Rattle.id_check.specs.declared.checked.Checked.{Checked}
 use Rattle.id_value.specs.declared.Constant.{Constant}
 use Rattle.id_source.specs.Inputs.{AreInputsOf}
-use Rattle.id_core.specs.Events.{EventView}
-use Rattle.id_core.specs.Firsts.{AreMergedOf}
 use Rattle.id_core.specs.Machines.{MachineView}
 use Rattle.id_sink.specs.declared.sink.PrintError.{PrintError}
 use Rattle.id_sink.specs.Told.{SinkView, Prints}
@@ -29,24 +27,18 @@ pub data PrintsJudged (output : List ℕ) (status : ℕ) (old new : SinkView) : 
   front_out : (e : PrintError) → Prints old new output (Err e) → PrintsJudged output status old new (Err Write)
   none_out : new ≡ old → PrintsJudged output status old new (Err Memory)
 
--- so it is with the number of a machine's events and this report of it
-abbrev pub IsOutput : MachineView → List ℕ → Bool → Report → List EventView → SinkView → SinkView
-    → Result ℕ EngineError → Type 0
-IsOutput m text b r es old new result =
-    PrintsJudged (legal_text (length es) ++ report_text text b r) (status_of r.ending) old new result
+-- so it is with this number of events and this report
+abbrev pub IsOutput : ℕ → List ℕ → Bool → Report → SinkView → SinkView → Result ℕ EngineError
+    → Type 0
+IsOutput n text b r old new result =
+    PrintsJudged (legal_text n ++ report_text text b r) (status_of r.ending) old new result
 
-pub data PrintsCounted (m : MachineView) (text : List ℕ) (b : Bool) (r : Report) (old new : SinkView) :
-    Result ℕ EngineError → Type 0 where
-  counted : {result : Result ℕ EngineError} (es : List EventView) → AreMergedOf m.world.elements es
-      → IsOutput m text b r es old new result → PrintsCounted m text b r old new result
-  uncounted : new ≡ old → PrintsCounted m text b r old new (Err Memory)
-
--- and so with some report of it
-pub data PrintsLegal (m : MachineView) (text : List ℕ) (b : Bool) (old new : SinkView) :
+-- and so with some report of the machine
+pub data PrintsLegal (m : MachineView) (n : ℕ) (text : List ℕ) (b : Bool) (old new : SinkView) :
     Result ℕ EngineError → Type 0 where
   reported : {result : Result ℕ EngineError} (r : Report) → IsReportFrom m b r
-      → PrintsCounted m text b r old new result → PrintsLegal m text b old new result
-  unreported : new ≡ old → PrintsLegal m text b old new (Err Memory)
+      → IsOutput n text b r old new result → PrintsLegal m n text b old new result
+  unreported : new ≡ old → PrintsLegal m n text b old new (Err Memory)
 
 -- a program with its inputs judges a trace, with this output and status, on whatever words give these inputs
 abbrev pub IsJudged : Checked → List Constant → List ℕ → List ℕ → ℕ → Bool → ℕ → List ℕ

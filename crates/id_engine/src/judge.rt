@@ -1,8 +1,7 @@
 //! A trace, judged as one of a text.
 
-ghost use Rattle.std.specs.Prelude.{◌≡◌, ◌≢◌, ◌≤◌, ◌<◌, length, map};
+ghost use Rattle.std.specs.Prelude.{◌≡◌, ◌≢◌, ◌≤◌, ◌<◌, false, length, map};
 ghost use Rattle.std.specs.Prelude.{IfErr, IfOk, OnOk, ◌++◌};
-ghost use Rattle.id_record.specs.declared.kept.Keeps.TheVariants as keeps;
 ghost use Rattle.id_pieces.specs.Schemas.{Schemas};
 ghost use Rattle.id_source.specs.Sources.{AreInputs};
 ghost use Rattle.id_print.specs.Reports.{report_text};
@@ -15,12 +14,13 @@ ghost use Rattle.id_engine.specs.Commands.{ShowsAll, ShowsFront};
 ghost use Rattle.id_engine.specs.Commands as command;
 ghost use Rattle.id_engine.specs.Judged.{begin_with_digit, begin_with_line, behind_lines, cause_text, has_end};
 ghost use Rattle.id_engine.specs.Judged.{legal_text, other_text, why_text};
-ghost use Rattle.id_engine.specs.Judgements.{IsPrintedSo, JudgesSo, PrintsCounted, PrintsJudged, PrintsLegal};
+ghost use Rattle.id_engine.specs.Judgements.{IsPrintedSo, JudgesSo, PrintsJudged, PrintsLegal};
 ghost use Rattle.id_engine.specs.Reports.{AreAllowed, AreReportsWithin, IsUnallowed};
+ghost use Rattle.id_engine.specs.Runs.{keeps_for};
 
-use crate::run::status_of;
+use crate::run::{keeps_for, status_of};
 use id_compile::{EngineError, Prepared, prepare};
-use id_core::{Keeps, Machine, MachineError, merge_records};
+use id_core::{Machine, MachineError};
 use id_judge::{Cause, Verdict, judge_lines};
 use id_print::{PrintError, Report, Sink, put, run_report, write_report};
 use id_sink::put_long;
@@ -145,45 +145,25 @@ fn write_legal<W: Sink>(
     write_report(report, text, names, out)
 }
 
-/// Writes that a trace is one of a run, which has come to this machine and shows this report, and answers the status.
-fn print_counted<W: Sink>(
-    alloc: Global,
-    machine: &Machine<'_>,
-    report: &Report,
-    text: &str,
-    names: bool,
-    out: &mut W,
-) -> Result<u8, EngineError>
-    requires kept { machine.now.keeps ≡ keeps.All }
-    requires fits { length text.now ≤ 1048576 }
-    requires inside { ReportWithin (length text.now) report.now }
-    ensures { PrintsCounted machine.now text.now names report.now (W.told out.old) (W.told out.new) result }
-{
-    match merge_records(alloc, machine.elements()) {
-        Ok(events) => {
-            let written = write_legal(events.len(), report, text, names, out);
-            printed(written, status_of(&report.ending))
-        }
-        Err(_) => Err(EngineError::Memory),
-    }
-}
-
-/// Writes that a trace is one of a run, which has come to this machine, and what that shows, and answers the status.
+/// Writes that a trace is one of a run of so many events, which has come to this machine, and what that shows, and
+/// answers the status.
 fn print_shown<W: Sink>(
     alloc: Global,
     machine: &Machine<'_>,
+    events: usize,
     text: &str,
     names: bool,
     out: &mut W,
 ) -> Result<u8, EngineError>
-    requires kept { machine.now.keeps ≡ keeps.All }
+    requires kept { machine.now.keeps ≡ keeps_for false names }
     requires fits { length text.now ≤ 1048576 }
     requires inside { AreReportsWithin machine.now names (length text.now) }
-    ensures { PrintsLegal machine.now text.now names (W.told out.old) (W.told out.new) result }
+    ensures { PrintsLegal machine.now events text.now names (W.told out.old) (W.told out.new) result }
 {
     match run_report(alloc, machine, names) {
         Ok(report) => {
-            let status = print_counted(alloc, machine, &report, text, names, out);
+            let written = write_legal(events, &report, text, names, out);
+            let status = printed(written, status_of(&report.ending));
             drop(report);
             status
         }
@@ -195,18 +175,19 @@ fn print_shown<W: Sink>(
 fn print_machine<W: Sink>(
     alloc: Global,
     machine: Machine<'_>,
+    events: usize,
     text: &str,
     names: bool,
     out: &mut W,
 ) -> Result<u8, EngineError>
-    requires kept { machine.keeps ≡ keeps.All }
+    requires kept { machine.keeps ≡ keeps_for false names }
     requires fits { length text.now ≤ 1048576 }
     requires inside { AreReportsWithin machine names (length text.now) }
-    ensures { PrintsLegal machine.entry text.now names (W.told out.old) (W.told out.new) result }
+    ensures { PrintsLegal machine.entry events text.now names (W.told out.old) (W.told out.new) result }
 {
     let mut machine = machine;
     machine.give_back(alloc);
-    let status = print_shown(alloc, &machine, text, names, out);
+    let status = print_shown(alloc, &machine, events, text, names, out);
     drop(machine);
     status
 }
@@ -235,11 +216,13 @@ fn verdict_of<'a>(
     prepared: &'a Prepared,
     trace: &[u8],
     count: u32,
+    names: bool,
 ) -> Result<Verdict<'a>, EngineError>
     requires { AreInputs prepared.now.compiled.checked prepared.now.inputs.values }
     ensures schemas { Schemas prepared.now.compiled.checked prepared.now.compiled.graph }
     ensures verdict { IfOk result
-        (IsLineVerdict prepared.now.compiled.graph prepared.now.inputs.values count keeps.All trace.now) }
+        (IsLineVerdict prepared.now.compiled.graph prepared.now.inputs.values count (keeps_for false names)
+        trace.now) }
     ensures allowed { OnOk result (AreAllowed count 1) }
     ensures refused { IfErr result (IsUnallowed count 1) }
 {
@@ -249,7 +232,7 @@ fn verdict_of<'a>(
         prepared.compiled.valid(),
         &prepared.inputs,
         count,
-        Keeps::All,
+        keeps_for(false, names),
         trace,
     ) {
         Ok(verdict) => Ok(verdict),
@@ -277,8 +260,10 @@ fn judge_prepared<W: Sink>(
     id_laws::sound();
     id_laws::complete();
     id_laws::legal_lists();
-    match verdict_of(alloc, prepared, trace, count) {
-        Ok(Verdict::Legal(machine)) => print_machine(alloc, machine, text, names, out),
+    match verdict_of(alloc, prepared, trace, count, names) {
+        Ok(Verdict::Legal(machine, events)) => {
+            print_machine(alloc, machine, events, text, names, out)
+        }
         Ok(Verdict::CannotFollow(position, cause)) => print_other(trace, position, cause, out),
         Err(error) => Err(error),
     }

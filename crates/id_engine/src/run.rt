@@ -34,7 +34,7 @@ use std::sync::Wait;
 use std::thread::Threads;
 
 /// As much as is kept of the events of a run whose trace or names are asked for, or neither.
-fn keeps_for(trace: bool, names: bool) -> Keeps
+pub fn keeps_for(trace: bool, names: bool) -> Keeps
     ensures { result ≡ keeps_for trace names }
 {
     if trace {

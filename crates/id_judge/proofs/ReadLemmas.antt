@@ -110,17 +110,18 @@ read_first g h vs count n text rest k w cause graph many r some why =
 -- all of it
 pub read_all : (g h : Parts) (vs : List Constant) (count n : ℕ) (text : List ℕ) (k : ℕ) (w : World) (kept keeps : Keeps) (m : MachineView) → h ≡ g
     → n ≡ count → kept ≡ keeps → IsRead g vs count text [] k w → m ≡ record { graph = h; count = n; keeps = kept; world = w }
-    → (m.graph ≡ g) × (m.count ≡ count) × (m.keeps ≡ keeps) × IsLegalTrace g vs count text m.world
+    → (m.graph ≡ g) × (m.count ≡ count) × (m.keeps ≡ keeps) × IsLegalTrace g vs count text k m.world
 read_all g h vs count n text k w kept keeps m graph many keep r is =
-    let order : IsLegalTrace g vs count text w = record {
+    let order : IsLegalTrace g vs count text k w = record {
       events = r.events;
+      many = r.many;
       trace = r.parts ∙ append-nil (trace_text r.events);
       legal = record { flight = w.flight; lead = r.lead; in_flight = same_order w.flight };
     } in (
       ap (λ (x : MachineView). x.graph) is ∙ graph,
       ap (λ (x : MachineView). x.count) is ∙ many,
       ap (λ (x : MachineView). x.keeps) is ∙ keep,
-      subst (λ (x : World). IsLegalTrace g vs count text x) (sym (ap (λ (x : MachineView). x.world) is)) order,
+      subst (λ (x : World). IsLegalTrace g vs count text k x) (sym (ap (λ (x : MachineView). x.world) is)) order,
     )
 
 -- ---- what a text says

@@ -97,17 +97,20 @@ pub record IsFirstLine (g : Parts) (vs : List Constant) (count : ℕ) (text : Li
   pub never : AreClear g vs count → (es : List EventView) → IsLegalList g vs count es → length es ≡ k + 1
       → Begins text (trace_text es) → ⊥
 
--- a text is the trace of a legal list that ends in this state
-pub record IsLegalTrace (g : Parts) (vs : List Constant) (count : ℕ) (text : List ℕ) (w : World) : Type 0 where
+-- a text is the trace of a legal list of n events that ends in this state
+pub record IsLegalTrace (g : Parts) (vs : List Constant) (count : ℕ) (text : List ℕ) (n : ℕ) (w : World)
+    : Type 0 where
   pub events : List EventView
+  pub many : length events ≡ n
   pub trace : text ≡ trace_text events
   pub legal : IsLegalOrder g vs count events w
 
 -- what a judge says of a trace on so many elements of the graph, from its start with these inputs: that of a legal
--- list, which ends in this machine, whose elements keep so much; or the first line from which on it is none
+-- list of so many events, which ends in this machine, whose elements keep so much; or the first line from which on it
+-- is none
 abbrev pub IsLineVerdict : Parts → List Constant → ℕ → Keeps → List ℕ → Verdict → Type 0
-IsLineVerdict g vs count keeps text (Legal m) =
-    (m.graph ≡ g) × (m.count ≡ count) × (m.keeps ≡ keeps) × IsLegalTrace g vs count text m.world
+IsLineVerdict g vs count keeps text (Legal m n) =
+    (m.graph ≡ g) × (m.count ≡ count) × (m.keeps ≡ keeps) × IsLegalTrace g vs count text n m.world
 IsLineVerdict g vs count keeps text (CannotFollow k cause) = IsFirstLine g vs count text k cause
 
 -- for use inside

@@ -1,5 +1,5 @@
 -- What a judge says of a list of events (docs/MACHINE.md, "Judges").
-use Rattle.std.specs.Prelude.{◌≡◌, ◌≢◌, ℕ, ◌+◌, IsTrue, IsFalse, Some, List, slice_get, take}
+use Rattle.std.specs.Prelude.{◌≡◌, ◌≢◌, ℕ, ◌+◌, IsTrue, IsFalse, Some, List, length, slice_get, take}
 use Rattle.id_instr.specs.Graph.{Parts}
 use Rattle.id_tag.specs.Routes.{route_of}
 use Rattle.id_value.specs.declared.Constant.{Constant}
@@ -48,11 +48,12 @@ pub record IsFirst (g : Parts) (vs : List Constant) (count : ℕ) (es : List Eve
   pub why : IsCause g count end event cause
   pub never : IsLegalList g vs count (take (k + 1) es) → ⊥
 
--- what a judge says of these events on so many elements of the graph, from its start with these inputs: a legal list,
--- which ends in this machine, whose elements keep all events; or the first event that cannot follow
+-- what a judge says of these events on so many elements of the graph, from its start with these inputs: a legal list of
+-- so many, which ends in this machine, whose elements keep all events; or the first event that cannot follow
 abbrev pub IsVerdict : Parts → List Constant → ℕ → List EventView → Verdict → Type 0
-IsVerdict g vs count es (Legal m) =
-    (m.graph ≡ g) × (m.count ≡ count) × (m.keeps ≡ keeps.All) × IsLegalOrder g vs count es m.world
+IsVerdict g vs count es (Legal m n) =
+    (m.graph ≡ g) × (m.count ≡ count) × (m.keeps ≡ keeps.All) × (n ≡ length es)
+    × IsLegalOrder g vs count es m.world
 IsVerdict g vs count es (CannotFollow k cause) = IsFirst g vs count es k cause
 
 -- for use inside

@@ -30,11 +30,12 @@ pub fn judge_events<'a>(
         return Err(MachineError::BadElements);
     }
     let mut bench = start_bench(alloc, graph, inputs, count, Keeps::All)?;
-    for position in 0..events.len() {
+    let many = events.len();
+    for position in 0..many {
         if let Some(cause) = follow(&mut bench, &events[position])? {
             return Ok(Verdict::CannotFollow(position, cause));
         }
     }
     let machine = end_bench(alloc, bench)?;
-    Ok(Verdict::Legal(machine))
+    Ok(Verdict::Legal(machine, many))
 }

@@ -54,7 +54,7 @@ pub fn judge_lines<'a>(
         lines += 1;
     }
     let machine = end_bench(alloc, bench)?;
-    Ok(Verdict::Legal(machine))
+    Ok(Verdict::Legal(machine, lines))
 }
 
 /// The last stamps of so many elements at the start.

@@ -20,8 +20,8 @@ pub enum Cause {
 /// What a judge says of a list of events.
 #[derive(Drop)]
 pub enum Verdict<'a> {
-    /// They are a legal list, which ends in this machine, with what is left in flight.
-    Legal(Machine<'a>),
+    /// They are a legal list of so many, which ends in this machine, with what is left in flight.
+    Legal(Machine<'a>, usize),
     /// The event at this position, from 0, is the first that cannot follow, and why.
     CannotFollow(usize, Cause),
 }

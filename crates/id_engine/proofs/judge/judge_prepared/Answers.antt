@@ -1,14 +1,14 @@
 use Rattle.std.proofs.Common.{refl}
 use Rattle.id_source.specs.Sources.{Source, source}
 use Rattle.id_engine.specs.Judgements.JudgesSo.{unallowed}
-use Rattle.id_engine.proofs.JudgedLemmas.{IsTrueOf-judged, JudgesSo-legal, JudgesSo-other, all_kept, within_trace}
+use Rattle.id_engine.proofs.JudgedLemmas.{IsTrueOf-judged, JudgesSo-legal, JudgesSo-other, kept_so, within_trace}
 use Rattle.id_engine.proofs.PlacedLemmas.{report_within}
 use Rattle.id_engine.proofs.judge.judge_prepared.Goals as goal
 
 pub print_machine-requires-clause-kept : goal.print_machine-requires-clause-kept
 print_machine-requires-clause-kept g c =
     let p = c.args.prepared.now in
-    all_kept p.compiled.graph p.inputs.values c.args.count c.args.trace.now c.in-Ok-Legal.machine (rw c.in-Ok-Legal.field-0-is at c.in-Ok-Legal.ensures.verdict)
+    kept_so p.compiled.graph p.inputs.values c.args.count c.args.trace.now _ c.in-Ok-Legal.machine c.in-Ok-Legal.events (rw c.in-Ok-Legal.field-0-is at c.in-Ok-Legal.ensures.verdict)
 
 pub print_machine-requires-clause-inside : goal.print_machine-requires-clause-inside
 print_machine-requires-clause-inside g c =
@@ -16,13 +16,13 @@ print_machine-requires-clause-inside g c =
     let S : Source = source p.compiled.checked p.inputs.values in
     λ r from. report_within S c.requires.within c.args.names r
     (IsTrueOf-judged p.compiled.checked p.inputs.values c.args.text.now c.args.trace.now c.args.count c.args.names p.compiled.graph c.requires.inputs
-    c.in-Ok-Legal.ensures.schemas c.in-Ok-Legal.machine r c.sound.ensures c.complete.ensures c.legal_lists.ensures (rw c.in-Ok-Legal.field-0-is at c.in-Ok-Legal.ensures.verdict) from)
+    c.in-Ok-Legal.ensures.schemas _ c.in-Ok-Legal.machine c.in-Ok-Legal.events r c.sound.ensures c.complete.ensures c.legal_lists.ensures (rw c.in-Ok-Legal.field-0-is at c.in-Ok-Legal.ensures.verdict) from)
 
 pub returns-in-Ok-Legal : goal.returns-in-Ok-Legal
 returns-in-Ok-Legal g c =
     let p = c.args.prepared.now in
     JudgesSo-legal p.compiled.checked p.inputs.values c.args.text.now c.args.trace.now c.args.count c.args.names p.compiled.graph c.requires.inputs
-    c.in-Ok-Legal.ensures.schemas c.in-Ok-Legal.machine c.sound.ensures c.complete.ensures c.legal_lists.ensures c.in-Ok-Legal.ensures.allowed
+    c.in-Ok-Legal.ensures.schemas _ c.in-Ok-Legal.machine c.in-Ok-Legal.events c.sound.ensures c.complete.ensures c.legal_lists.ensures c.in-Ok-Legal.ensures.allowed
     (rw c.in-Ok-Legal.field-0-is at c.in-Ok-Legal.ensures.verdict) _ _ c.print_machine.result c.print_machine.ensures
 
 pub print_other-requires : goal.print_other-requires

@@ -1,16 +1,19 @@
-use Rattle.std.proofs.Common.{refl}
+use Rattle.std.proofs.Common.{false, refl, sym, ◌∙◌}
 use Rattle.id_engine.specs.Judgements.PrintsLegal.{reported, unreported}
-use Rattle.id_engine.proofs.KeepsLemmas.{all_names}
+use Rattle.id_engine.proofs.JudgedLemmas.{IsOutput-from}
+use Rattle.id_engine.proofs.KeepsLemmas.{keeps_names}
 use Rattle.id_engine.proofs.judge.print_shown.Goals as goal
 
 pub run_report-requires : goal.run_report-requires
-run_report-requires g c = λ asked is. all_names c.args.machine.now.keeps c.requires.kept is
+run_report-requires g c = λ asked is. keeps_names false c.args.names asked (sym c.requires.kept ∙ is)
 
-pub print_counted-status-requires-clause-inside : goal.print_counted-status-requires-clause-inside
-print_counted-status-requires-clause-inside g c = c.requires.inside _ c.in-Ok.ensures
+pub write_legal-written-requires-clause-inside : goal.write_legal-written-requires-clause-inside
+write_legal-written-requires-clause-inside g c = c.requires.inside _ c.in-Ok.ensures
 
 pub returns-in-Ok : goal.returns-in-Ok
-returns-in-Ok g c = reported _ c.in-Ok.ensures c.print_counted-status.ensures
+returns-in-Ok g c = reported _ c.in-Ok.ensures
+    (IsOutput-from c.args.text.now c.args.names c.in-Ok.report _ _ c.args.events c.status_of.result c.write_legal-written.result
+    c.printed-status.result c.status_of.ensures c.write_legal-written.ensures c.printed-status.ensures)
 
 pub returns-in-Err : goal.returns-in-Err
 returns-in-Err g c = unreported refl

@@ -57,5 +57,6 @@ returns-clause-verdict c =
     let es = c.args.events.now in
     let from = start g c.args.inputs.now.values c.args.count in
     let end : c.loop-position.position ≡ length es = omega (arith, c.loop-position-test.false, c.loop-position.auto.position-end) in
-    legal_is g b.graph c.args.inputs.now.values c.args.count (length b.elements) es (world_in b) b.keeps c.in_ok-machine.machine
-    c.loop-position.invariant.1 c.loop-position.invariant.2 c.loop-position.invariant.3 (subst (λ i. LeadTo g c.args.count from (take i es) (world_in b)) end c.loop-position.invariant.4) c.in_ok-machine.ensures
+    let legal = legal_is g b.graph c.args.inputs.now.values c.args.count (length b.elements) es (world_in b) b.keeps c.in_ok-machine.machine
+    c.loop-position.invariant.1 c.loop-position.invariant.2 c.loop-position.invariant.3 (subst (λ i. LeadTo g c.args.count from (take i es) (world_in b)) end c.loop-position.invariant.4) c.in_ok-machine.ensures in
+    (legal.0, legal.1, legal.2, refl, legal.3)
