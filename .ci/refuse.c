@@ -1,6 +1,6 @@
 /* Put before the C library of a program, this refuses the growth whose number stands in REFUSE, counted from 1, and
    where ONWARD is set each one after it; a growth is a call for memory, or one for a thread. What is in the file that
-   MET names, a byte, says that one was refused. Made and used by .ci/memory. */
+   MET names, a byte, says that one was refused. Made and used by .ci/growths. */
 #define _GNU_SOURCE
 #include <dlfcn.h>
 #include <errno.h>
