@@ -1,9 +1,9 @@
 #!/usr/bin/env bash
 # Runs idc with the words given, by the program that tools/program names: the proved one where ./prove has built it,
-# else one with checks at run time in place of proofs. Behind `--version` stands which build it is. The program takes
-# the place of this script, so its output, its status and signals are its own. Beside it a line on standard error says
-# each few seconds that it still runs; where that is a terminal, one says where to look when a run was stopped.
-# IDC_QUIET=1 silences both.
+# else the same program's module in docs/play by node or by C, else one with checks at run time in place of proofs.
+# Behind `--version` stands which it is, and what is newly trusted. The program takes the place of this script, so its
+# output, its status and signals are its own. Beside it a line on standard error says each few seconds that it still
+# runs; where that is a terminal, one says where to look when a run was stopped. IDC_QUIET=1 silences both.
 here=$(dirname -- "$(readlink -f -- "${BASH_SOURCE[0]}")")
 . "$here/tools/program"
 

@@ -3,7 +3,10 @@
 
 // What the command `idc WORDS` answers, {status, out, err, pages}, where the folder has these files, {name: text or
 // bytes}. The status is a number, or "stack" or "trap" where the instance was ended, and then `err` says by what.
-function idc(module, words, files) {
+// Where a `system` is given, its open(name), read(descriptor, to) and write(descriptor, bytes), each of which answers a
+// number as the C library's would, or -errno, stand in place of the folder and of `out` and `err`. Words, and names for
+// a system, may be bytes.
+function idc(module, words, files, system) {
   const encoder = new TextEncoder();
   const bytesOf = (text) => (typeof text === "string" ? encoder.encode(text) : text);
   const args = ["idc", ...words].map(bytesOf);
@@ -16,6 +19,28 @@ function idc(module, words, files) {
   class Exit {
     constructor(status) { this.status = status; }
   }
+  const folder = {
+    open(name) {
+      const path = new TextDecoder().decode(name);
+      if (!Object.hasOwn(files, path)) return -2;
+      opened.push({ bytes: bytesOf(files[path]), at: 0 });
+      return 2 + opened.length;
+    },
+    read(descriptor, to) {
+      const file = opened[descriptor - 3];
+      if (!file) return 0;
+      const part = file.bytes.subarray(file.at, file.at + to.length);
+      to.set(part);
+      file.at += part.length;
+      return part.length;
+    },
+    write(descriptor, from) {
+      if (!written[descriptor]) return -9;
+      written[descriptor].push(from.slice());
+      return from.length;
+    },
+  };
+  const given = system || folder;
   const host = {
     arg(number, to, room) {
       if (number >= args.length) return -1;
@@ -24,24 +49,11 @@ function idc(module, words, files) {
       return word.length > count ? -2 : word.length;
     },
     open(path) {
-      const from = at(path), name = new TextDecoder().decode(view().slice(from, view().indexOf(0, from)));
-      if (!Object.hasOwn(files, name)) return -2;
-      opened.push({ bytes: bytesOf(files[name]), at: 0 });
-      return 2 + opened.length;
+      const from = at(path);
+      return given.open(view().slice(from, view().indexOf(0, from)));
     },
-    read(descriptor, to, most) {
-      const file = opened[descriptor - 3];
-      if (!file) return 0;
-      const part = file.bytes.subarray(file.at, file.at + Number(most));
-      bytes(to, part.length).set(part);
-      file.at += part.length;
-      return part.length;
-    },
-    write(descriptor, from, count) {
-      if (!written[descriptor]) return -9;
-      written[descriptor].push(bytes(from, count).slice());
-      return Number(count);
-    },
+    read: (descriptor, to, most) => given.read(descriptor, bytes(to, most)),
+    write: (descriptor, from, count) => given.write(descriptor, bytes(from, count)),
     exit(status) { throw new Exit(status); },
   };
   const instance = new WebAssembly.Instance(module, { host });
