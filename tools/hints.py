@@ -109,15 +109,27 @@ def of_kind(wanted, found, node, above):
     """The hint of an expression that has another kind than is wanted of it."""
     role = role_of(node, above) if above else ""
     left = above[-1].parts[0] if above and above[-1].form == "binary" else None
+    callee = next((it for it in above[0].parts if it.name == above[-1].name), None) if role == "call" else None
+    params = callee.params if callee else []
     for row in TABLE["kinds"]:
         if (
             row.get("wanted", wanted) == wanted
-            and row["found"] == found
+            and row.get("found", found) == found
             and ("as" not in row or role in row["as"])
+            and ("is" not in row or node.form in row["is"])
             and ("left" not in row or left is not None and left.form == row["left"])
+            and ("other" not in row or found in [it.kind for it in params])
         ):
-            return filled(row["hint"], left=left.name if left is not None else "")
+            words = {"left": left.name if left is not None else "", "callee": callee.name if callee else ""}
+            return filled(row["hint"], **words, params=", ".join(f"{it.name}: {it.kind}" for it in params))
     return None
+
+
+def value_part(node):
+    """What gives an expression its value: of a block its body, of a loop its last expression, of an `if` its arm."""
+    while node.form in ("block", "loop", "for", "conditional"):
+        node = node.parts[1] if node.form == "conditional" else node.parts[-1]
+    return node
 
 
 def of_second(first, second):
@@ -145,8 +157,24 @@ def value_of(text, binding):
     while tokens[end].kind != ";" or depth:
         depth += (tokens[end].kind in ("{", "(", "[")) - (tokens[end].kind in ("}", ")", "]"))
         end += 1
-    words = " ".join(text[tokens[first].at : tokens[end].at].decode(errors="replace").split())
+    return words_of(text, tokens[first].at, tokens[end].at)
+
+
+def words_of(text, start, end):
+    """A part of a text on one line, where that is short."""
+    words = " ".join(text[start:end].decode(errors="replace").split())
     return words if len(words) <= 40 and "%" not in words else ".."
+
+
+def last_of(text, loop):
+    """The words of a loop's last expression, where they are few."""
+    tokens, depth, start = reading.tokens_of(text), 0, 0
+    for token in tokens[next(i for i, it in enumerate(tokens) if it.at == loop.at) :]:
+        depth += (token.kind == "{") - (token.kind == "}")
+        if token.kind == "finally" and depth == 1:
+            start = token.at + len("finally")
+        if depth == 0:
+            return words_of(text, start, token.at)
 
 
 def never_end(text):
@@ -184,4 +212,12 @@ def warnings(text):
     for loop, outside in needs.same_in_each():
         if not any(it in told and it.name == name.name for it in loop.statements for name in outside):
             found.append((loop.at, said["same"], filled(said["turn"], name=outside[0].name)))
+    for node, loop, first, use in needs.lost():
+        line = lambda it: str(reading.line_col(text, it.at)[0])
+        bound = outer[loop].name if outer[loop].form == "binding" else said["bound"]
+        words = {"name": node.name, "last": last_of(text, loop), "first": line(first), "use": line(use)}
+        found.append((node.at, filled(said["lost"], **words), filled(said["hand out"], **words, bound=bound)))
+    for node in outer:
+        if node.form == "loop" and node.parts[0].name == "true":
+            found.append((node.at, said["always"], said["until"]))
     return sorted(found)

@@ -15,8 +15,13 @@ what is sure counts:
 - A store is needed by nothing.
 
 A procedure never gives a value where its body needs a call of it, in each arm that might give one.
+
+A variable of a loop is *lost* where nothing that the loop hands out or does comes of it, and the name that it has its
+first value from is used behind the loop: there it still has that value.
 """
 import reading
+
+DOES = ("store", "call", "array")
 
 
 class Needs:
@@ -24,6 +29,9 @@ class Needs:
 
     def __init__(self, program):
         self.program, self.uses = program, reading.uses_of(program)
+        self.uses_by = {}  # where each binder is used
+        for it, binder in self.uses.items():
+            self.uses_by.setdefault(binder, []).append(it)
         self.procedures = {it.name: it for it in reversed(program.parts)}
         self.callers = {name: set() for name in self.procedures}
         for head in self.procedures.values():
@@ -154,6 +162,35 @@ class Needs:
                 names = [self.uses[it] for it in inside if self.uses.get(it) and self.uses[it] not in inside]
                 if names and not set(names) & set(node.statements):
                     found.append((node, names))
+        return found
+
+    def leads(self, loop):
+        """The binders of a loop from which a way leads to its last expression, its predicate, or something of its body
+        that does more than to have a value: a store, a call or an array. All that a name stands in leads on."""
+        inside, last = reading.outer_of(loop), loop.parts[len(reading.bounds_of(loop)) :]
+        does = [it for it in loop.statements if any(at.form in DOES for at in reading.outer_of(it))]
+        found, left = set(), [*last, *does]
+        while left:
+            for it in reading.outer_of(left.pop()):
+                binder = self.uses.get(it)
+                if binder in inside and binder not in found:
+                    found.add(binder)
+                    left += binder.parts
+        return found
+
+    def lost(self):
+        """The variables of loops that lead to nothing, where the outer name of one is used behind the loop: each with
+        its loop, the outer binder, and the first such use."""
+        found = []
+        for loop in reading.outer_of(self.program):
+            if loop.form in ("loop", "for"):
+                inside, leads = reading.outer_of(loop), None
+                for it in (at for at in loop.statements if at.form == "next"):
+                    outer = self.uses[it]
+                    behind = [at for at in self.uses_by.get(outer, []) if at.at > loop.at and at not in inside]
+                    leads = self.leads(loop) if behind and leads is None else leads
+                    if behind and it not in leads:
+                        found.append((it, loop, outer, min(behind, key=lambda at: at.at)))
         return found
 
 

@@ -369,6 +369,11 @@ var idExplain = (function () {
     constructor(program) {
       this.program = program;
       this.uses = usesOf(program);
+      this.usesBy = new Map(); // where each binder is used
+      for (const [it, binder] of this.uses) {
+        if (!this.usesBy.has(binder)) this.usesBy.set(binder, []);
+        this.usesBy.get(binder).push(it);
+      }
       this.procedures = new Map([...program.parts].reverse().map((it) => [it.name, it]));
       this.callers = new Map([...this.procedures.keys()].map((name) => [name, new Set()]));
       for (const head of this.procedures.values()) {
@@ -503,8 +508,42 @@ var idExplain = (function () {
       }
       return found;
     }
+
+    // The binders of a loop from which a way leads to what it hands out or does.
+    leads(loop) {
+      const inside = outerOf(loop), does = (it) => things(it).some((at) => DOES.includes(at.form)), found = new Set();
+      const left = loop.parts.filter((it) => !boundsOf(loop).includes(it)).concat(loop.statements.filter(does));
+      while (left.length) {
+        for (const it of things(left.pop())) {
+          const binder = this.uses.get(it);
+          if (!binder || !inside.has(binder) || found.has(binder)) continue;
+          found.add(binder);
+          left.push(...binder.parts);
+        }
+      }
+      return found;
+    }
+
+    // The variables of loops that lead to nothing, where the outer name of one is used behind the loop: each with its
+    // loop, the outer binder, and the first such use.
+    lost() {
+      const found = [];
+      for (const loop of things(this.program).filter(isLoop)) {
+        const inside = outerOf(loop);
+        let leads = null;
+        for (const it of loop.statements.filter((at) => at.form === "next")) {
+          const outer = this.uses.get(it), uses = this.usesBy.get(outer) || [];
+          const behind = uses.filter((at) => at.at > loop.at && !inside.has(at));
+          if (!behind.length) continue;
+          leads = leads || this.leads(loop);
+          if (!leads.has(it)) found.push([it, loop, outer, behind.reduce((a, b) => (b.at < a.at ? b : a))]);
+        }
+      }
+      return found;
+    }
   }
 
+  const DOES = ["store", "call", "array"];
   const byPlace = (circles) =>
     circles.map((it) => it.sort((a, b) => a.at - b.at)).sort((a, b) => a[0].at - b[0].at);
 
@@ -622,18 +661,29 @@ var idExplain = (function () {
   }
 
   // The hint of an expression that has another kind than is wanted of it.
-  function ofKind(table, wanted, found, it, outer) {
+  function ofKind(table, wanted, found, it, outer, program) {
     let role = outer.form;
     if (outer.form === "binary") role = outer.name;
     if (outer.form === "store" && it === outer.parts[2]) role = "value";
     if (outer.form === "definition") role = "body";
     const left = outer.form === "binary" ? outer.parts[0] : null;
+    const callee = role === "call" ? program.parts.find((one) => one.name === outer.name) : null;
+    const params = callee ? callee.params : [];
     const row = table.kinds.find(
       (at) =>
-        (at.wanted === undefined || at.wanted === wanted) && at.found === found &&
-        (!at.as || at.as.includes(role)) && (!at.left || (left && left.form === at.left))
+        (at.wanted === undefined || at.wanted === wanted) && (at.found === undefined || at.found === found) &&
+        (!at.as || at.as.includes(role)) && (!at.is || at.is.includes(it.form)) &&
+        (!at.left || (left && left.form === at.left)) && (!at.other || params.some((one) => one.kind === found))
     );
-    return row ? filled(row.hint, { left: left ? left.name : "" }) : null;
+    const told = params.map((one) => one.name + ": " + one.kind).join(", ");
+    const words = { left: left ? left.name : "", callee: callee ? callee.name : "", params: told };
+    return row ? filled(row.hint, words) : null;
+  }
+
+  // What gives an expression its value: of a block its body, of a loop its last expression, of an `if` its arm.
+  function valuePart(it) {
+    if (it.form === "conditional") return valuePart(it.parts[1]);
+    return it.form === "block" || isLoop(it) ? valuePart(it.parts[it.parts.length - 1]) : it;
   }
 
   function ofSecond(table, first, second) {
@@ -656,8 +706,25 @@ var idExplain = (function () {
       depth += ["{", "(", "["].includes(tokens[end].kind) - ["}", ")", "]"].includes(tokens[end].kind);
       end += 1;
     }
-    const words = text.slice(tokens[first].at, tokens[end].at).split(/\s+/).filter((it) => it).join(" ");
+    return wordsOf(text, tokens[first].at, tokens[end].at);
+  }
+
+  // A part of a text on one line, where that is short.
+  function wordsOf(text, start, end) {
+    const words = text.slice(start, end).split(/\s+/).filter((it) => it).join(" ");
     return words.length <= 40 && !words.includes("%") ? words : "..";
+  }
+
+  // The words of a loop's last expression, where they are few.
+  function lastOf(text, loop) {
+    const tokens = tokensOf(text);
+    let depth = 0, start = 0;
+    for (const { kind, at } of tokens.slice(tokens.findIndex((it) => it.at === loop.at))) {
+      depth += (kind === "{") - (kind === "}");
+      if (kind === "finally" && depth === 1) start = at + kind.length;
+      if (depth === 0) return wordsOf(text, start, at);
+    }
+    return "..";
   }
 
   // ---- names that are near (Python's difflib, which tools/explain asks)
@@ -854,9 +921,11 @@ var idExplain = (function () {
 
   function explainKind(said, wanted, found) {
     said.cause(wanted + " is wanted here, and this is " + found);
-    const outer = outerOf(treeOf(said.text));
+    const program = treeOf(said.text), outer = outerOf(program);
     const it = [...outer.keys()].find((one) => one.at === said.at && outer.get(one));
-    if (it) said.tip(ofKind(said.table, wanted, found, it, outer.get(it)));
+    if (!it) return;
+    if (valuePart(it) !== it) said.line("its value is what stands at " + said.where(valuePart(it).at));
+    said.tip(ofKind(said.table, wanted, found, it, outer.get(it), program));
   }
 
   function mainParams(text) {
@@ -976,6 +1045,15 @@ var idExplain = (function () {
     for (const [loop, outside] of needs.sameInEach()) {
       const isTold = (it) => told.has(it) && outside.some((name) => name.name === it.name);
       if (!loop.statements.some(isTold)) add(loop.at, words.same, filled(words.turn, { name: outside[0].name }));
+    }
+    for (const [it, loop, first, use] of needs.lost()) {
+      const line = (at) => String(lineCol(text, at.at)[0]), holder = outer.get(loop);
+      const fill = { name: it.name, last: lastOf(text, loop), first: line(first), use: line(use) };
+      fill.bound = holder.form === "binding" ? holder.name : words.bound;
+      add(it.at, filled(words.lost, fill), filled(words["hand out"], fill));
+    }
+    for (const it of outer.keys()) {
+      if (it.form === "loop" && it.parts[0].name === "true") add(it.at, words.always, words.until);
     }
     return found.sort((a, b) => a.at - b.at);
   }
