@@ -44,12 +44,23 @@ impl Gate for Open {
 }
 
 impl<'a> Storage<'a> {
+    ghost use Rattle.std.specs.Prelude.{◌≡◌, length};
+
     /// Lets the gate hold the handling of a message whose event is not recorded yet. Takes no memory.
     #[inline(always)]
     pub fn hold<G: Gate>(&self, gate: &G) {
-        gate.hold(&Handling {
+        gate.hold(&self.handling());
+    }
+
+    /// The handling of a message whose event is not recorded yet. Takes no memory.
+    #[inline(always)]
+    pub fn handling(&self) -> Handling
+        ensures element { result.element ≡ self.now.log.element }
+        ensures handled { result.handled ≡ length self.now.log.events }
+    {
+        Handling {
             element: self.log.element(),
             handled: self.log.len() as u64,
-        });
+        }
     }
 }

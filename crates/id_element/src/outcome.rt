@@ -31,6 +31,7 @@ ghost use Rattle.id_ops.specs.declared.Fired.TheVariants.{Entered};
 ghost use Rattle.id_instr.specs.Graph.{arcs_on};
 ghost use Rattle.id_ops.specs.Operators.{side_of, tag_within};
 
+use crate::gate::{Gate, Handling};
 use crate::step::{Arrival, PlainOperands, Reacted, Short, TakeError};
 use id_bank::{ReadAnswer, WriteAnswer};
 use id_flight::Queue;
@@ -467,9 +468,20 @@ fn envelope_of(like: &PlainToken) -> Envelope
     }
 }
 
-/// Appends the outputs of a firing in small numbers, for which there is room: each is like this token. Takes no memory.
+/// Lets the gate hold this handling, and appends the outputs of a firing in small numbers, for which there is room:
+/// each is like this token. Takes no memory.
+///
+/// That it calls the gate makes it, and what it is called from, a function for each gate, with one caller (docs/
+/// DECISIONS.md, "The short way").
 #[inline(always)]
-pub fn send_plain_fired(instr: &Instr, like: &PlainToken, fired: PlainFired, outputs: &mut Queue)
+pub fn send_plain_fired<G: Gate>(
+    instr: &Instr,
+    like: &PlainToken,
+    fired: PlainFired,
+    outputs: &mut Queue,
+    at: &Handling,
+    gate: &G,
+)
     requires room { most_sent instr.now ≤ outputs.old.room }
     requires few { most_sent instr.now ≤ 256 }
     ensures { outputs.new.messages ≡ outputs.old.messages
@@ -477,6 +489,7 @@ pub fn send_plain_fired(instr: &Instr, like: &PlainToken, fired: PlainFired, out
         (sent (Some instr.now.op) (arcs_on (side_of (fired_of (tag_in like.now) fired)) instr.now) (tag_in like.now)
         (fired_of (tag_in like.now) fired)) }
 {
+    gate.hold(at);
     let dests = instr.dests.as_slice();
     match fired {
         PlainFired::Nothing => {}

@@ -217,28 +217,21 @@ impl<'a> Storage<'a> {
     {
         self.reserve(most, 0, outputs)?;
         let reacted = react_plain(&mut self.waiting, instr.op, token)?;
-        self.hold_here(&reacted, gate);
-        Ok(self.conclude_reacted(instr, token, stamp, reacted, outputs))
+        Ok(self.conclude_reacted(instr, token, stamp, reacted, outputs, gate))
     }
 
-    /// Lets the gate hold the handling of a plain token, unless it is to be handled apart. Takes no memory.
+    /// Lets the gate hold what came of a plain token, sends it, and records the event, unless it is to be handled
+    /// apart: the element step at this stamp, which is the next, where what waited before is known. There is room for
+    /// it. Takes no memory.
     #[inline(always)]
-    fn hold_here<G: Gate>(&self, reacted: &Reacted, gate: &G) {
-        if !matches!(reacted, Reacted::Apart) {
-            self.hold(gate);
-        }
-    }
-
-    /// Sends what came of a plain token, and records the event, unless it is to be handled apart: the element step at
-    /// this stamp, which is the next, where what waited before is known. There is room for it. Takes no memory.
-    #[inline(always)]
-    fn conclude_reacted(
+    fn conclude_reacted<G: Gate>(
         &mut self,
         instr: &Instr,
         token: &PlainToken,
         stamp: u32,
         reacted: Reacted,
         outputs: &mut Queue,
+        gate: &G,
     ) -> Short
         requires room { 0 < self.old.log.room }
         requires own { slice_get self.old.log.graph.instrs token.now.instr ≡ Some instr.now }
@@ -257,10 +250,13 @@ impl<'a> Storage<'a> {
     {
         match reacted {
             Reacted::Plain(fired) => {
-                self.conclude_short(instr, token, stamp, fired, outputs);
+                self.conclude_short(instr, token, stamp, fired, outputs, gate);
                 Short::Went
             }
-            Reacted::Fires(operands) => self.conclude_full(instr, token, stamp, operands, outputs),
+            Reacted::Fires(operands) => {
+                self.hold(gate);
+                self.conclude_full(instr, token, stamp, operands, outputs)
+            }
             Reacted::Apart => Short::Apart,
         }
     }
@@ -399,15 +395,17 @@ impl<'a> Storage<'a> {
         self.structures += allocated_by(instr.op, &reaction.fired);
     }
 
-    /// Sends what was fired in small numbers, and records the event. There is room for it. Takes no memory.
+    /// Lets the gate hold what was fired in small numbers, sends it, and records the event. There is room for it. Takes
+    /// no memory.
     #[inline(always)]
-    fn conclude_short(
+    fn conclude_short<G: Gate>(
         &mut self,
         instr: &Instr,
         token: &PlainToken,
         stamp: u32,
         fired: PlainFired,
         outputs: &mut Queue,
+        gate: &G,
     )
         requires room { 0 < self.old.log.room }
         requires short { IsShort self.old (most_sent instr.now) token.now stamp }
@@ -427,7 +425,7 @@ impl<'a> Storage<'a> {
             sender: self.log.element() as u8,
             ..*token
         };
-        send_plain_fired(instr, &sample, fired, outputs);
+        send_plain_fired(instr, &sample, fired, outputs, &self.handling(), gate);
         self.log.push_plain(PlainFiring {
             token,
             stamp,

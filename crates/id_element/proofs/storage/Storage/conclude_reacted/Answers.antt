@@ -31,14 +31,14 @@ treats w d new t i f v n list after by is small done sends =
     by refl is (omega arith) refl refl refl done sends
 
 pub returns-in-Plain : goal.returns-in-Plain
-returns-in-Plain c = λ w comes.
+returns-in-Plain g c = λ w comes.
     let done = c.conclude_short.ensures in
     treats w c.args.self.now _ c.args.token.now c.args.instr.now _ Went _ _ _
     (step_on _ _ _ _ _ _ c.args.reacted (Plain c.in-Plain.fired) c.requires.own comes c.in-Plain.is)
     c.requires.stamp c.requires.short.stamp_is done.recorded done.sent
 
 pub returns-in-Fires : goal.returns-in-Fires
-returns-in-Fires c = λ w comes.
+returns-in-Fires g c = λ w comes.
     let done = c.conclude_full.ensures in
     rw done.step
     (treats w c.args.self.now _ c.args.token.now c.args.instr.now _ _ _ _ _
