@@ -5,6 +5,11 @@
 # output, its status and signals are its own. Beside it a line on standard error says each few seconds that it still
 # runs; where that is a terminal, one says where to look when a run was stopped. IDC_QUIET=1 silences both.
 here=$(dirname -- "$(readlink -f -- "${BASH_SOURCE[0]}")")
+if [ "${1-}" = graph ]; then
+    for word; do # a tool makes these of what the program prints
+        case $word in --json | --svg) exec "$here/tools/graph" "${@:2}" ;; esac
+    done
+fi
 . "$here/tools/program"
 
 if [ $# = 1 ] && { [ "$1" = --version ] || [ "$1" = -V ]; }; then
