@@ -5,7 +5,7 @@ A path is a tuple of steps as they are printed, `2:48` of a call and `5:6#3` of 
 """
 import re
 
-import asking, reading
+import asking, paths, reading
 
 SITE = r"((?:/\d+:\d+(?:#\d+)?)*)@(\d+:\d+)"
 ON = re.compile(rf"on {SITE}$")
@@ -170,15 +170,18 @@ class Source:
                 break
         return thing
 
-    def called(self, thing):
-        """A thing in words."""
-        node, path = thing
-        where = self.place(node) + (f" at {shown(path)}" if path else "")
+    def called(self, thing, of="", path=None):
+        """A thing in words, and what is said of its value; without its path where that is the one given."""
+        node = thing[0]
         if node.form == "literal":
-            return node.name
+            return node.name + of
+        words = paths.in_words(self, thing[1]) if thing[1] != path else ""
+        return f"{self.name_of(thing)}{of} ({self.place(node)})" + (" " + words if words else "")
+
+    def name_of(self, thing):
+        node, path = thing
         if node.form in ("fetch", "store"):
             target = node.parts[0].name if node.parts[0].form == "name" else "(..)"
-            index = self.value((node.parts[1], path)) or ".."
-            return f"{target}[{index}] ({where})"
+            return f"{target}[{self.value((node.parts[1], path)) or '..'}]"
         names = {"conditional": "if", "loop": "the loop", "for": "the loop", "block": "the block", "array": "array"}
-        return f"{names.get(node.form, node.name)} ({where})"
+        return names.get(node.form, node.name)
