@@ -68,20 +68,24 @@ function settingWords() {
   return given.flat();
 }
 
+const allWords = () => [...inputWords(), ...settingWords(), ...printedWords()];
 const printedWords = () => ["names", "trace"].filter((name) => by(name).checked).map((name) => "--" + name);
 
 // ---- the commands
 
-const TABS = { run: "Run", walk: "Walk", graph: "Graph", facts: "Facts", check: "Check" };
+const TABS = { run: "Run", walk: "Walk", profile: "Profile", graph: "Graph", facts: "Facts", check: "Check" };
+TABS.help = "Help";
 const settings = { dot: false, triggers: false, calls: false, rounds: "100" };
-const runner = new Caller();
-let tab = "run", performed = 0, shownWalk = null;
+const runner = new Caller(), reasoner = new Caller();
+// the walk that is shown, the event to begin it with, and whether it takes the keys; and what the result is of
+let tab = "run", performed = 0, shownWalk = null, walkAt = 0, walkTakesKeys = false, shownOf = null;
 
 function wordsOf(which) {
   if (which === "check") return ["check", FILE];
   if (which === "graph") return ["graph", ...(settings.dot ? ["--dot"] : []), FILE];
   if (which === "facts") return ["facts", FILE, settings.rounds.trim(), ...inputWords()];
-  if (which === "walk") return ["run", FILE, ...inputWords(), ...settingWords(), "--trace"];
+  if (which === "help") return ["help"];
+  if (which === "walk" || which === "profile") return ["run", FILE, ...inputWords(), ...settingWords(), "--trace"];
   return ["run", FILE, ...inputWords(), ...settingWords(), ...printedWords()];
 }
 
@@ -135,6 +139,11 @@ async function perform() {
   const which = tab, number = ++performed, files = { [FILE]: textNow() }, words = wordsOf(which);
   if (!compiled) return;
   if (runner.isBusy()) runner.end();
+  if (reasoner.isBusy()) reasoner.end();
+  if (which === "help") {
+    showHelp();
+    return;
+  }
   setBusy(true);
   const slow = setTimeout(() => showStatus("running"), 150);
   try {
@@ -146,6 +155,7 @@ async function perform() {
     showPrinted(answer.printed + answer.refused);
     by("view").replaceChildren(...viewOf(which, answer, more));
     if (by("walk")) mount(answer, more);
+    if (which === "run") reasons(answer, files, number, 5000);
   } catch (error) {
     if (number !== performed) return;
     const isEnded = error instanceof Ended;
@@ -168,12 +178,63 @@ function show(which, words, status, isBad) {
   by("view").replaceChildren();
   by("view").closest("main").classList.toggle("wide", which === "walk");
   showStatus(status, isBad);
+  by("printed-head").hidden = by("printed").hidden = which === "help";
+  shownOf = which === "help" ? null : keyOf(which);
+  by("older").hidden = true;
+  by("linked").hidden = true;
 }
+
+// The text and the words that a result is of.
+const keyOf = (which) => [textNow(), ...wordsOf(which)].join("\u0000");
+
+function markOlder() {
+  by("older").hidden = shownOf === null || shownOf === keyOf(tab);
+}
+
+function showHelp() {
+  show("help", ["help"], "", false);
+  by("command").textContent = "";
+  showPrinted("");
+  by("view").replaceChildren(...helpView());
+  setBusy(false);
+}
+
+// Below a fault the values that led to it, below `answer none` or a fetch that waits what it waits for, and below
+// `stopped` what goes on: by the facts, for which there are so many milliseconds.
+async function reasons(answer, files, number, most) {
+  const lines = answer.printed.split("\n").filter((line) => line && !EVENT.test(line)), start = performance.now();
+  const isFault = /^fault /.test(lines[0] || ""), isWaiting = lines.some((line) => line.startsWith("waiting "));
+  if (!isFault && !isWaiting && !["answer none", "stopped"].includes(lines[0])) return;
+  const box = by("reasons"), put = (...parts) => { if (number === performed) box.replaceChildren(...parts); };
+  const inputs = inputWords().filter((it) => /^\w+=/.test(it));
+  const ask = async (rounds) => {
+    if (performance.now() - start > most) throw new Slow();
+    return (await reasoner.ask(["facts", FILE, String(rounds), ...inputs], files)).printed.split("\n").slice(0, -1);
+  };
+  const timer = setTimeout(() => { if (reasoner.isBusy() && number === performed) reasoner.end(new Slow()); }, most);
+  try {
+    const { atFault, why } = idReasons, text = files[FILE];
+    const found = await (isFault ? atFault(text, lines[0], ask) : why(text, lines, ask));
+    const head = isFault ? "The values that led to it" : lines[0] === "stopped" ? "What goes on" : "What it waits for";
+    if (found.length) put(reasonsView(head, found));
+  } catch (error) {
+    if (!(error instanceof Slow)) {
+      if (!(error instanceof Ended)) console.error(error);
+      return;
+    }
+    const goOn = made("button", { type: "button", onclick: () => reasons(answer, files, number, 1e9) }, "Look for it");
+    put(made("div", { class: "reasons" }, "Where this comes from takes longer to find. ", goOn));
+  } finally {
+    clearTimeout(timer);
+  }
+}
+
+class Slow extends Error {}
 
 // What a view asks of the program beside its own command.
 async function extra(which, files, answer) {
   const rounds = settings.rounds.trim();
-  if (which === "walk" && answer.printed) return runner.ask(["graph", FILE], files);
+  if ((which === "walk" || which === "profile") && answer.printed) return runner.ask(["graph", FILE], files);
   if (answer.status !== 0) return null;
   if (which === "graph" && settings.dot) return runner.ask(["graph", FILE], files);
   if (which !== "facts" || !/^\d{1,4}$/.test(rounds)) return null;
@@ -185,6 +246,7 @@ function viewOf(which, answer, more) {
   if (/^refused /.test(said)) return [saying(explained(said), "bad", said)];
   if (which === "run") return reportView(answer.printed, () => choose("walk", true));
   if (which === "walk" && answer.printed) return [made("div", { id: "walk" })];
+  if (which === "profile" && answer.printed) return profileOfRun(answer, more);
   if (answer.status !== 0) return [];
   if (which === "check") return [made("p", { class: "answer good" }, "The program accepts this text.")];
   if (which === "facts") return factsView(answer.printed, more);
@@ -199,7 +261,38 @@ function graphView(listing) {
   const count = drawGraph(picture, listing, namesOf(textNow(), tokens), how);
   if (count > MOST.boxes) return [paragraph(`${count} instructions are too many for a picture; the listing has them.`)];
   const legend = "Dashed arcs leave a switch on false; dotted ones are what comes back of a call, a loop or a fetch.";
-  return [dimmed(`${count} instructions. ${legend} A click on a box goes to its place in the text.`), picture];
+  const told = dimmed(`${count} instructions. ${legend} A click on a box goes to its place in the text.`);
+  return [told, made("p", { class: "zoom" }, ...zooming(picture)), picture];
+}
+
+// Buttons that make a picture larger and smaller, and that save it.
+function zooming(picture) {
+  const svg = picture.querySelector("svg");
+  if (!svg) return [];
+  const wide = svg.width.baseVal.value, high = svg.height.baseVal.value;
+  let scale = 1;
+  if (!svg.getAttribute("viewBox")) svg.setAttribute("viewBox", `0 0 ${wide} ${high}`);
+  const by_ = (factor) => () => {
+    scale = factor ? Math.max(0.2, Math.min(5, scale * factor)) : 1;
+    svg.setAttribute("width", wide * scale);
+    svg.setAttribute("height", high * scale);
+  };
+  const button = (name, title, onclick) => made("button", { type: "button", title, onclick }, name);
+  const keepIt = () => save("graph.svg", standalone(svg), "image/svg+xml");
+  return [button("\u2212", "smaller", by_(0.8)), button("1:1", "as large as it is", by_(0)),
+    button("+", "larger", by_(1.25)), button("Save as SVG", "the picture as a file", keepIt)];
+}
+
+// A picture as a file of its own: with the colours and letters that it has here.
+function standalone(svg) {
+  const copy = svg.cloneNode(true), own = [svg, ...svg.querySelectorAll("*")];
+  const names = ["fill", "stroke", "stroke-width", "stroke-dasharray", "font", "opacity", "text-anchor"];
+  [copy, ...copy.querySelectorAll("*")].forEach((it, number) => {
+    const has = getComputedStyle(own[number]);
+    it.setAttribute("style", names.map((name) => `${name}: ${has.getPropertyValue(name)}`).join("; "));
+  });
+  copy.setAttribute("xmlns", "http://www.w3.org/2000/svg");
+  return new XMLSerializer().serializeToString(copy);
 }
 
 // The walk of the run that was just made.
@@ -212,11 +305,33 @@ function mount(answer, graph) {
     return;
   }
   const printed = lines.filter((line) => !EVENT.test(line)).join("\n"), names = namesOf(textNow(), tokens);
-  shownWalk = mountWalk(root, { listing: graph.printed, trace: trace.join("\n"), text: textNow(), printed, names });
+  const of = { listing: graph.printed, trace: trace.join("\n"), text: textNow(), printed, names, at: walkAt };
+  shownWalk = mountWalk(root, of);
+  walkAt = 0;
+  if (walkTakesKeys) root.focus({ preventScroll: true });
 }
 
-function choose(which, focuses) {
+// The event at which the walk stands.
+function walkNow() {
+  const slider = by("walk") && by("walk").querySelector("[data-part=slider]");
+  return slider ? Number(slider.value) : 0;
+}
+
+function profileOfRun(answer, graph) {
+  const trace = answer.printed.split("\n").filter((line) => EVENT.test(line));
+  if (!graph || trace.length > MOST.profile) {
+    return [paragraph(`The run has ${trace.length} events; ${MOST.profile} can be looked at: give it fewer steps.`)];
+  }
+  return profileView(new mountWalk.Run(graph.printed, trace.join("\n")), (at) => {
+    walkAt = at;
+    choose("walk", false, true);
+  });
+}
+
+// Shows a tab. Where it was chosen by a click, the walk takes the keys.
+function choose(which, focuses, isClick) {
   tab = which;
+  walkTakesKeys = Boolean(isClick);
   for (const button of by("tabs").children) {
     const isIt = button.dataset.tab === which;
     button.setAttribute("aria-selected", isIt);
@@ -239,7 +354,7 @@ function makeTabs() {
   by("tabs").onkeydown = move;
   by("tabs").replaceChildren(...names.map((name) => {
     const tells = { type: "button", role: "tab", id: "tab-" + name, "data-tab": name, "aria-controls": "panel" };
-    return made("button", { ...tells, onclick: () => choose(name) }, TABS[name]);
+    return made("button", { ...tells, onclick: () => choose(name, false, true) }, TABS[name]);
   }));
 }
 
@@ -252,7 +367,7 @@ function fillExamples() {
     const options = examples.map((it) => made("option", { value: it.name }, it.name.replaceAll("_", " ")));
     return made("optgroup", { label: theme }, ...options);
   });
-  by("example").append(...groups, made("option", { value: "", hidden: true }, "your own text"));
+  by("example").append(made("option", { value: "own", id: "own" }, "your own text"), ...groups);
 }
 
 function load(text, words) {
@@ -267,14 +382,15 @@ function load(text, words) {
 
 function loadExample(name) {
   const it = EXAMPLES.get(name);
-  load(it.text, wordsIn(it.words));
+  if (it) load(it.text, wordsIn(it.words));
+  else loadOwn();
 }
 
 // Which example the text is, if it is one: then its name is shown, with what it shows.
 function isExample() {
   const it = [...EXAMPLES.values()].find((one) => one.text === textNow());
-  by("example").value = it ? it.name : "";
-  const told = it ? it.told : "your own text; a link keeps it.";
+  by("example").value = it ? it.name : "own";
+  const told = it ? it.told : "your own text; this browser keeps it, and so does a link.";
   by("told").textContent = told[0].toUpperCase() + told.slice(1);
   return it;
 }
@@ -322,8 +438,9 @@ async function fragment() {
     const stream = new Blob([textNow()]).stream().pipeThrough(new CompressionStream("deflate-raw"));
     found.set("text", asLetters(new Uint8Array(await new Response(stream).arrayBuffer())));
   }
-  found.set("words", [...inputWords(), ...settingWords(), ...printedWords()].join(" "));
+  found.set("words", allWords().join(" "));
   if (tab !== "run") found.set("show", tab);
+  if (walkNow()) found.set("at", String(walkNow()));
   return "#" + found;
 }
 
@@ -331,6 +448,7 @@ async function fragment() {
 // nothing.
 async function readFragment() {
   const said = new URLSearchParams(location.hash.slice(1)), name = said.get("example"), packed = said.get("text");
+  by("failed").hidden = true;
   try {
     const words = said.get("words");
     if (name !== null) {
@@ -340,9 +458,11 @@ async function readFragment() {
     } else if (packed !== null) load(await unpacked(packed), wordsIn(words || ""));
     else return false;
     if (Object.hasOwn(TABS, said.get("show") || "")) tab = said.get("show");
+    walkAt = Number(said.get("at")) || 0;
     return true;
   } catch (error) {
-    by("told").textContent = "The link can't be read: " + error.message;
+    by("failed").textContent = `The link can't be read: ${error.message}. What stands here is another text.`;
+    by("failed").hidden = false;
     return false;
   }
 }
@@ -414,20 +534,31 @@ function typed() {
   isExample();
   clearTimeout(typing);
   typing = setTimeout(check, 250);
+  keepText();
+  markOlder();
 }
 
 function listen() {
   by("text").oninput = typed;
   by("text").onscroll = follow;
+  by("text").onkeydown = indented;
   by("example").onchange = () => {
-    loadExample(by("example").value);
+    const name = by("example").value;
+    remember();
+    loadExample(name);
     perform();
   };
+  by("request").oninput = () => {
+    keepText();
+    markOlder();
+  };
+  by("again").onclick = perform;
+  listenToKeeping();
   by("request").onsubmit = (event) => {
     event.preventDefault();
     perform();
   };
-  by("stop").onclick = () => runner.end();
+  by("stop").onclick = () => [runner, reasoner].forEach((it) => it.end());
   by("share").onclick = share;
   by("selftest").onclick = selftest;
   document.addEventListener("keydown", (event) => {
@@ -442,6 +573,7 @@ function listen() {
 
 async function start() {
   const packed = compile();
+  document.body.classList.toggle("embed", new URLSearchParams(location.search).has("embed"));
   fillExamples();
   makeTabs();
   tellOf();
@@ -453,7 +585,7 @@ async function start() {
     showStatus("This browser can't compile the program: " + error.message, true);
     return;
   }
-  await readFragment();
+  if (!(await readFragment()) && kept().text) loadOwn();
   choose(tab);
   check();
   if (location.hash === "#selftest") selftest();

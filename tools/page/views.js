@@ -8,20 +8,42 @@ const headOf = (scope, text) => made("th", { scope }, text);
 // A table that scrolls where it is wide, also by keys.
 const scrolled = (...rows) => made("div", { class: "cells", tabindex: "0" }, made("table", {}, ...rows));
 
-// A path in words: the steps from the outermost on.
-function inWords(path) {
-  const steps = path.split("/").slice(1).map((step) => {
-    const [place, turn] = step.split("#");
-    return [turn === undefined ? " in the call at " : ` in iteration ${turn} of the loop at `, placeButton(place)];
-  });
-  if (steps.length <= 6) return steps.flat();
-  return [...steps.slice(0, 2).flat(), ` and ${steps.length - 4} more steps`, ...steps.slice(-2).flat()];
+// The text as source.js reads it, or null where it can't; with the values of names that a report has.
+let readSource = { text: null, source: null };
+
+function sourceOf(report) {
+  const text = textNow();
+  if (readSource.text !== text) {
+    readSource = { text, source: null };
+    try {
+      readSource.source = new idSource.Source(text);
+    } catch (error) {
+      console.warn(error);
+    }
+  }
+  if (readSource.source && report) readSource.source.read(report.names.map(({ at, value }) => `has ${at} = ${value}`));
+  return readSource.source;
 }
 
-// A thing's place, and the path in words.
+// A thing's place, and its path in words, the inner step first.
 function thing(text) {
-  const where = whereOf(text);
-  return where ? [placeButton(where.place), ...inWords(where.path)] : [text];
+  const where = whereOf(text), source = sourceOf(null);
+  if (!where) return [text];
+  const words = source && where.path ? source.inWords(where.path) : where.path;
+  return [placeButton(where.place), words ? " " + words : ""];
+}
+
+// A line with its places as what can be gone to: `s (10:10) waits for ..`.
+function linked(line) {
+  return line.split(/(?<=\()(\d+:\d+)(?=\))/).map((part, number) => (number % 2 ? placeButton(part) : part));
+}
+
+// The lines of reasons.js below a head.
+function reasonsView(head, lines) {
+  const rows = lines.slice(0, MOST.rows).flatMap((line) => [...linked(line), "\n"]);
+  const found = [made("h3", {}, head), made("pre", {}, ...rows)];
+  if (lines.length > MOST.rows) found.push(dimmed(`The first ${MOST.rows} of ${lines.length} lines.`));
+  return made("div", { class: "reasons" }, ...found);
 }
 
 // An array as the text names it.
@@ -94,17 +116,31 @@ function faultView({ kind, array, index, at }, called) {
   return box(paragraph(...cell), ...stores);
 }
 
+// The names of a run: a table for main, for each call, and for each loop, which has a line for each iteration.
 function namesView(report) {
-  const named = namesOf(textNow(), tokens), left = { class: "left" };
-  const head = ["name", "place", "path", "value"].map((it) => made("th", { scope: "col", ...left }, it));
-  const rows = report.names.slice(0, MOST.rows).map(({ at, value }) => {
-    const { path, place } = whereOf(at) || { path: "", place: at };
-    const words = [named[place] || "", placeButton(place), path].map((it) => made("td", left, it));
-    return rowOf(...words, made("td", {}, value));
-  });
-  const found = [made("h3", {}, "Names"), scrolled(rowOf(...head), ...rows)];
-  if (report.names.length > MOST.rows) found.push(dimmed(`The first ${MOST.rows} of ${report.names.length}.`));
-  return found;
+  const named = namesOf(textNow(), tokens), source = sourceOf(report), tables = new Map(), found = [];
+  for (const { at, value } of report.names) {
+    const { path, place } = whereOf(at) || { path: "", place: at }, [, base, turn] = /^(.*?)(?:#(\d+))?$/.exec(path);
+    if (!tables.has(base)) tables.set(base, { places: [], rows: new Map() });
+    const { places, rows } = tables.get(base), key = turn === undefined ? "" : Number(turn);
+    if (!places.includes(place)) places.push(place);
+    if (!rows.has(key)) rows.set(key, new Map());
+    rows.get(key).set(place, value);
+  }
+  for (const [base, { places, rows }] of [...tables].slice(0, 60)) {
+    const isLoop = !rows.has(""), cut = base.lastIndexOf("/"), outside = base.slice(0, cut);
+    const line = base.slice(cut + 1).split(":")[0];
+    const words = (path) => (source && path ? source.inWords(path) : path);
+    const head = !base ? "main" : isLoop ? `the loop at line ${line} ${words(outside)}` : words(base);
+    const names = places.map((place) => made("th", { scope: "col" }, named[place] || place));
+    const cells = (row) => places.map((place) => made("td", {}, row.has(place) ? row.get(place) : "\u00b7"));
+    const each = [...rows].sort(([a], [b]) => a - b).slice(0, MOST.rows);
+    const body = each.map(([turn, row]) => rowOf(headOf("row", isLoop ? "#" + turn : "value"), ...cells(row)));
+    found.push(made("h3", {}, head), scrolled(rowOf(made("td"), ...names), ...body));
+    if (rows.size > MOST.rows) found.push(dimmed(`The first ${MOST.rows} of ${rows.size} iterations.`));
+  }
+  if (tables.size > 60) found.push(dimmed(`and ${tables.size - 60} more calls and loops, in the output below`));
+  return [made("h3", {}, "Names"), ...found];
 }
 
 function answerView(report, called) {
@@ -130,12 +166,14 @@ function waitingView(waiting, called) {
 // A run's report.
 function reportView(printed, walk) {
   const report = readReport(printed), called = arrayNames(textNow(), tokens), found = [];
+  sourceOf(report);
   if (report.fault) found.push(faultView(report.fault, called));
   if (report.isStopped) {
     const why = "The run was stopped at its limit of messages, and some are left: it needs more steps, or has no end.";
     found.push(made("div", { class: "said warned" }, paragraph(why + " Below stands what it has shown.")));
   }
   if (report.answer !== null) found.push(...answerView(report, called));
+  found.push(made("div", { id: "reasons" }));
   const arrays = outermost(report);
   arrays.slice(0, 40).forEach((array) => found.push(...arrayView(array, report, called)));
   if (arrays.length > 40) found.push(dimmed(`and ${arrays.length - 40} more arrays, in the output below`));

@@ -1602,5 +1602,6 @@ if (typeof module !== "undefined") {
     process.stdout.write(wordsOf({ listing, trace, text }).map((line) => line + "\n").join(""));
   }
 }
+mountWalk.Run = Run;
 return mountWalk;
 })();
