@@ -1002,6 +1002,7 @@ const SHELL = `
     <button type="button" data-part="play" title="play (space)">play</button>
     <button type="button" data-part="forth" title="one event on (right arrow)">&gt;</button>
     <button type="button" data-part="last" title="to the end (End)">&gt;|</button>
+    <button type="button" data-part="quiz" title="asks before each step what is handled next (q)">ask me</button>
   </span>
   <input data-part="slider" type="range" min="0" max="0" value="0" aria-label="event">
   <span class="count" data-part="count"></span>
@@ -1034,7 +1035,8 @@ const SHELL = `
   </div>
 </div>
 <div class="keys">keys: arrows, Home, End, page keys for ten, a number for that event, space plays; f the next fault,
-  w the next fetch that waits, b the next event of the box, g all blocks. Click a word, a box, a message or a frame.
+  w the next fetch that waits, b the next event of the box, g all blocks, q asks what comes next. Click a word, a box,
+  a message or a frame.
 </div>`;
 
 const MOST_BOXES = 2000;
@@ -1058,6 +1060,7 @@ function mountWalk(root, given) {
   const labels = run.graph.map((_, number) => labelOf(number)), layouts = new Map(), marks = new Map();
   const closed = new Set();
   let at = 0, timer = null, chosen = null, shownFrame = null, pinned = null, allBlocks = false, revealed = false;
+  let quizzes = false, asks = false, right = 0, guesses = 0;
   let drawing = null, rows = [], waiting = [], flying = [], typed = "", typedAt = 0;
 
   // The two lines of a box: its number and what it is of; its operator and its place.
@@ -1473,8 +1476,32 @@ function mountWalk(root, given) {
   }
 
   function go(to) {
-    at = Math.max(0, Math.min(run.last, Math.floor(to) || 0));
+    const next = Math.max(0, Math.min(run.last, Math.floor(to) || 0));
+    if (quizzes && !asks && next === at + 1) {
+      asks = true;
+      by("event").textContent = `Which message is handled next? Choose one of those in flight, or go on.${score()}`;
+      return;
+    }
+    at = next;
+    asks = false;
     pinned = null;
+    show();
+  }
+
+  const score = () => (guesses ? ` ${right} of ${guesses} were right.` : "");
+
+  // Says whether the message that was chosen is the one that is handled next, and goes there.
+  function guessed(to) {
+    const isRight = to === at + 1;
+    guesses += 1;
+    right += isRight;
+    go(at + 1);
+    by("event").prepend(`${isRight ? "Right." : "No, it is this one."}${score()} `);
+  }
+
+  function quiz() {
+    [quizzes, asks, right, guesses] = [!quizzes, false, 0, 0];
+    by("quiz").classList.toggle("on", quizzes);
     show();
   }
 
@@ -1503,7 +1530,8 @@ function mountWalk(root, given) {
     } else if (box) {
       chosen = Number(box.dataset.box);
       after(run.ofBox[chosen]);
-    } else if (to) go(Number(to.dataset.go));
+    } else if (to && asks && to.closest(".flight")) guessed(Number(to.dataset.go));
+    else if (to) go(Number(to.dataset.go));
     else if (frame) {
       pinned = run.frames[Number(frame.dataset.frame)];
       show();
@@ -1526,7 +1554,7 @@ function mountWalk(root, given) {
     const moves = { ArrowLeft: at - 1, ArrowRight: at + 1, ArrowUp: at - 1, ArrowDown: at + 1, PageUp: at - 10,
       PageDown: at + 10, Home: 0, End: run.last };
     const to = (list) => () => after(list);
-    const does = { " ": play, f: to(run.faults), w: to(run.waits), g: () => view(!allBlocks), b: boxOn };
+    const does = { " ": play, f: to(run.faults), w: to(run.waits), g: () => view(!allBlocks), b: boxOn, q: quiz };
     if (press.key in moves) go(moves[press.key]);
     else if (/^\d$/.test(press.key)) digit(press.key);
     else if (press.key in does) does[press.key]();
@@ -1564,6 +1592,7 @@ function mountWalk(root, given) {
   by("forth").onclick = () => go(at + 1);
   by("last").onclick = () => go(run.last);
   by("play").onclick = play;
+  by("quiz").onclick = quiz;
   by("frameview").onclick = () => view(false);
   by("wholeview").onclick = () => view(true);
   by("reveal").onclick = () => { revealed = true; showReport(); };
