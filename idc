@@ -20,6 +20,35 @@ fi
 
 case ${IDC_QUIET-} in '' | 0) ;; *) exec "${words[@]}" "$@" ;; esac
 
+# Of a word that is to be a file's name: why no file is read there, where none is.
+why_no_file() {
+    case $1 in
+    - | -* | *=*) [ "$1" != - ] || echo "-: standard input is the file /dev/stdin" ;;
+    *)
+        if [ ! -e "$1" ]; then
+            echo "$1: there is no such file"
+        elif [ -d "$1" ]; then
+            echo "$1: this is a directory"
+        elif [ ! -r "$1" ]; then
+            echo "$1: you may not read this file"
+        fi
+        ;;
+    esac
+}
+
+if [[ ${1-} =~ ^(run|check|graph|facts|judge|why)$ ]]; then
+    at=2
+    while [[ ${!at-} == --* ]]; do at=$((at + 1)); done
+    why=$(why_no_file "${!at-}")
+    [ "$1" != judge ] || [ -n "$why" ] || { at=$((at + 1)) && why=$(why_no_file "${!at-}"); }
+    if [ -n "$why" ] && [ -n "${!at-}" ]; then
+        "${words[@]}" "$@"
+        status=$?
+        [ "$status" != 5 ] || say "$why"
+        exit "$status"
+    fi
+fi
+
 more=''
 [ "${1-}" != run ] || more="; --steps N stops a run, tools/why FILE says what goes on"
 exec 8> >(tell "still running" "$more") # which ends when the program has ended, and with it this pipe
