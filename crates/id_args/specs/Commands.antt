@@ -65,9 +65,11 @@ trace_rule = record (new_rule (codes "TRACE")) { required = true }
 abbrev pub command_shape : Text → List Rule → Shape
 command_shape name rules = record (new_shape name) { rules = rules }
 
+-- the command `check`: its file
 abbrev pub check_shape : Shape
 check_shape = command_shape (codes "check") (file_rule ∷ [])
 
+-- the command `graph`: its file, and `--dot`
 abbrev pub graph_shape : Shape
 graph_shape = command_shape (codes "graph") (file_rule ∷ flag_rule (codes "dot") ∷ [])
 
@@ -76,9 +78,11 @@ abbrev pub run_rules : List Rule
 run_rules = file_rule ∷ inputs_rule ∷ elements_rule ∷ steps_rule ∷ order_rule ∷ flag_rule (codes "names")
     ∷ flag_rule (codes "trace") ∷ []
 
+-- the command `run`
 abbrev pub run_shape : Shape
 run_shape = command_shape (codes "run") run_rules
 
+-- the command `facts`: its file, the round and the input words
 abbrev pub facts_shape : Shape
 facts_shape = command_shape (codes "facts") (file_rule ∷ rounds_rule ∷ inputs_rule ∷ [])
 
@@ -86,6 +90,7 @@ facts_shape = command_shape (codes "facts") (file_rule ∷ rounds_rule ∷ input
 abbrev pub judge_rules : List Rule
 judge_rules = file_rule ∷ trace_rule ∷ inputs_rule ∷ elements_rule ∷ flag_rule (codes "names") ∷ []
 
+-- the command `judge`
 abbrev pub judge_shape : Shape
 judge_shape = command_shape (codes "judge") judge_rules
 

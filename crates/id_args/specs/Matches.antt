@@ -34,10 +34,11 @@ abbrev pub IsAsked : Text → List Row → Option Request → Type 0
 IsAsked name rows r =
     MatchOption r ((request : Request) → IsRequestOf name rows request → ⊥) (IsRequestOf name rows)
 
--- the request of a named command, if there is one
+-- a named command asks for this request
 abbrev pub Asks : Option (Text × List Row) → Request → Type 0
 Asks named request = IsSomeAnd named (λ p. IsRequestOf p.0 p.1 request)
 
+-- the request of a named command, if there is one
 abbrev pub IsAskedIn : Option (Text × List Row) → Option Request → Type 0
 IsAskedIn named r = MatchOption r ((request : Request) → Asks named request → ⊥) (Asks named)
 

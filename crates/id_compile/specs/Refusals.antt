@@ -73,18 +73,20 @@ plain c = record { cause = c; detail = Nothing }
 abbrev pub placed : Cause → ℕ → Refusal
 placed c at = record { cause = c; detail = Place at }
 
--- the refusal for an error of each part
+-- the refusal for an error of the tokens
 abbrev pub lexer_refusal : TextError → Refusal
 lexer_refusal lexer.TooLong = plain TooLong
 lexer_refusal (lexer.BadByte at) = placed BadByte at
 lexer_refusal (lexer.NumberTooLarge at) = placed NumberTooLarge at
 lexer_refusal lexer.Memory = plain Memory
 
+-- the refusal for an error of the tree
 abbrev pub parser_refusal : TreeError → Refusal
 parser_refusal (parser.Unexpected at) = placed Unexpected at
 parser_refusal (parser.TooDeep at) = placed TooDeep at
 parser_refusal parser.Memory = plain Memory
 
+-- the refusal for a cause that the check names
 abbrev pub checker_refusal : CheckCause → Refusal
 checker_refusal checker.NoMain = plain NoMain
 checker_refusal (checker.MainKind at) = placed MainKind at
@@ -95,6 +97,7 @@ checker_refusal (checker.WrongKind at wanted found) = record { cause = WrongKind
 checker_refusal (checker.TooManyParams at) = placed TooManyParams at
 checker_refusal checker.Memory = plain Memory
 
+-- the refusal for why a text has no graph
 abbrev pub compiler_refusal : CompileError → Refusal
 compiler_refusal (compiler.Text e) = lexer_refusal e
 compiler_refusal (compiler.Tree e) = parser_refusal e
@@ -102,6 +105,7 @@ compiler_refusal (compiler.Check c) = checker_refusal c
 compiler_refusal compiler.TooLarge = plain TooLarge
 compiler_refusal compiler.Memory = plain Memory
 
+-- the cause for which a file has no text
 abbrev pub source_cause : SourceFault → Cause
 source_cause fault.TooLong = TooLong
 source_cause fault.File = File

@@ -8,10 +8,11 @@ use Rattle.id_element.specs.Replays.{ElementView}
 use Rattle.id_element.specs.Codes.{coded_element, coded_message}
 use Rattle.id_elements.specs.Workers.{WorkerView}
 
--- a door and a list of messages have the codes of their types
+-- a door has the code of its type
 abbrev pub coded_door : Coded DoorView
 coded_door = door.the_row.coded
 
+-- a list of messages has the code of a list of theirs
 abbrev pub coded_messages : Coded (List Message)
 coded_messages = coded_list coded_message
 

@@ -1,10 +1,10 @@
-//! The dataflow graph: instructions, their ports and destinations, the listing and the picture.
+//! How a graph is told: its listing, and its picture. Graphs themselves are those of `id_instr`, handed on.
 //!
-//! Keeps: every destination is a port that exists, and there are fewer than 2^32 instructions.
-//! Errors: `GraphError`, the refusal 27, with both lists handed back.
-//! Read first: `specs/Ports.antt`, `specs/Graph.antt`, then `Graph`.
-//! Not here: what operators give (`id_value`), how a program becomes a graph (`id_build`), which graphs are sound
-//! (`id_valid`).
+//! Keeps: nothing beyond its values.
+//! Errors: want of memory alone.
+//! Read first: docs/GRAPH.md ("Listing"), `specs/Listing.antt`, then `list`; `specs/Dot.antt`, then `draw`.
+//! Not here: instructions, their ports and graphs (`id_instr`), how a program becomes a graph (`id_build`), which graphs
+//! are sound (`id_valid`).
 #![tactic(auto)]
 
 mod dot;

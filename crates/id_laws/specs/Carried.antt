@@ -31,6 +31,7 @@ speaker_of P n (Next x k o v) = output (label P n)
 speaker_of P n (Index x) = output (label P n)
 speaker_of P n _ = origin P n
 
+-- where the value of the thing at the row n comes from
 abbrev pub speaker : Checked → ℕ → Origin
 speaker P n = speaker_of P n (node P n)
 

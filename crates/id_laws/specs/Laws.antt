@@ -60,17 +60,19 @@ value_in name (Token t p v) = shown.source_value name v
 value_in name (Read c t) = None
 value_in name (Write c v t) = None
 
--- whether the message is a token for this port under this tag, a read for this reply, a write of this origin
+-- whether the message is a token for this port under this tag
 abbrev pub is_for : Tag → Port → Payload → Bool
 is_for t p (Token u q v) = same_tag u t && same_port q p
 is_for t p (Read c u) = false
 is_for t p (Write c v u) = false
 
+-- whether the message is a read whose reply comes under this tag
 abbrev pub asks_for : Tag → Payload → Bool
 asks_for t (Token u q v) = false
 asks_for t (Read c u) = same_tag u t
 asks_for t (Write c v u) = false
 
+-- whether the message is a write of this origin
 abbrev pub stores_from : Tag → Payload → Bool
 stores_from t (Token u q v) = false
 stores_from t (Read c u) = false

@@ -88,12 +88,13 @@ abbrev pub split_of : Region → List ℕ → ℕ → Topic
 split_of r bs zero = Turned r
 split_of r bs (suc k) = NameIn r (get_or bs k 0)
 
--- what the entry of the part k of what the loop with the head h carries on speaks of, and what a port of it wants
+-- what the entry of the part k of what the loop with the head h carries on speaks of
 abbrev pub entry_of : Checked → ℕ → ℕ → Topic
 entry_of P h zero = NameIn (arm_at (switches_of P h) true) (index_row (switches_of P h))
 entry_of P h (suc zero) = BoundIn (top h) h
 entry_of P h (suc (suc k)) = FlagOf h
 
+-- what a port of that entry wants
 abbrev pub entry_wants : ℕ → ℕ → Topic
 entry_wants h zero = IndexOf h
 entry_wants h (suc zero) = BoundIn (top h) h
@@ -110,8 +111,8 @@ counted_of r h bs (suc (suc k)) = NameIn r (get_or bs (suc k) 0)
 abbrev pub handed_of : Checked → Region → ℕ → List ℕ → ℕ → Topic
 handed_of P r h bs k = if has_index P h then counted_of r h bs k else split_of r bs k
 
--- what a part that hands on to the next iteration speaks of, in the iteration that it goes to, and what it wants in
--- the region r: the trigger, what the loop with the head h carries on, and each import
+-- what a part that hands on to the next iteration speaks of, in the iteration that it goes to: the trigger, what the
+-- loop with the head h carries on, and each import
 abbrev pub further_of : Checked → ℕ → ℕ → Topic
 further_of P h zero = Turned (top h)
 further_of P h (suc zero) = IndexOf h
@@ -119,6 +120,7 @@ further_of P h (suc (suc zero)) = BoundIn (top h) h
 further_of P h (suc (suc (suc zero))) = FlagOf h
 further_of P h (suc (suc (suc (suc k)))) = NameIn (top h) (get_or (imports_of P h) k 0)
 
+-- what such a part wants in the region r
 abbrev pub further_wants : Checked → Region → ℕ → ℕ → Topic
 further_wants P r h zero = Turned r
 further_wants P r h (suc zero) = NextIndex h
@@ -126,14 +128,15 @@ further_wants P r h (suc (suc zero)) = BoundIn r h
 further_wants P r h (suc (suc (suc zero))) = SaidNext h
 further_wants P r h (suc (suc (suc (suc k)))) = NameIn r (get_or (imports_of P h) k 0)
 
--- what the second port of a `send` into the loop that begins at the row n wants, in the region r: what it carries on,
--- and the names that enter it
+-- what the second port of a `send` into the loop with an index that begins at the row n wants, in the region r: what it
+-- carries on, and the names that enter it
 abbrev pub bounded_sent : Checked → ℕ → Region → ℕ → Topic
 bounded_sent P n r zero = FirstIndex (n + 1)
 bounded_sent P n r (suc zero) = BoundIn r (n + 1)
 bounded_sent P n r (suc (suc zero)) = SaidFirst (n + 1)
 bounded_sent P n r (suc (suc (suc k))) = NameIn r (get_or (entering P (n + 1)) k 0)
 
+-- what the second port of a `send` into any loop that begins at the row n wants, in the region r
 abbrev pub sent_to : Checked → ℕ → Region → ℕ → Topic
 sent_to P n r k =
     if has_index P (n + 1) then bounded_sent P n r k else NameIn r (get_or (entering P (n + 1)) k 0)

@@ -67,6 +67,7 @@ abbrev pub arcs_in : Checked → List ℕ → List ℕ → List Arc
 arcs_in P firsts [] = []
 arcs_in P firsts (x ∷ xs) = map (arc_of firsts x) (feeds P x) ++ arcs_in P firsts xs
 
+-- where an arc goes
 abbrev pub dest_of : Arc → Dest
 dest_of a = record { instr = a.to; port = a.port }
 
@@ -76,6 +77,7 @@ dests_from m s [] = []
 dests_from m s (a ∷ vs) =
     if (a.from == m) && beq a.side s then dest_of a ∷ dests_from m s vs else dests_from m s vs
 
+-- the instruction with the number m of a piece, with these arcs
 abbrev pub joined : List ℕ → ℕ → Piece → List Arc → Instr
 joined F m p vs =
     record {

@@ -118,6 +118,7 @@ pub record Entry : Type 0 where
   pub row : ℕ
   pub part : ℕ
 
+-- the entry of a parameter, or of what a loop carries on: the first part of its own row
 abbrev pub param_entry : ℕ → Entry
 param_entry x = record { binder = x; row = x; part = 0 }
 
@@ -144,6 +145,7 @@ abbrev pub entries_by : Checked → ℕ → Node → List Entry
 entries_by P h (LoopHead s) = loop_entries P h
 entries_by P h _ = map param_entry (params_at (rows P) h)
 
+-- the entries of the block whose head is at the row h
 abbrev pub entries : Checked → ℕ → List Entry
 entries P h = entries_by P h (node P h)
 
@@ -170,6 +172,7 @@ first_binder P m = unwrap_or (binder P (outer_at (node P m))) 0
 abbrev pub entering : Checked → ℕ → List ℕ
 entering P h = map (first_binder P) (nexts_of P h) ++ imports_of P h
 
+-- the piece of this form at this place
 abbrev pub piece : Form → ℕ → Piece
 piece f e = record { form = f; place = e }
 
@@ -255,6 +258,7 @@ reply n = record { row = n; part = 2; side = true }
 abbrev pub trigger_of : Region → Origin
 trigger_of r = record { row = r.head; part = 0; side = r.side }
 
+-- whether two regions are one
 abbrev pub same_region : Region → Region → Truth
 same_region r q = (r.head == q.head) && beq r.side q.side
 
@@ -280,6 +284,7 @@ abbrev pub home_by : ℕ → ℕ → Node → ℕ
 home_by h b (Next x k o v) = h + 1 + k
 home_by h b _ = b
 
+-- the row in whose region the binder at the row b has what its label gives
 abbrev pub home : Checked → ℕ → ℕ
 home P b = home_by (block P b) b (node P b)
 
@@ -314,6 +319,7 @@ origin_of P v r _ = output v
 abbrev pub origin : Checked → ℕ → Origin
 origin P e = let v = (at (rows P) e).value in origin_of P v (region P v) (node P v)
 
+-- what this origin sends to this port of a part
 abbrev pub feed : Origin → ℕ → Port → Feed
 feed s k p = record { origin = s; part = k; port = p }
 

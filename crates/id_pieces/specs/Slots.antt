@@ -15,6 +15,7 @@ use Rattle.id_pieces.specs.Rows.{slot_of}
 abbrev pub same_import : Import → Import → Bool
 same_import i j = (i.head == j.head) && (i.binder == j.binder)
 
+-- one place further, if there is one
 abbrev pub behind : Option ℕ → Option ℕ
 behind None = None
 behind (Some k) = Some (suc k)

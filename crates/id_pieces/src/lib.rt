@@ -1,9 +1,10 @@
-//! The pieces of a program's graph: which instructions each row makes, in which columns and slots.
+//! The pieces of a program's graph: which instructions each row makes, what is known of rows (`Columns`), and where an
+//! import stands among those of its head (`Slots`); and what the schemas say, of arcs too.
 //!
 //! Keeps: nothing beyond its values.
 //! Errors: `BuildError`, the refusal 14 or want of memory.
 //! Read first: docs/GRAPH.md ("Schemas"), `specs/Rows.antt`, then `push_pieces`.
-//! Not here: the arcs between pieces (`id_build`), the graph of a program (`id_build`).
+//! Not here: what makes arcs, and the graph of a program (`id_build`).
 #![tactic(auto)]
 
 mod arc;

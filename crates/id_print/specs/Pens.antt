@@ -29,21 +29,26 @@ coded_pen =
     (λ p. record { text = p.0; checked = p.1.0; facts = p.1.1 })
     (λ _. refl)
 
--- the path of the source, the place, the site, the name of a structure, the value and the fact that these are
+-- the path of the source that a trail is
 abbrev pub path_in : PenView → Trail → Path
 path_in v q = path_at v.checked v.facts q
 
+-- the place of a row
 abbrev pub place_in : PenView → ℕ → ℕ
 place_in v n = place v.checked n
 
+-- the site of the source that a trail and a row are
 abbrev pub site_in : PenView → Trail → ℕ → Site
 site_in v q n = site_at v.checked v.facts q n
 
+-- the name of the structure that the fact with this number made
 abbrev pub name_in : PenView → ℕ → Site
 name_in v i = name_at v.checked v.facts i
 
+-- the value of the source that a value by rows is
 abbrev pub value_in : PenView → RowValue → SourceValue
 value_in v w = value_at v.checked v.facts w
 
+-- the fact of the source that a fact by rows is
 abbrev pub fact_in : PenView → RowFact → Fact
 fact_in v f = fact_of v.checked v.facts f

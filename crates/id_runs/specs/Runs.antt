@@ -62,13 +62,15 @@ pub record Reached (g : Parts) (vs : List Constant) (count : ℕ) (s : World) : 
   pub events : List Event
   pub reach : Reach g vs count s events
 
--- what was handled, what is in flight, and what was there at the start
+-- what was handled
 abbrev pub handled : List Event → List Payload
 handled run = map payload_of run
 
+-- what is in flight
 abbrev pub flying : World → List Payload
 flying s = map (λ m. m.payload) s.flight
 
+-- what is there at the start
 abbrev pub starting : Parts → List Constant → List Payload
 starting g vs = map (λ m. m.payload) (start_messages g vs)
 
