@@ -3,7 +3,9 @@
  * A worker is a process; the calling thread, which waits for them, is `init`. Beside each step stands the function of
  * crates/id_elements/src that it is of. A step touches once what workers share; what else stands in its `atomic` is the
  * worker's own, and so a burst is one step. Messages have nothing in them, and a letter is how many it has: one of one
- * message is in some inbox at the start, and events send SENDS messages more, at most 2 each, to any elements. At any
+ * message is in some inbox at the start, and events send SENDS messages more, at most 2 each, to any elements. After a
+ * burst any letter may be sent or kept (with 3 workers each is sent), since whether it is full, or goes at once to a
+ * worker that looks for letters, changes nothing else; a worker that can handle nothing more sends each. At any
  * event an element may have handled `steps` messages, or there may be a fault; any push may be refused. A thread may
  * begin at any time, after others, or never. A sleep ends by a wake; by its time, 20 milliseconds in the code, it ends
  * only where some worker has not begun or has given up, since else that would hide a lost wake.
@@ -12,7 +14,7 @@
  * - deadlock: nothing moves, and not all have ended (an invalid end state);
  * - a run without end (a cycle: no step is marked as progress, and no fairness is asked for). Where there is neither,
  *   each run ends from each state, and no worker sleeps for ever, whether a letter waits in its inbox or none;
- * - `pending` at 0 while a message is anywhere that may be handled, or below 0 (assert);
+ * - as many letters done as sent, where they are added up, while a message is anywhere that may be handled (assert);
  * - messages that are lost when all have ended; or that are left and may be handled, though nothing cut the run short:
  *   no fault, no refusal, no worker that never began, none that gave up since another had not begun (assert).
  *
@@ -23,6 +25,9 @@
  * SLEEPS_ON       a worker sleeps while it has messages of its own
  * KEEPS_LETTERS   a worker that can handle nothing more sends no letters
  * LATE_LETTERS    it sends them when it has counted as done what it took out
+ * SENT_FIRST      who adds up adds what was sent before what was done
+ * NO_SUMS         nobody adds up
+ * EARLY_SUMS      a worker adds up before it counts what it has done, and not behind that
  * LATE_COUNT      a letter is counted after it was put in
  * EARLY_DONE      letters are counted as done when they are taken out
  * SPENT_OWES      a worker whose element has handled `steps` counts nothing as done
@@ -31,17 +36,13 @@
  * NO_PATIENCE     an idle worker never gives up on those that have not begun
  * QUIET_END       a worker that gives up does not say so
  * HASTY           a worker gives up though all have begun and none has given up: the run ends, but work is left
- * NO_RISE and NO_RESET together, see below
+ * NO_RESET        `looks` is not set to 0 where letters came, so that nobody adds up behind them
  *
- * Three that are harmless, and must not be found wrong:
+ * Two that are harmless, and must not be found wrong:
  * NO_CLEAR        The flag is not cleared after a sleep. Then each push wakes, and a worker that comes to `sleep` parks
  *                 at once. But the look before that was made with the flag set, and so no wake is lost.
  * NO_RISE         The flag is not cleared where letters came. Then a worker may park without setting it again, but
  *                 `looks = 0` has it look at least once before that, and that look found the inbox empty.
- * NO_RESET        `looks` is not set to 0 where letters came. Then a worker comes to `sleep` right after them, but its
- *                 flag is not set there, and so it looks once more.
- *                 Without both it may park in the round in which it took letters out; where it took as many as it may,
- *                 one may be left that was pushed before the flag was set, and nobody wakes the worker for that one.
  */
 
 #ifndef WORKERS
@@ -56,15 +57,21 @@
 #ifndef TAKES
 #define TAKES BURST     /* so many letters are taken out of the inbox, the same 64 there */
 #endif
-#define LOOKS 1         /* PAUSES and YIELDS, 264 in shared.rt */
+#define LOOKS 1         /* PAUSES and YIELDS, 104 in shared.rt */
 #ifndef PATIENCE
 #define PATIENCE 2      /* 20 there */
 #endif
 
+#if WORKERS == 2
+#define KEEPS_NONE (letters[0] + letters[1] == 0)
+#else
+#define KEEPS_NONE (letters[0] + letters[1] + letters[2] == 0)
+#endif
 #define INCOMPLETE (begun < WORKERS || gave_up)  /* Shared::is_incomplete */
 
 bool stopped, gave_up;                          /* Shared */
-byte pending = 1, begun;
+byte begun;
+byte sent[WORKERS], done[WORKERS];              /* Counts */
 bool sleeps[WORKERS];
 bool token[WORKERS];                            /* Parker: whether it was unparked */
 chan inbox[WORKERS] = [1 + SENDS] of { byte };  /* Door */
@@ -87,9 +94,12 @@ inline wake() {                                 /* Shared::wake */
 inline post_all() {                             /* Worker::post_all */
   do
   :: atomic { to < WORKERS && letters[to] == 0 -> to++ }
+#if WORKERS == 2
+  :: atomic { to < WORKERS && letters[to] > 0 && goes -> to++ }  /* it is kept */
+#endif
   :: atomic { to < WORKERS && letters[to] > 0;  /* post */
 #ifndef LATE_COUNT
-       pending++                                /* count_sent */
+       sent[me]++                               /* count_sent */
 #endif
      };
 #ifdef EARLY_WAKE
@@ -100,7 +110,7 @@ inline post_all() {                             /* Worker::post_all */
      :: atomic { cut = true; goto halt }        /* refuse */
      fi;
 #ifdef LATE_COUNT
-     pending++;
+     sent[me]++;
 #endif
 #ifndef EARLY_WAKE
      wake();
@@ -110,11 +120,27 @@ inline post_all() {                             /* Worker::post_all */
   od
 }
 
+#define FOR_ALL(step) do :: atomic { i < WORKERS -> step; i++ } :: atomic { i == WORKERS -> i = 0; break } od
+
+inline stop_if_done() {                         /* Shared::stop_if_done; `more`: so many more were done than sent */
+#ifdef SENT_FIRST
+  FOR_ALL(more = more - sent[i]);
+#endif
+  FOR_ALL(more = more + done[i]);
+#ifndef SENT_FIRST
+  FOR_ALL(more = more - sent[i]);
+#endif
+  if
+  :: atomic { more == 1 -> assert(flying == held); goto halt }   /* the one that stood in an inbox at the start */
+  :: atomic { else -> more = 0 }
+  fi
+}
+
 proctype worker(byte me) {
   byte own, letters[WORKERS];                   /* Worker: how many of its own, and how many in each letter */
   byte taken, looks;                            /* Worker::work */
   bool spent, goes;                             /* whether its element has handled `steps`; Turn::Goes */
-  byte i, to;
+  byte i, to, more;
 
   if                                            /* for_each_mut */
   :: true                                       /* a thread is made for it, or it is the last, on the calling thread */
@@ -140,14 +166,14 @@ round:                                          /* work */
      }
   :: atomic { i < TAKES && empty(inbox[me]) -> i = 0;                       /* a pop finds none */
        if
-       :: taken == 0 && (own == 0 || spent) -> goto idle   /* Turn::Empty, with nothing to send or to count */
+       :: taken == 0 && (own == 0 || spent) && looks != 1 && KEEPS_NONE -> goto idle   /* Turn::Empty: nothing to do */
        :: else -> break
        fi
      }
   :: atomic { i == TAKES -> i = 0; break }
   od;
 #ifdef EARLY_DONE
-  atomic { pending = pending - taken; assert(pending > 0 || flying == held) };
+  atomic { done[me] = done[me] + taken };
 #endif
 
   atomic {                                      /* burst */
@@ -197,6 +223,12 @@ count:
   :: else
   fi;
 #endif
+#ifdef EARLY_SUMS
+  if
+  :: taken > 0 -> stop_if_done()
+  :: else
+  fi;
+#endif
   if
   :: atomic { taken > 0;
 #ifndef NO_RESET
@@ -207,20 +239,17 @@ count:
 #endif
      };
      atomic {                                   /* count_done */
-#ifndef EARLY_DONE
-       assert(pending >= taken);
-#ifdef SPENT_OWES
-       pending = pending - (spent -> 0 : taken);
-#else
-       pending = pending - taken;
+#if !defined(EARLY_DONE) && !defined(SPENT_OWES)
+       done[me] = done[me] + taken;
+#elif defined(SPENT_OWES)
+       done[me] = done[me] + (spent -> 0 : taken);
 #endif
-#endif
-       taken = 0;
-       if
-       :: pending == 0 -> assert(flying == held); goto halt
-       :: else
-       fi
+       taken = 0
      }
+#if !defined(NO_SUMS) && !defined(EARLY_SUMS)
+  :: atomic { taken == 0 && looks == 1 };
+     stop_if_done()
+#endif
   :: else
   fi;
 #ifdef LATE_LETTERS
@@ -288,7 +317,7 @@ end:
       left = left + letters[to];
       letters[to] = 0
     };
-    taken = 0; looks = 0; spent = false; goes = false; i = 0; to = 0;
+    taken = 0; looks = 0; spent = false; goes = false; i = 0; to = 0; more = 0;
     ended[me] = true
   }
 }

@@ -1,5 +1,6 @@
 pub mod DoorsLemmas
 pub mod ListsLemmas
+pub mod GoalsLemmas
 pub mod PassingLemmas
 pub mod WorkersLemmas
 pub mod GatheredLemmas

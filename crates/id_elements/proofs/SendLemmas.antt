@@ -1,5 +1,6 @@
 -- A worker may go to another thread: each of its parts may. They are shown one after another, since one `search` for all
 -- of them runs out of its steps.
+use denote.Builtin.{u64}
 use denote.Ref.{NamedLft}
 use denote.RattleType.{RattleType}
 use denote.Param.{arg, param}
@@ -106,6 +107,9 @@ Element-send κ = search (sendable, Inside-send)
 Queue-send : IsSend the_queue.the_row
 Queue-send = search (sendable, crosses) fits 20000 depth 60
 
+Number-send : IsSend u64
+Number-send = search (sendable)
+
 -- a door, by what a call ensures that asks it of a door
 pub Door-send : (δ : Ty) → IsSend (param 0 (arg δ no the_door.the_row)) → IsSend the_door.the_row
 Door-send δ d = record { owned = d.owned; leaving = λ k x w. tt }
@@ -114,7 +118,8 @@ Door-send δ d = record { owned = d.owned; leaving = λ k x w. tt }
 Parts-send : IsSend the_door.the_row → (κ : NamedLft) → AllSend (shape (the_worker_inside.the_type κ)).fields
 Parts-send d κ =
     let letters = Vec-send the_queue.the_row Queue-send in
-    search (tt, plain_send, Vec-send, d, Element-send, Queue-send, letters) depth 30
+    let fed = Vec-send u64 Number-send in
+    search (tt, plain_send, Vec-send, d, Element-send, Queue-send, letters, fed) depth 30
 
 WorkerInside-send : IsSend the_door.the_row → (κ : NamedLft) → IsSend (the_worker_inside.the_row κ)
 WorkerInside-send d κ =

@@ -12,6 +12,7 @@ mod doors;
 mod drawn;
 mod ended;
 mod finish;
+mod goals;
 mod hand;
 mod passing;
 mod running;

@@ -1,16 +1,14 @@
 //! How messages move between a worker's lists.
 
-ghost use Rattle.std.specs.Prelude.{◌≡◌, ◌↔◌, ◌<◌, ◌≤◌, ◌+◌, ◌++◌, [], ℕ, length};
-ghost use Rattle.std.specs.Prelude.{reverse, take, vec_len, IsTrue, OnOk};
+ghost use Rattle.std.specs.Prelude.{◌≡◌, ◌<◌, ◌≤◌, ◌+◌, ◌%◌, ◌++◌, [], ℕ, length};
+ghost use Rattle.std.specs.Prelude.{reverse, vec_len, OnOk};
 ghost use Rattle.std.specs.List.{sum_by};
 ghost use Rattle.id_tag.specs.declared.Message.{Message};
-ghost use Rattle.id_element.specs.Fits.{IsFor};
-ghost use Rattle.id_elements.specs.Passing.{AreFor, AreRouted, IsFirstMoved, IsGoalAt, IsLastMoved, IsLastSent};
-ghost use Rattle.id_elements.specs.Passing.{IsSentOn};
+ghost use Rattle.id_elements.specs.Passing.{AreFor, IsFirstMoved, IsLastMoved, IsLastSent, IsSentOn};
 
+use crate::goals::{first_for_others, goal_at};
 use id_element::{Element, fits};
 use id_flight::Queue;
-use id_tag::{Message, route, route_tag};
 use std::alloc::AllocError;
 
 /// Moves the messages of a letter that came out of the inbox of the element of this number, of so many: to its own,
@@ -24,7 +22,7 @@ pub fn sort(
     count: u32,
     letter: &mut Queue,
 ) -> Result<(), AllocError>
-    requires some { 0 < count }
+    requires below { number < count }
     requires number { number ≡ element.now.number }
     requires count { count ≡ element.now.count }
     ensures own { AreFor element.now own.old.messages → AreFor element.now own.new.messages }
@@ -54,7 +52,7 @@ fn sort_first(
     requires there { 0 < length letter.old.messages }
     requires room { 0 < own.old.room }
     requires room_apart { 0 < stray.old.room }
-    requires some { 0 < count }
+    requires below { number < count }
     requires number { number ≡ element.now.number }
     requires count { count ≡ element.now.count }
     ensures own { AreFor element.now own.old.messages → AreFor element.now own.new.messages }
@@ -64,7 +62,8 @@ fn sort_first(
     ensures shorter { length letter.new.messages < length letter.old.messages }
 {
     let message = letter.message(0);
-    if is_for(element, number, count, &message) {
+    let to = goal_at(letter, 0, number, count, u64::from(number));
+    if to == number && fits(element.graph(), &message) {
         move_first(letter, own);
     } else {
         stray.push_back_reserved(message);
@@ -87,30 +86,9 @@ fn move_first(from: &mut Queue, to: &mut Queue)
     from.remove(0);
 }
 
-/// Whether a message is for the element of this number, of so many, and fits its graph.
-fn is_for(element: &Element<'_>, number: u32, count: u32, message: &Message) -> bool
-    requires { 0 < count }
-    ensures { IsTrue result → IsFor element.now.graph count number message.now }
-{
-    route(message, count) == number && fits(element.graph(), message)
-}
-
-/// The element that the message at a position is for, of so many.
-#[inline(always)]
-fn goal_at(own: &Queue, position: usize, count: u32) -> u32
-    requires there { position < length own.now.messages }
-    requires count { 0 < count }
-    ensures is { IsGoalAt count own.now.messages position result }
-    ensures below { result < count }
-{
-    match own.token(position) {
-        Some(token) => route_tag(token.tag(), count),
-        None => route(&own.message(position), count),
-    }
-}
-
 /// Moves those of the last so many messages of an element's own that are for others, of so many, to the letters for
-/// them. After an error some of the last may stand in `back`, or still be for others.
+/// them, and sets the bits of these. A sum is given that is routed to the element. After an error some of the last may
+/// stand in `back`, or still be for others.
 #[inline(always)]
 pub fn send_on(
     own: &mut Queue,
@@ -119,38 +97,31 @@ pub fn send_on(
     number: u32,
     count: u32,
     sent: usize,
+    near: u64,
+    touched: &mut u64,
 ) -> Result<(), AllocError>
     requires some { 0 < count }
     requires count { vec_len letters.old ≡ count }
+    requires near { near % count ≡ number }
     requires sent { sent ≤ length own.old.messages }
     ensures { IsSentOn number sent own.old.messages back.old.messages letters.old.items
         own.new.messages back.new.messages letters.new.items result }
 {
     let len = own.len();
-    let position = first_for_others(own, len - sent, number, count);
+    let position = first_for_others(own, len - sent, number, count, near);
     if position == len {
         return Ok(());
     }
-    send_some(own, back, letters, number, count, len - position)
-}
-
-/// The first position from this one on whose message is for another element than that of this number, of so many, or
-/// how many messages there are, if there is none.
-#[inline(always)]
-fn first_for_others(own: &Queue, from: usize, number: u32, count: u32) -> usize
-    requires from { from ≤ length own.now.messages }
-    requires count { 0 < count }
-    ensures bound { result ≤ length own.now.messages }
-    ensures routed { AreRouted count number (take from own.now.messages)
-        → AreRouted count number (take result own.now.messages) }
-{
-    let len = own.len();
-    for position in from..len {
-        if goal_at(own, position, count) != number {
-            return position;
-        }
-    }
-    len
+    send_some(
+        own,
+        back,
+        letters,
+        number,
+        count,
+        len - position,
+        near,
+        touched,
+    )
 }
 
 /// The same where some of them are.
@@ -162,24 +133,27 @@ fn send_some(
     number: u32,
     count: u32,
     sent: usize,
+    near: u64,
+    touched: &mut u64,
 ) -> Result<(), AllocError>
     requires some { 0 < count }
     requires count { vec_len letters.old ≡ count }
+    requires near { near % count ≡ number }
     requires sent { sent ≤ length own.old.messages }
     ensures { IsSentOn number sent own.old.messages back.old.messages letters.old.items
         own.new.messages back.new.messages letters.new.items result }
 {
     back.reserve(sent)?;
     for _ in 0..sent {
-        send_last(own, back, letters, number, count)?;
+        send_last(own, back, letters, number, count, near, touched)?;
     }
     own.reserve(back.len())?;
     take_back(own, back);
     Ok(())
 }
 
-/// Moves the last message of an element's own, which is there, to the letter for its element, or to `back`, in which
-/// there is room for it, where that is this one. After an error it has not moved.
+/// Moves the last message of an element's own, which is there, to the letter for its element, whose bit it sets, or to
+/// `back`, in which there is room for it, where that is this one. After an error it has not moved.
 #[inline(always)]
 fn send_last(
     own: &mut Queue,
@@ -187,9 +161,12 @@ fn send_last(
     letters: &mut Vec<Queue>,
     number: u32,
     count: u32,
+    near: u64,
+    touched: &mut u64,
 ) -> Result<(), AllocError>
     requires some { 0 < count }
     requires count { vec_len letters.old ≡ count }
+    requires near { near % count ≡ number }
     requires there { 0 < length own.old.messages }
     requires room { 0 < back.old.room }
     ensures sent { IsLastSent number own.old.messages back.old.messages letters.old.items
@@ -197,7 +174,7 @@ fn send_last(
     ensures room { back.old.room ≤ back.new.room + 1 }
 {
     let last = own.len() - 1;
-    let to = goal_at(own, last, count);
+    let to = goal_at(own, last, number, count, near);
     if to == number {
         move_last(own, back);
         return Ok(());
@@ -205,7 +182,14 @@ fn send_last(
     let letter = &mut letters[to as usize];
     letter.reserve(1)?;
     move_last(own, letter);
+    *touched = *touched | bit(to);
     Ok(())
+}
+
+/// The bit of an element.
+#[inline(always)]
+fn bit(number: u32) -> u64 {
+    1 << u64::from(number % 64)
 }
 
 /// Moves the last message of a list, which is there, to the end of another, in which there is room for it. Takes no

@@ -10,9 +10,8 @@ use std::thread::Parker;
 use std::time::Duration;
 use std::{hint, thread};
 
-/// So many looks at an empty inbox are a pause of some steps each, where workers are at most half of the processors:
-/// two of these often share what a third worker would need.
-const PAUSES: u32 = 200;
+/// So many looks at an empty inbox are a pause of some steps each, where workers are no more than the processors.
+const PAUSES: u32 = 40;
 
 /// Behind those, so many looks give the processor away.
 const YIELDS: u32 = 64;
@@ -31,11 +30,22 @@ struct Apart<T> {
     _behind: [u64; 15],
 }
 
-/// Where a worker sleeps.
+/// How many letters a worker has sent, and how many it has done: those that it took out of its inbox, where it could
+/// handle nothing more of its own since, and had sent its letters. Neither ever sinks.
+#[derive(Drop)]
+struct Counts {
+    sent: AtomicU64,
+    done: AtomicU64,
+}
+
+/// What a worker alone writes, but for its parker, which others unpark.
 #[derive(Drop)]
 struct Seat {
     parker: Parker,
     sleeps: Apart<AtomicBool>,
+    // 0, or a number above 0 where the worker looks for letters: another one each time that it begins to.
+    hungry: Apart<AtomicU64>,
+    counts: Apart<Counts>,
 }
 
 /// When workers stop and sleep.
@@ -44,8 +54,8 @@ pub struct Shared {
     // Whether workers are to stop: read in each round.
     stopped: Apart<AtomicBool>,
     refused: AtomicBool,
-    // The letters in inboxes, and those that were taken out by workers that have messages of their own since.
-    pending: Apart<AtomicU64>,
+    // The letters that stood in inboxes at the start.
+    first: u64,
     begun: AtomicU64,
     gave_up: AtomicBool,
     workers: u64,
@@ -64,11 +74,12 @@ impl<T: Drop> Apart<T> {
 }
 
 impl Shared {
-    /// For so many workers, with so many letters in inboxes, where so many threads can run at one time.
+    /// For so many workers, with so many letters in inboxes, where so many threads can run at one time. At the start
+    /// all look for letters.
     pub fn new(
         alloc: Global,
         workers: u32,
-        pending: usize,
+        first: usize,
         processors: usize,
     ) -> Result<Shared, AllocError> {
         let mut seats = Vec::with_capacity(alloc, workers as usize)?;
@@ -76,9 +87,14 @@ impl Shared {
             seats.push(Seat {
                 parker: Parker::new(),
                 sleeps: Apart::new(AtomicBool::new(false)),
+                hungry: Apart::new(AtomicU64::new(1)),
+                counts: Apart::new(Counts {
+                    sent: AtomicU64::new(0),
+                    done: AtomicU64::new(0),
+                }),
             })?;
         }
-        let pauses = if workers as usize <= processors / 2 {
+        let pauses = if workers as usize <= processors {
             PAUSES
         } else {
             0
@@ -86,7 +102,7 @@ impl Shared {
         Ok(Shared {
             stopped: Apart::new(AtomicBool::new(false)),
             refused: AtomicBool::new(false),
-            pending: Apart::new(AtomicU64::new(pending as u64)),
+            first: first as u64,
             begun: AtomicU64::new(0),
             gave_up: AtomicBool::new(false),
             workers: u64::from(workers),
@@ -125,9 +141,32 @@ impl Shared {
         self.stopped.value.load(Ordering::SeqCst)
     }
 
-    /// Counts a letter that is about to be put into an inbox.
-    pub fn count_sent(&self) {
-        self.pending.value.fetch_add(1, Ordering::SeqCst);
+    /// Tells how many letters the worker of this number has sent, with the one that it is about to put into an inbox.
+    #[inline(always)]
+    pub fn count_sent(&self, number: usize, sent: u64) {
+        if let Some(seat) = self.seats.get(number) {
+            seat.counts.value.sent.store(sent, Ordering::SeqCst);
+        }
+    }
+
+    /// Whether the worker of this number looks for letters, and since when: 0 where it does not, or else another number
+    /// each time. It may be late.
+    #[inline(always)]
+    pub fn hunger(&self, number: usize) -> u64 {
+        match self.seats.get(number) {
+            Some(seat) => seat.hungry.value.load(Ordering::SeqCst),
+            None => 0,
+        }
+    }
+
+    /// Tells that of the worker of this number.
+    #[inline(always)]
+    pub fn tell_hunger(&self, number: usize, hunger: u64) {
+        if self.hunger(number) != hunger {
+            if let Some(seat) = self.seats.get(number) {
+                seat.hungry.value.store(hunger, Ordering::SeqCst);
+            }
+        }
     }
 
     /// Wakes the worker of this number, if it sleeps.
@@ -148,10 +187,26 @@ impl Shared {
         }
     }
 
-    /// Counts letters that were taken out of an inbox by a worker that can handle nothing more of its own. Where none
-    /// is left anywhere, all workers stop.
-    pub fn count_done(&self, taken: u64) {
-        if taken > 0 && self.pending.value.fetch_sub(taken, Ordering::SeqCst) == taken {
+    /// Tells how many letters the worker of this number has done.
+    pub fn count_done(&self, number: usize, done: u64) {
+        if let Some(seat) = self.seats.get(number) {
+            seat.counts.value.done.store(done, Ordering::SeqCst);
+        }
+    }
+
+    /// Stops all workers where no letter is left anywhere: where as many were done as were sent. What was done is added
+    /// first: so both sums are the same only where all that was sent by some moment between was done by then.
+    #[inline(never)]
+    pub fn stop_if_done(&self) {
+        let mut done = 0u64;
+        for seat in &self.seats {
+            done = done.saturating_add(seat.counts.value.done.load(Ordering::SeqCst));
+        }
+        let mut sent = self.first;
+        for seat in &self.seats {
+            sent = sent.saturating_add(seat.counts.value.sent.load(Ordering::SeqCst));
+        }
+        if sent == done {
             self.stop();
         }
     }

@@ -2,6 +2,7 @@
 
 ghost use Rattle.std.specs.Prelude.{◌≡◌, [], map, replicate, IfOk};
 
+use crate::goals::near_of;
 use crate::hand::Hand;
 use crate::passing::{send_on, sort};
 use crate::shared::Shared;
@@ -23,7 +24,10 @@ const BURST: u32 = 64;
 const FULL: usize = 64;
 
 /// After so many bursts all letters are sent, however few messages they have.
-const BURSTS: u32 = 4;
+const BURSTS: u32 = 16;
+
+/// A worker keeps so many lists without messages for its next letters.
+const SPARES: usize = 64;
 
 /// What works one element.
 #[derive(Drop)]
@@ -46,6 +50,12 @@ pub struct Worker<'a> {
     stray: Queue,
     // What is to be sent to each element.
     letters: Vec<Queue>,
+    // Lists without messages, which have their memory still.
+    spare: Vec<Queue>,
+    // What each other worker told of its hunger when it was last sent a letter for that.
+    fed: Vec<u64>,
+    // How many letters it has sent.
+    sent: u64,
 }
 
 impl<'a> Model for Worker<'a> {
@@ -115,6 +125,8 @@ impl<'a> Worker<'a> {
     {
         let count = doors.len() as u32;
         let letters = no_letters(alloc, count)?;
+        let spare = Vec::with_capacity(alloc, SPARES)?;
+        let fed = vec![in alloc; 0u64; doors.len()]?;
         Ok(Worker {
             alloc,
             number,
@@ -127,6 +139,9 @@ impl<'a> Worker<'a> {
             back: Queue::new(alloc),
             stray: Queue::new(alloc),
             letters,
+            spare,
+            fed,
+            sent: 0,
         })
     }
 
@@ -164,6 +179,9 @@ impl<'a> Worker<'a> {
             back,
             stray,
             letters,
+            spare: _,
+            fed: _,
+            sent: _,
         } = self;
         (doors, element, own, came, back, stray, letters)
     }
@@ -188,6 +206,7 @@ impl<'a> Worker<'a> {
             Some(letter) => {
                 self.came = letter;
                 self.sort_letter()?;
+                self.put_by();
                 Ok(true)
             }
             None => Ok(false),
@@ -195,10 +214,16 @@ impl<'a> Worker<'a> {
     }
 
     /// Handles the message at a position of its own, and says whether the run goes on after its event. What is sent
-    /// goes to the end of its own, and from there to the letters for others. After an error of the element nothing has
-    /// changed.
+    /// goes to the end of its own, and from there to the letters for others, and those go on at once that are to. After
+    /// an error of the element nothing has changed.
     #[inline(always)]
-    fn handle<G: Gate>(&mut self, position: usize, gate: &G) -> Result<bool, TakeError>
+    fn handle<R: Wait, G: Gate>(
+        &mut self,
+        rt: &R,
+        shared: &Shared,
+        position: usize,
+        gate: &G,
+    ) -> Result<bool, TakeError>
         requires there { position < length self.old.own }
         requires goes { IsTrue self.old.goes }
         ensures same { IsSame self.old self.new }
@@ -206,6 +231,7 @@ impl<'a> Worker<'a> {
         ensures goes { result ≡ Ok true → IsTrue self.new.goes }
     {
         let others = self.own.len() - 1;
+        let near = near_of(&self.own, position, self.number, self.count);
         if !self.element.take_from(&mut self.own, position, gate)? {
             self.goes = false;
             return Ok(false);
@@ -214,6 +240,7 @@ impl<'a> Worker<'a> {
             return Ok(true);
         }
         let sent = self.own.len() - others;
+        let mut touched = 0u64;
         match send_on(
             &mut self.own,
             &mut self.back,
@@ -221,8 +248,10 @@ impl<'a> Worker<'a> {
             self.number,
             self.count,
             sent,
+            near,
+            &mut touched,
         ) {
-            Ok(()) => Ok(true),
+            Ok(()) => self.post_touched(rt, shared, touched),
             Err(_) => {
                 self.goes = false;
                 Err(TakeError::Memory)
@@ -230,16 +259,84 @@ impl<'a> Worker<'a> {
         }
     }
 
-    /// A list without messages: that of the last letter, where nothing is left of it.
+    /// A list without messages: one that was put by, if there is any.
     fn empty_list(&mut self) -> Queue
         ensures same { self.new ≡ self.old }
         ensures empty { result.messages ≡ [] }
     {
-        if self.came.is_empty() {
-            mem::replace(&mut self.came, Queue::new(self.alloc))
-        } else {
-            Queue::new(self.alloc)
+        match self.spare.pop() {
+            Some(list) if list.is_empty() => list,
+            _ => Queue::new(self.alloc),
         }
+    }
+
+    /// Puts the list of the last letter by, where nothing is left of it.
+    fn put_by(&mut self)
+        ensures { self.new ≡ self.old }
+    {
+        if self.came.is_empty() && self.spare.len() < self.spare.capacity() {
+            let list = mem::replace(&mut self.came, Queue::new(self.alloc));
+            self.spare.push_reserved(list);
+        }
+    }
+
+    /// Puts the letters for the elements of these bits into their inboxes, where they are to go on at once, if there are
+    /// any bits.
+    #[inline(always)]
+    fn post_touched<R: Wait>(
+        &mut self,
+        rt: &R,
+        shared: &Shared,
+        touched: u64,
+    ) -> Result<bool, TakeError>
+        ensures same { IsSame self.old self.new }
+        ensures state { self.new.element ≡ self.old.element }
+        ensures goes { self.new.goes ≡ self.old.goes }
+    {
+        if touched != 0 && self.post_at_once(rt, shared, touched).is_err() {
+            return Err(TakeError::Memory);
+        }
+        Ok(true)
+    }
+
+    /// The same where there are some: a letter is to go on at once where it is full, or its worker looks for letters
+    /// and has been sent none for that.
+    #[inline(never)]
+    fn post_at_once<R: Wait>(
+        &mut self,
+        rt: &R,
+        shared: &Shared,
+        touched: u64,
+    ) -> Result<(), AllocError>
+        ensures same { IsSame self.old self.new }
+        ensures state { self.new.element ≡ self.old.element }
+        ensures goes { self.new.goes ≡ self.old.goes }
+    {
+        let mut rest = touched;
+        while rest != 0 {
+            let to = rest.trailing_zeros() as usize;
+            rest = rest & (rest - 1);
+            if to < self.doors.len() {
+                let least = self.least_for(shared, to);
+                self.post(rt, shared, to, least)?;
+            }
+        }
+        Ok(())
+    }
+
+    /// How many messages a letter for an element has at least, where it is to go on at once.
+    #[inline(always)]
+    fn least_for(&mut self, shared: &Shared, to: usize) -> usize
+        ensures { self.new ≡ self.old }
+    {
+        let hunger = shared.hunger(to);
+        if let Some(fed) = self.fed.get_mut(to) {
+            if hunger != 0 && *fed != hunger {
+                *fed = hunger;
+                return 1;
+            }
+        }
+        FULL
     }
 
     /// Puts the letter for an element into its inbox, if it has at least so many messages.
@@ -260,7 +357,8 @@ impl<'a> Worker<'a> {
         }
         let empty = self.empty_list();
         let letter = mem::replace(&mut self.letters[to], empty);
-        shared.count_sent();
+        self.sent = self.sent.saturating_add(1);
+        shared.count_sent(self.number as usize, self.sent);
         match self.doors[to].push(rt, letter) {
             Ok(()) => {
                 shared.wake(to);
@@ -303,7 +401,14 @@ impl<'a> Worker<'a> {
 
     /// Handles the next message of its own, if there is one.
     #[inline(always)]
-    fn step<G: Gate>(&mut self, steps: u64, hand: &mut Hand, gate: &G) -> Result<Turn, TakeError>
+    fn step<R: Wait, G: Gate>(
+        &mut self,
+        rt: &R,
+        shared: &Shared,
+        steps: u64,
+        hand: &mut Hand,
+        gate: &G,
+    ) -> Result<Turn, TakeError>
         requires { IsTrue self.old.goes }
         ensures same { IsSame self.old self.new }
         ensures few { length self.new.element.state.events ≤ length self.old.element.state.events + 1 }
@@ -311,7 +416,7 @@ impl<'a> Worker<'a> {
     {
         match self.next(steps, hand) {
             Some(position) => {
-                if self.handle(position, gate)? {
+                if self.handle(rt, shared, position, gate)? {
                     Ok(Turn::Goes)
                 } else {
                     Ok(Turn::Stops)
@@ -322,7 +427,14 @@ impl<'a> Worker<'a> {
     }
 
     /// Handles some messages of its own, one after another, as long as its element has handled fewer than `steps`.
-    fn burst<G: Gate>(&mut self, steps: u64, hand: &mut Hand, gate: &G) -> Result<Turn, TakeError>
+    fn burst<R: Wait, G: Gate>(
+        &mut self,
+        rt: &R,
+        shared: &Shared,
+        steps: u64,
+        hand: &mut Hand,
+        gate: &G,
+    ) -> Result<Turn, TakeError>
         requires { length self.old.element.state.events ≤ steps }
         ensures { IsSameWithin steps self.old self.new }
     {
@@ -333,7 +445,7 @@ impl<'a> Worker<'a> {
             if self.handled() >= steps {
                 return Ok(Turn::Empty);
             }
-            let turn = self.step(steps, hand, gate)?;
+            let turn = self.step(rt, shared, steps, hand, gate)?;
             if turn != Turn::Goes {
                 return Ok(turn);
             }
@@ -366,16 +478,21 @@ impl<'a> Worker<'a> {
         let mut hand = Hand::new();
         let mut looks = 0u32;
         let mut taken = 0u64;
+        let mut done = 0u64;
         let mut bursts = 0u32;
         for _ in rt.forever() {
             if shared.is_stopped() {
                 return;
             }
+            let before = taken;
             if self.receive_all(rt, &mut taken).is_err() {
                 shared.refuse();
                 return;
             }
-            match self.burst(steps, &mut hand, gate) {
+            if taken != before {
+                shared.tell_hunger(number, 0);
+            }
+            match self.burst(rt, shared, steps, &mut hand, gate) {
                 Ok(Turn::Goes) => {
                     looks = 0;
                     bursts = bursts.saturating_add(1);
@@ -395,13 +512,16 @@ impl<'a> Worker<'a> {
                         shared.refuse();
                         return;
                     }
-                    if taken > 0 {
+                    if taken != done {
                         looks = 0;
                         shared.rise(number);
+                        done = taken;
+                        shared.count_done(number, done);
+                    } else if looks == 1 {
+                        shared.stop_if_done();
                     }
-                    shared.count_done(taken);
-                    taken = 0;
                     looks = looks.saturating_add(1);
+                    shared.tell_hunger(number, taken.saturating_add(1));
                     if !shared.wait(rt, number, looks) {
                         return;
                     }

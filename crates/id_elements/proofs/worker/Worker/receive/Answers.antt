@@ -26,6 +26,7 @@ returns-in_ok-sort_letter-in-Some-clause-same g c =
     let new = worker_of w.goes (set w.doors.items w.number d) w.element w.own.messages c.in-Some.letter.messages w.back.messages w.stray.messages w.letters.items in
     let taken = IsSame-door w.goes w.doors.items w.element w.own.messages w.came.messages w.back.messages w.stray.messages w.letters.items c.self.invariant.0
     w.number c.index_mut.result.now d c.index_mut.ensures.value lt c.in-Some.letter.messages w.letters.items (ap (λ (x : DoorView). x.queue) c.in-Some.ensures) in
-    IsSame-after c.args.self.now new c.sort_letter-in-Some.new.self
+    subst (λ (v : WorkerView). IsSame c.args.self.now v) (sym c.put_by.ensures)
+    (IsSame-after c.args.self.now new c.sort_letter-in-Some.new.self
     (IsSame-after c.args.self.now old new (subst (λ (v : WorkerView). IsSame c.args.self.now v) (sym c.self.view_is) c.in_ok-sort_letter.ensures.same) taken)
-    c.in_ok-sort_letter-in-Some.ensures.same
+    c.in_ok-sort_letter-in-Some.ensures.same)

@@ -1,5 +1,5 @@
 use Rattle.id_elements.proofs.PassingLemmas.{routed_more}
-use Rattle.id_elements.proofs.passing.first_for_others.Goals as goal
+use Rattle.id_elements.proofs.goals.first_for_others.Goals as goal
 
 pub loop-position-preserved : goal.loop-position-preserved
 loop-position-preserved c = λ front.

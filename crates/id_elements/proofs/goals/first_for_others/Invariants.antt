@@ -1,7 +1,7 @@
 -- Those from the first on that were looked at are for the element.
 use Rattle.std.proofs.Common.{take}
 use Rattle.id_elements.specs.Passing.{AreRouted}
-use Rattle.id_elements.proofs.passing.first_for_others.Given as goal
+use Rattle.id_elements.proofs.goals.first_for_others.Given as goal
 
 abbrev pub invariant-loop-position : goal.invariant-loop-position
 invariant-loop-position l = AreRouted l.count l.number (take l.from l.own.messages) → AreRouted l.count l.number (take l.position l.own.messages)
