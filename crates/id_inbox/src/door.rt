@@ -91,14 +91,6 @@ impl Door {
         Ok(Door { inbox, pass })
     }
 
-    /// Whether the inbox was found empty. Nothing is promised of the answer: other threads may have sent to the inbox,
-    /// or taken from it, since. Takes no memory.
-    pub fn seems_empty(&mut self) -> bool
-        ensures { self.new ≡ self.old }
-    {
-        self.inbox.line.is_empty_as::<Takes>(&mut self.pass)
-    }
-
     /// Takes in another door to the same inbox, with its parts, and with what it has sent and taken. Takes no memory.
     pub fn absorb(&mut self, other: Door)
         requires { other.queue ≡ self.old.queue }
