@@ -75,10 +75,10 @@ const printedWords = () => ["names", "trace"].filter((name) => by(name).checked)
 
 const TABS = { run: "Run", walk: "Walk", profile: "Profile", graph: "Graph", facts: "Facts", check: "Check" };
 TABS.help = "Help";
-const settings = { dot: false, triggers: false, calls: false, rounds: "100" };
+const settings = { dot: false, triggers: false, calls: false, rounds: "100", beside: "" };
 const runner = new Caller(), reasoner = new Caller();
 // the walk that is shown, the event to begin it with, and whether it takes the keys; and what the result is of
-let tab = "run", performed = 0, shownWalk = null, walkAt = 0, walkTakesKeys = false, shownOf = null;
+let tab = "run", performed = 0, shownWalk = null, shownOther = null, walkAt = 0, walkTakesKeys = false, shownOf = null;
 
 function wordsOf(which) {
   if (which === "check") return ["check", FILE];
@@ -103,11 +103,13 @@ function optionsOf(which) {
     const drawn = [checkbox("triggers", "triggers"), checkbox("calls", "arcs between blocks")];
     return [...drawn, checkbox("dot", "print it for Graphviz")];
   }
-  if (which !== "facts") return [];
-  const field = { value: settings.rounds, size: "6", inputmode: "numeric" };
-  const keep = (event) => { settings.rounds = event.target.value; };
+  const named = { facts: ["rounds", "rounds ", ""], walk: ["beside", "beside it the run in the order ", "seed"] };
+  if (!named[which]) return [];
+  const [name, label, placeholder] = named[which];
+  const field = { value: settings[name], size: "6", inputmode: "numeric", placeholder };
+  const keepIt = (event) => { settings[name] = event.target.value; };
   const enter = (event) => { if (event.key === "Enter" && !event.ctrlKey) perform(); };
-  return [made("label", {}, "rounds ", made("input", { ...field, oninput: keep, onkeydown: enter }))];
+  return [made("label", {}, label, made("input", { ...field, oninput: keepIt, onkeydown: enter }))];
 }
 
 // What the program wrote, as it is. A long output is cut until all of it is asked for.
@@ -150,11 +152,12 @@ async function perform() {
     const answer = await runner.ask(words, files);
     const more = await extra(which, files, answer);
     if (number !== performed) return;
+    clearTimeout(slow);
     const told = `Status ${answer.status}: ${STATUSES[answer.status] || ""} (${answer.took.toFixed(1)} ms)`;
     show(which, words, told, answer.status !== 0);
     showPrinted(answer.printed + answer.refused);
     by("view").replaceChildren(...viewOf(which, answer, more));
-    if (by("walk")) mount(answer, more);
+    if (by("walk")) await mount(answer, more, files, number);
     if (which === "run") reasons(answer, files, number, 5000);
   } catch (error) {
     if (number !== performed) return;
@@ -170,8 +173,9 @@ async function perform() {
 
 // The command, its options and its status; what was shown of another one goes.
 function show(which, words, status, isBad) {
-  if (shownWalk) shownWalk.unmount();
-  shownWalk = null;
+  [shownWalk, shownOther].forEach((it) => it && it.unmount());
+  shownWalk = shownOther = null;
+  by("view").classList.remove("two");
   by("command").textContent = "$ idc " + words.join(" ");
   if (by("options").dataset.tab !== which) by("options").replaceChildren(...optionsOf(which));
   by("options").dataset.tab = which;
@@ -207,8 +211,10 @@ async function reasons(answer, files, number, most) {
   if (!isFault && !isWaiting && !["answer none", "stopped"].includes(lines[0])) return;
   const box = by("reasons"), put = (...parts) => { if (number === performed) box.replaceChildren(...parts); };
   const inputs = inputWords().filter((it) => /^\w+=/.test(it));
+  let last = 0;
   const ask = async (rounds) => {
     if (performance.now() - start > most) throw new Slow();
+    last = rounds;
     return (await reasoner.ask(["facts", FILE, String(rounds), ...inputs], files)).printed.split("\n").slice(0, -1);
   };
   const timer = setTimeout(() => { if (reasoner.isBusy() && number === performed) reasoner.end(new Slow()); }, most);
@@ -217,6 +223,11 @@ async function reasons(answer, files, number, most) {
     const found = await (isFault ? atFault(text, lines[0], ask) : why(text, lines, ask));
     const head = isFault ? "The values that led to it" : lines[0] === "stopped" ? "What goes on" : "What it waits for";
     if (found.length) put(reasonsView(head, found));
+    if (isFault) return;
+    // the program's own list, where it has that command: proved, of the last round that was asked for
+    const own = await reasoner.ask(["why", FILE, "--rounds", String(last), ...inputs], files);
+    const isThere = number === performed && box.firstChild;
+    if (isThere && own.status === 0 && last) box.firstChild.append(ownReasons(own.printed));
   } catch (error) {
     if (!(error instanceof Slow)) {
       if (!(error instanceof Ended)) console.error(error);
@@ -295,8 +306,8 @@ function standalone(svg) {
   return new XMLSerializer().serializeToString(copy);
 }
 
-// The walk of the run that was just made.
-function mount(answer, graph) {
+// The walk of the run that was just made, and beside it that in another order, where one is asked for.
+async function mount(answer, graph, files, number) {
   const root = by("walk"), lines = answer.printed.split("\n"), trace = lines.filter((line) => EVENT.test(line));
   const has = typeof mountWalk === "function";
   if (!graph || !has || trace.length > MOST.walk) {
@@ -309,6 +320,39 @@ function mount(answer, graph) {
   shownWalk = mountWalk(root, of);
   walkAt = 0;
   if (walkTakesKeys) root.focus({ preventScroll: true });
+  if (settings.beside.trim()) await mountOther(of, trace, files, number);
+}
+
+// A second walk beside the first, of the same run in the order of a seed, with one slider for both.
+async function mountOther(of, trace, files, number) {
+  const words = settingWords(), at = words.indexOf("--order");
+  if (at >= 0) words.splice(at, 2);
+  const run = ["run", FILE, ...inputWords(), ...words, "--order", settings.beside.trim(), "--trace"];
+  const answer = await runner.ask(run, files), lines = answer.printed.split("\n");
+  const other = lines.filter((line) => EVENT.test(line));
+  if (number !== performed || !shownWalk) return;
+  if (!other.length || other.length > MOST.walk) {
+    by("view").prepend(saying(explained(answer.refused.trim() || "that run can't be walked"), "bad"));
+    return;
+  }
+  const root = made("div", { id: "other" }), most = Math.max(trace.length, other.length);
+  const range = { type: "range", min: "0", max: String(most), value: "0", "aria-label": "event of both" };
+  const slider = made("input", range);
+  const goBoth = (to) => {
+    slider.value = to;
+    [shownWalk, shownOther].forEach((it) => it.go(Number(to)));
+  };
+  slider.oninput = () => goBoth(slider.value);
+  const differ = trace.findIndex((line, one) => line !== other[one]) + 1;
+  const told = differ ? ` They differ first at event ${differ}. ` : " They are the same. ";
+  const button = (name, to) => made("button", { type: "button", onclick: () => goBoth(to()) }, name);
+  const go = [button("<", () => slider.value - 1), button(">", () => Number(slider.value) + 1)];
+  if (differ) go.push(button("go there", () => differ));
+  by("view").prepend(made("p", { id: "both" }, "Both: ", slider, told, ...go));
+  by("view").append(root);
+  by("view").classList.add("two");
+  const printed = lines.filter((line) => !EVENT.test(line)).join("\n");
+  shownOther = mountWalk(root, { ...of, trace: other.join("\n"), printed, at: 0, title: `order ${settings.beside}` });
 }
 
 // The event at which the walk stands.

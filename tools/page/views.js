@@ -46,6 +46,14 @@ function reasonsView(head, lines) {
   return made("div", { class: "reasons" }, ...found);
 }
 
+// What `idc why` prints, with the places of things as what can be gone to.
+function ownReasons(printed) {
+  const lines = printed.split("\n").slice(0, MOST.rows).join("\n").split(/(?<=@)(\d+:\d+)/);
+  const parts = lines.map((part, number) => (number % 2 ? placeButton(part) : part));
+  return made("details", {}, made("summary", {}, "The same as the program itself says it, by its paths"),
+    made("pre", {}, ...parts));
+}
+
 // An array as the text names it.
 function arrayCalled(name, called) {
   const where = whereOf(name), own = where && called[where.place];
