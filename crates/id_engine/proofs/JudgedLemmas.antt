@@ -34,7 +34,7 @@ use Rattle.id_compile.specs.Refusals.IsRefusedRun.{by_source, by_write}
 use Rattle.id_compile.specs.Refusals.IsRefusedSource.{by_memory}
 use Rattle.id_engine.specs.Commands.{Judge, HasShown, ShowsAll, ShowsFront}
 use Rattle.id_engine.specs.Commands.Shows.{legal, other}
-use Rattle.id_engine.specs.Judged.{legal_text, other_text, why_text}
+use Rattle.id_engine.specs.Judged.{cause_text, legal_text, other_text}
 use Rattle.id_engine.specs.Judgements.{IsJudged, IsOutput, IsPrintedSo, JudgesSo, PrintsJudged, PrintsLegal}
 use Rattle.id_engine.specs.Judgements.JudgesSo.{judged, unallowed}
 use Rattle.id_engine.specs.Judgements.PrintsJudged.{all_out, front_out, none_out}
@@ -102,11 +102,11 @@ IsOutput-from text b r old new n status u result ended printed is =
     (subst (λ (k : ℕ). IsPrintedSo u k result) ended is)
 
 -- why an event can't follow is printed behind its position
-pub PrintsOther-from : (trace : List ℕ) (k : ℕ) (c : Cause) (why : List ℕ) (old new : SinkView) (u : Result (Unit {0}) PrintError)
-    (result : Result ℕ EngineError) → why ≡ why_text trace k c → Prints old new (other_text k why) u → IsPrintedSo u 6 result
-    → PrintsJudged (other_text k (why_text trace k c)) 6 old new result
-PrintsOther-from trace k c why old new u result same printed is =
-    PrintsJudged-from (other_text k (why_text trace k c)) 6 old new u result (subst (λ (w : List ℕ). Prints old new (other_text k w) u) same printed) is
+pub PrintsOther-from : (k : ℕ) (c : Cause) (why : List ℕ) (old new : SinkView) (u : Result (Unit {0}) PrintError)
+    (result : Result ℕ EngineError) → why ≡ cause_text c → Prints old new (other_text k why) u → IsPrintedSo u 6 result
+    → PrintsJudged (other_text k (cause_text c)) 6 old new result
+PrintsOther-from k c why old new u result same printed is =
+    PrintsJudged-from (other_text k (cause_text c)) 6 old new u result (subst (λ (w : List ℕ). Prints old new (other_text k w) u) same printed) is
 
 module _ (P : Checked) (vs : List Constant) (text trace : List ℕ) (count : ℕ) (b : Bool) (g : Parts) (inputs : AreInputs P vs) (schemas : Schemas P g) where
   -- what a report says of the machine that a trace leads to is so
@@ -129,10 +129,10 @@ module _ (P : Checked) (vs : List Constant) (text trace : List ℕ) (count : ℕ
 
   -- and of any other the first event is told that can't follow
   pub JudgesSo-other : (k : ℕ) (c : Cause) → AreAllowed count 1 → IsFirstLine g vs count trace k c
-      → (old new : SinkView) (result : Result ℕ EngineError) → PrintsJudged (other_text k (why_text trace k c)) 6 old new result
+      → (old new : SinkView) (result : Result ℕ EngineError) → PrintsJudged (other_text k (cause_text c)) 6 old new result
       → JudgesSo P vs text trace count b old new result
   JudgesSo-other k c allowed h old new result prints =
-      judged 6 (other_text k (why_text trace k c)) allowed (λ ws are. other k c are schemas h (clear_lines (source P vs) g count inputs schemas)) prints
+      judged 6 (other_text k (cause_text c)) allowed (λ ws are. other k c are schemas h (clear_lines (source P vs) g count inputs schemas)) prints
 
 -- ---- what is said of a trace that is judged
 

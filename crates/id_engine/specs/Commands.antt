@@ -34,7 +34,7 @@ use Rattle.id_judge.specs.declared.verdict.Cause.{Cause}
 use Rattle.id_judge.specs.declared.verdict.Verdict.TheVariants.{Legal}
 use Rattle.id_judge.specs.Lines.{AreClear, IsFirstLine, IsLineVerdict}
 use Rattle.id_compile.specs.Programs.{IsProgramOf}
-use Rattle.id_engine.specs.Judged.{legal_text, other_text, why_text}
+use Rattle.id_engine.specs.Judged.{cause_text, legal_text, other_text}
 
 -- a command: say that the text is accepted, print its graph, print the picture of its graph, print the facts of a
 -- round, run it, with what names have or without, and with its trace or without, or judge whether bytes are the trace
@@ -94,7 +94,7 @@ pub data Shows (P : Checked) (text : List ℕ) : Command → ℕ → List ℕ �
   other : {b : Bool} {ws : List (List ℕ)} {vs : List Constant} {g : Parts} {count : ℕ} {trace : List ℕ}
       (k : ℕ) (c : Cause) → AreInputsOf P ws vs → Schemas P g
       → IsFirstLine g vs count trace k c → AreClear g vs count →
-      Shows P text (Judge b ws count trace) 6 (other_text k (why_text trace k c))
+      Shows P text (Judge b ws count trace) 6 (other_text k (cause_text c))
 
 -- what a command shows of the text's program, with this status, is printed with this result
 pub record HasShown (c : Command) (text : List ℕ) (old new : SinkView) (status : ℕ)

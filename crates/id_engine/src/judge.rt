@@ -12,8 +12,7 @@ ghost use Rattle.id_compile.specs.Programs.{IsPlacedWithin};
 ghost use Rattle.id_compile.specs.Refusals.{IsInsideOf, IsRefusedRun, IsTakenRun};
 ghost use Rattle.id_engine.specs.Commands.{ShowsAll, ShowsFront};
 ghost use Rattle.id_engine.specs.Commands as command;
-ghost use Rattle.id_engine.specs.Judged.{begin_with_digit, begin_with_line, behind_lines, cause_text, has_end};
-ghost use Rattle.id_engine.specs.Judged.{legal_text, other_text, why_text};
+ghost use Rattle.id_engine.specs.Judged.{cause_text, legal_text, other_text};
 ghost use Rattle.id_engine.specs.Judgements.{IsPrintedSo, JudgesSo, PrintsJudged, PrintsLegal};
 ghost use Rattle.id_engine.specs.Reports.{AreAllowed, AreReportsWithin, IsUnallowed};
 ghost use Rattle.id_engine.specs.Runs.{keeps_for};
@@ -29,50 +28,6 @@ use std::alloc::Global;
 /// The status where a trace is none of a run.
 const NO_RUN: u8 = 6;
 
-/// The bytes behind so many line feeds.
-fn behind_lines(trace: &[u8], lines: usize) -> &[u8]
-    ensures { result.now ≡ behind_lines lines trace.now }
-{
-    let mut rest = trace;
-    let mut left = lines;
-    while left > 0 {
-        match rest.split_first() {
-            None => return rest,
-            Some((first, others)) => {
-                if *first == b'\n' {
-                    left -= 1;
-                }
-                rest = others;
-            }
-        }
-    }
-    rest
-}
-
-/// Whether a line feed is among the bytes.
-fn has_end(bytes: &[u8]) -> bool
-    ensures { result ≡ has_end bytes.now }
-{
-    bytes.contains(&b'\n')
-}
-
-/// Whether the bytes begin with a digit.
-fn begin_with_digit(bytes: &[u8]) -> bool
-    ensures { result ≡ begin_with_digit bytes.now }
-{
-    match bytes.first() {
-        Some(first) => b'0' <= *first && *first <= b'9',
-        None => false,
-    }
-}
-
-/// Whether the bytes begin with a whole line that a digit opens, as the line of each event does.
-fn begin_with_line(bytes: &[u8]) -> bool
-    ensures { result ≡ begin_with_line bytes.now }
-{
-    begin_with_digit(bytes) && has_end(bytes)
-}
-
 /// What is said of a cause.
 fn cause_bytes(cause: Cause) -> &'static [u8]
     ensures { result.now ≡ cause_text cause }
@@ -83,17 +38,7 @@ fn cause_bytes(cause: Cause) -> &'static [u8]
         Cause::NoStamp => b"no stamp is left for its message",
         Cause::OtherStamp => b"its stamp is not the next",
         Cause::OtherOutcome => b"the element makes another event of its message",
-    }
-}
-
-/// Why the event at this position can't follow.
-fn why_bytes(trace: &[u8], position: usize, cause: Cause) -> &'static [u8]
-    ensures { result.now ≡ why_text trace.now position cause }
-{
-    if begin_with_line(behind_lines(trace, position)) {
-        cause_bytes(cause)
-    } else {
-        b"this is no line of an event"
+        Cause::NoLine => b"this is no line of an event",
     }
 }
 
@@ -200,12 +145,11 @@ fn print_other<W: Sink>(
     out: &mut W,
 ) -> Result<u8, EngineError>
     requires { position < length trace.now }
-    ensures { PrintsJudged (other_text position (why_text trace.now position cause)) 6 (W.told out.old)
-        (W.told out.new) result }
+    ensures { PrintsJudged (other_text position (cause_text cause)) 6 (W.told out.old) (W.told out.new) result }
 {
     let within = position < trace.len();
     prove!(within);
-    let why = why_bytes(trace, position, cause);
+    let why = cause_bytes(cause);
     let written = put_other(out, position, why);
     printed(written, NO_RUN)
 }

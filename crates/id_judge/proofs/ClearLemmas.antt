@@ -1,26 +1,27 @@
 -- Lists of events with one trace, where lines are clear.
-use Rattle.std.proofs.Common.{◌≡◌, ℕ, ◌+◌, ◌<◌, List, [], ◌∷◌, ◌++◌, Some, length, slice_get, inl, refl, sym, ap, ◌∙◌, subst, arith, append_assoc}
+use Rattle.std.proofs.Common.{◌≡◌, ℕ, ◌<◌, List, [], ◌∷◌, ◌++◌, Some, length, slice_get, inl, refl, sym, ap, ◌∙◌, subst, arith, append_assoc}
 use Rattle.std.specs.Prelude.{IsTrue}
 use Rattle.std.proofs.lemmas.List.{append_cancel_left}
 use Rattle.id_value.specs.List.{Among}
-use Rattle.id_value.specs.declared.Constant.{Constant}
 use Rattle.id_instr.specs.Graph.{Parts}
 use Rattle.id_tag.specs.declared.Message.{Message}
 use Rattle.id_tag.specs.Routes.{route_of}
 use Rattle.id_record.specs.declared.step.Step.{Step}
 use Rattle.id_core.specs.Events.{EventView}
 use Rattle.id_core.specs.Steps.{State, event_of, is_ended, next_stamp, step_of}
-use Rattle.id_core.specs.Machines.{World, start}
+use Rattle.id_core.specs.Machines.{World}
 use Rattle.id_runs.specs.Legal.{CanFollow, IsSameBut, LeadTo, no_more, follow, after_event}
-use Rattle.id_runs.proofs.Weights.{same_order}
 use Rattle.id_trace.specs.Traces.{end_text, line_text, payload_text, trace_text}
 use Rattle.id_judge.specs.declared.verdict.Cause.{Cause}
-use Rattle.id_judge.specs.declared.verdict.Cause.TheVariants.{NotInFlight, OtherElement, NoStamp, OtherStamp, OtherOutcome}
-use Rattle.id_judge.specs.Lines.{AreSmall, BeginsAt, IsClear, IsFirstLine, IsLineCause, Says, behind}
+use Rattle.id_judge.specs.declared.verdict.Cause.TheVariants.{NotInFlight, OtherElement, NoStamp, OtherStamp, OtherOutcome, NoLine}
+use Rattle.id_judge.specs.Ends.{is_line}
+use Rattle.id_judge.specs.Judging.{IsSmallFrom}
+use Rattle.id_judge.specs.Lines.{AreSmall, BeginsAt, IsClear, IsLineCause, Says, behind}
 use Rattle.id_judge.proofs.OrderLemmas.{also_among, other_order}
 use Rattle.id_judge.proofs.FollowLemmas.{can_also, same_after}
 use Rattle.id_judge.proofs.GivenLemmas.{not_false, same_some}
 use Rattle.id_judge.proofs.LinesLemmas.{line_element, line_says, line_stamp, same_end_text}
+use Rattle.id_judge.proofs.FrontLemmas.{event_line}
 
 -- two messages that one text says come to ends that have one text
 ends : (text : List ℕ) (m n : Message) (a b : Step) → m ≡ n → Says text m a → Says text n b → end_text a ≡ end_text b
@@ -35,14 +36,10 @@ module _ (g : Parts) (count : ℕ) where
   abbrev pub IsClearFrom : World → Type 0
   IsClearFrom w = (es : List EventView) (x : World) → LeadTo g count w es x → IsClear x
 
-  -- what is in flight after each front of these events is what a machine has
-  abbrev pub IsSmallFrom : World → List EventView → Type 0
-  IsSmallFrom w events = (ds es : List EventView) (x : World) → events ≡ ds ++ es → LeadTo g count w ds x → AreSmall x.flight
-
-  flies : (w : World) (v : EventView) → CanFollow g count w v → Among v.message w.flight
+  pub flies : (w : World) (v : EventView) → CanFollow g count w v → Among v.message w.flight
   flies w v f = also_among v.message (v.message ∷ f.others) w.flight (other_order w.flight (v.message ∷ f.others) f.flying) (inl refl)
 
-  state_is : (w : World) (v : EventView) (f : CanFollow g count w v) (m : Message) (s : State) → m ≡ v.message
+  pub state_is : (w : World) (v : EventView) (f : CanFollow g count w v) (m : Message) (s : State) → m ≡ v.message
       → slice_get w.elements (route_of m.payload count) ≡ Some s → s ≡ f.state
   state_is w v f m s same element =
       same_some s f.state (sym element ∙ ap (λ (x : Message). slice_get w.elements (route_of x.payload count)) same ∙ f.element)
@@ -57,7 +54,7 @@ module _ (g : Parts) (count : ℕ) where
   came_is w v f = sym (ap (λ (e : EventView). e.step) f.made)
 
   module _ (w : World) (clear : IsClear w) (small : AreSmall w.flight) (text tail : List ℕ) (v : EventView) (is : text ≡ line_text v ++ tail) (f : CanFollow g count w v) where
-    one : (m : Message) (step : Step) → Among m w.flight → Says text m step → m ≡ v.message
+    pub one : (m : Message) (step : Step) → Among m w.flight → Says text m step → m ≡ v.message
     one m step flying says =
         clear m v.message flying (flies w v f) (small m flying) (small v.message (flies w v f)) text step v.step says (line_says v text tail is)
 
@@ -83,9 +80,10 @@ module _ (g : Parts) (count : ℕ) where
         let comes : step_of g (route_of why.0.payload count) why.2 why.0 ≡ step_of g (route_of v.message.payload count) f.state v.message =
         λ i. step_of g (route_of (same i).payload count) (state i) (same i) in
         why.6 (ends text why.0 v.message why.1 v.step same why.3.says (line_says v text tail is) ∙ ap end_text (came_is w v f ∙ sym comes))
+    cannot NoLine why = not_false (is_line text) why (ap is_line is ∙ event_line v tail)
 
   -- two events that can follow and have the first line of a text are one
-  one_event : (w : World) → IsClear w → AreSmall w.flight → (text r t : List ℕ) (v u : EventView) → text ≡ line_text v ++ r → text ≡ line_text u ++ t
+  pub one_event : (w : World) → IsClear w → AreSmall w.flight → (text r t : List ℕ) (v u : EventView) → text ≡ line_text v ++ r → text ≡ line_text u ++ t
       → CanFollow g count w v → CanFollow g count w u → v ≡ u
   one_event w clear small text r t v u is at f h =
       let same : v.message ≡ u.message = one w clear small text t u at h v.message v.step (flies w v f) (line_says v text r is) in
@@ -94,12 +92,12 @@ module _ (g : Parts) (count : ℕ) where
       λ i. event_of g (route_of (same i).payload count) (state i) (same i) in
       sym f.made ∙ makes ∙ h.made
 
-  same_tail : (a x y : List ℕ) (text : List ℕ) → text ≡ a ++ x → text ≡ a ++ y → x ≡ y
+  pub same_tail : (a x y : List ℕ) (text : List ℕ) → text ≡ a ++ x → text ≡ a ++ y → x ≡ y
   same_tail a x y text h k = append_cancel_left a x y (sym h ∙ k)
 
-  -- no legal list has one line more than those before a cause
-  never : {w end : World} {events : List EventView} → LeadTo g count w events end → IsClearFrom w → IsSmallFrom w events → {x y : World} {es : List EventView}
-      → LeadTo g count x es y → IsSameBut w x → length es ≡ length events + 1 → (text rest tail : List ℕ) → text ≡ trace_text events ++ rest
+  -- no legal list has more lines than those before a cause
+  pub never : {w end : World} {events : List EventView} → LeadTo g count w events end → IsClearFrom w → IsSmallFrom g count w events → {x y : World} {es : List EventView}
+      → LeadTo g count x es y → IsSameBut w x → length events < length es → (text rest tail : List ℕ) → text ≡ trace_text events ++ rest
       → text ≡ trace_text es ++ tail → (cause : Cause) → IsLineCause g count end rest cause → ⊥
   never no_more clear small no_more same many text rest tail before after cause why = absurd (omega (arith, many))
   never {w} no_more clear small {x} (follow {v = u} {vs = us} h k) same many text rest tail before after cause why =
@@ -118,21 +116,3 @@ module _ (g : Parts) (count : ℕ) where
       (other ∙ ap (λ (z : EventView). line_text z ++ (trace_text us ++ tail)) (sym is)) in
       never l (λ es z m. clear (v ∷ es) z (follow f m)) (λ ds es z front m. small (v ∷ ds) es z (ap (λ t. v ∷ t) front) (follow f m)) r.1 (same_after g count w x v same f r.0) (omega (arith, many)) (trace_text vs ++ rest) rest tail refl
       tails cause why
-
--- the first line from which on a text is no trace
-pub is_first_line : (g : Parts) (vs : List Constant) (count : ℕ) (text rest : List ℕ) (events : List EventView) (k : ℕ) (w : World) (cause : Cause)
-    → length events ≡ k → text ≡ trace_text events ++ rest → 0 < length rest → LeadTo g count (start g vs count) events w
-    → IsSmallFrom g count (start g vs count) events → IsLineCause g count w rest cause → IsFirstLine g vs count text k cause
-is_first_line g vs count text rest events k w cause many parts some lead small why = record {
-  events = events;
-  many = many;
-  rest = rest;
-  parts = parts;
-  some = some;
-  end = w;
-  before = lead;
-  why = why;
-  never = λ clear es l more b.
-      never g count lead clear small l.lead (record { elements = refl; flight = same_order (start g vs count).flight })
-      (more ∙ ap (λ n. n + 1) (sym many)) text rest b.rest parts b.is cause why;
-}

@@ -15,7 +15,7 @@ use Rattle.id_runs.specs.Legal.{CanFollow, InSomeOrder, IsSameBut, LeadTo, no_mo
 use Rattle.id_observe.proofs.WalksLemmas.{take-next}
 use Rattle.id_runs.proofs.Weights.{same_order}
 use Rattle.id_judge.specs.declared.verdict.Cause.{Cause}
-use Rattle.id_judge.specs.declared.verdict.Cause.TheVariants.{NotInFlight, OtherElement, NoStamp, OtherStamp, OtherOutcome}
+use Rattle.id_judge.specs.declared.verdict.Cause.TheVariants.{NotInFlight, OtherElement, NoStamp, OtherStamp, OtherOutcome, NoLine}
 use Rattle.id_judge.specs.Verdicts.{Follows, IsAt, IsCause, IsFirst, goal_of}
 use Rattle.id_judge.specs.Benches.{Differs}
 use Rattle.id_judge.proofs.OrderLemmas.{also_among, other_order, same_others, with_more}
@@ -81,6 +81,7 @@ module _ (g : Parts) (count : ℕ) where
   refutes w v OtherOutcome why f =
       let state : why.0 ≡ f.state = some_same why.0 f.state (sym why.1.element ∙ f.element) in
       why.4 (ap (λ s. event_of g (goal_of count v) s v.message) state ∙ f.made)
+  refutes w v NoLine why f = why
 
 pub is_first : (g : Parts) (vs : List Constant) (count : ℕ) (es : List EventView) (k : ℕ) (v : EventView) (w : World) (cause : Cause)
     → slice_get es k ≡ Some v → LeadTo g count (start g vs count) (take k es) w → IsCause g count w v cause → IsFirst g vs count es k cause
@@ -131,6 +132,7 @@ difference_is g count w u v of own can None d = tt
 difference_is g count w u v of own can (Some NotInFlight) d = absurd d
 difference_is g count w u v of own can (Some OtherElement) d = absurd d
 difference_is g count w u v of own can (Some NoStamp) d = absurd d
+difference_is g count w u v of own can (Some NoLine) d = absurd d
 difference_is g count w u v of own can (Some OtherStamp) d = other_stamp g count w u v of own can d
 difference_is g count w u v of own can (Some OtherOutcome) d = other_outcome g count w u v of own can d.0 d.1
 

@@ -4,7 +4,12 @@ pub mod DeliverLemmas
 pub mod VerdictLemmas
 pub mod GivenLemmas
 pub mod LinesLemmas
+pub mod EndsLemmas
+pub mod FrontLemmas
+pub mod MoreLemmas
+pub mod JudgeLemmas
 pub mod ClearLemmas
+pub mod OnlyLemmas
 pub mod ReadLemmas
 pub mod StampsLemmas
 pub mod TextLemmas

@@ -1,6 +1,7 @@
 -- The lines of events, and what stands behind their spaces.
 use Rattle.std.proofs.Common.{◌≡◌, ℕ, zero, suc, ◌/◌, ◌%◌, ◌==◌, Bool, true, false, cond, List, [], ◌∷◌, ◌++◌, refl, sym, ap, ◌∙◌, arith, append_assoc}
-use Rattle.std.specs.Prelude.{codes, decimal}
+use Rattle.std.specs.Prelude.{◌||◌, codes, decimal}
+use Rattle.std.proofs.lemmas.Bool.Decides.{nat_tests}
 use Rattle.std.specs.Fmt.{digits_onto, digit_glyph, digits}
 use Rattle.std.proofs.lemmas.List.{append-nil}
 use Rattle.id_record.specs.declared.step.Step.{Step}
@@ -9,19 +10,32 @@ use Rattle.id_core.specs.Events.{EventView}
 use Rattle.id_trace.specs.Traces.{end_text, line_text, payload_text, trace_text}
 use Rattle.id_judge.specs.Lines.{BeginsAt, Says, behind}
 
--- no byte is a space
+-- the byte ends a word: a space, or a line feed
+abbrev pub is_gap : ℕ → Bool
+is_gap b = (b == 32) || (b == 10)
+
+-- no byte ends a word
 abbrev pub IsWord : List ℕ → Type 0
 IsWord [] = Unit {0}
-IsWord (b ∷ bs) = ((b == 32) ≡ false) × IsWord bs
+IsWord (b ∷ bs) = (is_gap b ≡ false) × IsWord bs
+
+no_space : (b : ℕ) → is_gap b ≡ false → (b == 32) ≡ false
+no_space b w = grind (arith, nat_tests)
+
+pub no_feed : (b : ℕ) → is_gap b ≡ false → (b == 10) ≡ false
+no_feed b w = grind (arith, nat_tests)
 
 -- what stands behind a word and a space
 pub behind_word : (a rest : List ℕ) → IsWord a → behind (a ++ 32 ∷ rest) ≡ rest
 behind_word [] rest w = refl
-behind_word (b ∷ a) rest w = ap (λ c. cond c (a ++ 32 ∷ rest) (behind (a ++ 32 ∷ rest))) w.0 ∙ behind_word a rest w.1
+behind_word (b ∷ a) rest w =
+    let more : List ℕ = a ++ 32 ∷ rest in
+    ap (λ c. cond c more (cond (b == 10) [] (behind more))) (no_space b w.0) ∙ ap (λ c. cond c [] (behind more)) (no_feed b w.0)
+    ∙ behind_word a rest w.1
 
 -- digits are a word
-glyph_no_space : (n : ℕ) → (digit_glyph false (n % 10) == 32) ≡ false
-glyph_no_space n = grind arith
+glyph_no_space : (n : ℕ) → is_gap (digit_glyph false (n % 10)) ≡ false
+glyph_no_space n = grind (arith, nat_tests)
 
 either_word : (b : Bool) (xs ys : List ℕ) → IsWord xs → IsWord ys → IsWord (cond b xs ys)
 either_word true xs ys v w = v

@@ -1,6 +1,6 @@
 -- What was read of a trace so far, and what comes of its next line.
 use Rattle.std.proofs.Common.{◌≡◌, ◌⊎◌, inl, inr, ℕ, ◌+◌, ◌<◌, ◌==◌, ◌||◌, ◌-◌, ◌^◌, List, [], ◌∷◌, ◌++◌, Some, false, zero, suc, replicate, length, map, set, slice_get, slice_set, refl, sym, ap, ◌∙◌, subst, arith, append_assoc}
-use Rattle.std.specs.Prelude.{Err, IfErr, IfOk, Ok, Result, option_map}
+use Rattle.std.specs.Prelude.{Err, IfErr, IfOk, IsFalse, Ok, Result, option_map}
 use Rattle.std.proofs.lemmas.List.{append-nil, length-append, map-set}
 use Rattle.std.proofs.lemmas.Option.{slice_get-map}
 use Rattle.id_value.specs.List.{Among}
@@ -20,25 +20,19 @@ use Rattle.id_runs.specs.Legal.{IsSameBut, LeadTo, no_more}
 use Rattle.id_runs.proofs.Weights.{same_order}
 use Rattle.id_trace.specs.Traces.{end_text, handled_text, line_text, payload_text, trace_text}
 use Rattle.id_judge.specs.declared.verdict.Cause.{Cause}
-use Rattle.id_judge.specs.declared.verdict.Cause.TheVariants.{NotInFlight, OtherElement, NoStamp, OtherStamp, OtherOutcome}
+use Rattle.id_judge.specs.declared.verdict.Cause.TheVariants.{NotInFlight, OtherElement, NoStamp, OtherStamp, OtherOutcome, NoLine}
 use Rattle.id_judge.specs.Verdicts.{Follows}
 use Rattle.id_judge.specs.Benches.{BenchView, Delivers, IsBench, IsEnded, number_for, world_in}
 use Rattle.id_judge.specs.Lines.{Advances, AreSmall, AreStamps, BeginsAt, Compares, IsFirstLine, IsFound, IsLegalTrace, IsLineCause, IsOther, IsSaid, IsTold, Says, behind}
-use Rattle.id_judge.proofs.ClearLemmas.{IsSmallFrom, is_first_line}
+use Rattle.id_judge.specs.Ends.{is_line as may_be_line}
+use Rattle.id_judge.specs.Judging.{IsRead}
+use Rattle.id_judge.proofs.OnlyLemmas.{is_first_line, only_list}
 use Rattle.id_judge.proofs.FollowLemmas.{lead_more, same_end}
 use Rattle.id_judge.proofs.OrderLemmas.{also_among, other_order}
 use Rattle.id_judge.proofs.GivenLemmas.{same_some}
 use Rattle.id_judge.proofs.LinesLemmas.{is_line, trace_more}
 
 -- ---- what was read
-
--- the text is the trace of k events, which lead to this state, and a rest
-pub record IsRead (g : Parts) (vs : List Constant) (count : ℕ) (text rest : List ℕ) (k : ℕ) (w : World) : Type 0 where
-  pub events : List EventView
-  pub many : length events ≡ k
-  pub parts : text ≡ trace_text events ++ rest
-  pub lead : LeadTo g count (start g vs count) events w
-  pub small : IsSmallFrom g count (start g vs count) events
 
 -- where what is in flight at an end is what a machine has, it is so at each end of the same events
 small_end : (g : Parts) (count : ℕ) (w x z : World) (es : List EventView) → LeadTo g count w es x → LeadTo g count w es z → AreSmall x.flight
@@ -101,11 +95,12 @@ read_more g h vs count n text rest tail k v w x graph many r line f small =
 
 -- the first line from which on it is no trace
 pub read_first : (g h : Parts) (vs : List Constant) (count n : ℕ) (text rest : List ℕ) (k : ℕ) (w : World) (cause : Cause) → h ≡ g → n ≡ count
-    → IsRead g vs count text rest k w → 0 < length rest → IsLineCause h n w rest cause → IsFirstLine g vs count text k cause
-read_first g h vs count n text rest k w cause graph many r some why =
+    → IsRead g vs count text rest k w → 0 < length rest → IsLineCause h n w rest cause → (IsFalse (may_be_line rest) → cause ≡ NoLine)
+    → IsFirstLine g vs count text k cause
+read_first g h vs count n text rest k w cause graph many r some why line =
     let F : Parts → Type 0 = λ y. IsLineCause y n w rest cause in
     let H : ℕ → Type 0 = λ j. IsLineCause g j w rest cause in
-    is_first_line g vs count text rest r.events k w cause r.many r.parts some r.lead r.small (subst H many (subst F graph why))
+    is_first_line g vs count text rest r.events w r.parts r.lead r.small k r.many cause (subst H many (subst F graph why)) line some
 
 -- all of it
 pub read_all : (g h : Parts) (vs : List Constant) (count n : ℕ) (text : List ℕ) (k : ℕ) (w : World) (kept keeps : Keeps) (m : MachineView) → h ≡ g
@@ -117,6 +112,7 @@ read_all g h vs count n text k w kept keeps m graph many keep r is =
       many = r.many;
       trace = r.parts ∙ append-nil (trace_text r.events);
       legal = record { flight = w.flight; lead = r.lead; in_flight = same_order w.flight };
+      only = only_list g vs count text [] r.events w r.parts r.lead r.small refl;
     } in (
       ap (λ (x : MachineView). x.graph) is ∙ graph,
       ap (λ (x : MachineView). x.count) is ∙ many,
@@ -218,6 +214,7 @@ module _ (b : BenchView) (text body : List ℕ) (k : ℕ) (m : Message) (past : 
     other_line stamp next NotInFlight o = absurd o
     other_line stamp next OtherElement o = absurd o
     other_line stamp next NoStamp o = absurd o
+    other_line stamp next NoLine o = absurd o
     other_line stamp next OtherStamp o =
         (m, f.said.end.0, state, told own state element_is, left_is, subst (λ n. ¬ BeginsAt text n) next o)
     other_line stamp next OtherOutcome o = (

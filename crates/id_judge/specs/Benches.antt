@@ -13,7 +13,7 @@ use Rattle.id_core.specs.Machines.{IsMachine, World, world_of}
 use Rattle.id_runs.specs.Legal.{InSomeOrder}
 use Rattle.id_judge.specs.declared.verdict.Cause.{Cause}
 use Rattle.id_judge.specs.declared.verdict.Cause.TheVariants.{NotInFlight, OtherElement, NoStamp, OtherStamp}
-use Rattle.id_judge.specs.declared.verdict.Cause.TheVariants.{OtherOutcome}
+use Rattle.id_judge.specs.declared.verdict.Cause.TheVariants.{OtherOutcome, NoLine}
 use Rattle.id_judge.specs.Verdicts.{Follows}
 
 -- the graph, how much the elements keep of their events, the elements, what is in flight, and what was sent and is not
@@ -74,3 +74,4 @@ Differs v given (Some OtherOutcome) = (v.stamp ≡ given.stamp) × (v ≢ given)
 Differs v given (Some NotInFlight) = ⊥
 Differs v given (Some OtherElement) = ⊥
 Differs v given (Some NoStamp) = ⊥
+Differs v given (Some NoLine) = ⊥

@@ -1,5 +1,7 @@
 -- What public clauses cite.
 pub mod Verdicts
+pub mod Ends
 pub mod Lines
+pub mod Judging
 pub mod Benches
 pub mod Codes

@@ -1,11 +1,13 @@
 -- What a judge says of a trace (docs/MACHINE.md, "Judges").
-use Rattle.std.specs.Prelude.{◌≡◌, ◌+◌, ◌<◌, ◌^◌, ◌==◌, ℕ, IsTrue, IsFalse, if◌then◌else◌}
+use Rattle.std.specs.Prelude.{◌≡◌, ◌<◌, ◌≤◌, ◌^◌, ◌==◌, ℕ, IsTrue, IsFalse, if◌then◌else◌}
 use Rattle.std.specs.Prelude.{List, [], ◌∷◌, ◌++◌}
 use Rattle.std.specs.Prelude.{Some, codes, decimal, length, map, slice_get}
 use Rattle.id_instr.specs.Graph.{Parts}
 use Rattle.id_tag.specs.declared.Message.{Message}
 use Rattle.id_tag.specs.declared.Tag.{Tag}
 use Rattle.id_tag.specs.Routes.{route_of}
+use Rattle.id_source.specs.Sources.{Source, AreInputs}
+use Rattle.id_pieces.specs.Schemas.{Schemas}
 use Rattle.id_value.specs.declared.Constant.{Constant}
 use Rattle.id_value.specs.List.{Among}
 use Rattle.id_record.specs.declared.kept.Keeps.{Keeps}
@@ -18,10 +20,11 @@ use Rattle.id_runs.specs.Orders.{IsLegalOrder}
 use Rattle.id_trace.specs.Traces.{end_text, line_text, payload_text, trace_text}
 use Rattle.id_judge.specs.declared.verdict.Cause.{Cause}
 use Rattle.id_judge.specs.declared.verdict.Cause.TheVariants.{NotInFlight, OtherElement, NoStamp, OtherStamp}
-use Rattle.id_judge.specs.declared.verdict.Cause.TheVariants.{OtherOutcome}
+use Rattle.id_judge.specs.declared.verdict.Cause.TheVariants.{OtherOutcome, NoLine}
 use Rattle.id_judge.specs.declared.verdict.Verdict.{Verdict}
 use Rattle.id_judge.specs.declared.verdict.Verdict.TheVariants.{Legal, CannotFollow}
 use Rattle.id_judge.specs.Verdicts.{Follows}
+use Rattle.id_judge.specs.Ends.{is_line}
 use Rattle.id_judge.specs.Benches.{BenchView, IsBench, world_in}
 
 -- the text begins with the other one
@@ -29,10 +32,10 @@ pub record Begins (text front : List ℕ) : Type 0 where
   pub rest : List ℕ
   pub is : text ≡ front ++ rest
 
--- what stands behind the first space
+-- what stands behind the first space of the first line, and nothing where that has none
 abbrev pub behind : List ℕ → List ℕ
 behind [] = []
-behind (b ∷ bs) = if b == 32 then bs else behind bs
+behind (b ∷ bs) = if b == 32 then bs else (if b == 10 then [] else behind bs)
 
 -- the text begins with this number and a space
 abbrev pub BeginsAt : List ℕ → ℕ → Type 0
@@ -65,6 +68,7 @@ IsLineCause g count w text OtherOutcome =
     (m : Message) × (step : Step) × (s : State) × IsTold count w text m step s × IsFalse (is_ended s m)
     × BeginsAt text (next_stamp s m)
     × ¬ (end_text step ≡ end_text (step_of g (route_of m.payload count) s m))
+IsLineCause g count w text NoLine = IsFalse (is_line text)
 
 -- the numbers of the tag have at most 64 bits, as those that a machine has
 pub record IsSmall (t : Tag) : Type 0 where
@@ -82,8 +86,18 @@ IsClear w = (m n : Message) → Among m w.flight → Among n w.flight → IsSmal
 abbrev pub AreClear : Parts → List Constant → ℕ → Type 0
 AreClear g vs count = (es : List EventView) (w : World) → LeadTo g count (start g vs count) es w → IsClear w
 
+-- *Clear lines*: they are, in the graphs that the schemas give a program with its inputs
+abbrev pub ClearLines : Type 0
+ClearLines = (S : Source) (g : Parts) (count : ℕ) → AreInputs S.checked S.inputs → Schemas S.checked g
+    → AreClear g S.inputs count
+
+-- no legal list has more than the first k lines of the text, and none has the text as its trace
+pub record GoesNoFurther (g : Parts) (vs : List Constant) (count : ℕ) (text : List ℕ) (k : ℕ) : Type 0 where
+  pub longest : (es : List EventView) → IsLegalList g vs count es → Begins text (trace_text es) → length es ≤ k
+  pub no_trace : (es : List EventView) → IsLegalList g vs count es → text ≡ trace_text es → ⊥
+
 -- the text begins with k lines that are the trace of a legal list, and something stands behind them: no event with its
--- first line can come next, for this cause. Where lines are clear, no legal list has the first k + 1 lines
+-- first line can come next, for this cause. Where lines are clear, no legal list goes further, and no other cause is so
 pub record IsFirstLine (g : Parts) (vs : List Constant) (count : ℕ) (text : List ℕ) (k : ℕ) (cause : Cause)
     : Type 0 where
   pub events : List EventView
@@ -94,16 +108,21 @@ pub record IsFirstLine (g : Parts) (vs : List Constant) (count : ℕ) (text : Li
   pub end : World
   pub before : LeadTo g count (start g vs count) events end
   pub why : IsLineCause g count end rest cause
-  pub never : AreClear g vs count → (es : List EventView) → IsLegalList g vs count es → length es ≡ k + 1
-      → Begins text (trace_text es) → ⊥
+  pub line : IsFalse (is_line rest) → cause ≡ NoLine
+  pub never : AreClear g vs count → GoesNoFurther g vs count text k
+  pub one : AreClear g vs count → (es : List EventView) (w : World) (tail : List ℕ) (other : Cause)
+      → LeadTo g count (start g vs count) es w → length es ≡ k → text ≡ trace_text es ++ tail
+      → IsLineCause g count w tail other → (IsFalse (is_line tail) → other ≡ NoLine) → other ≡ cause
 
--- a text is the trace of a legal list of n events that ends in this state
+-- a text is the trace of a legal list of n events that ends in this state. Where lines are clear, it is that of no other
 pub record IsLegalTrace (g : Parts) (vs : List Constant) (count : ℕ) (text : List ℕ) (n : ℕ) (w : World)
     : Type 0 where
   pub events : List EventView
   pub many : length events ≡ n
   pub trace : text ≡ trace_text events
   pub legal : IsLegalOrder g vs count events w
+  pub only : AreClear g vs count → (es : List EventView) → IsLegalList g vs count es → text ≡ trace_text es
+      → es ≡ events
 
 -- what a judge says of a trace on so many elements of the graph, from its start with these inputs: that of a legal
 -- list of so many events, which ends in this machine, whose elements keep so much; or the first line from which on it
@@ -145,6 +164,7 @@ IsOther text past stamp step OtherOutcome = BeginsAt text stamp × ¬ Begins pas
 IsOther text past stamp step NotInFlight = ⊥
 IsOther text past stamp step OtherElement = ⊥
 IsOther text past stamp step NoStamp = ⊥
+IsOther text past stamp step NoLine = ⊥
 
 -- an event followed that has the first line of the text, behind which stands the tail
 pub record Advances (b : BenchView) (text tail : List ℕ) (c : BenchView) : Type 0 where

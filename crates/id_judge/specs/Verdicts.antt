@@ -13,7 +13,7 @@ use Rattle.id_runs.specs.Legal.{CanFollow, IsLegalList, LeadTo, after_event}
 use Rattle.id_runs.specs.Orders.{IsLegalOrder}
 use Rattle.id_judge.specs.declared.verdict.Cause.{Cause}
 use Rattle.id_judge.specs.declared.verdict.Cause.TheVariants.{NotInFlight, OtherElement, NoStamp, OtherStamp}
-use Rattle.id_judge.specs.declared.verdict.Cause.TheVariants.{OtherOutcome}
+use Rattle.id_judge.specs.declared.verdict.Cause.TheVariants.{OtherOutcome, NoLine}
 use Rattle.id_judge.specs.declared.verdict.Verdict.{Verdict}
 use Rattle.id_judge.specs.declared.verdict.Verdict.TheVariants.{Legal, CannotFollow}
 
@@ -37,6 +37,7 @@ IsCause g count w v OtherStamp =
 IsCause g count w v OtherOutcome =
     (s : State) × IsAt count w v s × IsFalse (is_ended s v.message) × (v.stamp ≡ next_stamp s v.message)
     × (event_of g (goal_of count v) s v.message ≢ v)
+IsCause g count w v NoLine = ⊥
 
 -- the first k events are a legal list, and the next one cannot follow them, for this cause
 pub record IsFirst (g : Parts) (vs : List Constant) (count : ℕ) (es : List EventView) (k : ℕ) (cause : Cause)

@@ -3,14 +3,16 @@
 //! Keeps: what is in flight stands in no order; where a message stands is found by what it names, and else by a look at
 //! each.
 //! Errors: `MachineError`; nothing is left of a judge then.
-//! Read first: `specs/Verdicts.antt`, then `judge_events`; `specs/Lines.antt`, then `judge_lines`.
+//! Read first: `specs/Verdicts.antt`, then `judge_events`; `specs/Lines.antt`, `specs/Judging.antt`, then `Judge`.
 //! Not here: the machine's step (`id_element`), legal lists and their laws (`id_runs`), the lines (`id_trace`).
 #![tactic(auto)]
 
 mod bench;
+mod clear;
 mod events;
 mod given;
 mod hint;
+mod judge;
 mod line;
 mod lines;
 mod pool;
@@ -21,8 +23,9 @@ mod small;
 mod tests;
 mod verdict;
 
+pub use clear::clear_lines;
 pub use events::judge_events;
 pub use given::Given;
 pub use id_core::{Keeps, Machine, MachineError};
-pub use lines::judge_lines;
+pub use judge::{Judge, MAX_LINE, judge_lines};
 pub use verdict::{Cause, Verdict};

@@ -116,13 +116,16 @@ pub fn begins_number(text: &[u8], number: u64) -> bool
     begins(text, piece.as_slice())
 }
 
-/// What stands behind the first space of a text. Takes no memory.
+/// What stands behind the first space of a text's first line, and nothing where that has none. Takes no memory.
 pub fn behind(text: &[u8]) -> &[u8]
     ensures { result.now ≡ behind text.now }
 {
     for at in 0..text.len() {
         if text[at] == b' ' {
             return &text[at + 1..];
+        }
+        if text[at] == b'\n' {
+            return &text[text.len()..];
         }
     }
     &text[text.len()..]

@@ -1,64 +1,23 @@
-//! The judge of traces.
+//! One line of a trace: the event of it follows, or why none can.
 
 ghost use Rattle.std.specs.Prelude.{◌≡◌, ◌<◌, ◌+◌, ◌-◌, ◌^◌, ◌==◌};
-ghost use Rattle.std.specs.Prelude.{◌||◌, ◌↔◌, ◌⊎◌};
+ghost use Rattle.std.specs.Prelude.{◌||◌};
 ghost use Rattle.std.specs.Prelude.{ℕ, false, max};
-ghost use Rattle.std.specs.Prelude.{Err, IfErr, IfOk, Some, length, set, slice_get, replicate};
-ghost use Rattle.id_core.specs.Machines.{TakesInputs};
-ghost use Rattle.id_core.specs.declared.machine.MachineError.TheVariants.{BadElements};
+ghost use Rattle.std.specs.Prelude.{IfErr, IfOk, Some, length, set, slice_get, replicate};
 ghost use Rattle.id_judge.specs.Benches.{IsBench, world_in};
-ghost use Rattle.id_judge.specs.Lines.{Advances, AreStamps, Compares, IsLineCause, IsLineVerdict, IsOther};
+ghost use Rattle.id_judge.specs.Lines.{Advances, AreStamps, Compares, IsLineCause, IsOther};
 
-use crate::bench::{Bench, deliver, end_bench, start_bench, tell_small};
-use crate::line::{Line, begins_number, behind, empty_line, past};
+use crate::bench::{Bench, deliver};
+use crate::line::{Line, begins_number, behind, past};
 use crate::said::find_said;
-use crate::verdict::{Cause, Verdict};
-use id_core::{Keeps, MAX_ELEMENTS, MachineError, Step, TakeError};
-use id_source::Inputs;
+use crate::verdict::Cause;
+use id_core::{Step, TakeError};
 use id_tag::route;
 use id_trace::end_bytes;
-use id_valid::Valid;
 use std::alloc::{AllocError, Global};
 
-/// Judges a trace, which is a line for each event as `idc run --trace` prints it, on so many elements of a graph, from
-/// its start with these inputs: whether it is that of a legal list, and else which is the first line from which on it
-/// is none, and why. The elements of the machine that it gives keep so much of their events. `BadElements` comes where
-/// the count is not from 1 to 64.
-pub fn judge_lines<'a>(
-    alloc: Global,
-    graph: &'a Valid,
-    inputs: &Inputs,
-    count: u32,
-    keeps: Keeps,
-    text: &[u8],
-) -> Result<Verdict<'a>, MachineError>
-    requires { TakesInputs graph.now inputs.now.values }
-    ensures verdict { IfOk result (IsLineVerdict graph.now inputs.now.values count keeps text.now) }
-    ensures refused { (result ≡ Err BadElements) ↔ ((count ≡ 0) ⊎ (64 < count)) }
-{
-    if count == 0 || count > MAX_ELEMENTS {
-        return Err(MachineError::BadElements);
-    }
-    let mut bench = start_bench(alloc, graph, inputs, count, keeps)?;
-    tell_small(&bench);
-    let mut stamps = first_stamps(alloc, count)?;
-    let mut line = empty_line(alloc);
-    let mut rest = text;
-    let mut lines = 0usize;
-    while !rest.is_empty() {
-        match follow_line(&mut bench, &mut stamps, &mut line, rest)? {
-            Ok(tail) => rest = tail,
-            Err(cause) => return Ok(Verdict::CannotFollow(lines, cause)),
-        }
-        tell_small(&bench);
-        lines += 1;
-    }
-    let machine = end_bench(alloc, bench)?;
-    Ok(Verdict::Legal(machine, lines))
-}
-
 /// The last stamps of so many elements at the start.
-fn first_stamps(alloc: Global, count: u32) -> Result<Vec<u64>, AllocError>
+pub fn first_stamps(alloc: Global, count: u32) -> Result<Vec<u64>, AllocError>
     ensures { IfOk result (λ v. v.items ≡ replicate count 0) }
 {
     let mut stamps = Vec::with_capacity(alloc, count as usize)?;
@@ -70,7 +29,7 @@ fn first_stamps(alloc: Global, count: u32) -> Result<Vec<u64>, AllocError>
 
 /// Lets the event of the first line of a text follow, and answers what stands behind that line; or says why no event of
 /// it can follow.
-fn follow_line<'t>(
+pub fn follow_line<'t>(
     bench: &mut Bench<'_>,
     stamps: &mut Vec<u64>,
     line: &mut Line,

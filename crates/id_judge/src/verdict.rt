@@ -15,6 +15,8 @@ pub enum Cause {
     OtherStamp,
     /// The element makes another event of its message: it fires or sends something else, or comes to something else.
     OtherOutcome,
+    /// Its line is none of an event: it is cut, longer than any, or begins with no digit.
+    NoLine,
 }
 
 /// What a judge says of a list of events.

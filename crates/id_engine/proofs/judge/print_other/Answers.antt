@@ -2,5 +2,5 @@ use Rattle.id_engine.proofs.JudgedLemmas.{PrintsOther-from}
 use Rattle.id_engine.proofs.judge.print_other.Goals as goal
 
 pub returns : goal.returns
-returns g c = PrintsOther-from c.args.trace.now c.args.position c.args.cause c.why_bytes-why.result.now _ _ c.put_other-written.result c.printed.result
-    c.why_bytes-why.ensures c.put_other-written.ensures c.printed.ensures
+returns g c = PrintsOther-from c.args.position c.args.cause c.cause_bytes-why.result.now _ _ c.put_other-written.result c.printed.result
+    c.cause_bytes-why.ensures c.put_other-written.ensures c.printed.ensures
