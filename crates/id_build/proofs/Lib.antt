@@ -14,5 +14,7 @@ pub mod FitsLemmas
 pub mod FillLemmas
 pub mod ArcsLemmas
 pub mod SchemasLemmas
+pub mod OneOwnLemmas
+pub mod OwnLemmas
 pub mod BlocksLemmas
 pub mod BoundLemmas

@@ -223,9 +223,6 @@ Numbered-graph_by P order F t o fs = record {
     cc_op : (i j : Instr) → Some i ≡ Some j → j.op ≡ i.op
     cc_op i j e = let h : i ≡ j = cc in ap (λ x. x.op) (sym h)
 
-pub Schemas-graph_by : (P : Checked) (order F : List ℕ) → IsBuildable P → IsOrder P order → AreFirsts P order F → Schemas P (graph_by P order F)
-Schemas-graph_by P order F t o fs = record { number = number_by F; numbered = Numbered-graph_by P order F t o fs }
-
 -- each arc goes between two of the instructions
 pub IsFrom-arcs_in : (P : Checked) (order F : List ℕ) → IsBuildable P → IsOrder P order → AreFirsts P order F →
     All (IsFrom (pieces_in P order)) (arcs_in P F order)

@@ -12,7 +12,8 @@ ghost use Rattle.id_table.specs.Tables as tables;
 ghost use Rattle.id_table.specs.Turns.{heads_below};
 ghost use Rattle.id_pieces.specs.Rows as rows;
 ghost use Rattle.id_pieces.specs.Rows.{feeds, import_entries, made, param_entry, size, variable_entries};
-ghost use Rattle.id_pieces.specs.Schemas.{Schemas, all_heads, block_of};
+ghost use Rattle.id_build.specs.Own.{IsOwn};
+ghost use Rattle.id_pieces.specs.Schemas.{all_heads, block_of};
 ghost use Rattle.id_pieces.specs.Made.{AreFirsts, EntriesFit, Fits, IsBetween, arc_of, connected, graph_by};
 ghost use Rattle.id_pieces.specs.Made.{instrs_from, number_by, pieces_in};
 ghost use Rattle.id_pieces.specs.Slots.{AreColumns, AreSlots};
@@ -30,12 +31,11 @@ use id_table::Node;
 use id_value::Sequence;
 use std::alloc::Global;
 
-/// A graph that the schemas give the program.
+/// The program's graph: one that the schemas give it, numbered in the order of its rows (docs/GRAPH.md, "Schemas").
 ///
 /// `TooLarge` where the schemas give more than 1,000,000 instructions, and `Memory` where a growth was refused.
-/// Its instructions are numbered in the order of docs/GRAPH.md ("Schemas").
 pub fn build(alloc: Global, kernel: &Kernel<'_>) -> Result<Graph, BuildError>
-    ensures schemas { IfOk result (λ g. Schemas kernel.now.checked.now g) }
+    ensures own { IfOk result (λ g. IsOwn kernel.now.checked.now g) }
     ensures small { OnOk result (size kernel.now.checked.now ≤ 1000000) }
     ensures large { IfErr result (λ e. e ≡ BuildError.TooLarge → 1000000 < size kernel.now.checked.now) }
 {
@@ -63,7 +63,7 @@ fn build_parts(
     requires loops { loops.now ≡ loop_heads checked.now }
     requires order { order.now ≡ regions.order_of checked.now }
     ensures parts { MatchResult result
-        (λ g. Schemas checked.now (parts g.0.items g.1.items) × (length g.1.items ≤ 1000000))
+        (λ g. IsOwn checked.now (parts g.0.items g.1.items) × (length g.1.items ≤ 1000000))
         (λ e. e ≡ BuildError.TooLarge → 1000000 < size checked.now) }
     ensures small { OnOk result (size checked.now ≤ 1000000) }
 {
@@ -87,7 +87,7 @@ fn parts_by(
     requires firsts { AreFirsts checked.now order.now numbers.firsts.items }
     requires few { length (pieces_in checked.now order.now) ≤ 1000000 }
     ensures { MatchResult result
-        (λ g. Schemas checked.now (parts g.0.items g.1.items) × (length g.1.items ≤ 1000000))
+        (λ g. IsOwn checked.now (parts g.0.items g.1.items) × (length g.1.items ≤ 1000000))
         (λ e. e ≡ BuildError.Memory) }
 {
     let blocks = blocks(alloc, checked, columns, loops, numbers.firsts.as_slice())?;

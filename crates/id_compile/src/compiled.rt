@@ -2,7 +2,7 @@
 
 ghost use Rattle.std.specs.Prelude.{◌≡◌, ◌<◌, ◌≤◌, length, IfErr, IfOk, OnOk};
 ghost use Rattle.id_pieces.specs.Rows.{size};
-ghost use Rattle.id_pieces.specs.Schemas.{Schemas};
+ghost use Rattle.id_build.specs.Own.{IsOwn};
 ghost use Rattle.id_tree.specs.Distinct.{Distinct};
 ghost use Rattle.id_check.specs.Noted.{tree_in};
 ghost use Rattle.id_grammar.specs.Tree.{program_tree};
@@ -21,7 +21,7 @@ use id_valid::Valid;
 use std::alloc::Global;
 use std::marker::Model;
 
-/// A program with its graph, which is one that the schemas give it.
+/// A program with its own graph, the one of those that the schemas give it that `build` makes.
 #[derive(Drop)]
 pub struct Compiled {
     checked: Checked,
@@ -29,7 +29,7 @@ pub struct Compiled {
 }
 
 impl Model for Compiled {
-    ghost use Rattle.id_pieces.specs.Schemas.{Schemas};
+    ghost use Rattle.id_build.specs.Own.{IsOwn};
     ghost use Rattle.id_compile.specs.Codes.{coded_compiled};
     ghost use Rattle.id_compile.specs.Programs.{CompiledView};
 
@@ -39,12 +39,12 @@ impl Model for Compiled {
 
     ghost view = { λ c. record { checked = c.checked; graph = c.valid } };
 
-    ghost invariant = { λ c. Schemas c.checked c.valid };
+    ghost invariant = { λ c. IsOwn c.checked c.valid };
 }
 
 impl Compiled {
     ghost use Rattle.std.specs.Prelude.{◌≡◌};
-    ghost use Rattle.id_pieces.specs.Schemas.{Schemas};
+    ghost use Rattle.id_build.specs.Own.{IsOwn};
 
     /// The program. Takes no memory.
     pub fn checked(&self) -> &Checked
@@ -56,7 +56,7 @@ impl Compiled {
     /// The program's graph. Takes no memory.
     pub fn valid(&self) -> &Valid
         ensures value { result.now ≡ self.now.graph }
-        ensures kept { Schemas self.now.checked self.now.graph }
+        ensures kept { IsOwn self.now.checked self.now.graph }
     {
         &self.valid
     }
@@ -64,7 +64,7 @@ impl Compiled {
     /// The program's graph: the program gives its memory back.
     pub fn into_valid(self) -> Valid
         ensures value { result ≡ self.graph }
-        ensures kept { Schemas self.checked self.graph }
+        ensures kept { IsOwn self.checked self.graph }
     {
         let Compiled { valid, .. } = self;
         valid
@@ -135,9 +135,9 @@ fn checked_program(alloc: Global, text: &str) -> Result<Checked, CompileError>
     }
 }
 
-/// A graph that the schemas give a checked program, which the law says is valid.
+/// The own graph of a checked program, which the law says is valid, as it says of each that the schemas give.
 fn valid_of(checked: &Checked, graph: Graph) -> Valid
-    requires { Schemas checked.now graph }
+    requires { IsOwn checked.now graph }
     ensures { result ≡ graph }
 {
     let _ = checked;
@@ -145,9 +145,9 @@ fn valid_of(checked: &Checked, graph: Graph) -> Valid
     Valid::known(graph)
 }
 
-/// A graph that the schemas give a checked program.
-fn schemas_graph(alloc: Global, checked: &Checked) -> Result<Graph, BuildError>
-    ensures schemas { IfOk result (Schemas checked.now) }
+/// The own graph of a checked program.
+fn own_graph(alloc: Global, checked: &Checked) -> Result<Graph, BuildError>
+    ensures own { IfOk result (IsOwn checked.now) }
     ensures small { OnOk result (size checked.now ≤ 1000000) }
     ensures large { IfErr result (λ e. e ≡ BuildError.TooLarge → 1000000 < size checked.now) }
 {
@@ -155,13 +155,13 @@ fn schemas_graph(alloc: Global, checked: &Checked) -> Result<Graph, BuildError>
     build(alloc, &kernel)
 }
 
-/// The graph of a checked program.
+/// The own graph of a checked program, as a valid one.
 fn graph_of(alloc: Global, checked: &Checked) -> Result<Valid, CompileError>
-    ensures graph { IfOk result (Schemas checked.now) }
+    ensures own { IfOk result (IsOwn checked.now) }
     ensures small { OnOk result (size checked.now ≤ 1000000) }
     ensures refused { IfErr result (IsRefusedGraph checked.now) }
 {
-    match schemas_graph(alloc, checked) {
+    match own_graph(alloc, checked) {
         Ok(graph) => Ok(valid_of(checked, graph)),
         Err(BuildError::TooLarge) => Err(CompileError::TooLarge),
         Err(BuildError::Memory) => Err(CompileError::Memory),

@@ -35,7 +35,7 @@ module _ {A : Type 0} (c : A → A → Ordering) (B C : A → A → Type 0) (t :
   rising_same = one_list B (IsStrict-told c B C t)
 
   -- what is put in order from the same things, which are apart, is one list
-  order_same : (xs ys us vs : List A) → IsOrderOf B xs us → IsOrderOf B ys vs → AreApartBy C us → AreApartBy C vs → IsPermutation us vs → xs ≡ ys
+  pub order_same : (xs ys us vs : List A) → IsOrderOf B xs us → IsOrderOf B ys vs → AreApartBy C us → AreApartBy C vs → IsPermutation us vs → xs ≡ ys
   order_same xs ys us vs h k apart split moved =
       rising_same xs ys (Rises-sorted c B C t xs us h apart) (Rises-sorted c B C t ys vs k split)
       (λ x l. among_permuted vs ys x k.same (among_permuted us vs x moved (among_sorted us xs x h.same l)))
@@ -66,7 +66,7 @@ module _ (g : Parts) (count steps : ℕ) (w : World) (text : List ℕ) (b : Bool
   at_fault _ _ e (stopped ns hs none left all sorted held) = absurd (omega (arith, e))
 
 -- what stands in a list is not in an empty one
-no_one : {A : Type 0} (xs : List A) (x : A) (i : ℕ) → xs ≡ [] → slice_get xs i ≡ Some x → ⊥
+pub no_one : {A : Type 0} (xs : List A) (x : A) (i : ℕ) → xs ≡ [] → slice_get xs i ≡ Some x → ⊥
 no_one xs x i none at = at_none (sym (ap (λ ys. slice_get ys i) none) ∙ at)
   where
     at_none : slice_get [] i ≡ Some x → ⊥

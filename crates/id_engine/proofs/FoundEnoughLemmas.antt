@@ -8,6 +8,7 @@ use Rattle.id_source.specs.declared.Fact.{Fact}
 use Rattle.id_source.specs.declared.Path.{Path}
 use Rattle.id_source.specs.Rounds.{Holds}
 use Rattle.id_source.specs.Sources.{Source, source}
+use Rattle.id_build.specs.Own.{schemas_of}
 use Rattle.id_pieces.specs.Schemas.{Schemas}
 use Rattle.id_core.specs.Machines.{run, start}
 use Rattle.id_runs.specs.Legal.{IsSameBut}
@@ -64,7 +65,7 @@ module _ (bounded : Bounded) (sound : Soundness) (complete : QuietIsComplete) (t
       alike = AreAlike-text text h.program P h.is_program (e.are).is_program
 
       schemas : Schemas P h.graph
-      schemas = Schemas-alike h.program P alike (AreAlike-sym h.program P alike) h.graph h.schemas
+      schemas = Schemas-alike h.program P alike (AreAlike-sym h.program P alike) h.graph (schemas_of h.own)
 
       given : h.inputs ≡ vs
       given = inputs_same P words h.inputs vs (inputs_to h.program P alike words h.inputs h.are_inputs) (e.are).are_inputs

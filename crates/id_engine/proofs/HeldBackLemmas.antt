@@ -21,6 +21,7 @@ use Rattle.id_laws.specs.Laws.{events, messages}
 use Rattle.id_laws.specs.Bounded.{Bounded, IsBounded}
 use Rattle.id_laws.proofs.RestLemmas.{messages_many}
 use Rattle.id_laws.proofs.StampsLemmas.{AreStamped, AreStamped-same, as_many, ended_late, events_few, same_order, stamped}
+use Rattle.id_build.specs.Own.{schemas_of}
 use Rattle.id_engine.specs.Runs.{Ends}
 use Rattle.id_engine.specs.Runs.Ends.{fault, quiet, stopped}
 use Rattle.id_engine.specs.Stopped.{NeedsMore, StoppedShort}
@@ -92,7 +93,7 @@ StoppedShort-laws bounded = record {
   of_program = λ text words count steps t b old new result small h.
       let S = source h.program h.inputs in
       let at = (h.run).runs ((h.run).order).0 ((h.run).order).1 in
-      let r : RunOf S = record { graph = h.graph; schemas = h.schemas; count = count; positions = at.positions } in
+      let r : RunOf S = record { graph = h.graph; schemas = schemas_of h.own; count = count; positions = at.positions } in
       left_short bounded S (inputs_of h.program words h.inputs h.are_inputs) r (h.machine).world at.end steps small
       (left_at h.graph count steps (h.machine).world text b 3 h.output refl h.ends);
 }

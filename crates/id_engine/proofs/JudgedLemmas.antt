@@ -7,7 +7,7 @@ use Rattle.id_value.specs.declared.Constant.{Constant}
 use Rattle.id_instr.specs.Graph.{Parts}
 use Rattle.id_source.specs.Sources.{AreInputs, source}
 use Rattle.id_source.specs.Inputs.{AreInputsOf}
-use Rattle.id_pieces.specs.Schemas.{Schemas}
+use Rattle.id_build.specs.Own.{IsOwn, schemas_of}
 use Rattle.id_pieces.specs.Rows.{size}
 use Rattle.id_core.specs.Events.{EventView}
 use Rattle.id_core.specs.Machines.{MachineView, start, run}
@@ -108,13 +108,13 @@ pub PrintsOther-from : (k : ℕ) (c : Cause) (why : List ℕ) (old new : SinkVie
 PrintsOther-from k c why old new u result same printed is =
     PrintsJudged-from (other_text k (cause_text c)) 6 old new u result (subst (λ (w : List ℕ). Prints old new (other_text k w) u) same printed) is
 
-module _ (P : Checked) (vs : List Constant) (text trace : List ℕ) (count : ℕ) (b : Bool) (g : Parts) (inputs : AreInputs P vs) (schemas : Schemas P g) where
+module _ (P : Checked) (vs : List Constant) (text trace : List ℕ) (count : ℕ) (b : Bool) (g : Parts) (inputs : AreInputs P vs) (own : IsOwn P g) where
   -- what a report says of the machine that a trace leads to is so
   pub IsTrueOf-judged : (kept : Keeps) (m : MachineView) (n : ℕ) (r : Report) → Soundness → QuietIsComplete → LegalLists
       → IsLineVerdict g vs count kept trace (Legal m n) → IsReportFrom m b r → IsTrueOf (source P vs) b r
   IsTrueOf-judged kept m n r sound complete lists h from =
       let at = run_of g vs count trace kept m n lists h in
-      IsTrueOf-laws (source P vs) g count at.0 m b r sound complete inputs schemas (of_graph g vs count trace kept m n h) at.1 from
+      IsTrueOf-laws (source P vs) g count at.0 m b r sound complete inputs (schemas_of own) (of_graph g vs count trace kept m n h) at.1 from
 
   -- a trace of a run is judged one
   pub JudgesSo-legal : (kept : Keeps) (m : MachineView) (n : ℕ) → Soundness → QuietIsComplete → LegalLists → AreAllowed count 1
@@ -124,15 +124,15 @@ module _ (P : Checked) (vs : List Constant) (text trace : List ℕ) (count : ℕ
       let true_of = IsTrueOf-judged kept m n r sound complete lists h from in
       let told : IsLineVerdict g vs count m.keeps trace (Legal m n) = (h.0, h.1, refl, h.3) in
       judged (status_of r.ending) (legal_text n ++ report_text text b r) allowed
-      (λ ws are. legal m n r are schemas told from (Shows-from_report P ws vs text b r r.ending are true_of.says)) prints
-  JudgesSo-legal kept m n sound complete lists allowed h old new result (unreported same) = unallowed Memory refl same
+      (λ ws are. legal m n r are own told from (Shows-from_report P ws vs text b r r.ending are true_of.says)) prints
+  JudgesSo-legal kept m n sound complete lists allowed h old new result (unreported same) = unallowed Memory allowed same
 
   -- and of any other the first event is told that can't follow
   pub JudgesSo-other : (k : ℕ) (c : Cause) → AreAllowed count 1 → IsFirstLine g vs count trace k c
       → (old new : SinkView) (result : Result ℕ EngineError) → PrintsJudged (other_text k (cause_text c)) 6 old new result
       → JudgesSo P vs text trace count b old new result
   JudgesSo-other k c allowed h old new result prints =
-      judged 6 (other_text k (cause_text c)) allowed (λ ws are. other k c are schemas h (clear_lines (source P vs) g count inputs schemas)) prints
+      judged 6 (other_text k (cause_text c)) allowed (λ ws are. other k c are own h (h.never (clear_lines (source P vs) g count inputs (schemas_of own)))) prints
 
 -- ---- what is said of a trace that is judged
 

@@ -15,6 +15,7 @@ pub mod HeldBackLemmas
 pub mod StatusLemmas
 pub mod SameFactsLemmas
 pub mod SameGraphsLemmas
+pub mod OwnGraphLemmas
 pub mod OneProgramLemmas
 pub mod OneAnswerLemmas
 pub mod ChainLemmas
@@ -29,4 +30,7 @@ pub mod FoundEnoughLemmas
 pub mod LastRoundLemmas
 pub mod QuietRoundLemmas
 pub mod MomentsLemmas
+pub mod RecordedLemmas
+pub mod SameReportLemmas
+pub mod JudgedAlikeLemmas
 mod ServedLemmas

@@ -9,6 +9,7 @@ use Rattle.id_core.specs.Machines.{World, run, start}
 use Rattle.id_core.specs.Steps.{State}
 use Rattle.id_runs.specs.Legal.{IsRunOf, LeadTo, LegalLists, no_more, follow}
 use Rattle.id_laws.specs.Laws.{IsSound, Soundness}
+use Rattle.id_build.specs.Own.{schemas_of}
 use Rattle.id_pieces.specs.Schemas.{Schemas}
 use Rattle.id_engine.specs.Moments.{AllMoments}
 use Rattle.id_engine.proofs.HeldBackLemmas.{inputs_of}
@@ -38,13 +39,13 @@ sound_there S g number w flight h = record {
   values = h.values;
 }
 
-sound_same : (S : Source) (g : Parts) (number : ℕ → ℕ → ℕ) (w x : World) → w.elements ≡ x.elements → IsSound S g number w → IsSound S g number x
+pub sound_same : (S : Source) (g : Parts) (number : ℕ → ℕ → ℕ) (w x : World) → w.elements ≡ x.elements → IsSound S g number w → IsSound S g number x
 sound_same S g number w x same h =
     let K : List State → Type 0 = λ es. IsSound S g number (record { elements = es; flight = x.flight }) in
     subst K same (sound_there S g number w x.flight h)
 
 -- a state to which events lead from the start shows what is so
-sound_led : Soundness → LegalLists → (S : Source) (g : Parts) (schemas : Schemas S.checked g) (count : ℕ) (es : List EventView) (w : World)
+pub sound_led : Soundness → LegalLists → (S : Source) (g : Parts) (schemas : Schemas S.checked g) (count : ℕ) (es : List EventView) (w : World)
     → AreInputs S.checked S.inputs → LeadTo g count (start g S.inputs count) es w → IsSound S g schemas.number w
 sound_led sound lists S g schemas count es w inputs lead =
     let r : IsRunOf g S.inputs count es w = lists.are_runs g S.inputs count es (record { end = w; lead = lead }) in
@@ -54,5 +55,5 @@ pub AllMoments-laws : Soundness → LegalLists → AllMoments
 AllMoments-laws sound lists = λ text words count t steps b old new status result. record {
   reached = λ h front rest merged. front_leads front rest ((h.run).legal (front ++ rest) merged).lead;
   sound = λ h es w merged m.
-      sound_led sound lists (source h.program h.inputs) h.graph h.schemas count m.front w (inputs_of h.program words h.inputs h.are_inputs) m.lead;
+      sound_led sound lists (source h.program h.inputs) h.graph (schemas_of h.own) count m.front w (inputs_of h.program words h.inputs h.are_inputs) m.lead;
 }

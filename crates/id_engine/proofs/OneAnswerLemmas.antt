@@ -36,6 +36,7 @@ use Rattle.id_print.specs.Reports.{asked}
 use Rattle.id_print.specs.Texts.{quiet_text}
 use Rattle.id_trace.specs.Traces.{trace_text}
 use Rattle.id_print.proofs.NamesLemmas.{NamesRise-Rises, Rises-sorted, asks_told, helds_told, names_told}
+use Rattle.id_build.specs.Own.{schemas_of}
 use Rattle.id_engine.specs.OneAnswer.{Answered, OneAnswer, SameLeft, ShowOne, report_of}
 use Rattle.id_engine.specs.OneProgram.{MeanTheSame}
 use Rattle.id_engine.specs.Runs.{HasRun}
@@ -94,7 +95,7 @@ module _ (sound : Soundness) (complete : QuietIsComplete) (text : List ℕ) (wor
   its_run : RunOf (source h.ran.program h.ran.inputs)
   its_run = record {
     graph = h.ran.graph;
-    schemas = h.ran.schemas;
+    schemas = schemas_of h.ran.own;
     count = h.count;
     positions = ((h.ran.run).runs ((h.ran.run).order).0 ((h.ran.run).order).1).positions;
   }

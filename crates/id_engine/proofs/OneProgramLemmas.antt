@@ -35,6 +35,7 @@ use Rattle.id_engine.specs.OneProgram.{AreAlike, MeanTheSame, OneProgram}
 use Rattle.id_text.proofs.OneReadingLemmas.{one_reading}
 use Rattle.id_tree.proofs.CompleteLemmas.{one_tree}
 use Rattle.id_engine.proofs.SameFactsLemmas.{AreAlike-sym, MeanTheSame-alike}
+use Rattle.id_engine.proofs.OwnGraphLemmas.{one_graph, own_number_same}
 use Rattle.id_engine.proofs.SameGraphsLemmas.{Schemas-alike}
 
 -- ---- the last row
@@ -329,5 +330,7 @@ OneProgram-text = record {
       let a : AreAlike P Q = AreAlike-text text P Q h k in
       let b : AreAlike Q P = AreAlike-sym P Q a in
       (Schemas-alike P Q a b g, Schemas-alike Q P b a g);
+  own = λ text P Q g h i j own other. one_graph P Q (AreAlike-text text P Q i j) g h own other;
+  numbers = λ text P Q n k i j. own_number_same P Q (AreAlike-text text P Q i j) n k;
   same = λ text P Q vs h k. MeanTheSame-alike P Q vs (AreAlike-text text P Q h k);
 }

@@ -4,7 +4,7 @@ use Rattle.std.specs.Prelude.{IsErrAnd}
 use Rattle.id_check.specs.declared.checked.Checked.{Checked}
 use Rattle.id_value.specs.declared.Constant.{Constant}
 use Rattle.id_source.specs.Sources.{AreInputs, source}
-use Rattle.id_pieces.specs.Schemas.{Schemas}
+use Rattle.id_build.specs.Own.{IsOwn, schemas_of}
 use Rattle.id_instr.specs.Graph.{Parts}
 use Rattle.id_core.specs.Events.{EventView}
 use Rattle.id_core.specs.Machines.{World, MachineView}
@@ -63,10 +63,10 @@ PrintsMachine-reported m n text t b old new result r same from prints =
 
 module _ (P : Checked) (vs : List Constant) (text : List ℕ) (count : ℕ) (t : Bool) (steps : ℕ) (o : Option ℕ) (b : Bool) where
   -- its machine is printed
-  pub RunsSo-machine : (g : Parts) (m : MachineView) → Soundness → QuietIsComplete → AreInputs P vs → Schemas P g → AreAllowed count steps
+  pub RunsSo-machine : (g : Parts) (m : MachineView) → Soundness → QuietIsComplete → AreInputs P vs → IsOwn P g → AreAllowed count steps
       → IsRun g vs count steps m → MovesOn m.world → (o ≢ None → IsByPositions g vs count m.world) → (old new : SinkView) (result : Result ℕ EngineError) → PrintsMachine m text t b old new result
       → RunsSo P vs text count t steps o b old new result
-  RunsSo-machine g m sound complete inputs schemas allowed k moves placed old new result (reported r from prints) =
-      ran g m r allowed placed schemas (IsTrueOf-run (source P vs) g count steps inputs schemas m b r sound complete k from)
+  RunsSo-machine g m sound complete inputs own allowed k moves placed old new result (reported r from prints) =
+      ran g m r allowed placed own (IsTrueOf-run (source P vs) g count steps inputs (schemas_of own) m b r sound complete k from)
       (record { run = k; moves = moves; from = from }) prints
-  RunsSo-machine g m sound complete inputs schemas allowed k moves placed old new result (out_of_memory same) = unallowed Memory refl same
+  RunsSo-machine g m sound complete inputs own allowed k moves placed old new result (out_of_memory same) = unallowed Memory allowed same

@@ -16,6 +16,7 @@ use Rattle.id_laws.proofs.StampsLemmas.{none_left}
 use Rattle.id_sink.specs.Told.{SinkView}
 use Rattle.id_sink.specs.declared.sink.PrintError.{PrintError}
 use Rattle.id_print.specs.Texts.{facts_text}
+use Rattle.id_build.specs.Own.{schemas_of}
 use Rattle.id_engine.specs.LastRound.{AddsNone, HasAll, LastRound}
 use Rattle.id_engine.specs.Runs.{HasRun}
 use Rattle.id_engine.proofs.AlikeLemmas.{IsQuietly, quietly}
@@ -59,7 +60,7 @@ module _ (rest : RestIsTheEnd) (complete : QuietIsComplete) (text : List ℕ) (w
   last_of_program =
       let S : Source = source h.program h.inputs in
       let at = (h.run).runs ((h.run).order).0 ((h.run).order).1 in
-      let r : RunOf S = record { graph = h.graph; schemas = h.schemas; count = count; positions = at.positions } in
+      let r : RunOf S = record { graph = h.graph; schemas = schemas_of h.own; count = count; positions = at.positions } in
       let end = at.end in
       let q : IsQuietly h.graph count (h.machine).world text b h.output = quietly h.graph count steps (h.machine).world text b 0 h.output refl h.ends in
       let still : IsQuiet (end_of S r) = record {

@@ -69,7 +69,7 @@ left_none (swap x y) e = absurd cc
 left_none (next h k) e = left_none k (left_none h e)
 
 -- a report of a machine is one of each that is equal but for its count, what it keeps and the order of what is in flight
-from_same : (m : MachineView) (g : Parts) (n : ℕ) (w : World) (b : Bool) (r : Report) → m.graph ≡ g → IsSameBut w m.world → IsReportFrom m b r
+pub from_same : (m : MachineView) (g : Parts) (n : ℕ) (w : World) (b : Bool) (r : Report) → m.graph ≡ g → IsSameBut w m.world → IsReportFrom m b r
     → IsReportFrom (record { graph = g; count = n; keeps = keeps.All; world = w }) b r
 from_same m g n w b r same is h =
     let Q : Parts → List State → Type 0 = λ x es. IsReportFrom (record { graph = x; count = n; keeps = keeps.All; world = record { elements = es; flight = w.flight } }) b r in

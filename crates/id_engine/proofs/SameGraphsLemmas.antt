@@ -48,7 +48,7 @@ use Rattle.id_engine.specs.OneProgram.{AreAlike}
 -- ---- rows that are there
 
 -- there is none behind the last
-beyond : (X : List Row) (i : ℕ) → length X ≤ i → at X i ≡ no_row
+pub beyond : (X : List Row) (i : ℕ) → length X ≤ i → at X i ≡ no_row
 beyond [] i l = refl
 beyond (x ∷ X) zero l = absurd (omega arith)
 beyond (x ∷ X) (suc i) l = beyond X i (omega arith)
@@ -85,10 +85,10 @@ module _ (P Q : Checked) (a : AreAlike P Q) where
   some_row : 0 < length (rows P)
   some_row = (table_of P).some
 
-  node_same : (n : ℕ) → pieces.node P n ≡ pieces.node Q n
+  pub node_same : (n : ℕ) → pieces.node P n ≡ pieces.node Q n
   node_same n = ap (λ (X : List Row). (at X n).node) a.rows
 
-  place_same : (n : ℕ) → place P n ≡ place Q n
+  pub place_same : (n : ℕ) → place P n ≡ place Q n
   place_same n = ap (λ (X : List Row). (at X n).place) a.rows
 
   region_same : (n : ℕ) → region P n ≡ region Q n
@@ -97,7 +97,7 @@ module _ (P Q : Checked) (a : AreAlike P Q) where
   block_same : (n : ℕ) → pieces.block P n ≡ pieces.block Q n
   block_same n = ap (λ (X : List Row). (at X n).block) a.rows
 
-  end_same : (h : ℕ) → end_of P h ≡ end_of Q h
+  pub end_same : (h : ℕ) → end_of P h ≡ end_of Q h
   end_same h = ap (λ (X : List Row). unwrap_or (first_of (λ n. if ends_what h (at X n).node then Some n else None) (length X)) 0) a.rows
 
   next_same : (v : ℕ) → next_of P v ≡ next_of Q v
@@ -166,11 +166,11 @@ module _ (P Q : Checked) (a : AreAlike P Q) where
       let rest = loop_heads_by_same p in
       λ j. rest j ++ only (first_of (λ n. if is_loop_head (at (a.rows j) n).node && nat_eq (at (a.rows j) n).place p then Some n else None) (length (a.rows j)))
 
-  loop_heads_same : loop_heads P ≡ loop_heads Q
+  pub loop_heads_same : loop_heads P ≡ loop_heads Q
   loop_heads_same = loop_heads_by_same (reach P (length (rows P)))
       ∙ ap (loop_heads_by Q) (reach_same (length (rows P)) ∙ ap (λ (X : List Row). reach Q (length X)) a.rows)
 
-  all_heads_same : all_heads P ≡ all_heads Q
+  pub all_heads_same : all_heads P ≡ all_heads Q
   all_heads_same = λ j. heads_of (a.rows j) ++ loop_heads_same j
 
   -- ---- where rows are
@@ -411,7 +411,7 @@ module _ (P Q : Checked) (a : AreAlike P Q) where
       λ j. pieces.piece (Plain (op.Merge (pieces.port_of (pieces.result_of (at (a.rows j) (a.main j)).node)))) (at (a.rows j) (a.main j)).place ∷ []
   made_of_same n l p _ s = refl
 
-  made_same : (n : ℕ) → n < length (rows P) → pieces.made P n ≡ pieces.made Q n
+  pub made_same : (n : ℕ) → n < length (rows P) → pieces.made P n ≡ pieces.made Q n
   made_same n l = made_of_same n l (place P n) (pieces.node P n) refl ∙ (λ j. pieces.made_of Q n (place_same n j) (node_same n j))
 
   -- ---- what feeds them
@@ -543,7 +543,7 @@ module _ (P Q : Checked) (a : AreAlike P Q) where
   feeds_of_same n r (Binding x v) = λ j. pieces.feed (origin_same v j) 0 Zero ∷ []
   feeds_of_same n r _ = refl
 
-  feeds_same : (n : ℕ) → pieces.feeds P n ≡ pieces.feeds Q n
+  pub feeds_same : (n : ℕ) → pieces.feeds P n ≡ pieces.feeds Q n
   feeds_same n = feeds_of_same n (region P n) (pieces.node P n) ∙ (λ j. pieces.feeds_of Q n (region_same n j) (node_same n j))
 
   -- ---- what the schemas make and feed
@@ -560,11 +560,11 @@ module _ (P Q : Checked) (a : AreAlike P Q) where
     among = subst (λ (fs : List Feed). Among (pieces.feed s k p) fs) (feeds_same n) m.among;
   }
 
-  block_of_same : (number : ℕ → ℕ → ℕ) (h : ℕ) → block_of P number h ≡ block_of Q number h
+  pub block_of_same : (number : ℕ → ℕ → ℕ) (h : ℕ) → block_of P number h ≡ block_of Q number h
   block_of_same number h = λ j. record { first = number h 0; entries = map (λ q. number q.row q.part) (entries_same h j) }
 
 -- a graph of the one, numbered so, is one of the other
-Numbered-alike : (P Q : Checked) → AreAlike P Q → AreAlike Q P → (g : Parts) (number : ℕ → ℕ → ℕ) → Numbered P g number → Numbered Q g number
+pub Numbered-alike : (P Q : Checked) → AreAlike P Q → AreAlike Q P → (g : Parts) (number : ℕ → ℕ → ℕ) → Numbered P g number → Numbered Q g number
 Numbered-alike P Q a b g number h = record {
   made = λ n k f e m. h.made n k f e (makes_to Q P b m);
   only = λ m i s. let w = h.only m i s in record { row = w.row; part = w.part; form = w.form; place = w.place; makes = makes_to P Q a w.makes; is = w.is };

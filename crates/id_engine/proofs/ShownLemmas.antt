@@ -39,7 +39,7 @@ use Rattle.id_engine.specs.Runs.{Ends, HasRun, IsTraceOf, Ran, RanFront}
 use Rattle.id_engine.proofs.LeftLemmas.{HasWent-from}
 use Rattle.id_engine.proofs.AnsweredLemmas.{late_unallowed, refused_unallowed}
 use Rattle.id_core.specs.Events.{EventView}
-use Rattle.id_pieces.specs.Schemas.{Schemas}
+use Rattle.id_build.specs.Own.{IsOwn}
 use Rattle.id_pieces.specs.Rows.{size}
 use Rattle.id_trace.specs.Traces.{trace_text}
 use Rattle.id_engine.specs.Runs.Ends.{quiet as ends_quiet, fault as ends_fault, stopped as ends_stopped}
@@ -54,12 +54,12 @@ Shows-from_report P ws vs text b r (Fault f) i h = fault f i h
 -- and so is what comes of it with its trace, where that is asked for
 Shows-traced : (P : Checked) (ws : List (List ℕ)) (vs : List Constant) (text : List ℕ) (t b : Bool) (r : Report) (g : Parts) (count : ℕ) (w : World)
     (es : List EventView)
-    → AreInputsOf P ws vs → Schemas P g → IsTraceOf t w es → (AreMergedOf w.elements es → IsLegalOrder g vs count es w)
+    → AreInputsOf P ws vs → IsOwn P g → IsTraceOf t w es → (AreMergedOf w.elements es → IsLegalOrder g vs count es w)
     → SaysTruly (source P vs) b r r.ending
     → Shows P text (Run b t ws) (status_of r.ending) (trace_text es ++ report_text text b r)
-Shows-traced P ws vs text true b r g count w es i schemas trace legal h = traced count w es i schemas (trace.asked refl) (legal (trace.asked refl))
+Shows-traced P ws vs text true b r g count w es i own trace legal h = traced count w es i own (trace.asked refl) (legal (trace.asked refl))
     (Shows-from_report P ws vs text b r r.ending i h)
-Shows-traced P ws vs text false b r g count w es i schemas trace legal h =
+Shows-traced P ws vs text false b r g count w es i own trace legal h =
     subst (λ (xs : List EventView). Shows P text (Run b false ws) (status_of r.ending) (trace_text xs ++ report_text text b r)) (sym (trace.unasked refl))
     (Shows-from_report P ws vs text b r r.ending i h)
 
@@ -76,7 +76,7 @@ HasShown-listed text bytes old new result h printed = record {
   program = h.program;
   is_program = h.is_program;
   output = listing text h.graph;
-  shows = listed h.schemas;
+  shows = listed h.own;
   printed = subst (λ (b : List ℕ). Prints old new b result) h.listing_is printed;
 }
 
@@ -87,7 +87,7 @@ HasShown-drawn text bytes old new result h printed = record {
   program = h.program;
   is_program = h.is_program;
   output = dot_text text h.graph;
-  shows = drawn h.schemas;
+  shows = drawn h.own;
   printed = subst (λ (b : List ℕ). Prints old new b result) h.picture_is printed;
 }
 
@@ -126,14 +126,14 @@ module _ (text : List ℕ) (ws : List (List ℕ)) (P : Checked) (is : IsProgramO
   has = record { program = P; is_program = is; small = small; inputs = vs; are_inputs = are }
 
   module _ (count : ℕ) (t : Bool) (steps : ℕ) (order : Option ℕ) (b : Bool) (old new : SinkView) where
-    HasRun-from : (result : Result (Unit {0}) PrintError) (g : Parts) (m : MachineView) (r : Report) → Schemas P g → IsTrueOf (source P vs) b r →
+    HasRun-from : (result : Result (Unit {0}) PrintError) (g : Parts) (m : MachineView) (r : Report) → IsOwn P g → IsTrueOf (source P vs) b r →
         IsReportOfRun g vs count steps m b r
         → HasPrinted text t b m.world r old new result → HasRun text ws count t steps b old new (status_of r.ending) result
-    HasRun-from result g m r schemas true_of o h = record {
+    HasRun-from result g m r own true_of o h = record {
       program = P;
       is_program = is;
       graph = g;
-      schemas = schemas;
+      own = own;
       inputs = vs;
       are_inputs = are;
       machine = m;
@@ -144,32 +144,32 @@ module _ (text : List ℕ) (ws : List (List ℕ)) (P : Checked) (is : IsProgramO
       output = report_text text b r;
       ends = subst (λ (x : Parts). Ends x count steps m.world text b (status_of r.ending) (report_text text b r)) (o.run).graph_is
           (ends_text count steps m text b r r.ending (o.run).honest o.moves o.from (o.from).ends);
-      shows = Shows-traced P ws vs text t b r g count m.world h.events are schemas h.traced ((o.run).legal h.events) true_of.says;
+      shows = Shows-traced P ws vs text t b r g count m.world h.events are own h.traced ((o.run).legal h.events) true_of.says;
       printed = h.printed;
     }
 
     pub RunsSo-ran : (result : Result ℕ EngineError) → RunsSo P vs text count t steps order b old new result → IfOk result (Ran text ws count t steps order b old new)
     unfolding HasRun-from
-    RunsSo-ran result (ran g m r allowed placed schemas true_of o (whole h)) =
-        record { ran = HasRun-from (Ok tt) g m r schemas true_of o h; ordered = placed }
-    RunsSo-ran result (ran g m r allowed placed schemas true_of o (cut e h)) = tt
-    RunsSo-ran result (ran g m r allowed placed schemas true_of o (unprinted same)) = tt
+    RunsSo-ran result (ran g m r allowed placed own true_of o (whole h)) =
+        record { ran = HasRun-from (Ok tt) g m r own true_of o h; ordered = placed }
+    RunsSo-ran result (ran g m r allowed placed own true_of o (cut e h)) = tt
+    RunsSo-ran result (ran g m r allowed placed own true_of o (unprinted same)) = tt
     RunsSo-ran result (unallowed e why same) = tt
 
     pub RunsSo-shown : (result : Result ℕ EngineError) → RunsSo P vs text count t steps order b old new result → IfOk result (ShowsAll (Run b t ws) text old new)
-    RunsSo-shown result (ran g m r allowed placed schemas true_of o (whole h)) =
-        shown_of text ws count t steps b old new (status_of r.ending) (Ok tt) (HasRun-from (Ok tt) g m r schemas true_of o h)
-    RunsSo-shown result (ran g m r allowed placed schemas true_of o (cut e h)) = tt
-    RunsSo-shown result (ran g m r allowed placed schemas true_of o (unprinted same)) = tt
+    RunsSo-shown result (ran g m r allowed placed own true_of o (whole h)) =
+        shown_of text ws count t steps b old new (status_of r.ending) (Ok tt) (HasRun-from (Ok tt) g m r own true_of o h)
+    RunsSo-shown result (ran g m r allowed placed own true_of o (cut e h)) = tt
+    RunsSo-shown result (ran g m r allowed placed own true_of o (unprinted same)) = tt
     RunsSo-shown result (unallowed e why same) = tt
 
     pub RunsSo-front : (result : Result ℕ EngineError) → RunsSo P vs text count t steps order b old new result → result ≡ Err Write →
         RanFront text ws count t steps order b old new
     unfolding HasRun-from
-    RunsSo-front result (ran g m r allowed placed schemas true_of o (whole h)) k = absurd cc
-    RunsSo-front result (ran g m r allowed placed schemas true_of o (cut e h)) k =
-        record { status = status_of r.ending; error = e; ran = HasRun-from (Err e) g m r schemas true_of o h; ordered = placed }
-    RunsSo-front result (ran g m r allowed placed schemas true_of o (unprinted same)) k = absurd cc
+    RunsSo-front result (ran g m r allowed placed own true_of o (whole h)) k = absurd cc
+    RunsSo-front result (ran g m r allowed placed own true_of o (cut e h)) k =
+        record { status = status_of r.ending; error = e; ran = HasRun-from (Err e) g m r own true_of o h; ordered = placed }
+    RunsSo-front result (ran g m r allowed placed own true_of o (unprinted same)) k = absurd cc
     RunsSo-front result (unallowed e why same) k = let l = late_unallowed text count steps e why in let w : e ≡ Write = cc in absurd (l.1 w)
 
     pub RunsSo-cut : (result : Result ℕ EngineError) → RunsSo P vs text count t steps order b old new result → result ≡ Err Write →
@@ -179,26 +179,26 @@ module _ (text : List ℕ) (ws : List (List ℕ)) (P : Checked) (is : IsProgramO
         record { status = f.status; error = f.error; shown = shown_of text ws count t steps b old new f.status (Err f.error) f.ran }
 
     pub RunsSo-silent : (result : Result ℕ EngineError) → RunsSo P vs text count t steps order b old new result → IfErr result (λ e. e ≢ Write → new ≡ old)
-    RunsSo-silent result (ran g m r allowed placed schemas true_of o (whole h)) = tt
-    RunsSo-silent result (ran g m r allowed placed schemas true_of o (cut e h)) = λ n. absurd (n refl)
-    RunsSo-silent result (ran g m r allowed placed schemas true_of o (unprinted same)) = λ n. same
+    RunsSo-silent result (ran g m r allowed placed own true_of o (whole h)) = tt
+    RunsSo-silent result (ran g m r allowed placed own true_of o (cut e h)) = λ n. absurd (n refl)
+    RunsSo-silent result (ran g m r allowed placed own true_of o (unprinted same)) = λ n. same
     RunsSo-silent result (unallowed e why same) = λ n. same
 
     pub RunsSo-taken : (result : Result ℕ EngineError) → RunsSo P vs text count t steps order b old new result → OnOk result (IsTakenRun text ws count steps)
-    RunsSo-taken result (ran g m r allowed placed schemas true_of o (whole h)) =
+    RunsSo-taken result (ran g m r allowed placed own true_of o (whole h)) =
         record { inputs = has; some_elements = allowed.some_elements; few_elements = allowed.few_elements; some = allowed.some; few = allowed.few }
-    RunsSo-taken result (ran g m r allowed placed schemas true_of o (cut e h)) = tt
-    RunsSo-taken result (ran g m r allowed placed schemas true_of o (unprinted same)) = tt
+    RunsSo-taken result (ran g m r allowed placed own true_of o (cut e h)) = tt
+    RunsSo-taken result (ran g m r allowed placed own true_of o (unprinted same)) = tt
     RunsSo-taken result (unallowed e why same) = tt
 
     pub RunsSo-refused : (result : Result ℕ EngineError) → RunsSo P vs text count t steps order b old new result → IfErr result (IsRefusedRun text ws count steps)
-    RunsSo-refused result (ran g m r allowed placed schemas true_of o (whole h)) = tt
-    RunsSo-refused result (ran g m r allowed placed schemas true_of o (cut e h)) = by_write
-    RunsSo-refused result (ran g m r allowed placed schemas true_of o (unprinted same)) = by_source by_memory
+    RunsSo-refused result (ran g m r allowed placed own true_of o (whole h)) = tt
+    RunsSo-refused result (ran g m r allowed placed own true_of o (cut e h)) = by_write
+    RunsSo-refused result (ran g m r allowed placed own true_of o (unprinted same)) = by_source by_memory
     RunsSo-refused result (unallowed e why same) = refused_unallowed text ws count steps has e why
 
     pub RunsSo-inside : (result : Result ℕ EngineError) → RunsSo P vs text count t steps order b old new result → IfErr result (IsInsideOf text)
-    RunsSo-inside result (ran g m r allowed placed schemas true_of o (whole h)) = tt
-    RunsSo-inside result (ran g m r allowed placed schemas true_of o (cut e h)) = tt
-    RunsSo-inside result (ran g m r allowed placed schemas true_of o (unprinted same)) = tt
+    RunsSo-inside result (ran g m r allowed placed own true_of o (whole h)) = tt
+    RunsSo-inside result (ran g m r allowed placed own true_of o (cut e h)) = tt
+    RunsSo-inside result (ran g m r allowed placed own true_of o (unprinted same)) = tt
     RunsSo-inside result (unallowed e why same) = let l = late_unallowed text count steps e why in l.0

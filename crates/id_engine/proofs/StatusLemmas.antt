@@ -20,6 +20,7 @@ use Rattle.id_laws.specs.Determinate.{RunOf, end_of}
 use Rattle.id_laws.specs.Laws.{IsComplete, IsSound, QuietIsComplete, Soundness}
 use Rattle.id_laws.specs.Bounded.{Bounded, messages_at_once}
 use Rattle.id_laws.proofs.StampsLemmas.{none_left}
+use Rattle.id_build.specs.Own.{schemas_of}
 use Rattle.id_engine.specs.Runs.{Ends}
 use Rattle.id_engine.specs.Runs.Ends.{fault, quiet, stopped}
 use Rattle.id_engine.specs.Stopped.{NeedsMore}
@@ -92,7 +93,7 @@ StatusTold-laws bounded sound complete = record {
   of_program = λ text words count steps status t b old new result small h enough.
       let S = source h.program h.inputs in
       let at = (h.run).runs ((h.run).order).0 ((h.run).order).1 in
-      let r : RunOf S = record { graph = h.graph; schemas = h.schemas; count = count; positions = at.positions } in
+      let r : RunOf S = record { graph = h.graph; schemas = schemas_of h.own; count = count; positions = at.positions } in
       told_there bounded sound complete S (inputs_of h.program words h.inputs h.are_inputs) r (h.machine).world at.end steps status small enough
       (ends_by h.graph count steps (h.machine).world text b status h.output h.ends);
 }

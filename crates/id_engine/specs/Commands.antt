@@ -16,7 +16,7 @@ use Rattle.id_source.specs.Computed.{AreFacts}
 use Rattle.id_instr.specs.Graph.{Parts}
 use Rattle.id_graph.specs.Dot.{dot_text}
 use Rattle.id_graph.specs.Listing.{listing}
-use Rattle.id_pieces.specs.Schemas.{Schemas}
+use Rattle.id_build.specs.Own.{IsOwn}
 use Rattle.id_core.specs.Events.{EventView}
 use Rattle.id_core.specs.Firsts.{AreMergedOf}
 use Rattle.id_core.specs.Machines.{MachineView, World}
@@ -32,9 +32,9 @@ use Rattle.id_print.specs.RunReports.{IsReportFrom}
 use Rattle.id_trace.specs.Traces.{trace_text}
 use Rattle.id_judge.specs.declared.verdict.Cause.{Cause}
 use Rattle.id_judge.specs.declared.verdict.Verdict.TheVariants.{Legal}
-use Rattle.id_judge.specs.Lines.{AreClear, IsFirstLine, IsLineVerdict}
+use Rattle.id_judge.specs.Lines.{GoesNoFurther, IsFirstLine, IsLineVerdict}
 use Rattle.id_compile.specs.Programs.{IsProgramOf}
-use Rattle.id_engine.specs.Judged.{cause_text, legal_text, other_text}
+use Rattle.id_engine.specs.Judged.{cause_text, legal_text, other_text, status_of}
 
 -- a command: say that the text is accepted, print its graph, print the picture of its graph, print the facts of a
 -- round, run it, with what names have or without, and with its trace or without, or judge whether bytes are the trace
@@ -51,9 +51,9 @@ pub data Command : Type 0 where
 pub data Shows (P : Checked) (text : List ℕ) : Command → ℕ → List ℕ → Type 0 where
   -- an accepted text is said to be so
   accepted : Shows P text Check 0 (codes "ok\n")
-  -- the graph is one that the schemas give
-  listed : {g : Parts} → Schemas P g → Shows P text List_graph 0 (listing text g)
-  drawn : {g : Parts} → Schemas P g → Shows P text Draw_graph 0 (dot_text text g)
+  -- the graph is the program's own: one that the schemas give, with the numbers of each trace and of each judge
+  listed : {g : Parts} → IsOwn P g → Shows P text List_graph 0 (listing text g)
+  drawn : {g : Parts} → IsOwn P g → Shows P text Draw_graph 0 (dot_text text g)
   -- the facts are exactly those of the round, on the inputs that the words give
   facts : {n : ℕ} {ws : List (List ℕ)} {vs : List Constant} {fs : List Fact} → AreInputsOf P ws vs
       → AreFacts (source P vs) n fs →
@@ -75,25 +75,25 @@ pub data Shows (P : Checked) (text : List ℕ) : Command → ℕ → List ℕ �
       (hs : List Held) → AreInputsOf P ws vs →
       IfSome v (Answers (source P vs)) → AreSomeNames (source P vs) ns → AreSomeHeld (source P vs) hs →
       Shows P text (Run b false ws) 3 (stopped_text text v (asked b ns) hs)
-  -- where a trace is asked for, all events of a run of a graph that the schemas give come before that, by stamp, and at
-  -- one stamp by element: so they are a legal list of events from the start
+  -- where a trace is asked for, all events of a run of the program's own graph come before that, by stamp, and at one
+  -- stamp by element: so they are a legal list of events from the start
   traced : {b : Bool} {ws : List (List ℕ)} {vs : List Constant} {g : Parts} {status : ℕ} {output : List ℕ}
       (count : ℕ)
-      (w : World) (es : List EventView) → AreInputsOf P ws vs → Schemas P g → AreMergedOf w.elements es
+      (w : World) (es : List EventView) → AreInputsOf P ws vs → IsOwn P g → AreMergedOf w.elements es
       → IsLegalOrder g vs count es w → Shows P text (Run b false ws) status output →
       Shows P text (Run b true ws) status (trace_text es ++ output)
   -- the trace of a run is judged one, with the number of its events, and what the run shows stands behind that: it is
   -- the report of the machine that the run leads to, however much that keeps of its events, and has that status
   legal : {b : Bool} {ws : List (List ℕ)} {vs : List Constant} {g : Parts} {count : ℕ} {trace : List ℕ}
-      {status : ℕ} (m : MachineView) (n : ℕ) (r : Report) → AreInputsOf P ws vs → Schemas P g
+      (m : MachineView) (n : ℕ) (r : Report) → AreInputsOf P ws vs → IsOwn P g
       → IsLineVerdict g vs count m.keeps trace (Legal m n) → IsReportFrom m b r
-      → Shows P text (Run b false ws) status (report_text text b r) →
-      Shows P text (Judge b ws count trace) status (legal_text n ++ report_text text b r)
-  -- of any other the first event is told that can't follow on those before it, and why; since a line names one message
-  -- at the most, no run has a trace with this line behind those before it
+      → Shows P text (Run b false ws) (status_of r.ending) (report_text text b r) →
+      Shows P text (Judge b ws count trace) (status_of r.ending) (legal_text n ++ report_text text b r)
+  -- of any other the first event is told that can't follow on those before it, and why: no run has a trace with this
+  -- line behind those before it
   other : {b : Bool} {ws : List (List ℕ)} {vs : List Constant} {g : Parts} {count : ℕ} {trace : List ℕ}
-      (k : ℕ) (c : Cause) → AreInputsOf P ws vs → Schemas P g
-      → IsFirstLine g vs count trace k c → AreClear g vs count →
+      (k : ℕ) (c : Cause) → AreInputsOf P ws vs → IsOwn P g
+      → IsFirstLine g vs count trace k c → GoesNoFurther g vs count trace k →
       Shows P text (Judge b ws count trace) 6 (other_text k (cause_text c))
 
 -- what a command shows of the text's program, with this status, is printed with this result
@@ -115,20 +115,20 @@ pub record ShowsFront (c : Command) (text : List ℕ) (old new : SinkView) : Typ
   pub error : PrintError
   pub shown : HasShown c text old new status (Err error)
 
--- the bytes are the listing of a graph that the schemas give the text's program
+-- the bytes are the listing of the own graph of the text's program
 pub record IsListingOf (text bytes : List ℕ) : Type 0 where
   pub program : Checked
   pub is_program : IsProgramOf text program
   pub graph : Parts
-  pub schemas : Schemas program graph
+  pub own : IsOwn program graph
   pub listing_is : bytes ≡ listing text graph
 
--- the bytes are the picture of a graph that the schemas give the text's program
+-- the bytes are the picture of the own graph of the text's program
 pub record IsPictureOf (text bytes : List ℕ) : Type 0 where
   pub program : Checked
   pub is_program : IsProgramOf text program
   pub graph : Parts
-  pub schemas : Schemas program graph
+  pub own : IsOwn program graph
   pub picture_is : bytes ≡ dot_text text graph
 
 -- these are exactly the facts of a round of the text's program, on the inputs that the words give

@@ -1,8 +1,16 @@
 -- What `judge` prints before a run's report, or in its place (docs/LANGUAGE.md, "Output").
 use Rattle.std.specs.Prelude.{ℕ, ◌+◌, List, ◌++◌, codes, decimal}
+use Rattle.id_print.specs.declared.within.Ending.{Ending}
+use Rattle.id_print.specs.declared.within.Ending.TheVariants.{Quiet, Stopped, Fault}
 use Rattle.id_judge.specs.declared.verdict.Cause.{Cause}
 use Rattle.id_judge.specs.declared.verdict.Cause.TheVariants.{NotInFlight, OtherElement, NoStamp, OtherStamp}
 use Rattle.id_judge.specs.declared.verdict.Cause.TheVariants.{OtherOutcome, NoLine}
+
+-- the status of an ending
+abbrev pub status_of : Ending → ℕ
+status_of Quiet = 0
+status_of Stopped = 3
+status_of (Fault f) = 1
 
 -- that a trace is one of a run, with the number of its events
 abbrev pub legal_text : ℕ → List ℕ

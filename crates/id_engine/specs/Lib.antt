@@ -7,6 +7,7 @@ pub mod OneProgram
 pub mod OneAnswer
 pub mod OneRound
 pub mod Moments
+pub mod JudgedAlike
 pub mod Stopped
 pub mod Status
 pub mod AtOnce

@@ -7,6 +7,7 @@ use Rattle.id_core.specs.Events.{EventView}
 use Rattle.id_core.specs.Firsts.{AreMergedOf}
 use Rattle.id_core.specs.Machines.{World, start}
 use Rattle.id_runs.specs.Legal.{LeadTo}
+use Rattle.id_build.specs.Own.{own_number}
 use Rattle.id_laws.specs.Laws.{IsSound}
 use Rattle.id_sink.specs.declared.sink.PrintError.{PrintError}
 use Rattle.id_sink.specs.Told.{SinkView}
@@ -29,7 +30,7 @@ pub record AtEveryMoment (text : List ℕ) (words : List (List ℕ)) (count : �
   -- and in each such state it has shown facts and faults of the text's source alone
   pub sound : (h : HasRun text words count t steps b old new status result) (es : List EventView) (w : World)
       → AreMergedOf (h.machine).world.elements es → IsMoment h.graph h.inputs count es w
-      → IsSound (source h.program h.inputs) h.graph h.schemas.number w
+      → IsSound (source h.program h.inputs) h.graph (own_number h.program) w
 
 -- so it is with each run of the program
 abbrev pub AllMoments : Type 0

@@ -14,6 +14,7 @@ use Rattle.id_source.specs.Inputs.{AreInputsOf}
 use Rattle.id_source.specs.Names.{IsNameValue}
 use Rattle.id_source.specs.Rounds.{Faulty, Holds, IsAnswer, IsWaiting, Rounds}
 use Rattle.id_instr.specs.Graph.{Parts}
+use Rattle.id_build.specs.Own.{IsOwn, own_number}
 use Rattle.id_pieces.specs.Schemas.{Schemas}
 use Rattle.id_compile.specs.Programs.{IsProgramOf}
 
@@ -38,8 +39,8 @@ pub record MeanTheSame (S T : Source) : Type 0 where
   pub names : (n : NameValue) → IsNameValue S n ↔ IsNameValue T n
   pub waiting : (a : Ask) → IsWaiting S a ↔ IsWaiting T a
 
--- *One program*: two programs of one text are alike, the schemas give them the same graphs, the same words the same
--- inputs, and with these they mean the same
+-- *One program*: two programs of one text are alike, the schemas give them the same graphs, and one graph of their own,
+-- the same words the same inputs, and with these they mean the same
 pub record OneProgram : Type 0 where
   pub alike : (text : List ℕ) (P Q : Checked) → IsProgramOf text P → IsProgramOf text Q → AreAlike P Q
   pub given : (text : List ℕ) (words : List (List ℕ)) (P Q : Checked) (vs : List Constant) → IsProgramOf text P
@@ -48,5 +49,10 @@ pub record OneProgram : Type 0 where
       → IsProgramOf text P → IsProgramOf text Q → AreInputsOf P words vs → AreInputsOf Q words us → vs ≡ us
   pub graphs : (text : List ℕ) (P Q : Checked) (g : Parts) → IsProgramOf text P → IsProgramOf text Q
       → Schemas P g ↔ Schemas Q g
+  -- what is listed, drawn, run and judged of the text is one graph, with one number for each part of each row
+  pub own : (text : List ℕ) (P Q : Checked) (g h : Parts) → IsProgramOf text P → IsProgramOf text Q → IsOwn P g
+      → IsOwn Q h → g ≡ h
+  pub numbers : (text : List ℕ) (P Q : Checked) (n k : ℕ) → IsProgramOf text P → IsProgramOf text Q
+      → own_number P n k ≡ own_number Q n k
   pub same : (text : List ℕ) (P Q : Checked) (vs : List Constant) → IsProgramOf text P → IsProgramOf text Q
       → MeanTheSame (source P vs) (source Q vs)

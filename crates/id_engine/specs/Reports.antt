@@ -9,7 +9,7 @@ use Rattle.id_source.specs.declared.Ask.{Ask}
 use Rattle.id_source.specs.declared.Fact.TheVariants as fact
 use Rattle.id_source.specs.Rounds.{Answers, Holds, IsAnswer, Faulty, FaultFree}
 use Rattle.id_source.specs.Names.{AreNames, AreSomeNames, AreWaiting}
-use Rattle.id_pieces.specs.Schemas.{Schemas}
+use Rattle.id_build.specs.Own.{IsOwn}
 use Rattle.id_pieces.specs.Rows.{size}
 use Rattle.id_instr.specs.Graph.{Parts}
 use Rattle.id_core.specs.Events.{EventView}
@@ -29,13 +29,8 @@ use Rattle.id_compile.specs.declared.error.EngineError.{EngineError}
 use Rattle.id_compile.specs.declared.error.EngineError.TheVariants.{BadElements, BadSteps, BadRounds, TooManyFacts}
 use Rattle.id_compile.specs.declared.error.EngineError.TheVariants.{Memory, Write}
 use Rattle.id_elements.specs.Runs.{IsByPositions, IsRun, MovesOn}
+pub use Rattle.id_engine.specs.Judged.{status_of}
 use Rattle.id_engine.specs.Runs.{IsTraceOf}
-
--- the status of an ending
-abbrev pub status_of : Ending → ℕ
-status_of Quiet = 0
-status_of Stopped = 3
-status_of (Fault f) = 1
 
 -- what the report of a quiet run says of the source: it says all of its names where they are asked for
 pub record SaysAll (S : Source) (b : Bool) (r : Report) : Type 0 where
@@ -101,18 +96,19 @@ pub record AreAllowed (count steps : ℕ) : Type 0 where
   pub some : 0 < steps
   pub few : steps ≤ 100000000
 
--- why a run on so many elements with so many steps for each is refused
+-- why there is no run on so many elements with so many steps for each: these are looked at before memory is wanted
 abbrev pub IsUnallowed : ℕ → ℕ → EngineError → Type 0
 IsUnallowed count steps BadElements = (count ≡ 0) ⊎ (64 < count)
 IsUnallowed count steps BadSteps = (0 < count) × (count ≤ 64) × ((steps ≡ 0) ⊎ (100000000 < steps))
-IsUnallowed count steps e = e ≡ Memory
+IsUnallowed count steps Memory = AreAllowed count steps
+IsUnallowed count steps _ = ⊥
 
 -- a run of a program with its inputs is printed, which is one by positions where a seed gives the order, or it is
 -- refused before the first byte
 pub data RunsSo (P : Checked) (vs : List Constant) (text : List ℕ) (count : ℕ) (t : Bool) (steps : ℕ)
     (order : Option ℕ) (b : Bool) (old new : SinkView) : Result ℕ EngineError → Type 0 where
   ran : {result : Result ℕ EngineError} (g : Parts) (m : MachineView) (r : Report) → AreAllowed count steps
-      → (order ≢ None → IsByPositions g vs count m.world) → Schemas P g → IsTrueOf (source P vs) b r
+      → (order ≢ None → IsByPositions g vs count m.world) → IsOwn P g → IsTrueOf (source P vs) b r
       → IsReportOfRun g vs count steps m b r → PrintsRun text t b m.world r old new result →
       RunsSo P vs text count t steps order b old new result
   unallowed : (e : EngineError) → IsUnallowed count steps e → new ≡ old →
@@ -129,8 +125,9 @@ pub data PrintsMachine (m : MachineView) (text : List ℕ) (t b : Bool) (old new
       → PrintsRun text t b m.world r old new result → PrintsMachine m text t b old new result
   out_of_memory : new ≡ old → PrintsMachine m text t b old new (Err Memory)
 
--- why the facts of a round of a source are refused
+-- why the facts of a round of a source are refused: its number is looked at before memory is wanted
 abbrev pub AreRefusedRounds : Source → ℕ → EngineError → Type 0
 AreRefusedRounds S round BadRounds = 10000 < round
 AreRefusedRounds S round TooManyFacts = (round ≤ 10000) × HasMoreFacts S round 1000000
-AreRefusedRounds S round e = e ≡ Memory
+AreRefusedRounds S round Memory = round ≤ 10000
+AreRefusedRounds S round _ = ⊥

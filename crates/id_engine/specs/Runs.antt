@@ -8,7 +8,7 @@ use Rattle.id_source.specs.declared.Ask.{Ask}
 use Rattle.id_source.specs.declared.SourceFault.{SourceFault}
 use Rattle.id_source.specs.declared.NameValue.{NameValue}
 use Rattle.id_source.specs.Inputs.{AreInputsOf}
-use Rattle.id_pieces.specs.Schemas.{Schemas}
+use Rattle.id_build.specs.Own.{IsOwn}
 use Rattle.id_record.specs.declared.kept.Keeps.{Keeps}
 use Rattle.id_record.specs.declared.kept.Keeps.TheVariants as keeps
 use Rattle.id_core.specs.Events.{EventView}
@@ -64,7 +64,7 @@ pub record HasRun (text : List ℕ) (words : List (List ℕ)) (count : ℕ) (t :
   pub program : Checked
   pub is_program : IsProgramOf text program
   pub graph : Parts
-  pub schemas : Schemas program graph
+  pub own : IsOwn program graph
   pub inputs : List Constant
   pub are_inputs : AreInputsOf program words inputs
   pub machine : MachineView

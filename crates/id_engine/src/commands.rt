@@ -1,7 +1,7 @@
 //! The commands that run nothing: whether a text is accepted, its graph, its facts.
 
 ghost use Rattle.std.specs.Prelude.{◌≡◌, ◌≢◌, ◌≤◌, length, map, IfOk, IfErr, OnOk, string_bytes};
-ghost use Rattle.id_pieces.specs.Schemas.{Schemas};
+ghost use Rattle.id_build.specs.Own.{IsOwn};
 ghost use Rattle.id_source.specs.Computed.{AreFacts};
 ghost use Rattle.id_source.specs.Sources.{AreInputs, source};
 ghost use Rattle.id_print.specs.Within.{FactsWithin};
@@ -130,12 +130,12 @@ fn picture_of(alloc: Global, text: &str) -> Result<String, EngineError>
     }
 }
 
-/// The picture of a compiled text's graph, which is one that the schemas give.
+/// The picture of a compiled text's graph, which is the program's own.
 fn draw_compiled(alloc: Global, compiled: &Compiled, text: &str) -> Result<String, EngineError>
     requires within { IsPlacedWithin (length text.now) compiled.now.checked }
     requires short { length text.now ≤ 1048576 }
     ensures picture { IfOk result (λ s. string_bytes s ≡ dot_text text.now compiled.now.graph) }
-    ensures schemas { Schemas compiled.now.checked compiled.now.graph }
+    ensures own { IsOwn compiled.now.checked compiled.now.graph }
     ensures memory { IfErr result (λ e. e ≡ EngineError.Memory) }
 {
     match draw(alloc, compiled.valid().graph(), text) {
@@ -149,7 +149,7 @@ fn draw_once(alloc: Global, compiled: Compiled, text: &str) -> Result<String, En
     requires within { IsPlacedWithin (length text.now) compiled.checked }
     requires short { length text.now ≤ 1048576 }
     ensures picture { IfOk result (λ s. string_bytes s ≡ dot_text text.now compiled.graph) }
-    ensures schemas { Schemas compiled.checked compiled.graph }
+    ensures own { IsOwn compiled.checked compiled.graph }
     ensures memory { IfErr result (λ e. e ≡ EngineError.Memory) }
 {
     let picture = draw_compiled(alloc, &compiled, text);

@@ -2,7 +2,7 @@
 
 ghost use Rattle.std.specs.Prelude.{◌≡◌, ◌≢◌, ◌≤◌, ◌<◌, false, length, map};
 ghost use Rattle.std.specs.Prelude.{IfErr, IfOk, OnOk, ◌++◌};
-ghost use Rattle.id_pieces.specs.Schemas.{Schemas};
+ghost use Rattle.id_build.specs.Own.{IsOwn};
 ghost use Rattle.id_source.specs.Sources.{AreInputs};
 ghost use Rattle.id_print.specs.Reports.{report_text};
 ghost use Rattle.id_print.specs.Within.{ReportWithin};
@@ -163,7 +163,7 @@ fn verdict_of<'a>(
     names: bool,
 ) -> Result<Verdict<'a>, EngineError>
     requires { AreInputs prepared.now.compiled.checked prepared.now.inputs.values }
-    ensures schemas { Schemas prepared.now.compiled.checked prepared.now.compiled.graph }
+    ensures own { IsOwn prepared.now.compiled.checked prepared.now.compiled.graph }
     ensures verdict { IfOk result
         (IsLineVerdict prepared.now.compiled.graph prepared.now.inputs.values count (keeps_for false names)
         trace.now) }

@@ -34,7 +34,7 @@ pub use id_sink::{
 };
 pub use judge::judge_text;
 pub use program::{drive_asked, serve};
-pub use run::{at_every_moment, engine, one_answer, one_program, printed_alike};
+pub use run::{at_every_moment, engine, judged_alike, one_answer, one_program, printed_alike};
 pub use status::{at_once, last_round, status_told, stopped_short};
 pub use stream::settle;
 pub use words::{drive, drive_settled};

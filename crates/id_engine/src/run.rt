@@ -3,7 +3,7 @@
 ghost use Rattle.std.specs.Prelude.{◌≡◌, ◌≢◌, ◌≤◌, ◌++◌, length, map};
 ghost use Rattle.std.specs.Prelude.{IfErr, IfOk, IsTrue, None, OnOk};
 ghost use Rattle.id_record.specs.declared.kept.Keeps.TheVariants as keeps;
-ghost use Rattle.id_pieces.specs.Schemas.{Schemas};
+ghost use Rattle.id_build.specs.Own.{IsOwn};
 ghost use Rattle.id_source.specs.Sources.{AreInputs};
 ghost use Rattle.id_print.specs.Reports.{report_text};
 ghost use Rattle.id_sink.specs.Told.{Prints};
@@ -12,6 +12,7 @@ ghost use Rattle.id_print.specs.RunReports.{IsReportFrom};
 ghost use Rattle.id_print.specs.Within.{ReportWithin};
 ghost use Rattle.id_elements.specs.Runs.{IsByPositions, IsRun, MovesOn};
 ghost use Rattle.id_engine.specs.Alike.{PrintedAlike};
+ghost use Rattle.id_engine.specs.JudgedAlike.{JudgedAlike};
 ghost use Rattle.id_engine.specs.Moments.{AllMoments};
 ghost use Rattle.id_engine.specs.OneAnswer.{OneAnswer};
 ghost use Rattle.id_engine.specs.OneProgram.{OneProgram};
@@ -193,7 +194,7 @@ fn run_for<'a, R: Threads + Wait + Sync, G: Gate + Sync>(
     gate: &G,
 ) -> Result<Run<'a>, EngineError>
     requires { AreInputs prepared.now.compiled.checked prepared.now.inputs.values }
-    ensures schemas { Schemas prepared.now.compiled.checked prepared.now.compiled.graph }
+    ensures own { IsOwn prepared.now.compiled.checked prepared.now.compiled.graph }
     ensures run { IfOk result (IsRun prepared.now.compiled.graph prepared.now.inputs.values settings.elements
         settings.steps) }
     ensures kept { IfOk result (λ r. r.keeps ≡ settings.keeps) }
@@ -380,4 +381,15 @@ pub fn at_every_moment()
 {
     id_laws::sound();
     id_laws::legal_lists();
+}
+
+/// *Judged alike*, a law: the trace of a run, as `engine` prints it, is judged legal on as many elements, with the
+/// report and the status of the run; and all judges of one trace say the same (docs/PROMISES.md, "The judge"). Takes no
+/// memory.
+pub fn judged_alike()
+    ensures { JudgedAlike }
+{
+    id_laws::sound();
+    id_laws::legal_lists();
+    id_judge::clear_lines();
 }

@@ -12,8 +12,8 @@ draw-requires-clause-places c =
 pub returns-in-Ok-clause-picture : goal.returns-in-Ok-clause-picture
 returns-in-Ok-clause-picture c = c.in-Ok.ensures ∙ ap (dot_text c.args.text.now) (c.graph.ensures.value ∙ c.valid.ensures.value)
 
-pub returns-in-Ok-clause-schemas : goal.returns-in-Ok-clause-schemas
-returns-in-Ok-clause-schemas c = c.valid.ensures.kept
+pub returns-in-Ok-clause-own : goal.returns-in-Ok-clause-own
+returns-in-Ok-clause-own c = c.valid.ensures.kept
 
-pub returns-in-Err-clause-schemas : goal.returns-in-Err-clause-schemas
-returns-in-Err-clause-schemas c = c.valid.ensures.kept
+pub returns-in-Err-clause-own : goal.returns-in-Err-clause-own
+returns-in-Err-clause-own c = c.valid.ensures.kept

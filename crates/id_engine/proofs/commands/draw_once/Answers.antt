@@ -3,6 +3,6 @@ use Rattle.id_engine.proofs.commands.draw_once.Goals as goal
 pub returns : goal.returns
 returns c = record {
   picture = c.draw_compiled-picture.ensures.picture;
-  schemas = c.draw_compiled-picture.ensures.schemas;
+  own = c.draw_compiled-picture.ensures.own;
   memory = c.draw_compiled-picture.ensures.memory;
 }

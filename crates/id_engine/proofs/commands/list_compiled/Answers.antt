@@ -15,6 +15,6 @@ returns-in-Ok-clause-listing c = record {
   program = c.args.compiled.checked;
   is_program = c.requires.program;
   graph = c.args.compiled.graph;
-  schemas = c.into_valid-valid.ensures.kept;
+  own = c.into_valid-valid.ensures.kept;
   listing_is = c.in-Ok.ensures ∙ ap (listing c.args.text.now) (c.graph.ensures.value ∙ c.into_valid-valid.ensures.value);
 }

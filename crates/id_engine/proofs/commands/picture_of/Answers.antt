@@ -23,7 +23,7 @@ returns-in-Ok c = record {
         program = c.in-Ok.compiled.checked;
         is_program = c.in-Ok.ensures.program;
         graph = c.in-Ok.compiled.graph;
-        schemas = c.draw_once.ensures.schemas;
+        own = c.draw_once.ensures.own;
         picture_is = h;
       }) c.draw_once.ensures.picture;
   program = (let has : HasProgram c.args.text.now = record {

@@ -16,13 +16,13 @@ print_machine-requires-clause-inside g c =
     let S : Source = source p.compiled.checked p.inputs.values in
     λ r from. report_within S c.requires.within c.args.names r
     (IsTrueOf-judged p.compiled.checked p.inputs.values c.args.text.now c.args.trace.now c.args.count c.args.names p.compiled.graph c.requires.inputs
-    c.in-Ok-Legal.ensures.schemas _ c.in-Ok-Legal.machine c.in-Ok-Legal.events r c.sound.ensures c.complete.ensures c.legal_lists.ensures (rw c.in-Ok-Legal.field-0-is at c.in-Ok-Legal.ensures.verdict) from)
+    c.in-Ok-Legal.ensures.own _ c.in-Ok-Legal.machine c.in-Ok-Legal.events r c.sound.ensures c.complete.ensures c.legal_lists.ensures (rw c.in-Ok-Legal.field-0-is at c.in-Ok-Legal.ensures.verdict) from)
 
 pub returns-in-Ok-Legal : goal.returns-in-Ok-Legal
 returns-in-Ok-Legal g c =
     let p = c.args.prepared.now in
     JudgesSo-legal p.compiled.checked p.inputs.values c.args.text.now c.args.trace.now c.args.count c.args.names p.compiled.graph c.requires.inputs
-    c.in-Ok-Legal.ensures.schemas _ c.in-Ok-Legal.machine c.in-Ok-Legal.events c.sound.ensures c.complete.ensures c.legal_lists.ensures c.in-Ok-Legal.ensures.allowed
+    c.in-Ok-Legal.ensures.own _ c.in-Ok-Legal.machine c.in-Ok-Legal.events c.sound.ensures c.complete.ensures c.legal_lists.ensures c.in-Ok-Legal.ensures.allowed
     (rw c.in-Ok-Legal.field-0-is at c.in-Ok-Legal.ensures.verdict) _ _ c.print_machine.result c.print_machine.ensures
 
 pub print_other-requires : goal.print_other-requires
@@ -34,7 +34,7 @@ pub returns-in-Ok-CannotFollow : goal.returns-in-Ok-CannotFollow
 returns-in-Ok-CannotFollow g c =
     let p = c.args.prepared.now in
     JudgesSo-other p.compiled.checked p.inputs.values c.args.text.now c.args.trace.now c.args.count c.args.names p.compiled.graph c.requires.inputs
-    c.in-Ok-CannotFollow.ensures.schemas _ _ c.in-Ok-CannotFollow.ensures.allowed (rw c.in-Ok-CannotFollow.field-0-is at c.in-Ok-CannotFollow.ensures.verdict) _ _ c.print_other.result
+    c.in-Ok-CannotFollow.ensures.own _ _ c.in-Ok-CannotFollow.ensures.allowed (rw c.in-Ok-CannotFollow.field-0-is at c.in-Ok-CannotFollow.ensures.verdict) _ _ c.print_other.result
     c.print_other.ensures
 
 pub returns-in-Err : goal.returns-in-Err

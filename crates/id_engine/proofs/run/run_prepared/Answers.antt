@@ -1,5 +1,6 @@
 use Rattle.std.proofs.Common.{refl}
 use Rattle.id_source.specs.Sources.{Source, source}
+use Rattle.id_build.specs.Own.{schemas_of}
 use Rattle.id_engine.specs.Reports.{unallowed}
 use Rattle.id_engine.proofs.PlacedLemmas.{report_within}
 use Rattle.id_engine.proofs.PrintedLemmas.{RunsSo-machine}
@@ -15,7 +16,7 @@ print_once-requires-clause-inside g c =
     let S : Source = source p.compiled.checked p.inputs.values in
     let e = c.in-Ok.ensures in
     λ r from. report_within S c.requires.within c.args.names r
-    (IsTrueOf-run S p.compiled.graph c.args.settings.elements c.args.settings.steps c.requires.inputs e.schemas c.in-Ok.run' c.args.names r c.sound.ensures
+    (IsTrueOf-run S p.compiled.graph c.args.settings.elements c.args.settings.steps c.requires.inputs (schemas_of e.own) c.in-Ok.run' c.args.names r c.sound.ensures
     c.complete.ensures e.run from)
 
 pub returns-in-Ok : goal.returns-in-Ok
@@ -23,5 +24,5 @@ returns-in-Ok g c =
     let p = c.args.prepared.now in
     let e = c.in-Ok.ensures in
     RunsSo-machine p.compiled.checked p.inputs.values c.args.text.now c.args.settings.elements c.args.trace c.args.settings.steps c.args.settings.order c.args.names
-    p.compiled.graph c.in-Ok.run' c.sound.ensures c.complete.ensures c.requires.inputs e.schemas e.allowed e.run e.moves e.positions _ _ c.print_once.result
+    p.compiled.graph c.in-Ok.run' c.sound.ensures c.complete.ensures c.requires.inputs e.own e.allowed e.run e.moves e.positions _ _ c.print_once.result
     c.print_once.ensures
