@@ -6,5 +6,6 @@ pub mod OutcomeLemmas
 pub mod ReplaysLemmas
 pub mod SentLemmas
 pub mod ShortLemmas
+pub mod StretchesLemmas
 pub mod TakesLemmas
 pub mod TellingsLemmas

@@ -1,6 +1,6 @@
 -- Lemmas on specs/Takes.antt: what is recorded and sent at a storage is the element step, also where what waits and the
 -- cells have changed before; and whether it went well.
-use Rattle.std.proofs.Common.{◌≡◌, ◌<◌, ◌^◌, ◌-◌, ◌++◌, ◌||◌, ℕ, Bool, List, true, false, Ok, Err, length, refl, sym, ap, subst, ◌∙◌}
+use Rattle.std.proofs.Common.{◌≡◌, ◌<◌, ◌^◌, ◌-◌, ◌++◌, ◌||◌, ℕ, Bool, List, Some, true, false, Ok, Err, length, refl, sym, ap, subst, ◌∙◌}
 use Rattle.std.proofs.Common.{◌==◌, arith}
 use Rattle.std.specs.Prelude.{IsTrue}
 use Rattle.std.proofs.lemmas.Bool.{eqb-true}
@@ -13,20 +13,25 @@ use Rattle.id_value.specs.declared.FaultKind.{FaultKind}
 use Rattle.id_record.specs.declared.step.Fault.TheVariants.{Operator}
 use Rattle.id_record.specs.declared.step.Step.{Step}
 use Rattle.id_record.specs.declared.step.Step.TheVariants as step
-use Rattle.id_record.specs.Events.{tag_of}
+use Rattle.id_instr.specs.declared.instr.Instr.{Instr}
+use Rattle.id_tag.specs.declared.plain.PlainToken.{PlainToken}
+use Rattle.id_tag.specs.Plains.{message_of, tag_in}
+use Rattle.id_ops.specs.declared.Fired.{Fired}
+use Rattle.id_record.specs.declared.step.Verdict.{Verdict}
+use Rattle.id_record.specs.Events.{full_step, tag_of}
 use Rattle.id_record.specs.Sends.{numbered}
 use Rattle.id_element.specs.declared.step.Short.{Short}
 use Rattle.id_element.specs.declared.step.Short.TheVariants as short
 use Rattle.id_element.specs.declared.step.TakeError.{TakeError}
 use Rattle.id_element.specs.declared.step.TakeError.TheVariants.{StampEnd}
 use Rattle.id_element.specs.declared.storage.Storage.{Storage}
-use Rattle.id_element.specs.Storage.{element_at}
-use Rattle.id_element.specs.Handled.{IsRecorded, IsSent, recorded}
+use Rattle.id_element.specs.Storage.{TreatsFrom, element_at, state_of}
+use Rattle.id_element.specs.Handled.{IsRecorded, IsSent, recorded, token_outcome, token_sends}
 use Rattle.id_element.specs.Replays.{ElementView}
 use Rattle.id_element.specs.Shorts.{HandlesShortAt}
 use Rattle.id_element.specs.Steps.{Outcome, State, is_ended, next_stamp}
 use Rattle.id_element.specs.Takes.{GoesAt, HandlesAt, Takes}
-use Rattle.id_element.proofs.FiringsLemmas.{IsStepBy}
+use Rattle.id_element.proofs.FiringsLemmas.{IsStepBy, plain_outcome}
 
 -- the element e, where this waits and the cells have this
 abbrev pub changed : ElementView → Store → Cells → ElementView
@@ -53,6 +58,17 @@ takes_recorded e w b d new m n o p s rest before list by at is below comes step 
       ∙ ap (λ (x : Outcome). rest ++ numbered e.number (length e.state.events) (next_stamp e.state m) 0 x.sends) comes
       ∙ ap (λ xs. rest ++ xs) (sym by.outputs);
 }
+
+-- a storage treats a plain token where the element step makes of it what it has recorded and sent
+pub treats : (w : Store) (d new : Storage) (t : PlainToken) (i : Instr) (f : Fired) (v : Verdict) (n : ℕ) (list after : List Message)
+    → IsStepBy d.log.graph d.log.element (record (state_of d) { waiting = w }) (message_of t) (plain_outcome i t d.waiting d.cells f v)
+    → n ≡ next_stamp (state_of d) (message_of t) → n < 2 ^ 32
+    → IsRecorded d new (message_of t) n (token_outcome d i (tag_in t) f (full_step (message_of t).payload v))
+    → IsSent d list after n (token_sends i (tag_in t) f)
+    → TreatsFrom w d new (message_of t) list after (Some (full_step (message_of t).payload v))
+treats w d new t i f v n list after by is small done sends =
+    takes_recorded (record (element_at d) { state = record (state_of d) { waiting = w } }) d.waiting d.cells d new _ n _ _ _ _ list after
+    by refl is (omega (arith, small)) refl refl refl done sends
 
 -- ---- messages that leave their list
 

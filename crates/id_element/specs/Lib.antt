@@ -6,6 +6,7 @@ pub mod Steps
 pub mod Storage
 pub mod Replays
 pub mod Takes
+pub mod Stretches
 pub mod Codes
 -- For use inside.
 pub mod Handled

@@ -2,9 +2,11 @@
 
 use crate::cells::take_access;
 use crate::gate::{Gate, Open};
+use crate::near::Near;
 use crate::outcome::bound;
 use crate::step::{Short, TakeError};
 use crate::storage::Storage;
+use crate::stretch::{Ran, run};
 use crate::taking::take;
 use id_bank::{Cells, Reader};
 use id_flight::{Access, Queue};
@@ -14,6 +16,9 @@ use id_valid::Valid;
 use std::alloc::{AllocError, Global};
 use std::marker::Model;
 
+/// Room for a stretch is made for so many messages more than one sends at the most.
+const MANY: usize = 128;
+
 /// An element of the machine: it handles the messages that are routed to it, one at a time.
 #[derive(Drop)]
 pub struct Element<'a> {
@@ -21,9 +26,12 @@ pub struct Element<'a> {
     // What a message sends at the most, at any instruction of the graph, and more than 256 where the number of the
     // element is not small: asked for once.
     most: usize,
+    // What comes next in a stretch, and nothing outside of one.
+    near: Near,
 }
 
 impl<'a> Model for Element<'a> {
+    ghost use Rattle.std.specs.Prelude.{◌≡◌, []};
     ghost use Rattle.id_element.specs.Codes.{coded_element};
     ghost use Rattle.id_element.specs.Storage.{element_at};
     ghost use Rattle.id_element.specs.Kept.{IsKept};
@@ -35,7 +43,7 @@ impl<'a> Model for Element<'a> {
 
     ghost view = { λ e. element_at e.storage };
 
-    ghost invariant = { λ e. IsKept (element_at e.storage) e.most };
+    ghost invariant = { λ e. IsKept (element_at e.storage) e.most × (e.near.messages ≡ []) };
 }
 
 impl<'a> Element<'a> {
@@ -53,6 +61,7 @@ impl<'a> Element<'a> {
     ghost use Rattle.id_element.specs.Replays.{Replays};
     ghost use Rattle.id_element.specs.Shorts.{HandlesShortAt, came_short};
     ghost use Rattle.id_element.specs.Steps.{fresh, is_ended, outputs_of};
+    ghost use Rattle.id_element.specs.Stretches.{GoesOn};
     ghost use Rattle.id_element.specs.Takes.{Becomes, GoesAt, Handles, HandlesAt, IsForAt};
 
     /// The element of this number, of so many, that has handled nothing and keeps all events. Takes no memory, and
@@ -84,6 +93,7 @@ impl<'a> Element<'a> {
         Element {
             storage: Storage::new(alloc, number, count, graph, keeps),
             most: bound(number, graph.graph()),
+            near: Near::new(alloc),
         }
     }
 
@@ -137,10 +147,58 @@ impl<'a> Element<'a> {
         }
     }
 
-    /// The same, and answers whether it went well.
+    /// Handles the message at a position of a list, from 0, which is for this element, and what follows from it under its
+    /// context and iteration, one message after another, at most so many, and answers whether all went well. What has
+    /// been handled has left the list, and what else was sent for it stands at the end. After an error no stamp is left
+    /// for one of these messages, or a growth was refused, and that one has not been handled.
     #[inline(always)]
+    pub fn run_from<G: Gate>(
+        &mut self,
+        list: &mut Queue,
+        position: usize,
+        limit: u64,
+        gate: &G,
+    ) -> Result<bool, TakeError>
+        requires there { position < length list.old.messages }
+        requires for_it { IsForAt self.old list.old.messages position }
+        requires some { 0 < limit }
+        ensures { GoesOn limit position self.old self.new list.old.messages list.new.messages result }
+    {
+        if self.most > 0x100 {
+            return self.take_from(list, position, gate);
+        }
+        let token = match list.token(position) {
+            Some(token) => *token,
+            None => return self.take_from(list, position, gate),
+        };
+        self.open(list, position, u64::from(token.stamp))?;
+        list.reserve(self.most + MANY)?;
+        self.near.reserve(self.most + MANY)?;
+        match run(
+            &mut self.storage,
+            self.most,
+            &mut self.near,
+            list,
+            position,
+            token,
+            limit,
+            gate,
+        ) {
+            Ran::Went => Ok(true),
+            Ran::Failed => Ok(false),
+            Ran::Refused(error) => Err(error),
+            Ran::Apart => {
+                let last = list.len() - 1;
+                self.take_from(list, last, gate)
+            }
+        }
+    }
+
+    /// Handles the message at a position of a list as `take_at` does, where it is no plain token or is not handled in
+    /// short, and answers whether it went well.
+    #[inline(never)]
     #[tactic(auto, using(crate::proofs::TakesLemmas::goes_well, crate::proofs::TakesLemmas::goes_not))]
-    pub fn take_from<G: Gate>(
+    fn take_from<G: Gate>(
         &mut self,
         list: &mut Queue,
         position: usize,
@@ -150,7 +208,7 @@ impl<'a> Element<'a> {
         requires for_it { IsForAt self.old list.old.messages position }
         ensures { GoesAt position self.old self.new list.old.messages list.new.messages result }
     {
-        match self.take_short(list, position, gate)? {
+        match self.take_other(list, position, gate)? {
             Short::Went => Ok(true),
             Short::Failed(_) => Ok(false),
             Short::Apart => self.take_apart(list, position, gate),

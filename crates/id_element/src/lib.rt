@@ -12,9 +12,11 @@ mod cells;
 mod element;
 mod fitting;
 mod gate;
+mod near;
 mod outcome;
 mod step;
 mod storage;
+mod stretch;
 mod taking;
 
 pub use element::Element;

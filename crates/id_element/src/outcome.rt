@@ -7,6 +7,7 @@ ghost use Rattle.id_bank.specs.Cells.{Cells};
 ghost use Rattle.id_element.specs.Steps.{allocated_by, answer_fired, arrival, at_instr, fill_verdict, fresh_numbers};
 ghost use Rattle.id_element.specs.Steps.{fired_verdict, made_by, waiting_after};
 ghost use Rattle.id_element.specs.Shorts.{short_step};
+ghost use Rattle.id_element.specs.Stretches.{far_after, near_after};
 ghost use Rattle.id_record.specs.Sends.{HasSecond, count_started, sent, started, numbered, replies, token_to};
 ghost use Rattle.id_tag.specs.declared.Sender.TheVariants.{Element};
 ghost use Rattle.id_tag.specs.declared.Payload.TheVariants.{Token};
@@ -32,6 +33,7 @@ ghost use Rattle.id_instr.specs.Graph.{arcs_on};
 ghost use Rattle.id_ops.specs.Operators.{side_of, tag_within};
 
 use crate::gate::{Gate, Handling};
+use crate::near::Near;
 use crate::step::{Arrival, PlainOperands, Reacted, Short, TakeError};
 use id_bank::{ReadAnswer, WriteAnswer};
 use id_flight::Queue;
@@ -529,6 +531,84 @@ pub fn send_plain_fired<G: Gate>(
     }
 }
 
+/// Lets the gate hold this handling, and appends the outputs of a firing in small numbers, for which there is room:
+/// those that stay under the tag's context and iteration to what is near, and the others to a list. Takes no memory.
+#[inline(always)]
+pub fn send_near<G: Gate>(
+    instr: &Instr,
+    like: &PlainToken,
+    fired: PlainFired,
+    near: &mut Near,
+    list: &mut Queue,
+    at: &Handling,
+    gate: &G,
+)
+    requires room { length near.old.messages + most_sent instr.now < list.old.room }
+    requires room_near { most_sent instr.now ≤ near.old.room }
+    requires few { most_sent instr.now ≤ 256 }
+    ensures near { near.new.messages ≡ near_after fired near.old.messages
+        (numbered like.now.sender like.now.position like.now.stamp 0
+        (sent (Some instr.now.op) (arcs_on (side_of (fired_of (tag_in like.now) fired)) instr.now) (tag_in like.now)
+        (fired_of (tag_in like.now) fired))) }
+    ensures far { list.new.messages ≡ far_after fired list.old.messages
+        (numbered like.now.sender like.now.position like.now.stamp 0
+        (sent (Some instr.now.op) (arcs_on (side_of (fired_of (tag_in like.now) fired)) instr.now) (tag_in like.now)
+        (fired_of (tag_in like.now) fired))) }
+    ensures room { length near.new.messages ≤ list.new.room }
+{
+    gate.hold(at);
+    let dests = instr.dests.as_slice();
+    match fired {
+        PlainFired::Nothing => {}
+        PlainFired::Out(value) | PlainFired::Side(true, value) => {
+            put_near(dests, &with_value(like, value), near)
+        }
+        PlainFired::Side(false, value) => {
+            let second = instr.others.as_slice();
+            put_near(second, &with_value(like, value), near)
+        }
+        PlainFired::Sent(target, value) => send_to(target, &with_value(like, value), list),
+        PlainFired::Moved(iteration, value) => {
+            send_plain(
+                dests,
+                &PlainToken {
+                    value,
+                    iteration,
+                    ..*like
+                },
+                list,
+            )
+        }
+        PlainFired::Addressed(cell) => put_near(dests, &with_value(like, cell.address()), near),
+        PlainFired::Asked(cell, instr) => list.push_read_reserved(
+            &PlainToken {
+                instr,
+                output: 0,
+                ..*like
+            },
+            cell,
+        ),
+        PlainFired::Stored(cell, value) => {
+            list.push_write_reserved(&PlainToken { output: 0, ..*like }, cell, value)
+        }
+    }
+}
+
+/// Adds one plain token for each destination, in order, each like this one, to what is near.
+#[inline(always)]
+fn put_near(dests: &[Dest], like: &PlainToken, near: &mut Near)
+    requires room { length dests.now ≤ near.old.room }
+    requires few { length dests.now ≤ 256 }
+    ensures messages { near.new.messages ≡ near.old.messages
+        ++ numbered like.now.sender like.now.position like.now.stamp 0
+        (map (token_to (tag_in like.now) (whole like.now.value)) dests.now) }
+    ensures len { length near.new.messages ≡ length near.old.messages + length dests.now }
+{
+    for (number, dest) in dests.iter().enumerate() {
+        near.push_reserved(&plain_to(like, *dest, number));
+    }
+}
+
 /// A plain token with this value, and else like this one.
 #[inline(always)]
 fn with_value(like: &PlainToken, value: Plain) -> PlainToken
@@ -541,9 +621,10 @@ fn with_value(like: &PlainToken, value: Plain) -> PlainToken
 #[inline(always)]
 fn send_to(target: Target, like: &PlainToken, outputs: &mut Queue)
     requires room { 0 < outputs.old.room }
-    ensures { outputs.new.messages ≡ outputs.old.messages
+    ensures messages { outputs.new.messages ≡ outputs.old.messages
         ++ numbered like.now.sender like.now.position like.now.stamp 0
         (Token (target_tag target) Zero (whole like.now.value) ∷ []) }
+    ensures room { outputs.old.room ≤ outputs.new.room + 1 }
 {
     outputs.push_plain_reserved(&PlainToken {
         serial: target.serial,

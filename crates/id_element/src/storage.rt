@@ -306,7 +306,7 @@ impl<'a> Storage<'a> {
     /// The same of a token that fits the graph, at a stamp above its own, where the most is large too unless the number
     /// of the element is small: that the iteration is small follows.
     #[inline(always)]
-    fn is_short_in(&self, graph: &Graph, most: usize, token: &PlainToken, stamp: u64) -> bool
+    pub fn is_short_in(&self, graph: &Graph, most: usize, token: &PlainToken, stamp: u64) -> bool
         requires bound { IsBound graph.now self.now.log.element most }
         requires fits { Fits graph.now (message_of token.now) }
         requires above { token.now.stamp < stamp }
@@ -437,7 +437,7 @@ impl<'a> Storage<'a> {
     /// Fires the operands of which a plain token is one, sends what comes of them, and records the event. There is room
     /// for it. Takes no memory.
     #[inline(never)]
-    fn conclude_full(
+    pub fn conclude_full(
         &mut self,
         instr: &Instr,
         token: &PlainToken,

@@ -2,7 +2,7 @@
 use Rattle.std.proofs.Common.{◌≡◌, ℕ, zero, suc, ◌+◌, ◌-◌, ◌<◌, ◌≤◌, List, [], ◌∷◌, ◌++◌, All, length, map, set, get_or, take, refl, sym, ap, subst, ◌∙◌, arith, ⊎_elim, length-set, length-append}
 use Rattle.std.specs.Prelude.{Bool, true, false, IsTrue, Some, slice_get, Result, Ok, Err}
 use Rattle.std.specs.declared.alloc.AllocError.{AllocError}
-use Rattle.std.specs.List.{remove, sum_by}
+use Rattle.std.specs.List.{flat_map, remove, sum_by}
 use Rattle.std.proofs.lemmas.Grind.{flat_map-append}
 use Rattle.std.proofs.lemmas.List.{get_or-set_same}
 use Rattle.std.proofs.lemmas.List.Edits.{length-remove}
@@ -10,7 +10,7 @@ use Rattle.std.proofs.lemmas.List.Elements.{All-append, All-drop, All-nil, All-p
 use Rattle.std.proofs.lemmas.List.Sums.{sum_by-append, sum_by-cons, sum_by-remove, sum_by-set, sum_by_push}
 use Rattle.std.proofs.lemmas.Option.{get_or_from_slice_get, slice_get_within}
 use Rattle.std.proofs.lemmas.Bool.{cases_lt, false≢true}
-use Rattle.std.proofs.Math.Seq.{take-append_seam}
+use lib.Seq.{take-append-add}
 use Rattle.std.specs.Global.{Global}
 use Rattle.crossbeam_queue.specs.SegTies.{SegId}
 use Rattle.id_instr.specs.Graph.{Parts}
@@ -29,7 +29,7 @@ use Rattle.id_element.specs.Fits.{Fits}
 use Rattle.id_element.specs.Steps.{State, event_of, outputs_of, state_after}
 use Rattle.id_element.specs.Replays.{ElementView}
 use Rattle.id_elements.specs.Doors.{HaveParts, queues_of}
-use Rattle.id_element.specs.Takes.{GoesAt, HandlesAt, came_well}
+use Rattle.id_element.specs.Stretches.{GoesOn, IsBehind, is_well, sent_by, taken_by}
 use Rattle.id_element.specs.declared.step.TakeError.{TakeError}
 use Rattle.id_elements.specs.Passing.{AreFor, AreRouted, IsSentOn}
 use Rattle.id_elements.specs.Workers.{AreWorkers, IsKept, IsSame, IsSameWithin, IsWorker, StopsAtFault, WorkerView, sent_in, weight_taken}
@@ -110,127 +110,108 @@ sent_after g n s m = flat_map-append (λ (v : EventView). v.outputs) s.events (e
 pub taken_after : (f : Message → ℕ) (g : Parts) (n : ℕ) (s : State) (m : Message) → weight_taken f (state_after g n s m) ≡ weight_taken f s + f m
 taken_after f g n s m = sum_by_push (λ (v : EventView). f v.message) s.events (event_of g n s m)
 
--- an element that has handled nothing, or whose events all went well, may handle one more
-stops_after : (es : List EventView) (v : EventView) → AllWent es → StopsAtFault (es ++ v ∷ [])
-stops_after es v went = subst AllWent (before_last (es ++ v ∷ []) es v refl) went
+-- the same behind a stretch
+sent_behind : (s s' : State) (ran : List EventView) → s'.events ≡ s.events ++ ran → sent_in s' ≡ sent_in s ++ sent_by ran
+sent_behind s s' ran is = ap (λ es. flat_map (λ (v : EventView). v.outputs) es) is ∙ flat_map-append (λ (v : EventView). v.outputs) s.events ran
 
--- what it came to, where it is known whether it went well
-pub handled : {k : ℕ} {e e' : ElementView} {own own' : List Message} {b : Bool} → GoesAt k e e' own own' (Ok b)
-    → (s : Step) × HandlesAt k e e' own own' (Ok s) × (b ≡ true → s ≡ Went)
-handled {k = k} {e = e} {e' = e'} {own = own} {own' = own'} {b = b} x = from x.step x.handles x.well
+taken_behind : (f : Message → ℕ) (s s' : State) (ran : List EventView) → s'.events ≡ s.events ++ ran → weight_taken f s' ≡ weight_taken f s + taken_by f ran
+taken_behind f s s' ran is =
+    ap (λ es. sum_by (λ (v : EventView). f v.message) es) is ∙ sum_by-append (λ (v : EventView). f v.message) s.events ran
+
+-- an element whose events all went well stops at the first that does not
+stops_after : (es ran : List EventView) (n : ℕ) → length ran ≡ n → AllWent es → AllWent (take (n - 1) ran) → StopsAtFault (es ++ ran)
+stops_after es [] n many went before =
+    subst StopsAtFault (sym (none_behind es)) (All-take (λ (v : EventView). v.step ≡ Went) (length es - 1) es went)
   where
-    from : (r : Result Step TakeError) → HandlesAt k e e' own own' r → Ok b ≡ came_well r
-        → (s : Step) × HandlesAt k e e' own own' (Ok s) × (b ≡ true → s ≡ Went)
-    from (Ok Went) h is = (Went, h, λ well. refl)
-    from (Ok (Fault f)) h is = (Fault f, h, λ well. cc)
-    from (Ok Stuck) h is = (Stuck, h, λ well. cc)
-    from (Err x) h is = cc
+    none_behind : (xs : List EventView) → xs ++ [] ≡ xs
+    none_behind [] = refl
+    none_behind (x ∷ xs) = ap (λ ys. x ∷ ys) (none_behind xs)
+stops_after es (v ∷ vs) n many went before =
+    let last : length (es ++ v ∷ vs) - 1 ≡ length es + length vs = omega (arith, length-append es (v ∷ vs)) in
+    let first : n - 1 ≡ length vs = omega (arith, many) in
+    subst AllWent (sym (ap (λ i. take i (es ++ v ∷ vs)) last ∙ take-append-add es (v ∷ vs) (length vs)))
+    (All-append (λ (x : EventView). x.step ≡ Went) es (take (length vs) (v ∷ vs)) went
+    (subst (λ i. AllWent (take i (v ∷ vs))) first before))
 
-module _ (k : ℕ) (own : List Message) (e : ElementView) (own' : List Message) (e' : ElementView) (step : Step)
-    (p : HandlesAt k e e' own own' (Ok step)) where
+module _ (most k : ℕ) (own : List Message) (e : ElementView) (own' : List Message) (e' : ElementView) (r : Result Bool TakeError)
+    (p : GoesOn most k e e' own own' r) where
   -- it is the same element
   pub number_given : e'.number ≡ e.number
-  number_given = ap (λ (x : ElementView). x.number) p.handles.becomes.element
+  number_given = ap (λ (x : ElementView). x.number) p.stretch.element
 
   pub count_given : e'.count ≡ e.count
-  count_given = ap (λ (x : ElementView). x.count) p.handles.becomes.element
+  count_given = ap (λ (x : ElementView). x.count) p.stretch.element
 
-  -- its own has lost one message, and got those that were sent
-  pub length_given : length own' + 1 ≡ length own + length (outputs_of e.graph e.number e.state p.message)
-  length_given =
-      let sent = outputs_of e.graph e.number e.state p.message in
-      let a : length own' ≡ length (remove own k ++ sent) = ap length p.handles.becomes.outputs in
-      let r = length-remove own k (slice_get_within own k p.message p.at) in
-      omega (arith, a, r, length-append (remove own k) sent)
-
-  before_sent : (rest : ℕ) → rest ≡ length own - 1 → take rest own' ≡ remove own k
-  before_sent rest is =
-      let sent = outputs_of e.graph e.number e.state p.message in
-      let r = length-remove own k (slice_get_within own k p.message p.at) in
-      let at : rest ≡ length (remove own k) = omega (arith, r, is) in
-      ap (λ (n : ℕ). take n own') at ∙ ap (λ ms. take (length (remove own k)) ms) p.handles.becomes.outputs ∙ take-append_seam (remove own k) sent
-
-  fits_given : AreFor e own → All (Fits e.graph) own'
-  fits_given are =
-      let sent = outputs_of e.graph e.number e.state p.message in
-      subst (All (Fits e.graph)) (sym p.handles.becomes.outputs) (All-append (Fits e.graph) (remove own k) sent
-      (All-removed (Fits e.graph) own k (fits_for e own are)) p.handles.fits)
+  -- which has handled some messages, and not too many
+  pub few_given : length e'.state.events ≤ length e.state.events + most
+  few_given =
+      let a : length e'.state.events ≡ length (e.state.events ++ p.stretch.ran) = ap length p.stretch.events in
+      let n = p.stretch.count in
+      let m = p.few in
+      omega (arith, a, n, m, length-append e.state.events p.stretch.ran)
 
 module _ (goes : Bool) (ds : List DoorView) (e : ElementView) (own came back stray : List Message) (ls : List QueueView) (on : IsTrue goes)
     (kept : IsKept (worker_of goes ds e own came back stray ls))
-    (k : ℕ) (own1 : List Message) (e' : ElementView) (step : Step) (p : HandlesAt k e e' own own1 (Ok step)) where
+    (most k : ℕ) (own1 : List Message) (e' : ElementView) (r : Result Bool TakeError) (p : GoesOn most k e e' own own1 r) where
+  fits_given : All (Fits e.graph) own1
+  fits_given = p.stretch.fit (fits_for e own (kept.own on))
+
   -- wherever the messages of its own have gone
   IsKept-moved : (goes' : Bool) (own' back' : List Message) (ls' : List QueueView)
       → ((f : Message → ℕ) → sum_by f own' + sum_by f back' + weight_in f ls' ≡ sum_by f own1 + sum_by f back + weight_in f ls)
-      → length ls' ≡ length ls → (IsTrue goes' → AreFor e own') → (IsTrue goes' → back' ≡ []) → (IsTrue goes' → step ≡ Went)
+      → length ls' ≡ length ls → (IsTrue goes' → AreFor e own') → (IsTrue goes' → back' ≡ []) → (IsTrue goes' → is_well r ≡ true)
       → IsKept (worker_of goes' ds e' own' came back' stray ls')
   IsKept-moved goes' own' back' ls' moved long are none went =
       let g = e.graph in
-      let n = e.number in
-      let m = p.message in
-      let state_is : e'.state ≡ state_after g n e.state m = ap (λ (x : ElementView). x.state) p.handles.becomes.element in
-      let events_are : e'.state.events ≡ e.state.events ++ event_of g n e.state m ∷ [] = ap (λ (s : State). s.events) state_is in
-      let sent_is : sent_in e'.state ≡ sent_in e.state ++ outputs_of g n e.state m = ap sent_in state_is ∙ sent_after g n e.state m in
+      let ran = p.stretch.ran in
+      let events_are = p.stretch.events in
+      let sent_is : sent_in e'.state ≡ sent_in e.state ++ sent_by ran = sent_behind e.state e'.state ran events_are in
       let all_went : AllWent e.state.events = kept.went on in
       record {
         parts = kept.parts;
-        count = ap (λ (x : ElementView). x.count) p.handles.becomes.element ∙ kept.count;
-        number = subst (λ (x : ℕ). x < length ds) (sym (ap (λ (x : ElementView). x.number) p.handles.becomes.element)) kept.number;
+        count = ap (λ (x : ElementView). x.count) p.stretch.element ∙ kept.count;
+        number = subst (λ (x : ℕ). x < length ds) (sym (ap (λ (x : ElementView). x.number) p.stretch.element)) kept.number;
         letters = length_letters ls' ∙ long ∙ sym (length_letters ls) ∙ kept.letters;
-        own = λ so. subst (λ (x : ElementView). AreFor x own') (sym p.handles.becomes.element) (are so);
+        own = λ so. subst (λ (x : ElementView). AreFor x own') (sym p.stretch.element) (are so);
         back = none;
-        went = λ so. subst AllWent (sym events_are)
-            (All-push (λ (v : EventView). v.step ≡ Went) e.state.events (event_of g n e.state m) all_went (sym p.handles.becomes.step ∙ went so));
-        stops = subst StopsAtFault (sym events_are) (stops_after e.state.events (event_of g n e.state m) all_went);
-        sent = subst (λ (x : Parts). All (Fits x) (sent_in e'.state)) (sym (ap (λ (x : ElementView). x.graph) p.handles.becomes.element))
-            (subst (All (Fits g)) (sym sent_is) (All-append (Fits g) (sent_in e.state) (outputs_of g n e.state m) kept.sent p.handles.fits));
+        went = λ so. subst AllWent (sym events_are) (All-append (λ (v : EventView). v.step ≡ Went) e.state.events ran all_went (p.stretch.went (went so)));
+        stops = subst StopsAtFault (sym events_are) (stops_after e.state.events ran p.n p.stretch.count all_went p.stretch.before);
+        sent = subst (λ (x : Parts). All (Fits x) (sent_in e'.state)) (sym (ap (λ (x : ElementView). x.graph) p.stretch.element))
+            (subst (All (Fits g)) (sym sent_is) (All-append (Fits g) (sent_in e.state) (sent_by ran) kept.sent p.stretch.fits));
         square = λ f.
-            let a : sum_by f (sent_in e'.state) ≡ sum_by f (sent_in e.state ++ outputs_of g n e.state m) = ap (sum_by f) sent_is in
-            let w : weight_taken f e'.state ≡ weight_taken f e.state + f m = ap (weight_taken f) state_is ∙ taken_after f g n e.state m in
-            let c : sum_by f own1 ≡ sum_by f (remove own k ++ outputs_of g n e.state m) = ap (sum_by f) p.handles.becomes.outputs in
-            let r = weight_removed f own k m p.at in
+            let a : sum_by f (sent_in e'.state) ≡ sum_by f (sent_in e.state ++ sent_by ran) = ap (sum_by f) sent_is in
+            let w : weight_taken f e'.state ≡ weight_taken f e.state + taken_by f ran = taken_behind f e.state e'.state ran events_are in
+            let c = p.stretch.weight f in
             let q = moved f in
             let s = kept.square f in
-            omega (
-              arith,
-              sum_by-append f (sent_in e.state) (outputs_of g n e.state m),
-              sum_by-append f (remove own k) (outputs_of g n e.state m),
-              weight_letters f ls,
-              weight_letters f ls',
-              a,
-              w,
-              c,
-              r,
-              q,
-              s,
-            );
+            omega (arith, sum_by-append f (sent_in e.state) (sent_by ran), weight_letters f ls, weight_letters f ls', a, w, c, q, s);
       }
 
-  -- after a fault it handles nothing more
+  -- where something failed, it handles nothing more
   pub IsKept-failed : IsKept (worker_of false ds e' own1 came back stray ls)
   IsKept-failed = IsKept-moved false own1 back ls (λ f. refl) refl (λ so. absurd (false≢true so)) (λ so. absurd (false≢true so)) (λ so. absurd (false≢true so))
 
   -- what the only element sends is for it
-  pub IsKept-alone : step ≡ Went → e.count ≡ 1 → IsKept (worker_of goes ds e' own1 came back stray ls)
+  pub IsKept-alone : is_well r ≡ true → e.count ≡ 1 → IsKept (worker_of goes ds e' own1 came back stray ls)
   IsKept-alone went one =
       let first : e.number ≡ 0 = (let c = kept.count in let l = kept.number in omega (arith, c, l, one)) in
       IsKept-moved goes own1 back ls (λ f. refl) refl
-      (λ so. AreFor-only e own1 one first (fits_given k own e own1 e' step p (kept.own on))) kept.back (λ so. went)
+      (λ so. AreFor-only e own1 one first fits_given) kept.back (λ so. went)
 
   -- what is for others was sent on
   module _ (sent : ℕ) (own' back' : List Message) (ls' : List QueueView) where
-    pub IsKept-sent : (n : ℕ) → n ≡ e.number → step ≡ Went → length own1 - sent ≡ length own - 1
+    pub IsKept-sent : (n : ℕ) → n ≡ e.number → is_well r ≡ true → length own1 - sent ≡ length own - 1 → IsBehind k own own1
         → IsSentOn n sent own1 back ls own' back' ls' (Ok tt) → IsKept (worker_of goes ds e' own' came back' stray ls')
-    IsKept-sent n mine went from on_n =
+    IsKept-sent n mine went from behind on_n =
         let s : IsSentOn e.number sent own1 back ls own' back' ls' (Ok tt) =
         subst (λ (x : ℕ). IsSentOn x sent own1 back ls own' back' ls' (Ok tt)) mine on_n in
         let many : length ls ≡ e.count = sym (length_letters ls) ∙ kept.letters ∙ sym kept.count in
         let front : AreRouted (length ls) e.number (take (length own1 - sent) own1) =
-        subst (λ (ms : List Message). AreRouted (length ls) e.number ms) (sym (before_sent k own e own1 e' step p (length own1 - sent) from))
+        subst (λ (ms : List Message). AreRouted (length ls) e.number ms) (sym (ap (λ (i : ℕ). take i own1) from ∙ behind))
         (subst (λ (c : ℕ). AreRouted c e.number (remove own k)) (sym many)
         (All-removed (λ m. route_of m.payload e.count ≡ e.number) own k (routed_for e own (kept.own on)))) in
         let here = s.routed (kept.back on) front in
-        let fit : All (Fits e.graph) own' = s.fits e.graph (fits_given k own e own1 e' step p (kept.own on))
+        let fit : All (Fits e.graph) own' = s.fits e.graph fits_given
         (subst (All (Fits e.graph)) (sym (kept.back on)) (All-nil (Fits e.graph))) in
         IsKept-moved goes own' back' ls' s.weight s.count
         (λ so. AreFor-both e own' (subst (λ (c : ℕ). AreRouted c e.number own') many here.1) fit) (λ so. here.0) (λ so. went)

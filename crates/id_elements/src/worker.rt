@@ -213,26 +213,36 @@ impl<'a> Worker<'a> {
         }
     }
 
-    /// Handles the message at a position of its own, and says whether the run goes on after its event. What is sent
-    /// goes to the end of its own, and from there to the letters for others, and those go on at once that are to. After
-    /// an error of the element nothing has changed.
+    /// Handles the message at a position of its own, and what follows from it under its context and iteration, at most
+    /// so many messages, and says whether the run goes on after that. What else is sent goes to the end of its own, and
+    /// from there to the letters for others, and those go on at once that are to. After an error of the element it
+    /// handles nothing more.
     #[inline(always)]
     fn handle<R: Wait, G: Gate>(
         &mut self,
         rt: &R,
         shared: &Shared,
         position: usize,
+        limit: u64,
         gate: &G,
     ) -> Result<bool, TakeError>
         requires there { position < length self.old.own }
         requires goes { IsTrue self.old.goes }
+        requires some { 0 < limit }
         ensures same { IsSame self.old self.new }
-        ensures few { length self.new.element.state.events ≤ length self.old.element.state.events + 1 }
+        ensures few { length self.new.element.state.events ≤ length self.old.element.state.events + limit }
         ensures goes { result ≡ Ok true → IsTrue self.new.goes }
     {
         let others = self.own.len() - 1;
         let near = near_of(&self.own, position, self.number, self.count);
-        if !self.element.take_from(&mut self.own, position, gate)? {
+        let went = match self.element.run_from(&mut self.own, position, limit, gate) {
+            Ok(went) => went,
+            Err(error) => {
+                self.goes = false;
+                return Err(error);
+            }
+        };
+        if !went {
             self.goes = false;
             return Ok(false);
         }
@@ -399,7 +409,7 @@ impl<'a> Worker<'a> {
         if self.own.is_empty() { None } else { Some(0) }
     }
 
-    /// Handles the next message of its own, if there is one.
+    /// Handles the next message of its own, if there is one, and what follows from it.
     #[inline(always)]
     fn step<R: Wait, G: Gate>(
         &mut self,
@@ -409,14 +419,16 @@ impl<'a> Worker<'a> {
         hand: &mut Hand,
         gate: &G,
     ) -> Result<Turn, TakeError>
-        requires { IsTrue self.old.goes }
+        requires goes { IsTrue self.old.goes }
+        requires some { length self.old.element.state.events < steps }
         ensures same { IsSame self.old self.new }
-        ensures few { length self.new.element.state.events ≤ length self.old.element.state.events + 1 }
+        ensures few { length self.new.element.state.events ≤ steps }
         ensures goes { result ≡ Ok Goes → IsTrue self.new.goes }
     {
         match self.next(steps, hand) {
             Some(position) => {
-                if self.handle(rt, shared, position, gate)? {
+                let left = steps - self.handled();
+                if self.handle(rt, shared, position, left, gate)? {
                     Ok(Turn::Goes)
                 } else {
                     Ok(Turn::Stops)

@@ -148,6 +148,14 @@ impl Queue {
         None
     }
 
+    /// For how many messages more there is room, at least. Takes no memory.
+    #[inline(always)]
+    pub fn room(&self) -> usize
+        ensures { result ≡ self.now.room }
+    {
+        self.room
+    }
+
     /// Makes room for so many messages more.
     #[inline(always)]
     pub fn reserve(&mut self, more: usize) -> Result<(), AllocError>

@@ -4,8 +4,11 @@ use Rattle.id_element.proofs.ReplaysLemmas.{Replays-fresh}
 use Rattle.id_element.proofs.element.Element.keeping.Goals as goal
 
 pub invariant_of-result : goal.invariant_of-result
-invariant_of-result c = record {
-  replays = Replays-fresh _ (ap (λ e. e.state) c.new.ensures);
-  valid = rw (ap (λ e. e.graph) c.new.ensures) c.graph.ensures.kept;
-  bound = rw (ap (λ e. e.graph) c.new.ensures, ap (λ e. e.number) c.new.ensures, ← c.graph.ensures.value) c.bound.ensures;
-}
+invariant_of-result c = (
+  record {
+    replays = Replays-fresh _ (ap (λ e. e.state) c.new.ensures);
+    valid = rw (ap (λ e. e.graph) c.new.ensures) c.graph.ensures.kept;
+    bound = rw (ap (λ e. e.graph) c.new.ensures, ap (λ e. e.number) c.new.ensures, ← c.graph.ensures.value) c.bound.ensures;
+  },
+  c.new-2.ensures,
+)
