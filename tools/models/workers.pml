@@ -120,7 +120,11 @@ inline post_all() {                             /* Worker::post_all */
   od
 }
 
+#if WORKERS == 2
 #define FOR_ALL(step) do :: atomic { i < WORKERS -> step; i++ } :: atomic { i == WORKERS -> i = 0; break } od
+#else                                           /* a sum is one step, but the two are two */
+#define FOR_ALL(step) atomic { do :: i < WORKERS -> step; i++ :: i == WORKERS -> i = 0; break od }
+#endif
 
 inline stop_if_done() {                         /* Shared::stop_if_done; `more`: so many more were done than sent */
 #ifdef SENT_FIRST

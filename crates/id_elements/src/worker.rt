@@ -27,7 +27,7 @@ const FULL: usize = 64;
 const BURSTS: u32 = 16;
 
 /// A worker keeps so many lists without messages for its next letters.
-const SPARES: usize = 64;
+const SPARES: usize = 16;
 
 /// What works one element.
 #[derive(Drop)]
