@@ -119,14 +119,15 @@ names_differ : (a b : Text) → bytes_eq a b ≡ false → bytes_eq b b ≡ true
 names_differ a b apart same e = true_false (sym same ∙ (ap (λ t. bytes_eq t b) (sym e) ∙ apart))
 
 -- a request of another command is none
-pub only_five : (name : Text) (rows : List Row) → (name ≡ codes "check" → ⊥) → (name ≡ codes "graph" → ⊥) → (name ≡ codes "run" → ⊥)
-    → (name ≡ codes "facts" → ⊥) → (name ≡ codes "judge" → ⊥) → (r : Request) → IsRequestOf name rows r → ⊥
-only_five name rows check graph run facts judge (asks.Check file) h = check h.0
-only_five name rows check graph run facts judge (asks.Graph file) h = graph h.0
-only_five name rows check graph run facts judge (asks.Draw file) h = graph h.0
-only_five name rows check graph run facts judge (asks.Run file inputs count trace steps order names) h = run h.0
-only_five name rows check graph run facts judge (asks.Facts file rounds inputs) h = facts h.0
-only_five name rows check graph run facts judge (asks.Judge file trace inputs count names) h = judge h.0
+pub only_six : (name : Text) (rows : List Row) → (name ≡ codes "check" → ⊥) → (name ≡ codes "graph" → ⊥) → (name ≡ codes "run" → ⊥)
+    → (name ≡ codes "facts" → ⊥) → (name ≡ codes "why" → ⊥) → (name ≡ codes "judge" → ⊥) → (r : Request) → IsRequestOf name rows r → ⊥
+only_six name rows check graph run facts why judge (asks.Check file) h = check h.0
+only_six name rows check graph run facts why judge (asks.Graph file) h = graph h.0
+only_six name rows check graph run facts why judge (asks.Draw file) h = graph h.0
+only_six name rows check graph run facts why judge (asks.Run file inputs count trace steps order names) h = run h.0
+only_six name rows check graph run facts why judge (asks.Facts file rounds inputs) h = facts h.0
+only_six name rows check graph run facts why judge (asks.Why file rounds inputs) h = why h.0
+only_six name rows check graph run facts why judge (asks.Judge file trace inputs count names) h = judge h.0
 
 -- each request has a file
 pub no_file : (name : Text) (rows : List Row) → ((file : Text) → HasFile rows file → ⊥) → (r : Request) → IsRequestOf name rows r → ⊥
@@ -135,6 +136,7 @@ no_file name rows none (asks.Graph file) h = none file.now h.1
 no_file name rows none (asks.Draw file) h = none file.now h.1
 no_file name rows none (asks.Run file inputs count trace steps order names) h = none file.now h.1
 no_file name rows none (asks.Facts file rounds inputs) h = none file.now h.1
+no_file name rows none (asks.Why file rounds inputs) h = none file.now h.1
 no_file name rows none (asks.Judge file trace inputs count names) h = none file.now h.1
 
 -- what a request to run has, else it is none
@@ -145,6 +147,7 @@ no_run rows none (asks.Graph file) h = names_differ (codes "run") (codes "graph"
 no_run rows none (asks.Draw file) h = names_differ (codes "run") (codes "graph") refl refl h.0
 no_run rows none (asks.Run file inputs count trace steps order names) h = none count steps order h.3 h.5 h.6
 no_run rows none (asks.Facts file rounds inputs) h = names_differ (codes "run") (codes "facts") refl refl h.0
+no_run rows none (asks.Why file rounds inputs) h = names_differ (codes "run") (codes "why") refl refl h.0
 no_run rows none (asks.Judge file trace inputs count names) h = names_differ (codes "run") (codes "judge") refl refl h.0
 
 -- a request for facts has a round
@@ -155,7 +158,19 @@ no_facts rows none (asks.Graph file) h = names_differ (codes "facts") (codes "gr
 no_facts rows none (asks.Draw file) h = names_differ (codes "facts") (codes "graph") refl refl h.0
 no_facts rows none (asks.Run file inputs count trace steps order names) h = names_differ (codes "facts") (codes "run") refl refl h.0
 no_facts rows none (asks.Facts file rounds inputs) h = none rounds h.2
+no_facts rows none (asks.Why file rounds inputs) h = names_differ (codes "facts") (codes "why") refl refl h.0
 no_facts rows none (asks.Judge file trace inputs count names) h = names_differ (codes "facts") (codes "judge") refl refl h.0
+
+-- a request to say why has a round
+pub no_why : (rows : List Row) → ((rounds : ℕ) → HasNumber 32 (codes "rounds") rows rounds → ⊥) → (r : Request)
+    → IsRequestOf (codes "why") rows r → ⊥
+no_why rows none (asks.Check file) h = names_differ (codes "why") (codes "check") refl refl h.0
+no_why rows none (asks.Graph file) h = names_differ (codes "why") (codes "graph") refl refl h.0
+no_why rows none (asks.Draw file) h = names_differ (codes "why") (codes "graph") refl refl h.0
+no_why rows none (asks.Run file inputs count trace steps order names) h = names_differ (codes "why") (codes "run") refl refl h.0
+no_why rows none (asks.Facts file rounds inputs) h = names_differ (codes "why") (codes "facts") refl refl h.0
+no_why rows none (asks.Why file rounds inputs) h = none rounds h.2
+no_why rows none (asks.Judge file trace inputs count names) h = names_differ (codes "why") (codes "judge") refl refl h.0
 
 -- a request to judge has a trace and a number of elements
 pub no_judge : (rows : List Row) → ((file : Text) (count : ℕ) → HasTrace rows file → HasNumber 32 (codes "elements") rows count → ⊥) → (r : Request)
@@ -165,6 +180,7 @@ no_judge rows none (asks.Graph file) h = names_differ (codes "judge") (codes "gr
 no_judge rows none (asks.Draw file) h = names_differ (codes "judge") (codes "graph") refl refl h.0
 no_judge rows none (asks.Run file inputs count trace steps order names) h = names_differ (codes "judge") (codes "run") refl refl h.0
 no_judge rows none (asks.Facts file rounds inputs) h = names_differ (codes "judge") (codes "facts") refl refl h.0
+no_judge rows none (asks.Why file rounds inputs) h = names_differ (codes "judge") (codes "why") refl refl h.0
 no_judge rows none (asks.Judge file trace inputs count names) h = none trace.now count h.2 h.4
 
 -- the input words are the values that the getter gives

@@ -57,6 +57,10 @@ rounds_rule = record (new_rule (codes "ROUNDS")) {
   parser = Some (Signed (pos 0) (pos 10000));
 }
 
+-- `--rounds`, from 0 to 10,000
+abbrev pub rounds_option_rule : Rule
+rounds_option_rule = number_rule (codes "rounds") (Signed (pos 0) (pos 10000)) (codes "300")
+
 -- the file of a trace, which has to be there
 abbrev pub trace_rule : Rule
 trace_rule = record (new_rule (codes "TRACE")) { required = true }
@@ -86,6 +90,9 @@ run_shape = command_shape (codes "run") run_rules
 abbrev pub facts_shape : Shape
 facts_shape = command_shape (codes "facts") (file_rule ∷ rounds_rule ∷ inputs_rule ∷ [])
 
+abbrev pub why_shape : Shape
+why_shape = command_shape (codes "why") (file_rule ∷ inputs_rule ∷ rounds_option_rule ∷ [])
+
 -- the arguments of `judge`
 abbrev pub judge_rules : List Rule
 judge_rules = file_rule ∷ trace_rule ∷ inputs_rule ∷ elements_rule ∷ flag_rule (codes "names") ∷ []
@@ -106,7 +113,7 @@ bare_shape = record (new_shape (codes "idc")) {
 abbrev pub program_app : App
 program_app = record {
   top = record bare_shape { is_leaf = false };
-  subs = check_shape ∷ graph_shape ∷ run_shape ∷ facts_shape ∷ judge_shape ∷ [];
+  subs = check_shape ∷ graph_shape ∷ run_shape ∷ facts_shape ∷ why_shape ∷ judge_shape ∷ [];
 }
 
 -- the command has this shape, and none of its arguments is one of its subcommands' too

@@ -66,6 +66,9 @@ IsRequestOf name rows (asks.Run file inputs count trace steps order names) =
 IsRequestOf name rows (asks.Facts file rounds inputs) =
     (name ≡ codes "facts") × HasFile rows file.now × HasNumber 32 (codes "ROUNDS") rows rounds
     × (map (λ w. w.now) inputs.items ≡ input_words rows)
+IsRequestOf name rows (asks.Why file rounds inputs) =
+    (name ≡ codes "why") × HasFile rows file.now × HasNumber 32 (codes "rounds") rows rounds
+    × (map (λ w. w.now) inputs.items ≡ input_words rows)
 IsRequestOf name rows (asks.Judge file trace inputs count names) =
     (name ≡ codes "judge") × HasFile rows file.now × HasTrace rows trace.now
     × (map (λ w. w.now) inputs.items ≡ input_words rows) × HasNumber 32 (codes "elements") rows count

@@ -24,6 +24,9 @@ const VERSION: &str = "1.0.0";
 /// The last round whose facts the words may ask for.
 const LAST_ROUND: i64 = 10_000;
 
+/// The round in which the words ask what lacks a value, where they say nothing.
+const DEFAULT_ROUNDS: &str = "300";
+
 // A text, the statuses of the program, and an example.
 macro_rules! with_statuses {
     ($text:literal) => {
@@ -52,7 +55,8 @@ ghost use Rattle.clap.specs.Words.{app_of, found_of, kind_of, rows_of, rule_of, 
 ghost use Rattle.id_args.specs.Commands.{AreCommands, IsCommand, bare_shape, check_shape, command_shape};
 ghost use Rattle.id_args.specs.Commands.{elements_rule, facts_shape, file_rule, flag_rule, graph_shape};
 ghost use Rattle.id_args.specs.Commands.{inputs_rule, judge_rules, judge_shape, number_rule, order_rule};
-ghost use Rattle.id_args.specs.Commands.{program_app, rounds_rule, run_rules, run_shape, steps_rule, trace_rule};
+ghost use Rattle.id_args.specs.Commands.{program_app, rounds_option_rule, rounds_rule, run_rules, run_shape, steps_rule};
+ghost use Rattle.id_args.specs.Commands.{trace_rule, why_shape};
 ghost use Rattle.id_args.specs.Matches.{Gives, IsAsked, IsAskedIn, IsNumberOf, IsOrderOf, IsRefusal, Tells};
 ghost use Rattle.id_args.specs.Requests.{AskFor, HasFile, HasTrace, IsRequestOf, IsUnread, IsUnreadWords};
 ghost use Rattle.id_args.specs.Requests.{end_in_help, input_words, is_help, is_set, words_read};
@@ -84,6 +88,9 @@ const OVERVIEW: &str = with_statuses!(
 
 Options of graph:
       --dot           Prints it in the language of Graphviz
+
+Options of why:
+      --rounds <N>    How often the rules are used, at most 10000 [default: 300]
 
 Options of judge:
       --elements <N>  How many elements the machine had, from 1 to 64 [default: 1]
@@ -186,6 +193,16 @@ fn rounds_argument<'a>(alloc: Global) -> Arg<'a>
         .help("How often the rules are used")
 }
 
+/// The option for the round.
+fn rounds_option<'a>(alloc: Global) -> Arg<'a>
+    ensures rule { rule_of result ≡ rounds_option_rule }
+    ensures local { result.global ≡ false }
+{
+    let parser = value_parser!(u32).range(0..=LAST_ROUND).into();
+    let help = "How often the rules are used";
+    number_option(alloc, "rounds", parser, DEFAULT_ROUNDS, help)
+}
+
 /// The argument that names the file of a trace.
 fn trace_argument<'a>(alloc: Global) -> Arg<'a>
     ensures rule { rule_of result ≡ trace_rule }
@@ -267,6 +284,19 @@ fn facts_command<'a>(alloc: Global) -> Result<Command<'a>, AllocError>
     command_with(alloc, "facts", about, arguments)
 }
 
+/// The command `why`.
+fn why_command<'a>(alloc: Global) -> Result<Command<'a>, AllocError>
+    ensures { IfOk result (IsCommand why_shape) }
+{
+    let about = "Says what lacks a value in a program, and what it waits for";
+    let arguments = vec![in alloc;
+        file_argument(alloc),
+        inputs_argument(alloc),
+        rounds_option(alloc),
+    ]?;
+    command_with(alloc, "why", about, arguments)
+}
+
 /// The arguments of `judge`.
 fn judge_arguments<'a>(alloc: Global) -> Result<Vec<Arg<'a>>, AllocError>
     ensures rules { IfOk result (λ v. map rule_of v.items ≡ judge_rules) }
@@ -310,6 +340,7 @@ fn put_all<'a>(alloc: Global, commands: &mut Vec<Command<'a>>) -> Result<(), All
     put(commands, graph_command(alloc))?;
     put(commands, run_command(alloc))?;
     put(commands, facts_command(alloc))?;
+    put(commands, why_command(alloc))?;
     put(commands, judge_command(alloc))
 }
 
@@ -337,7 +368,7 @@ fn command<'a>(alloc: Global) -> Result<Command<'a>, AllocError>
 
 /// Whether a word is an option that takes a number.
 fn takes_number(word: &str) -> bool {
-    word == "--elements" || word == "--steps" || word == "--order"
+    word == "--elements" || word == "--steps" || word == "--order" || word == "--rounds"
 }
 
 /// The first option that takes a number and has a word with a sign behind it, with that word. Behind `--` there is
@@ -536,6 +567,26 @@ fn facts_request<'a>(
     }))
 }
 
+/// What the words of `why` ask for of this file, if they name a round.
+fn why_request<'a>(
+    alloc: Global,
+    file: &'a str,
+    matches: &ArgMatches<'a>,
+) -> Result<Option<Request<'a>>, AllocError>
+    requires { HasFile (rows_of (found_of matches.now)) file.now }
+    ensures { IfOk result (IsAsked (codes "why") (rows_of (found_of matches.now))) }
+{
+    let Some(rounds) = number_of(matches, "rounds") else {
+        return Ok(None);
+    };
+    let inputs = inputs_of(alloc, matches)?;
+    Ok(Some(Request::Why {
+        file,
+        rounds,
+        inputs,
+    }))
+}
+
 /// What the words of `judge` ask for of this file and this trace, if they say on how many elements.
 fn judge_request<'a>(
     alloc: Global,
@@ -590,6 +641,7 @@ fn request_of_file<'a>(
         "graph" => Ok(Some(graph_request(file, matches))),
         "run" => run_request(alloc, file, matches),
         "facts" => facts_request(alloc, file, matches),
+        "why" => why_request(alloc, file, matches),
         "judge" => judge_request_of(alloc, file, matches),
         _ => Ok(None),
     }

@@ -35,6 +35,12 @@ pub enum Request<'a> {
         rounds: u32,
         inputs: Vec<&'a str>,
     },
+    /// Print what lacks a value in a round of the file on these input words, and what it waits for.
+    Why {
+        file: &'a str,
+        rounds: u32,
+        inputs: Vec<&'a str>,
+    },
     /// Judge whether what this other file has is the trace of a run of the file on these input words, on so many
     /// elements, and print the report of that run, with what its names have, too, or not.
     Judge {

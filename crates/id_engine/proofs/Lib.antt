@@ -33,4 +33,5 @@ pub mod MomentsLemmas
 pub mod RecordedLemmas
 pub mod SameReportLemmas
 pub mod JudgedAlikeLemmas
+pub mod ReasonedLemmas
 mod ServedLemmas

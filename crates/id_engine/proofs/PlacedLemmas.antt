@@ -2,7 +2,12 @@
 use Rattle.std.proofs.Common.{◌≡◌, ℕ, Bool, zero, suc, ◌+◌, ◌-◌, ◌<◌, ◌≤◌, true, false, List, [], ◌∷◌, ◌++◌, All, length, map, inl, inr}
 use Rattle.std.proofs.Common.{Option, Some, None, refl, sym, ap, subst, ◌∙◌, arith}
 use Rattle.std.specs.Prelude.{get_or, slice_get, IfSome}
-use Rattle.std.proofs.lemmas.Bool.{cases_eq}
+use Rattle.std.proofs.lemmas.Bool.{cases_eq, cases_lt}
+use Rattle.std.proofs.lemmas.List.{get_or_past, length-append}
+use Rattle.std.proofs.Math.Seq.{get_or-append_seam}
+use Rattle.id_table.specs.Names.{first_names}
+use Rattle.id_table.specs.declared.row.Row.{Row}
+use Rattle.id_table.specs.Rows.{add, at, in_top, no_row, value_of}
 use Rattle.id_value.specs.declared.Kind.{Kind}
 use Rattle.std.proofs.lemmas.Option.{slice_get-get_or}
 use Rattle.id_value.proofs.AmongLemmas.{Among-from_at}
@@ -19,7 +24,7 @@ use Rattle.id_table.specs.Regions.{IsIfOf}
 use Rattle.id_table.specs.Turns.{IsDefOf}
 use Rattle.id_check.specs.declared.checked.Checked.{Checked}
 use Rattle.id_scope.specs.Causes.{defines_main}
-use Rattle.id_check.specs.Programs.{place, rows}
+use Rattle.id_check.specs.Programs.{place, rows, tree}
 use Rattle.id_instr.specs.Graph.{Parts}
 use Rattle.id_instr.specs.declared.instr.Instr.{Instr}
 use Rattle.id_instr.specs.declared.instr.Op.{Op}
@@ -111,6 +116,29 @@ main_thing _ e = absurd (no e)
   where
     no : false ≡ true → ⊥
     no e = cc
+
+-- the rows before the last one, and that
+abbrev rows_before : Checked → List Row
+rows_before P = (add (in_top 0) (record { rows = []; names = first_names }) (tree P)).rows
+
+abbrev last_row : Checked → Row
+last_row P = record {
+  place = 0;
+  first = 0;
+  block = (in_top 0).block;
+  region = (in_top 0).region;
+  value = value_of (rows_before P) Program;
+  node = Program;
+}
+
+-- the last row of a table has the place of its last one
+last_place : (R xs : List Row) (r : Row) (n : ℕ) → R ≡ xs ++ r ∷ [] → n + 1 ≡ length R → (at R n).place ≡ r.place
+last_place R xs r n e l =
+    let long = length-append xs (r ∷ []) in
+    let same = ap length e in
+    let last : n ≡ length xs = omega arith in
+    ap (λ (ys : List Row). (at ys n).place) e ∙ ap (λ (k : ℕ). (at (xs ++ r ∷ []) k).place) last
+    ∙ ap (λ (y : Row). y.place) (get_or-append_seam xs r [] no_row)
 
 module _ {size : ℕ} {P : Checked} (h : IsPlacedWithin size P) where
   point_within : (p : Path) (e : ℕ) → IsPoint P p e → PointWithin size p e
@@ -280,6 +308,69 @@ module _ {size : ℕ} {P : Checked} (h : IsPlacedWithin size P) where
       let s = c.3 in
       let x = (table_of P).next_in c.0 (block P n) c.1 c.2 s in
       marker_within n c.0 (block P n + 1 + c.1) (thing_within c.0 s.within (ap is_thing s.node)) c.4 (x.2).place
+
+  -- the `Span`, the end of the body and what a `for` has in the place of a predicate have the place of the loop, and the
+  -- use of an outer name that of its `next` statement
+  span_within : (n : ℕ) → n < length (rows P) → node P n ≡ Span → place P n ≤ size
+  span_within n l is =
+      let c = (table_of P).span_of_loop n l is in
+      let d = (table_of P).loop_is c.0 c.1 c.2 in
+      marker_within n c.0 ((c.2).last + 2) (loop_within c.0 c.1 c.2) (omega (arith, (d.last_is).ends, c.3)) ((d.last_is).span_beside).place
+
+  body_within : (n : ℕ) → n < length (rows P) → node P n ≡ Body → place P n ≤ size
+  body_within n l is =
+      let c = (table_of P).body_of n l is in
+      let d = (table_of P).loop_is c.0 (block P n) c.1 in
+      marker_within n c.0 d.body (loop_within c.0 (block P n) c.1) c.2 (d.place).body
+
+  test_within : (n f : ℕ) → n < length (rows P) → node P n ≡ Within f → place P n ≤ size
+  test_within n f l is =
+      let c = (table_of P).within_of n f l is in
+      let d = (table_of P).loop_is c.0 (block P n) c.1 in
+      marker_within n c.0 n (loop_within c.0 (block P n) c.1) refl ((d.place_carried).within c.2 n c.3)
+
+  use_within : (n x : ℕ) → n < length (rows P) → node P n ≡ NextUse x → place P n ≤ size
+  use_within n x l is =
+      let c = (table_of P).use_of n x l is in
+      let s = c.2 in
+      let i = (table_of P).next_in c.0 (block P n) c.1 x s in
+      marker_within n c.0 s.outer (thing_within c.0 s.within (ap is_thing s.node)) c.3 (i.2).outer_place
+
+  -- the last row has the place 0
+  program_within : (n : ℕ) → n < length (rows P) → node P n ≡ Program → place P n ≤ size
+  program_within n l is =
+      let none = last_place (rows P) (rows_before P) (last_row P) n P.tabled ((table_of P).ends_once n l is) in
+      omega (arith, none)
+
+  -- each row has a place that lies in the text
+  pub rows_within : (n : ℕ) → place P n ≤ size
+  rows_within n = elim (cases_lt n (length (rows P))) [
+    | inl l ↦ go l (node P n) refl
+    | inr past ↦ (let none : place P n ≡ 0 = ap (λ (r : Row). r.place) (get_or_past (rows P) n no_row past) in omega (arith, none))
+  ]
+    where
+      go : n < length (rows P) → (x : Node) → node P n ≡ x → place P n ≤ size
+      go l Head is = head_within n l is
+      go l (Split t) is = split_within n t l is
+      go l (Enter x) is = enter_within n x l is
+      go l (Arg e k v) is = arg_within n e k v l is
+      go l Program is = program_within n l is
+      go l (Bounds a b) is = bounds_within n a b l is
+      go l Start is = start_within n l is
+      go l (LoopHead s) is = loop_head_within n s l is
+      go l (Carried k) is = carried_within n k l is
+      go l Variable is = variable_within n l is
+      go l Entries is = entries_within n l is
+      go l (Within f) is = test_within n f l is
+      go l (Switches t) is = switches_within n t l is
+      go l Count is = count_within n l is
+      go l Turn is = turn_within n l is
+      go l (NextUse x) is = use_within n x l is
+      go l Body is = body_within n l is
+      go l (Reset v) is = reset_within n v l is
+      go l Span is = span_within n l is
+      go l (Address t i) is = address_within n t i l is
+      go l _ is = thing_within n l (ap is_thing is)
 
   -- the places of what a row makes
   made_within : (n k : ℕ) (f : Form) (e : ℕ) → Makes P n k f e → e ≤ size

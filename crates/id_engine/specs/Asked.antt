@@ -29,6 +29,7 @@ IsComputed (asks.Graph file) = ⊥
 IsComputed (asks.Draw file) = ⊥
 IsComputed (asks.Run file inputs count trace steps order names) = Unit {0}
 IsComputed (asks.Facts file rounds inputs) = Unit {0}
+IsComputed (asks.Why file rounds inputs) = Unit {0}
 IsComputed (asks.Judge file trace inputs count names) = Unit {0}
 
 -- the request asks for a run
@@ -38,6 +39,7 @@ IsToRun (asks.Graph file) = ⊥
 IsToRun (asks.Draw file) = ⊥
 IsToRun (asks.Run file inputs count trace steps order names) = Unit {0}
 IsToRun (asks.Facts file rounds inputs) = ⊥
+IsToRun (asks.Why file rounds inputs) = ⊥
 IsToRun (asks.Judge file trace inputs count names) = ⊥
 
 -- the request asks for a run, or to judge the trace of one
@@ -47,4 +49,5 @@ IsOfRun (asks.Graph file) = ⊥
 IsOfRun (asks.Draw file) = ⊥
 IsOfRun (asks.Run file inputs count trace steps order names) = Unit {0}
 IsOfRun (asks.Facts file rounds inputs) = ⊥
+IsOfRun (asks.Why file rounds inputs) = ⊥
 IsOfRun (asks.Judge file trace inputs count names) = Unit {0}

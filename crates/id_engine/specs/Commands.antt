@@ -34,16 +34,21 @@ use Rattle.id_judge.specs.declared.verdict.Cause.{Cause}
 use Rattle.id_judge.specs.declared.verdict.Verdict.TheVariants.{Legal}
 use Rattle.id_judge.specs.Lines.{GoesNoFurther, IsFirstLine, IsLineVerdict}
 use Rattle.id_compile.specs.Programs.{IsProgramOf}
+use Rattle.id_why.specs.declared.reasons.Reasons.{Reasons}
+use Rattle.id_why.specs.Rounds.{AreReasons}
+use Rattle.id_print.specs.Reasons.{reasons_text}
 use Rattle.id_engine.specs.Judged.{cause_text, legal_text, other_text, status_of}
 
 -- a command: say that the text is accepted, print its graph, print the picture of its graph, print the facts of a
--- round, run it, with what names have or without, and with its trace or without, or judge whether bytes are the trace
--- of a run on so many elements, with what names have or without; the last three with the words of its inputs
+-- round, say what lacks a value in a round, run it, with what names have or without, and with its trace or without, or
+-- judge whether bytes are the trace of a run on so many elements, with what names have or without; the last four with
+-- the words of its inputs
 pub data Command : Type 0 where
   Check : Command
   List_graph : Command
   Draw_graph : Command
   Facts : ℕ → List (List ℕ) → Command
+  Why : ℕ → List (List ℕ) → Command
   Run : Bool → Bool → List (List ℕ) → Command
   Judge : Bool → List (List ℕ) → ℕ → List ℕ → Command
 
@@ -58,6 +63,11 @@ pub data Shows (P : Checked) (text : List ℕ) : Command → ℕ → List ℕ �
   facts : {n : ℕ} {ws : List (List ℕ)} {vs : List Constant} {fs : List Fact} → AreInputsOf P ws vs
       → AreFacts (source P vs) n fs →
       Shows P text (Facts n ws) 0 (facts_text text fs)
+  -- the answer of the round is told, and of each thing on which it, or a fetch that waits, hangs and that lacks a value,
+  -- exactly what it needs that lacks one too
+  reasons : {n : ℕ} {ws : List (List ℕ)} {vs : List Constant} (r : Reasons) → AreInputsOf P ws vs
+      → AreReasons (source P vs) n r →
+      Shows P text (Why n ws) 0 (reasons_text (record { text = text; checked = P; facts = r.paths }) n r)
   -- a quiet run shows the answer that the source's equations give, exactly what its names have, where they are asked
   -- for, its structures and what is put into their cells, and its fetches that wait; and the source has no fault
   quiet : {b : Bool} {ws : List (List ℕ)} {vs : List Constant} (v : Option SourceValue) (ns : List NameValue)

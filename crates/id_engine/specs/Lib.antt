@@ -12,6 +12,7 @@ pub mod Stopped
 pub mod Status
 pub mod AtOnce
 pub mod LastRound
+pub mod Reasoned
 pub mod Served
 pub mod Settled
 -- For use inside.

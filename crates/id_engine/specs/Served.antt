@@ -16,7 +16,8 @@ use Rattle.id_sink.specs.declared.source.SourceFault.{SourceFault}
 use Rattle.id_sink.specs.Reading.{IsToldText, IsUnread, IsUnreadFor, IsToldFor, fault_for}
 use Rattle.id_compile.specs.Programs.{HasProgram}
 use Rattle.id_engine.specs.Commands.{Command, Check, List_graph, Draw_graph, Facts, Judge, Run, ShowsAll}
-use Rattle.id_engine.specs.Commands.{ShowsFront}
+use Rattle.id_engine.specs.Commands.{ShowsFront, Why}
+use Rattle.id_engine.specs.Reasoned.{AreTakenReasons}
 use Rattle.id_engine.specs.Runs.{Ran, RanFront}
 use Rattle.id_compile.specs.Refusals.{IsRefusedText, IsRefusedRun, IsTakenRun, AreRefusedFacts, AreTakenFacts}
 use Rattle.id_compile.specs.Refusals.{IsToldRefusal, IsPrintedLine, plain, row_of, source_cause}
@@ -28,6 +29,7 @@ file_of (asks.Graph file) = file.now
 file_of (asks.Draw file) = file.now
 file_of (asks.Run file inputs count trace steps order names) = file.now
 file_of (asks.Facts file rounds inputs) = file.now
+file_of (asks.Why file rounds inputs) = file.now
 file_of (asks.Judge file trace inputs count names) = file.now
 
 -- the file of the trace that a request asks to judge
@@ -37,6 +39,7 @@ trace_of (asks.Graph file) = None
 trace_of (asks.Draw file) = None
 trace_of (asks.Run file inputs count trace steps order names) = None
 trace_of (asks.Facts file rounds inputs) = None
+trace_of (asks.Why file rounds inputs) = None
 trace_of (asks.Judge file trace inputs count names) = Some trace.now
 
 -- the words of a request's inputs
@@ -46,6 +49,7 @@ words_of (asks.Graph file) = []
 words_of (asks.Draw file) = []
 words_of (asks.Run file inputs count trace steps order names) = map (λ w. w.now) inputs.items
 words_of (asks.Facts file rounds inputs) = map (λ w. w.now) inputs.items
+words_of (asks.Why file rounds inputs) = map (λ w. w.now) inputs.items
 words_of (asks.Judge file trace inputs count names) = map (λ w. w.now) inputs.items
 
 -- what a request asks for, with the bytes of its trace where it has one
@@ -56,6 +60,7 @@ command_of bytes (asks.Draw file) = Draw_graph
 command_of bytes (asks.Run file inputs count trace steps order names) =
     Run names trace (map (λ w. w.now) inputs.items)
 command_of bytes (asks.Facts file rounds inputs) = Facts rounds (map (λ w. w.now) inputs.items)
+command_of bytes (asks.Why file rounds inputs) = Why rounds (map (λ w. w.now) inputs.items)
 command_of bytes (asks.Judge file trace inputs count names) = Judge names (map (λ w. w.now) inputs.items) count bytes
 
 -- a request on a text is taken: the text has a program, the words give inputs, and all numbers are within their limits
@@ -66,6 +71,7 @@ IsTaken text (asks.Draw file) = HasProgram text
 IsTaken text (asks.Run file inputs count trace steps order names) =
     IsTakenRun text (map (λ w. w.now) inputs.items) count steps
 IsTaken text (asks.Facts file rounds inputs) = AreTakenFacts text (map (λ w. w.now) inputs.items) rounds
+IsTaken text (asks.Why file rounds inputs) = AreTakenReasons text (map (λ w. w.now) inputs.items) rounds
 IsTaken text (asks.Judge file trace inputs count names) = IsTakenRun text (map (λ w. w.now) inputs.items) count 1
 
 -- a request to run the text is run
@@ -76,6 +82,7 @@ IsRun text (asks.Draw file) out out' status = Unit {0}
 IsRun text (asks.Run file inputs count trace steps order names) out out' status =
     Ran text (map (λ w. w.now) inputs.items) count trace steps order names out out' status
 IsRun text (asks.Facts file rounds inputs) out out' status = Unit {0}
+IsRun text (asks.Why file rounds inputs) out out' status = Unit {0}
 IsRun text (asks.Judge file trace inputs count names) out out' status = Unit {0}
 
 -- and of a run that was cut short by a failed write, a front is out
@@ -86,6 +93,7 @@ IsRunFront text (asks.Draw file) out out' = Unit {0}
 IsRunFront text (asks.Run file inputs count trace steps order names) out out' =
     RanFront text (map (λ w. w.now) inputs.items) count trace steps order names out out'
 IsRunFront text (asks.Facts file rounds inputs) out out' = Unit {0}
+IsRunFront text (asks.Why file rounds inputs) out out' = Unit {0}
 IsRunFront text (asks.Judge file trace inputs count names) out out' = Unit {0}
 
 -- why a request on a text is refused
@@ -96,6 +104,8 @@ IsRefusedRequest text (asks.Draw file) e = IsRefusedText text e
 IsRefusedRequest text (asks.Run file inputs count trace steps order names) e =
     IsRefusedRun text (map (λ w. w.now) inputs.items) count steps e
 IsRefusedRequest text (asks.Facts file rounds inputs) e = AreRefusedFacts text (map (λ w. w.now) inputs.items) rounds e
+-- as its round would be
+IsRefusedRequest text (asks.Why file rounds inputs) e = AreRefusedFacts text (map (λ w. w.now) inputs.items) rounds e
 -- as a run of one step on as many elements would be
 IsRefusedRequest text (asks.Judge file trace inputs count names) e =
     IsRefusedRun text (map (λ w. w.now) inputs.items) count 1 e

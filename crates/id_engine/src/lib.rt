@@ -20,6 +20,7 @@ mod program;
 mod run;
 mod status;
 mod stream;
+mod why;
 mod words;
 
 pub use commands::{check_text, draw_text, facts_text, graph_text, one_round};
@@ -37,4 +38,5 @@ pub use program::{drive_asked, serve};
 pub use run::{at_every_moment, engine, judged_alike, one_answer, one_program, printed_alike};
 pub use status::{at_once, last_round, status_told, stopped_short};
 pub use stream::settle;
+pub use why::reasons_text;
 pub use words::{drive, drive_settled};

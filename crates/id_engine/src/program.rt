@@ -11,6 +11,7 @@ ghost use Rattle.id_sink.specs.declared.source.SourceFault.{SourceFault};
 use crate::commands::{check_text, draw_text, facts_text, graph_text};
 use crate::judge::judge_text;
 use crate::run::engine;
+use crate::why::reasons_text;
 use id_args::{Request, Unasked};
 use id_compile::{Cause, EngineError, Source, of_engine_error, of_source_fault, plain, refuse};
 use id_core::{Gate, Keeps, Open};
@@ -142,6 +143,13 @@ fn print_computed<R: Threads + Wait + Sync, G: Gate + Sync, O: Sink>(
             *rounds,
             out,
         ),
+        Request::Why { rounds, inputs, .. } => reasons_text(
+            alloc,
+            text,
+            inputs.as_slice(),
+            *rounds,
+            out,
+        ),
         _ => print_of_run(rt, alloc, request, text, trace, gate, out),
     }
 }
@@ -173,6 +181,7 @@ fn words_of<'a>(request: &'a Request<'a>) -> &'a [&'a str]
     match request {
         Request::Run { inputs, .. }
         | Request::Facts { inputs, .. }
+        | Request::Why { inputs, .. }
         | Request::Judge { inputs, .. } => inputs.as_slice(),
         Request::Check { .. } | Request::Graph { .. } | Request::Draw { .. } => &[],
     }
@@ -217,6 +226,7 @@ fn file_of<'a>(request: &Request<'a>) -> &'a str
         | Request::Draw { file }
         | Request::Run { file, .. }
         | Request::Facts { file, .. }
+        | Request::Why { file, .. }
         | Request::Judge { file, .. } => file,
     }
 }
@@ -235,7 +245,8 @@ fn read_trace<S: Source>(
         | Request::Graph { .. }
         | Request::Draw { .. }
         | Request::Run { .. }
-        | Request::Facts { .. } => Ok(Vec::new(alloc)),
+        | Request::Facts { .. }
+        | Request::Why { .. } => Ok(Vec::new(alloc)),
     }
 }
 

@@ -4,3 +4,4 @@ pub mod PartlyLemmas
 pub mod RowsLemmas
 pub mod LinesLemmas
 pub mod TellingLemmas
+pub mod ReasonsLemmas

@@ -6,6 +6,6 @@ pub mod RunReports
 pub mod Within
 pub mod Telling
 pub mod Texts
-pub mod Reports
--- For use inside.
 pub mod Pens
+pub mod Reasons
+pub mod Reports

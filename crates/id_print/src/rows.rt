@@ -23,11 +23,11 @@ use std::marker::Model;
 
 /// A cursor of the text, its program, the facts, and room for the steps of a path of them.
 #[derive(Drop)]
-struct Pen<'a> {
-    cursor: Cursor<'a>,
-    checked: &'a Checked,
-    tree: Tree,
-    steps: Vec<PathStep>,
+pub(crate) struct Pen<'a> {
+    pub(crate) cursor: Cursor<'a>,
+    pub(crate) checked: &'a Checked,
+    pub(crate) tree: Tree,
+    pub(crate) steps: Vec<PathStep>,
 }
 
 impl<'a> Model for Pen<'a> {
@@ -247,7 +247,7 @@ fn put_asked_cell<W: Sink>(
 }
 
 /// A cell of a structure, behind something else on the line.
-fn put_cell_behind<W: Sink>(
+pub(crate) fn put_cell_behind<W: Sink>(
     sink: &mut W,
     pen: &mut Pen<'_>,
     name: usize,
@@ -309,7 +309,11 @@ fn put_equal<W: Sink>(sink: &mut W, pen: &mut Pen<'_>, value: RowValue) -> Resul
 }
 
 /// A value.
-fn put_value<W: Sink>(sink: &mut W, pen: &mut Pen<'_>, value: RowValue) -> Result<(), PrintError>
+pub(crate) fn put_value<W: Sink>(
+    sink: &mut W,
+    pen: &mut Pen<'_>,
+    value: RowValue,
+) -> Result<(), PrintError>
     requires { ValueWithin (length pen.old.text) (value_in pen.old value) }
     ensures prints { Prints (W.told sink.old) (W.told sink.new)
         (value_text pen.old.text (value_in pen.old value)) result }
@@ -343,7 +347,7 @@ fn put_name<W: Sink>(sink: &mut W, pen: &mut Pen<'_>, name: usize) -> Result<(),
 }
 
 /// A path and a row, behind something else on the line.
-fn put_site_behind<W: Sink>(
+pub(crate) fn put_site_behind<W: Sink>(
     sink: &mut W,
     pen: &mut Pen<'_>,
     path: Trail,

@@ -2,12 +2,11 @@
 
 ghost use Rattle.std.specs.Prelude.{◌↔◌, IsTrue};
 ghost use Rattle.id_sink.specs.Within.{StepsWithin, PointWithin, SiteWithin, ValueWithin, AskWithin};
-ghost use Rattle.id_print.specs.Within.{PutWithin};
 ghost use Rattle.id_print.specs.Within.{AsksWithin, AnswerWithin, NameWithin, NamesWithin};
 ghost use Rattle.id_print.specs.Within.{FaultWithin, SecondWithin, EndingWithin};
 ghost use Rattle.id_sink.specs.Within.{FilledWithin};
 
-use id_source::{Ask, NameValue, Path, PathStep, Put, Site, SourceFault, SourceValue};
+use id_source::{Ask, NameValue, Path, PathStep, Site, SourceFault, SourceValue};
 
 /// How a run ended.
 #[derive(Drop)]
@@ -58,13 +57,6 @@ pub fn is_answer_within(answer: &Option<SourceValue>, size: usize) -> bool
         None => true,
         Some(value) => is_value_within(value, size),
     }
-}
-
-/// Whether a structure, the value in its cell and the store of that lie in a text of so many bytes.
-pub fn is_put_within(stored: &Put, size: usize) -> bool
-    ensures { IsTrue result ↔ PutWithin size stored.now }
-{
-    is_filled_within(&stored.name, &stored.value, size) && is_site_within(&stored.store, size)
 }
 
 /// Whether a structure and the value in its cell lie in a text of so many bytes.
