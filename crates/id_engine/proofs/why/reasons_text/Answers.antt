@@ -23,7 +23,7 @@ returns-in_err-reasoned g c =
 
 pub returns-in-Ok : goal.returns-in-Ok
 returns-in-Ok g c = record {
-  shown = HasShown-reasons _ _ _ _ _ _ _ c.in_ok-reasoned.ensures.reasons c.in-Ok.ensures;
+  shown = HasShown-reasons _ _ _ _ _ _ _ _ c.in_ok-reasoned.ensures.reasons c.in-Ok.ensures;
   cut = λ e. absurd cc;
   silent = tt;
   taken = c.in_ok-reasoned.ensures.taken;
@@ -37,7 +37,7 @@ returns-in-Err g c = record {
   cut = λ _. record {
     status = 0;
     error = c.in-Err.field-0;
-    shown = HasShown-reasons _ _ _ _ _ _ _ c.in_ok-reasoned.ensures.reasons c.in-Err.ensures;
+    shown = HasShown-reasons _ _ _ _ _ _ _ _ c.in_ok-reasoned.ensures.reasons c.in-Err.ensures;
   };
   silent = λ h. absurd (h refl);
   taken = tt;
