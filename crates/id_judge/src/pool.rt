@@ -169,7 +169,7 @@ fn name(tag: Tag, what: u64) -> u64 {
 
 /// The numbers of a tag and what is to happen there, in one number.
 pub fn name_by(numbers: [u64; 5]) -> u64 {
-    let context = mix(numbers[0], numbers[1]);
+    let context = mix(mix(0, numbers[0]), numbers[1]);
     let turn = mix(context, numbers[2]);
     mix(mix(turn, numbers[3]), numbers[4])
 }
