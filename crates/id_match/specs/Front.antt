@@ -72,11 +72,11 @@ IsSingle p = (t : Tag) → IsSome (held p.first t) → held p.second t ≡ None
 abbrev pub empty_pair : Pair
 empty_pair = record { first = empty_slot; second = empty_slot }
 
--- the place of a tag's numbers among n pairs: neighbouring instructions of an iteration stand side by side, by groups
--- of 32, the next iteration's 17 places further, and the next context's 1,021
+-- the place of a tag's numbers among n pairs: neighbouring instructions of an iteration stand side by side, the next
+-- iteration's 31 places further, and those of a context begin where its number, scrambled, says
 unfoldable pub place_of : ℕ → ℕ → ℕ → ℕ → ℕ
 place_of serial iteration instr n =
-    bit_and ((instr / 32 * 63_014_903 + instr % 32 + iteration * 17 + serial * 1_021) % 2 ^ 64) (n - 1)
+    bit_and ((serial * 11_400_714_819_323_198_485 % 2 ^ 64 / 2 ^ 32 + iteration * 31 + instr) % 2 ^ 64) (n - 1)
 
 -- the place of a tag
 abbrev pub place : Tag → ℕ → ℕ

@@ -101,20 +101,13 @@ const EMPTY_PAIR: Pair = Pair {
     second: EMPTY,
 };
 
-/// How many neighbouring instructions have places side by side: those of one iteration, so that its values meet near
-/// one another.
-const GROUP: u32 = 32;
+/// How many places further the next iteration stands: near, where memory is at hand still. It is odd, so that an
+/// instruction's values of as many iterations as there are places stand at a place each.
+const ITERATION: u64 = 31;
 
-/// How far from one another the places of two neighbouring groups begin: its multiples by 1 to 200 lie nearly evenly
-/// apart among 2^12 to 2^23 places, so that few groups meet.
-const APART: u64 = 63_014_903;
-
-/// How many places further the next iteration stands. It is odd, so that an instruction's values of as many iterations
-/// as there are places stand at a place each, and its pairs have room for a whole group in every iteration.
-const ITERATION: u64 = 17;
-
-/// How many places further the next context stands, odd as well, and further than the iterations of most loops.
-const CONTEXT: u64 = 1_021;
+/// By what the number of a context is scrambled, to 64 bits of which the upper half tells where its places begin: 2^64 by
+/// the golden ratio, so that those of contexts that follow one another lie evenly apart.
+const SCRAMBLE: u64 = 0x9e37_79b9_7f4a_7c15;
 
 /// The place of a tag's numbers among so many pairs.
 #[inline(always)]
@@ -123,10 +116,10 @@ fn place_of(serial: u64, iteration: u64, instr: u32, len: usize) -> usize
     ensures exact { result ≡ place_of serial iteration instr len }
     ensures below { result < len }
 {
-    let row = u64::from(instr / GROUP) * APART + u64::from(instr % GROUP);
-    let at = row
+    let begin = serial.wrapping_mul(SCRAMBLE) >> 32;
+    let at = begin
         .wrapping_add(iteration.wrapping_mul(ITERATION))
-        .wrapping_add(serial.wrapping_mul(CONTEXT));
+        .wrapping_add(u64::from(instr));
     (at & (len as u64 - 1)) as usize
 }
 

@@ -182,7 +182,7 @@ impl Waiting {
     fn make_room(&mut self)
         ensures { self.new ≡ self.old }
     {
-        if self.crowded > self.front.len() || self.front.is_empty() {
+        if self.crowded > self.front.len() / 8 || self.front.is_empty() {
             self.grow();
         }
     }
@@ -194,7 +194,7 @@ impl Waiting {
         ensures { self.new ≡ self.old }
     {
         self.crowded = 0;
-        if count(&self.front) + self.rear.len() >= self.front.len() / 32 {
+        if count(&self.front) + self.rear.len() >= self.front.len() / 2 {
             if let Some(front) = larger_front(self.alloc, &self.front, &self.rear) {
                 self.front = front;
             }
