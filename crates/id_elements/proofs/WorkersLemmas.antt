@@ -5,8 +5,7 @@ use Rattle.std.specs.declared.alloc.AllocError.{AllocError}
 use Rattle.std.specs.List.{flat_map, remove, sum_by}
 use Rattle.std.proofs.lemmas.Grind.{flat_map-append}
 use Rattle.std.proofs.lemmas.List.{get_or-set_same}
-use Rattle.std.proofs.lemmas.List.Edits.{length-remove}
-use Rattle.std.proofs.lemmas.List.Elements.{All-append, All-drop, All-nil, All-push, All-take}
+use Rattle.std.proofs.lemmas.List.Elements.{All-append, All-drop, All-nil, All-take}
 use Rattle.std.proofs.lemmas.List.Sums.{sum_by-append, sum_by-cons, sum_by-remove, sum_by-set, sum_by_push}
 use Rattle.std.proofs.lemmas.Option.{get_or_from_slice_get, slice_get_within}
 use Rattle.std.proofs.lemmas.Bool.{cases_lt, false≢true}
@@ -22,8 +21,7 @@ use Rattle.id_flight.specs.Queues.{QueueView}
 use Rattle.id_inbox.specs.Doors.{DoorView}
 use Rattle.id_inbox.specs.Hands.{sending, weight_in}
 use Rattle.id_record.specs.declared.kept.Keeps.{Keeps}
-use Rattle.id_record.specs.declared.step.Step.{Step}
-use Rattle.id_record.specs.declared.step.Step.TheVariants.{Went, Fault, Stuck}
+use Rattle.id_record.specs.declared.step.Step.TheVariants.{Went}
 use Rattle.id_record.specs.Events.{AllWent, EventView}
 use Rattle.id_element.specs.Fits.{Fits}
 use Rattle.id_element.specs.Steps.{State, event_of, outputs_of, state_after}
@@ -34,7 +32,6 @@ use Rattle.id_element.specs.declared.step.TakeError.{TakeError}
 use Rattle.id_elements.specs.Passing.{AreFor, AreRouted, IsSentOn}
 use Rattle.id_elements.specs.Workers.{AreWorkers, IsKept, IsSame, IsSameWithin, IsWorker, StopsAtFault, WorkerView, sent_in, weight_taken}
 use Rattle.id_elements.proofs.DoorsLemmas.{parts_set, queues_set, sent_by-set, taken_by-set}
-use Rattle.id_elements.proofs.PassingLemmas.{before_last}
 
 -- ---- lists
 

@@ -1,12 +1,11 @@
 use Rattle.std.proofs.Common.{◌≡◌, ◌-◌, ◌<◌, ◌∙◌, length, sym, arith}
-use Rattle.std.specs.Prelude.{Ok, Err}
 use Rattle.id_element.proofs.StretchesLemmas.{behind_long}
-use Rattle.id_elements.proofs.WorkersLemmas.{IsKept-alone, IsKept-failed, IsKept-sent, IsKept-unsent, count_given, few_given, number_given}
+use Rattle.id_elements.proofs.WorkersLemmas.{IsKept-alone, IsKept-failed, IsKept-sent, IsKept-unsent, count_given, number_given}
 use Rattle.id_elements.proofs.worker.Worker.handle.Goals as goal
 
 -- no stamp is left, or memory was wanting
-pub invariant_of-self-in-Err : goal.invariant_of-self-in-Err
-invariant_of-self-in-Err g c =
+pub invariant_of-self : goal.invariant_of-self
+invariant_of-self g c =
     let w = c.self.inside in
     let n = c.run_from.new in
     let own = w.own.messages in
@@ -23,7 +22,7 @@ invariant_of-self-then-not-went g c =
     let w = c.self.inside in
     let n = c.run_from.new in
     let own = w.own.messages in
-    let p = c.in-Ok-went.ensures in (
+    let p = c.in-Ok.ensures in (
       IsKept-failed w.goes w.doors.items w.element own w.came.messages w.back.messages w.stray.messages w.letters.items
           (rw (← c.self.view_is) at c.requires.goes) c.self.invariant.0 c.args.limit c.args.position n.list.messages n.self _ p,
       c.self.invariant.1 ∙ sym (number_given c.args.limit c.args.position own w.element n.list.messages n.self _ p),
@@ -36,7 +35,7 @@ invariant_of-self-then-self-eq1 g c =
     let w = c.self.inside in
     let n = c.run_from.new in
     let own = w.own.messages in
-    let p = c.in-Ok-went.ensures in (
+    let p = c.in-Ok.ensures in (
       IsKept-alone w.goes w.doors.items w.element own w.came.messages w.back.messages w.stray.messages w.letters.items
           (rw (← c.self.view_is) at c.requires.goes) c.self.invariant.0 c.args.limit c.args.position n.list.messages n.self _ p
           c.if-not-went.false (sym c.self.invariant.2 ∙ c.if-self-eq1.true),
@@ -45,36 +44,36 @@ invariant_of-self-then-self-eq1 g c =
     )
 
 -- what is for others was sent on
-pub invariant_of-self-in-Ok : goal.invariant_of-self-in-Ok
-invariant_of-self-in-Ok g c =
+pub invariant_of-self-in-Ok-send_on : goal.invariant_of-self-in-Ok-send_on
+invariant_of-self-in-Ok-send_on g c =
     let w = c.self.inside in
     let n = c.run_from.new in
     let s = c.send_on.new in
     let own = w.own.messages in
-    let p = c.in-Ok-went.ensures in
+    let p = c.in-Ok.ensures in
     let sent = c.len.result - (c.len-others.result - 1) in
     let there : c.args.position < length own = rw (← c.self.view_is) at c.requires.there in
     let long = behind_long c.args.position own n.list.messages there p.others in
     let from : length n.list.messages - sent ≡ length own - 1 = omega (arith, long) in (
       IsKept-sent w.goes w.doors.items w.element own w.came.messages w.back.messages w.stray.messages w.letters.items
           (rw (← c.self.view_is) at c.requires.goes) c.self.invariant.0 c.args.limit c.args.position n.list.messages n.self _ p
-          sent s.own.messages s.back.messages s.letters.items w.number c.self.invariant.1 c.if-not-went.false from p.others c.in-Ok.ensures,
+          sent s.own.messages s.back.messages s.letters.items w.number c.self.invariant.1 c.if-not-went.false from p.others c.in-Ok-send_on.ensures,
       c.self.invariant.1 ∙ sym (number_given c.args.limit c.args.position own w.element n.list.messages n.self _ p),
       c.self.invariant.2 ∙ sym (count_given c.args.limit c.args.position own w.element n.list.messages n.self _ p),
     )
 
 -- memory was wanting for that
-pub invariant_of-self-in-Err-2 : goal.invariant_of-self-in-Err-2
-invariant_of-self-in-Err-2 g c =
+pub invariant_of-self-in-Err-send_on : goal.invariant_of-self-in-Err-send_on
+invariant_of-self-in-Err-send_on g c =
     let w = c.self.inside in
     let n = c.run_from.new in
     let s = c.send_on.new in
     let own = w.own.messages in
-    let p = c.in-Ok-went.ensures in
+    let p = c.in-Ok.ensures in
     let sent = c.len.result - (c.len-others.result - 1) in (
       IsKept-unsent w.goes w.doors.items w.element own w.came.messages w.back.messages w.stray.messages w.letters.items
           (rw (← c.self.view_is) at c.requires.goes) c.self.invariant.0 c.args.limit c.args.position n.list.messages n.self _ p
-          sent s.own.messages s.back.messages s.letters.items w.number c.in-Err-2.field-0 c.in-Err-2.ensures,
+          sent s.own.messages s.back.messages s.letters.items w.number c.in-Err-send_on.field-0 c.in-Err-send_on.ensures,
       c.self.invariant.1 ∙ sym (number_given c.args.limit c.args.position own w.element n.list.messages n.self _ p),
       c.self.invariant.2 ∙ sym (count_given c.args.limit c.args.position own w.element n.list.messages n.self _ p),
     )
