@@ -112,9 +112,10 @@ module _ (sound : Soundness) (lists : LegalLists) (clear : ClearLines) (text : L
         → (n ≡ length es) × IsReportFrom (record { graph = g; count = count; keeps = All; world = w }) b r
     report_here trace es w m n r o at v from =
         let t : IsLegalTrace g vs count trace n m.world = v.3 in
-        let same : es ≡ t.events = t.only lines es (legal_list g vs count es w o) at in
-        (sym t.many ∙ ap (λ (xs : List EventView). length xs) (sym same),
-          from_same m g count w b r v.0 (one_state g vs count es t.events w m.world same o t.legal) from)
+        let same : es ≡ t.events = t.only lines es (legal_list g vs count es w o) at in (
+          sym t.many ∙ ap (λ (xs : List EventView). length xs) (sym same),
+          from_same m g count w b r v.0 (one_state g vs count es t.events w m.world same o t.legal) from,
+        )
 
   -- ---- the trace of a run
 

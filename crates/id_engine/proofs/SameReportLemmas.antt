@@ -78,7 +78,7 @@ module _ (S : Source) (g : Parts) (number : ℕ → ℕ → ℕ) (count : ℕ) (
         let end : r.ending ≡ Quiet = one_end r.ending Quiet from.ends still in (
           ap status_of end,
           ap (ending_text text r (asked b r.names)) end
-          ∙ (λ i. quiet_text text (from.answer_is i) (names_as ns sorted i) (held_as hs held i) (waits_as ws waiting i)),
+              ∙ (λ i. quiet_text text (from.answer_is i) (names_as ns sorted i) (held_as hs held i) (waits_as ws waiting i)),
         )
     printed_as steps _ _ (fault f first) =
         let end : r.ending ≡ Fault f = one_end r.ending (Fault f) from.ends first in
@@ -88,7 +88,7 @@ module _ (S : Source) (g : Parts) (number : ℕ → ℕ → ℕ) (count : ℕ) (
         let end : r.ending ≡ Stopped = one_end r.ending Stopped from.ends (none, still) in (
           ap status_of end,
           ap (ending_text text r (asked b r.names)) end
-          ∙ (λ i. stopped_text text (from.answer_is i) (names_as ns sorted i) (held_as hs held i)),
+              ∙ (λ i. stopped_text text (from.answer_is i) (names_as ns sorted i) (held_as hs held i)),
         )
 
     -- another report is printed so

@@ -119,7 +119,7 @@ pub data Serves (text bytes : List ℕ) (r : Request) (out out' err err' : SinkV
   refused : {status : ℕ} (e : EngineError) → e ≢ Write → IsRefusedRequest text r e → out' ≡ out
       → IsToldRefusal text (words_of r) e err err' status →
       Serves text bytes r out out' err err' status
-  -- a write failed, and a front is out, where a run was asked for of the run that was made
+  -- a write failed, and a front is out, where a run was asked for that of a run
   cut : {status : ℕ} → ShowsFront (command_of bytes r) text out out' → IsRunFront text r out out'
       → IsToldRefusal text (words_of r) Write err err' status →
       Serves text bytes r out out' err err' status

@@ -299,10 +299,11 @@ pub(crate) fn status_of(ending: &Ending) -> u8
 
 /// Compiles a text, runs it on the inputs that the words give, on `settings.elements` elements, each worked by a thread
 /// of its own and each for at most `settings.steps` messages, and writes what `idc run` prints: all events where
-/// `trace` asks for them, and then the report, with what names have where `names` asks for it. The gate holds each
-/// handling of a message for as long as it likes. Where `settings.order` is a seed, the calling thread delivers the
-/// messages in the order that it gives, and no gate holds it. Of events no more is kept than what is asked for needs,
-/// whatever `settings.keeps` says. It answers the status: 0 after a quiet run, 1 after a fault, 3 at the step limit.
+/// `trace` asks for them, and then the report, with what names have where `names` asks for it. The gate may hold each
+/// handling of a message for as long as it likes; no clause says that it is asked to. Where `settings.order` is a seed,
+/// the calling thread delivers the messages in the order that it gives, and no gate holds it. Of events no more is kept
+/// than what is asked for needs, whatever `settings.keeps` says. It answers the status: 0 after a quiet run, 1 after a
+/// fault, 3 at the step limit.
 pub fn engine<R: Threads + Wait + Sync, G: Gate + Sync, W: Sink>(
     rt: &R,
     alloc: Global,
@@ -324,8 +325,7 @@ pub fn engine<R: Threads + Wait + Sync, G: Gate + Sync, W: Sink>(
         (Ran text.now (map (λ w. w.now) inputs.now) settings.elements trace settings.steps settings.order names
         (W.told out.old) (W.told out.new)) }
 
-    // After a failed write a front of such a text is out, that of the run that was made, and after any other error
-    // nothing.
+    // After a failed write a front of such a text is out, that of a run, and after any other error nothing.
     ensures cut { result ≡ Err EngineError.Write
         → ShowsFront (command.Run names trace (map (λ w. w.now) inputs.now)) text.now (W.told out.old)
         (W.told out.new) }

@@ -12,5 +12,5 @@ pub returns : goal.returns
 returns g c =
     let r = c.args.reasoned.reasons in
     let F : Checked → Type 0 = λ P. Prints (g.W.Sink.told c.args.out.now) (g.W.Sink.told c.write_reasons-done.new.sink)
-        (reasons_text (record { text = c.args.text.now; checked = P; facts = r.paths }) c.args.round r) c.write_reasons-done.result in
+    (reasons_text (record { text = c.args.text.now; checked = P; facts = r.paths }) c.args.round r) c.write_reasons-done.result in
     subst F c.checked.ensures c.write_reasons-done.ensures
