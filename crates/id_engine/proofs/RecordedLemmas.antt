@@ -33,10 +33,10 @@ use Rattle.id_runs.specs.Legal.{CanFollow, LeadTo, after_event, follow, no_more}
 use Rattle.id_runs.proofs.Banks.{among_flat}
 
 -- the events of an element are its own, none has a later stamp than its last, and no two have one
-record IsRecord (n : ℕ) (s : State) : Type 0 where
-  own : (v : EventView) → Among v s.events → v.element ≡ n
-  within : (v : EventView) → Among v s.events → v.stamp ≤ s.stamp
-  once : (v u : EventView) → Among v s.events → Among u s.events → v.stamp ≡ u.stamp → v ≡ u
+pub record IsRecord (n : ℕ) (s : State) : Type 0 where
+  pub own : (v : EventView) → Among v s.events → v.element ≡ n
+  pub within : (v : EventView) → Among v s.events → v.stamp ≤ s.stamp
+  pub once : (v u : EventView) → Among v s.events → Among u s.events → v.stamp ≡ u.stamp → v ≡ u
 
 -- what is so of each event of a record, and of the next one, is so of each then
 each_event : (P : EventView → Type 0) (vs : List EventView) (e : EventView) → ((v : EventView) → Among v vs → P v) → P e
