@@ -203,31 +203,28 @@ function showHelp() {
   setBusy(false);
 }
 
-// Below a fault the values that led to it, below `answer none` or a fetch that waits what it waits for, and below
-// `stopped` what goes on: by the facts, for which there are so many milliseconds.
+// Below a fault its values, below `answer none` or a fetch that waits what it waits for, and below `stopped` what goes
+// on: by the facts and by `idc why`, for which there are so many milliseconds.
 async function reasons(answer, files, number, most) {
   const lines = answer.printed.split("\n").filter((line) => line && !EVENT.test(line)), start = performance.now();
   const isFault = /^fault /.test(lines[0] || ""), isWaiting = lines.some((line) => line.startsWith("waiting "));
   if (!isFault && !isWaiting && !["answer none", "stopped"].includes(lines[0])) return;
   const box = by("reasons"), put = (...parts) => { if (number === performed) box.replaceChildren(...parts); };
   const inputs = inputWords().filter((it) => /^\w+=/.test(it));
-  let last = 0;
-  const ask = async (rounds) => {
+  let own = "";
+  const ask = async (command, rounds) => {
     if (performance.now() - start > most) throw new Slow();
-    last = rounds;
-    return (await reasoner.ask(["facts", FILE, String(rounds), ...inputs], files)).printed.split("\n").slice(0, -1);
+    const option = command === "why" ? ["--rounds"] : [];
+    const { printed } = await reasoner.ask([command, FILE, ...option, String(rounds), ...inputs], files);
+    if (command === "why") own = printed;
+    return printed.split("\n").slice(0, -1);
   };
   const timer = setTimeout(() => { if (reasoner.isBusy() && number === performed) reasoner.end(new Slow()); }, most);
   try {
     const { atFault, why } = idReasons, text = files[FILE];
     const found = await (isFault ? atFault(text, lines[0], ask) : why(text, lines, ask));
-    const head = isFault ? "The values that led to it" : lines[0] === "stopped" ? "What goes on" : "What it waits for";
-    if (found.length) put(reasonsView(head, found));
-    if (isFault) return;
-    // the program's own list, where it has that command: proved, of the last round that was asked for
-    const own = await reasoner.ask(["why", FILE, "--rounds", String(last), ...inputs], files);
-    const isThere = number === performed && box.firstChild;
-    if (isThere && own.status === 0 && last) box.firstChild.append(ownReasons(own.printed));
+    const head = isFault ? "Its values" : lines[0] === "stopped" ? "What goes on" : "What it waits for";
+    if (found.length) put(reasonsView(head, found, own));
   } catch (error) {
     if (!(error instanceof Slow)) {
       if (!(error instanceof Ended)) console.error(error);

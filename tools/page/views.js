@@ -38,12 +38,12 @@ function linked(line) {
   return line.split(/(?<=\()(\d+:\d+)(?=\))/).map((part, number) => (number % 2 ? placeButton(part) : part));
 }
 
-// The lines of reasons.js below a head.
-function reasonsView(head, lines) {
+// The lines of reasons.js below a head, and behind them what the program itself says, where it does.
+function reasonsView(head, lines, own) {
   const rows = lines.slice(0, MOST.rows).flatMap((line) => [...linked(line), "\n"]);
   const found = [made("h3", {}, head), made("pre", {}, ...rows)];
   if (lines.length > MOST.rows) found.push(dimmed(`The first ${MOST.rows} of ${lines.length} lines.`));
-  return made("div", { class: "reasons" }, ...found);
+  return made("div", { class: "reasons" }, ...found, ...(own ? [ownReasons(own)] : []));
 }
 
 // What `idc why` prints, with the places of things as what can be gone to.
