@@ -39,15 +39,18 @@ def in_words(source, path):
 
 
 class Names:
-    """A text with the values of some of its names, {(node, path): value}, for paths of which no facts are asked."""
+    """A text's things by place, with the values of some of its names, {(node, path): value}."""
 
     def __init__(self, text, values=None):
-        self.procedures, self.nodes, self.values = {}, {}, values or {}
+        self.text, self.procedures, self.nodes, self.values = text, {}, {}, values or {}
         for node in reading.outer_of(reading.tree_of(text)):
             if node.form == "definition":
                 self.procedures.setdefault(node.name, node)
             if node.form != "program":
-                self.nodes["%d:%d" % reading.line_col(text, node.at)] = node
+                self.nodes[self.place(node)] = node
+
+    def place(self, node):
+        return "%d:%d" % reading.line_col(self.text, node.at)
 
     def value(self, thing):
         return self.values.get(thing)

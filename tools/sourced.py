@@ -5,7 +5,7 @@ an iteration.
 """
 import re
 
-import asking, paths, reading
+import asking, paths
 
 SITE = r"((?:/\d+:\d+(?:#\d+)?)*)@(\d+:\d+)"
 FACT = re.compile(rf"(?:on|has) {SITE}(?: = (.+))?$")
@@ -19,23 +19,13 @@ def path_of(text):
     return tuple(text.split("/")[1:])
 
 
-def shown(path):
-    return "".join("/" + step for step in path)
-
-
-class Source:
+class Source(paths.Names):
     """A text with inputs, and the facts of a round."""
 
     def __init__(self, file, words):
         with open(file, "rb") as opened:
-            self.text = opened.read()
+            super().__init__(opened.read())
         self.file, self.words = file, words
-        self.outer = reading.outer_of(reading.tree_of(self.text))
-        self.procedures = {it.name: it for it in reversed(list(self.outer)) if it.form == "definition"}
-        self.nodes = {self.place(node): node for node in self.outer if node.form != "program"}
-
-    def place(self, node):
-        return "%d:%d" % reading.line_col(self.text, node.at)
 
     def thing(self, site):
         """The thing of a path and a place, as `/5:6#0@7:2`."""
@@ -44,12 +34,13 @@ class Source:
 
     def read(self, rounds):
         """The facts of so many rounds: what is on, the values, and the bounds of arrays."""
-        self.on, self.has, self.shapes = set(), {}, {}
+        self.on, self.values, self.shapes = set(), {}, {}
         for line in asking.ask("facts", self.file, str(rounds), *self.words)[1]:
             if found := FACT.match(line):
-                self.on.add((path_of(found[1]), found[2]))
+                thing = self.nodes[found[2]], path_of(found[1])
+                self.on.add(thing)
                 if found[3]:
-                    self.has.setdefault((path_of(found[1]), found[2]), found[3])
+                    self.values.setdefault(thing, found[3])
             elif found := SHAPE.match(line):
                 self.shapes[found[1]] = int(found[2]), int(found[3])
 
@@ -70,7 +61,7 @@ class Source:
     def value(self, thing):
         """The value of a thing; of a store, of what it stores."""
         node, path = thing
-        return self.has.get((path, self.place(node.parts[2] if node.form == "store" else node)))
+        return self.values.get((node.parts[2] if node.form == "store" else node, path))
 
     def called(self, thing, of="", path=None):
         """A thing in words, and what is said of its value; without its path where that is the one given."""
