@@ -117,16 +117,33 @@ function listenToKeeping() {
   by("own").hidden = !text;
 }
 
-// Enter takes the indent of its line, and two blanks more behind what opens a block or a loop; a closing brace that
-// begins its line takes two away.
+// The indent of the line in which that was opened which this part of a text closes, or null where it closes nothing that
+// stands before it.
+function indentOfOpening(text, start, end) {
+  const plain = text.slice(0, end).replace(/%.*/g, (it) => " ".repeat(it.length));
+  const turn = (at) => ("{([".includes(plain[at]) ? 1 : "})]".includes(plain[at]) ? -1 : 0);
+  let depth = 0, at = -1;
+  for (let i = start; i < end; i++) {
+    depth += turn(i);
+    if (depth < 0) [depth, at] = [0, i];
+  }
+  if (at < 0) return null;
+  for (depth = -1; at > 0 && depth < 0; ) depth += turn(--at);
+  return depth < 0 ? null : /^[ \t]*/.exec(plain.slice(plain.lastIndexOf("\n", at) + 1))[0];
+}
+
+// Enter takes the indent of its line, and two blanks more behind what opens a block or a loop; behind what closes one it
+// takes the indent with which that began. A closing brace that begins its line takes two away.
 function indented(event) {
   const field = by("text"), { selectionStart: at, selectionEnd: end, value } = field;
   if (event.ctrlKey || event.metaKey || event.isComposing) return;
   const line = value.slice(value.lastIndexOf("\n", at - 1) + 1, at), opens = /(?:[{(=]|\b(?:do|then|else|in))\s*$/;
   let from = at, put = null;
   if (event.key === "Enter" && !event.shiftKey) {
-    const indent = /^[ \t]*/.exec(line)[0] + (opens.test(line.replace(/%.*/, "")) ? "  " : "");
-    if (indent) put = "\n" + indent;
+    const more = opens.test(line.replace(/%.*/, "")) ? "  " : "";
+    const first = more ? null : indentOfOpening(value, at - line.length, at), own = /^[ \t]*/.exec(line)[0];
+    const indent = first === null ? own + more : first;
+    if (indent || first !== null) put = "\n" + indent;
   } else if (event.key === "}" && /^ {2,}$/.test(line) && at === end) [from, put] = [at - 2, "}"];
   if (put === null) return;
   event.preventDefault();
