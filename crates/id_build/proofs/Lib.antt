@@ -18,3 +18,4 @@ pub mod OneOwnLemmas
 pub mod OwnLemmas
 pub mod BlocksLemmas
 pub mod BoundLemmas
+pub mod PassesLemmas

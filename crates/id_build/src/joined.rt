@@ -3,25 +3,25 @@
 ghost use Rattle.std.specs.Prelude.{◌≡◌, ◌<◌, ◌^◌, ◌++◌, [], fold, length, vec_len, OnOk, All};
 ghost use Rattle.id_pieces.specs.Rows.{op_by};
 ghost use Rattle.id_pieces.specs.Made.{Fits, instrs_from, IsBetween, connected, number_by, with_dest};
+ghost use Rattle.id_build.specs.Passes.{firsts_of};
 
-use crate::feeds::number_by;
 use id_instr::{Dest, Dests, Instr, Op, Others};
-use id_pieces::{Arc, Form, Piece};
+use id_pieces::{Arc, Form, Piece, Slots, number_at};
 use std::alloc::{AllocError, Global};
 
 /// Adds the instructions of these pieces, without arcs.
 pub fn push_bare(
     alloc: Global,
-    firsts: &[u32],
+    slots: &Slots<'_>,
     pieces: &[Piece],
     instrs: &mut Vec<Instr>,
 ) -> Result<(), AllocError>
-    requires { All (λ p. Fits firsts.now p.form) pieces.now }
-    ensures { OnOk result (instrs.new.items ≡ instrs.old.items ++ instrs_from firsts.now 0 pieces.now []) }
+    requires { All (λ p. Fits (firsts_of slots.now) p.form) pieces.now }
+    ensures { OnOk result (instrs.new.items ≡ instrs.old.items ++ instrs_from (firsts_of slots.now) 0 pieces.now []) }
 {
     for piece in pieces {
         instrs.push(Instr {
-            op: op_by(firsts, piece.form),
+            op: op_by(slots, piece.form),
             dests: Dests::new(alloc),
             others: Others::none(),
             place: piece.place,
@@ -31,23 +31,23 @@ pub fn push_bare(
 }
 
 /// The operator of this form.
-fn op_by(firsts: &[u32], form: Form) -> Op
-    requires { Fits firsts.now form }
-    ensures { result ≡ op_by (number_by firsts.now) form }
+fn op_by(slots: &Slots<'_>, form: Form) -> Op
+    requires { Fits (firsts_of slots.now) form }
+    ensures { result ≡ op_by (number_by (firsts_of slots.now)) form }
 {
     match form {
         Form::Plain(op) => op,
         Form::EnterAt { head, call } => Op::Enter {
-            block: number_by(firsts, head) as u32,
-            reply: number_by(firsts, call) as u32,
+            block: number_at(slots, head) as u32,
+            reply: number_at(slots, call) as u32,
         },
         Form::SendTo { kind, row, part } => Op::Send {
             kind,
-            target: (number_by(firsts, row) + part) as u32,
+            target: (number_at(slots, row) + part) as u32,
         },
         Form::FetchAt { nested, row } => Op::Fetch {
             nested,
-            reply: (number_by(firsts, row) + 2) as u32,
+            reply: (number_at(slots, row) + 2) as u32,
         },
     }
 }

@@ -1,7 +1,8 @@
 //! The graph that the schemas give a checked program, row by row: where each operand comes from, and what each name
 //! joins.
 //!
-//! Keeps: nothing beyond its values.
+//! Keeps: nothing beyond its values; what its passes rest on is kept by `Kernel` (`id_desugar`) and `Slots`
+//! (`id_pieces`).
 //! Errors: `BuildError`, the refusal 14 or want of memory.
 //! Read first: docs/GRAPH.md ("Schemas"), `specs/Rows.antt`, `specs/Schemas.antt` and `specs/Made.antt` of `id_pieces`,
 //! then `feeds::push_feeds` and `build`.

@@ -3,9 +3,8 @@
 ghost use Rattle.std.specs.Prelude.{◌≡◌, ◌<◌, ◌^◌};
 ghost use Rattle.id_pieces.specs.Rows.{handed_by, name_in, named_in, node, origin, output, part_of, reply};
 ghost use Rattle.id_pieces.specs.Rows.{same_region, trigger_of};
-ghost use Rattle.id_pieces.specs.Slots.{AreSlots};
+ghost use Rattle.id_build.specs.Passes.{program_of};
 
-use id_check::Checked;
 use id_desugar::{binder_at, row_at};
 use id_pieces::{Origin, Slots, entries_row, home, label, slot_of};
 use id_table::{Node, Region};
@@ -55,62 +54,54 @@ pub fn trigger_of(region: Region) -> Origin
 }
 
 /// Where the value of the expression at a row comes from.
-pub fn origin(checked: &Checked, slots: &Slots<'_>, expr: usize) -> Origin
-    requires slots { AreSlots checked.now slots.now }
-    ensures origin { result ≡ origin checked.now expr }
+pub fn origin(slots: &Slots<'_>, expr: usize) -> Origin
+    ensures origin { result ≡ origin (program_of slots.now) expr }
     ensures few { result.part < 2 ^ 62 }
 {
+    let checked = slots.kernel.checked;
     let value = row_at(checked, expr).value as usize;
     let row = row_at(checked, value);
     match row.node {
-        Node::Name { .. } => named_in(checked, slots, row.region, value, binder_at(checked, value)),
+        Node::Name { .. } => named_in(slots, row.region, value, binder_at(checked, value)),
         Node::Fetch { .. } => reply(value),
         _ => output(value),
     }
 }
 
 /// Where the value of the name at a row comes from, in its region, which has this binder.
-fn named_in(
-    checked: &Checked,
-    slots: &Slots<'_>,
-    region: Region,
-    name: usize,
-    binder: Option<usize>,
-) -> Origin
-    requires slots { AreSlots checked.now slots.now }
-    ensures origin { result ≡ named_in checked.now region name binder }
+fn named_in(slots: &Slots<'_>, region: Region, name: usize, binder: Option<usize>) -> Origin
+    ensures origin { result ≡ named_in (program_of slots.now) region name binder }
     ensures few { result.part < 2 ^ 62 }
 {
     match binder {
-        Some(binder) => name_in(checked, slots, region, binder),
+        Some(binder) => name_in(slots, region, binder),
         None => output(name),
     }
 }
 
 /// Where the value of a binder comes from in a region.
 #[inline(always)]
-pub fn name_in(checked: &Checked, slots: &Slots<'_>, region: Region, binder: usize) -> Origin
-    requires slots { AreSlots checked.now slots.now }
-    ensures origin { result ≡ name_in checked.now region binder }
+pub fn name_in(slots: &Slots<'_>, region: Region, binder: usize) -> Origin
+    ensures origin { result ≡ name_in (program_of slots.now) region binder }
     ensures few { result.part < 2 ^ 62 }
 {
+    let checked = slots.kernel.checked;
     if same_region(row_at(checked, home(checked, binder)).region, region) {
         output(label(checked, binder))
     } else {
-        handed(checked, slots, region, binder)
+        handed(slots, region, binder)
     }
 }
 
 /// Where the head of a region hands in the value of a binder.
-fn handed(checked: &Checked, slots: &Slots<'_>, region: Region, binder: usize) -> Origin
-    requires slots { AreSlots checked.now slots.now }
-    ensures origin { result ≡ handed_by checked.now region binder (node checked.now region.head) }
+fn handed(slots: &Slots<'_>, region: Region, binder: usize) -> Origin
+    ensures origin { result ≡ handed_by (program_of slots.now) region binder (node (program_of slots.now) region.head) }
     ensures few { result.part < 2 ^ 62 }
 {
-    let slot = slot_of(checked, slots, region.head as usize, binder);
-    match row_at(checked, region.head as usize).node {
+    let slot = slot_of(slots, region.head as usize, binder);
+    match row_at(slots.kernel.checked, region.head as usize).node {
         Node::LoopHead { .. } => Origin {
-            row: entries_row(checked, slots.columns, region.head as usize),
+            row: entries_row(slots.kernel, region.head as usize),
             part: slot,
             side: true,
         },

@@ -2,31 +2,37 @@
 
 ghost use Rattle.std.specs.Prelude.{ℕ, ◌≡◌, ◌+◌, ◌-◌, ◌<◌, ◌≤◌, ◌^◌, ◌↔◌, true};
 ghost use Rattle.std.specs.Prelude.{IsTrue, IsSome, IfOk, IfSome, length};
+ghost use Rattle.std.proofs.Props.{props};
 ghost use Rattle.id_check.specs.declared.checked.Checked.{Checked};
 ghost use Rattle.id_check.specs.Programs as programs;
 ghost use Rattle.id_desugar.specs.Ends.{AreEnds, end_of};
 ghost use Rattle.id_pieces.specs.Rows.{HasNoSplit, is_plain, made, made_of, size};
-ghost use Rattle.id_pieces.specs.Slots.{AreColumns};
 
 use id_check::Checked;
 use id_desugar::{Column, Kernel, carried_count, end_of, find_ends, row_at};
-use id_pieces::{Columns, nexts_at};
+use id_pieces::{imports_at, nexts_at};
 use id_table::Node;
 use std::alloc::{AllocError, Global};
+
+/// A program, lent, with what bounds its instructions without its regions.
+///
+/// Keeps: there are at most 1,000,000 rows; for each row `ends` has where what begins there ends, if something does.
+#[derive(Drop)]
+struct Spans<'t> {
+    checked: &'t Checked,
+    ends: Column,
+    ghost few: { length (programs.rows checked.now) ≤ 1000000 } by { Prim.hlevel props },
+    ghost ended: { AreEnds checked.now ends } by { Prim.hlevel props },
+}
 
 /// Whether the schemas give the program at most 1,000,000 instructions: `build` refuses it otherwise. Takes no memory.
 pub fn is_small(kernel: &Kernel<'_>) -> bool
     ensures { IsTrue result ↔ (size kernel.now.checked.now ≤ 1000000) }
 {
     let checked = kernel.checked;
-    let columns = Columns {
-        imports: &kernel.imports,
-        ends: &kernel.ends,
-        nexts: &kernel.nexts,
-    };
     let mut size = 0usize;
     for n in 0..checked.table.rows.len() {
-        size += made_count(checked, columns, n);
+        size += made_count(kernel, n);
         if size > 1_000_000 {
             return false;
         }
@@ -60,10 +66,13 @@ pub fn is_surely_small(alloc: Global, checked: &Checked) -> Result<bool, AllocEr
     if checked.table.rows.len() > 1_000_000 {
         return Ok(false);
     }
-    let ends = find_ends(alloc, checked)?;
+    let spans = Spans {
+        checked,
+        ends: find_ends(alloc, checked)?,
+    };
     let mut most = 0usize;
     for n in 0..checked.table.rows.len() {
-        most += most_made(checked, &ends, n);
+        most += most_made(&spans, n);
         if most > 1_000_000 {
             return Ok(false);
         }
@@ -72,57 +81,53 @@ pub fn is_surely_small(alloc: Global, checked: &Checked) -> Result<bool, AllocEr
 }
 
 /// How many instructions the row n makes at most. Takes no memory.
-fn most_made(checked: &Checked, ends: &Column, n: usize) -> usize
-    requires few { length (programs.rows checked.now) ≤ 1000000 }
-    requires ends { AreEnds checked.now ends.now }
-    requires within { n < length (programs.rows checked.now) }
-    ensures most { length (made checked.now n) ≤ result }
+fn most_made(spans: &Spans<'_>, n: usize) -> usize
+    requires { n < length (programs.rows spans.now.checked.now) }
+    ensures most { length (made spans.now.checked.now n) ≤ result }
     ensures few { result ≤ 2000004 }
 {
-    let row = row_at(checked, n);
+    let row = row_at(spans.checked, n);
     match row.node {
-        Node::Split { .. } => rows_in(checked, ends, n) + 1,
-        Node::Switches { .. } => 2 * rows_in(checked, ends, row.block as usize) + 2,
-        Node::Start => 2 * rows_in(checked, ends, n + 1) + 4,
-        Node::Entries => rows_in(checked, ends, row.block as usize),
-        Node::Turn => rows_in(checked, ends, row.block as usize) + 4,
+        Node::Split { .. } => rows_in(spans, n) + 1,
+        Node::Switches { .. } => 2 * rows_in(spans, row.block as usize) + 2,
+        Node::Start => 2 * rows_in(spans, n + 1) + 4,
+        Node::Entries => rows_in(spans, row.block as usize),
+        Node::Turn => rows_in(spans, row.block as usize) + 4,
         node => plain_count(node).unwrap_or(0),
     }
 }
 
 /// How many rows stand between this one and the one where what begins here ends. Takes no memory.
-fn rows_in(checked: &Checked, ends: &Column, head: usize) -> usize
-    requires few { length (programs.rows checked.now) ≤ 1000000 }
-    requires ends { AreEnds checked.now ends.now }
-    requires within { head < length (programs.rows checked.now) }
-    ensures rows { result ≡ end_of checked.now head - (head + 1) }
+fn rows_in(spans: &Spans<'_>, head: usize) -> usize
+    requires { head < length (programs.rows spans.now.checked.now) }
+    ensures rows { result ≡ end_of spans.now.checked.now head - (head + 1) }
     ensures few { result ≤ 1000000 }
 {
-    end_of(checked, ends, head).saturating_sub(head + 1)
+    end_of(spans.checked, &spans.ends, head).saturating_sub(head + 1)
 }
 
 /// How many instructions the row n makes. Takes no memory.
 #[inline(always)]
-pub fn made_count(checked: &Checked, columns: Columns<'_>, n: usize) -> usize
-    requires columns { AreColumns checked.now columns }
-    requires within { n < length (programs.rows checked.now) }
-    ensures count { result ≡ length (made checked.now n) }
+pub fn made_count(kernel: &Kernel<'_>, n: usize) -> usize
+    requires { n < length (programs.rows kernel.now.checked.now) }
+    ensures count { result ≡ length (made kernel.now.checked.now n) }
     ensures few { result < 2 ^ 63 }
 {
+    let checked = kernel.checked;
     let row = row_at(checked, n);
     match row.node {
-        Node::Split { .. } => columns.imports(checked, n).len() + 1,
-        Node::Switches { .. } => columns.imports(checked, n).len() + 1,
+        Node::Split { .. } => imports_at(kernel, n).len() + 1,
+        Node::Switches { .. } => imports_at(kernel, n).len() + 1,
         Node::Start => {
             let head = n + 1;
-            let nexts = nexts_at(checked, columns, head);
+            let nexts = nexts_at(kernel, head);
             let carried = carried_count(checked, head);
-            nexts.len() + columns.imports(checked, head).len() + carried + 1
+            nexts.len() + imports_at(kernel, head).len() + carried + 1
         }
-        Node::Entries => columns.imports(checked, row.block as usize).len(),
+        Node::Entries => imports_at(kernel, row.block as usize).len(),
         Node::Turn => {
             let head = row.block as usize;
-            columns.imports(checked, head).len() + carried_count(checked, head) + 1
+            imports_at(kernel, head).len() + carried_count(checked, head) + 1
         }
         node => plain_count(node).unwrap_or(0),
     }

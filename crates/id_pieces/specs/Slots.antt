@@ -1,14 +1,10 @@
--- The columns that the builder reads, and where each import stands among those of its head, as it notes that.
+-- Where each import stands among those of its head, as the builder notes that.
 use Rattle.std.specs.Prelude.{◌≡◌, ℕ, suc, ◌<◌, ◌^◌, ◌==◌, ◌&&◌, Bool, if◌then◌else◌}
 use Rattle.std.specs.Prelude.{List, [], ◌∷◌, length, nat_lt}
 use Rattle.std.specs.Prelude.{Option, None, Some, IsSome, unwrap_or}
-use Rattle.std.specs.HashMap.{get}
 use Rattle.id_check.specs.declared.checked.Checked.{Checked}
-use Rattle.id_desugar.specs.Ends.{AreEnds, AreNexts}
-use Rattle.id_desugar.specs.Regions.{all_imports, imports_of}
-use Rattle.id_pieces.specs.declared.columns.Columns.{Columns}
+use Rattle.id_desugar.specs.Regions.{imports_of}
 use Rattle.id_pieces.specs.declared.slots.Import.{Import}
-use Rattle.id_pieces.specs.declared.slots.Slots.{Slots}
 use Rattle.id_pieces.specs.Rows.{slot_of}
 
 -- whether two imports are one
@@ -41,15 +37,8 @@ long_only bs = if nat_lt 16 (length bs) then bs else []
 abbrev pub AreShort : (Import → Option ℕ) → Type 0
 AreShort f = (i : Import) → IsSome (f i) → (i.head < 2 ^ 32) × (i.binder < 2 ^ 32)
 
--- the columns are those of the program
-pub record AreColumns (P : Checked) (c : Columns) : Type 0 where
-  pub imports : c.imports.now ≡ all_imports P
-  pub ends : AreEnds P c.ends.now
-  pub nexts : AreNexts P c.nexts.now
-
--- the slots of the imports of heads with many, with the columns
-pub record AreSlots (P : Checked) (s : Slots) : Type 0 where
-  pub columns : AreColumns P s.columns
-  pub short : AreShort (get same_import s.numbers)
-  pub numbers : (h b : ℕ) → 16 < length (imports_of P h) → let i : Import = record { head = h; binder = b } in
-      unwrap_or (get same_import s.numbers i) (length (imports_of P h)) ≡ slot_of (imports_of P h) b
+-- of each head with many imports it is noted where one stands, and nothing of a binder that is none of them
+abbrev pub AreNoted : Checked → (Import → Option ℕ) → Type 0
+AreNoted P f =
+    (h b : ℕ) → 16 < length (imports_of P h) →
+    unwrap_or (f (record { head = h; binder = b })) (length (imports_of P h)) ≡ slot_of (imports_of P h) b

@@ -1,6 +1,6 @@
 //! Why a program has no graph.
 
-use std::alloc::{AllocError, AllocFailed};
+use std::alloc::AllocError;
 use thiserror::Error;
 
 /// Why a program has no graph.
@@ -21,17 +21,6 @@ impl From<AllocError> for BuildError {
     ghost from_gives = { λ _ e. e ≡ Memory };
 
     fn from(_error: AllocError) -> BuildError {
-        BuildError::Memory
-    }
-}
-
-impl<T: Drop> From<AllocFailed<T>> for BuildError {
-    ghost use Rattle.std.specs.Prelude.{◌≡◌};
-    ghost use Rattle.id_pieces.specs.declared.error.BuildError.TheVariants.{Memory};
-
-    ghost from_gives = { λ _ e. e ≡ Memory };
-
-    fn from(_error: AllocFailed<T>) -> BuildError {
         BuildError::Memory
     }
 }

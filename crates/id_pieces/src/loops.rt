@@ -1,59 +1,70 @@
-//! The rows of a loop, found from its head (docs/GRAPH.md, "Schemas"). Nothing here takes memory.
+//! What a head imports, and the rows of a loop, found from its head (docs/GRAPH.md, "Schemas"). Nothing here takes
+//! memory.
 
 ghost use Rattle.std.specs.Prelude.{◌≡◌, ◌<◌, ◌^◌, true, length};
 ghost use Rattle.id_check.specs.Programs as programs;
 ghost use Rattle.id_desugar.specs.Ends.{end_of};
-ghost use Rattle.id_desugar.specs.Regions.{is_loop_head, nexts_of};
+ghost use Rattle.id_desugar.specs.Regions.{imports_of, is_loop_head, nexts_of};
 ghost use Rattle.id_pieces.specs.Rows as rows;
 ghost use Rattle.id_pieces.specs.Rows.{first_binder, entries_row, home, label, outer_at, switches_at, turn_row};
-ghost use Rattle.id_pieces.specs.Slots.{AreColumns};
 
-use crate::columns::Columns;
 use id_check::Checked;
-use id_desugar::{binder_at, first_variable, has_index, row_at};
+use id_desugar::{Kernel, binder_at, end_of, first_variable, has_index, row_at};
 use id_table::Node;
+
+/// The binders that the head at a row imports.
+pub fn imports_at<'a>(kernel: &'a Kernel<'_>, row: usize) -> &'a [u32]
+    ensures { result.now ≡ imports_of kernel.now.checked.now row }
+{
+    kernel.imports.get(row)
+}
 
 /// The `next` statements of the loop with this head, in order: the first of what its switches hand on, but for the
 /// upper bound of its index.
-pub fn nexts_at<'a>(checked: &Checked, columns: Columns<'a>, head: usize) -> &'a [u32]
-    requires columns { AreColumns checked.now columns }
-    requires head { is_loop_head (rows.node checked.now head) ≡ true }
-    ensures nexts { result.now ≡ nexts_of checked.now head }
+pub fn nexts_at<'a>(kernel: &'a Kernel<'_>, head: usize) -> &'a [u32]
+    requires { is_loop_head (rows.node kernel.now.checked.now head) ≡ true }
+    ensures nexts { result.now ≡ nexts_of kernel.now.checked.now head }
     ensures few { length result.now < 2 ^ 61 }
 {
-    let handed = columns.imports(checked, switches_row(checked, columns, head));
-    let inner = columns.imports(checked, head);
-    let first = if has_index(checked, head) { 1 } else { 0 };
+    let handed = imports_at(kernel, switches_row(kernel, head));
+    let inner = imports_at(kernel, head);
+    let first = if has_index(kernel.checked, head) {
+        1
+    } else {
+        0
+    };
     &handed[first..handed.len() - inner.len()]
 }
 
 /// The row of the entries of what the loop with this head imports.
-pub fn entries_row(checked: &Checked, columns: Columns<'_>, head: usize) -> usize
-    requires columns { AreColumns checked.now columns }
-    requires head { is_loop_head (rows.node checked.now head) ≡ true }
-    ensures { result ≡ entries_row checked.now head }
+pub fn entries_row(kernel: &Kernel<'_>, head: usize) -> usize
+    requires { is_loop_head (rows.node kernel.now.checked.now head) ≡ true }
+    ensures { result ≡ entries_row kernel.now.checked.now head }
 {
-    first_variable(checked, head) + nexts_at(checked, columns, head).len()
+    first_variable(kernel.checked, head) + nexts_at(kernel, head).len()
 }
 
 /// The row of the switches of the loop with this head.
-fn switches_row(checked: &Checked, columns: Columns<'_>, head: usize) -> usize
-    requires columns { AreColumns checked.now columns }
-    requires within { head < length (programs.rows checked.now) }
-    ensures switches { result ≡ switches_at (rows.node checked.now (end_of checked.now head)) }
-    ensures within { result < length (programs.rows checked.now) }
+fn switches_row(kernel: &Kernel<'_>, head: usize) -> usize
+    requires { head < length (programs.rows kernel.now.checked.now) }
+    ensures switches { result ≡ switches_at (rows.node kernel.now.checked.now (end_of kernel.now.checked.now head)) }
+    ensures within { result < length (programs.rows kernel.now.checked.now) }
 {
-    switches_at(row_at(checked, columns.end(checked, head)).node)
+    let end = end_of(kernel.checked, &kernel.ends, head);
+    switches_at(row_at(kernel.checked, end).node)
 }
 
 /// The row of what hands on what the loop with this head imports.
-pub fn turn_row(checked: &Checked, columns: Columns<'_>, head: usize) -> usize
-    requires columns { AreColumns checked.now columns }
-    requires within { head < length (programs.rows checked.now) }
-    ensures { result ≡ turn_row checked.now head }
+pub fn turn_row(kernel: &Kernel<'_>, head: usize) -> usize
+    requires { head < length (programs.rows kernel.now.checked.now) }
+    ensures { result ≡ turn_row kernel.now.checked.now head }
 {
-    let behind = if has_index(checked, head) { 2 } else { 1 };
-    switches_row(checked, columns, head) + behind
+    let behind = if has_index(kernel.checked, head) {
+        2
+    } else {
+        1
+    };
+    switches_row(kernel, head) + behind
 }
 
 /// The switches of the loop that ends at a row of this node.

@@ -1,7 +1,7 @@
 //! The instructions of a row (docs/GRAPH.md, "Schemas").
 
 ghost use Rattle.std.specs.Prelude.{[], ◌∷◌, ◌≡◌, ◌++◌, ◌<◌, ◌^◌, pos, length, map, false};
-ghost use Rattle.std.specs.Prelude.{true, IfErr, OnOk};
+ghost use Rattle.std.specs.Prelude.{true, OnOk};
 ghost use Rattle.id_check.specs.Programs as programs;
 ghost use Rattle.id_table.specs.Tables.{is_thing};
 ghost use Rattle.id_table.specs.declared.row.Node.TheVariants.{Start};
@@ -14,7 +14,6 @@ ghost use Rattle.id_pieces.specs.Made.{is_of_loop};
 ghost use Rattle.id_pieces.specs.Rows.{for_each, import_entries, loop_entries, made, made_of, result_of, send_to};
 ghost use Rattle.id_pieces.specs.Rows.{param_entry, switches, variable_entries};
 ghost use Rattle.id_pieces.specs.Rows as rows;
-ghost use Rattle.id_pieces.specs.Slots.{AreColumns};
 ghost use Rattle.id_pieces.specs.declared.arc.Form.TheVariants.{Plain, EnterAt, FetchAt};
 ghost use Rattle.id_instr.specs.declared.instr.Op.TheVariants.{Merge, Back, Next, Switch, Address};
 ghost use Rattle.id_instr.specs.declared.instr.Op.TheVariants.{Store, Binary, Const};
@@ -22,47 +21,37 @@ ghost use Rattle.id_instr.specs.declared.instr.PortKind.TheVariants.{Signal, Int
 
 use crate::arc::{Form, Piece};
 use crate::calls::{called, param_of};
-use crate::columns::Columns;
-use crate::error::BuildError;
-use crate::loops::{entries_row, nexts_at};
+use crate::loops::{entries_row, imports_at, nexts_at};
 use crate::operators::{binary_op, holds_array, port_at, port_of};
 use id_check::Checked;
-use id_desugar::{carried_count, first_variable, row_at};
+use id_desugar::{Kernel, carried_count, end_of, first_variable, next_of, row_at};
 use id_instr::{Dyadic, Op, PortKind};
 use id_table::Node;
 use id_value::{Arithmetic, Comparison, Constant, Kind};
+use std::alloc::AllocError;
 
 /// Adds the instructions of the row n.
-pub fn push_pieces(
-    checked: &Checked,
-    columns: Columns<'_>,
-    n: usize,
-    pieces: &mut Vec<Piece>,
-) -> Result<(), BuildError>
-    requires columns { AreColumns checked.now columns }
-    requires within { n < length (programs.rows checked.now) }
-    ensures pieces { OnOk result (pieces.new.items ≡ pieces.old.items ++ made checked.now n) }
-    ensures memory { IfErr result (λ e. e ≡ BuildError.Memory) }
+pub fn push_pieces(kernel: &Kernel<'_>, n: usize, pieces: &mut Vec<Piece>) -> Result<(), AllocError>
+    requires { n < length (programs.rows kernel.now.checked.now) }
+    ensures { OnOk result (pieces.new.items ≡ pieces.old.items ++ made kernel.now.checked.now n) }
 {
-    let row = row_at(checked, n);
-    push_row(checked, columns, n, row.place as usize, row.node, pieces)
+    let row = row_at(kernel.checked, n);
+    push_row(kernel, n, row.place as usize, row.node, pieces)
 }
 
 /// Adds the instructions of the row n of this place and node.
 fn push_row(
-    checked: &Checked,
-    columns: Columns<'_>,
+    kernel: &Kernel<'_>,
     n: usize,
     place: usize,
     node: Node,
     pieces: &mut Vec<Piece>,
-) -> Result<(), BuildError>
-    requires columns { AreColumns checked.now columns }
-    requires within { n < length (programs.rows checked.now) }
-    requires node { node ≡ rows.node checked.now n }
-    ensures pieces { OnOk result (pieces.new.items ≡ pieces.old.items ++ made_of checked.now n place node) }
-    ensures memory { IfErr result (λ e. e ≡ BuildError.Memory) }
+) -> Result<(), AllocError>
+    requires within { n < length (programs.rows kernel.now.checked.now) }
+    requires node { node ≡ rows.node kernel.now.checked.now n }
+    ensures { OnOk result (pieces.new.items ≡ pieces.old.items ++ made_of kernel.now.checked.now n place node) }
 {
+    let checked = kernel.checked;
     match node {
         Node::Param { .. } | Node::Binding { .. } | Node::If { .. } | Node::Call { .. } => {
             push(pieces, Op::Merge(port_at(checked, n)), place)
@@ -80,37 +69,35 @@ fn push_row(
         Node::Array { nested, .. } => push(pieces, Op::Alloc { nested }, place),
         Node::Fetch { .. } => push_fetch(checked, n, place, pieces),
         Node::Store { address, .. } => push_store(checked, address, place, pieces),
-        _ => push_marker(checked, columns, n, place, node, pieces),
+        _ => push_marker(kernel, n, place, node, pieces),
     }
 }
 
 /// Adds the instructions of the row n of this place and node, which is a marker and no thing of the text.
 #[inline(always)]
 fn push_marker(
-    checked: &Checked,
-    columns: Columns<'_>,
+    kernel: &Kernel<'_>,
     n: usize,
     place: usize,
     node: Node,
     pieces: &mut Vec<Piece>,
-) -> Result<(), BuildError>
-    requires columns { AreColumns checked.now columns }
-    requires within { n < length (programs.rows checked.now) }
-    requires node { node ≡ rows.node checked.now n }
+) -> Result<(), AllocError>
+    requires within { n < length (programs.rows kernel.now.checked.now) }
+    requires node { node ≡ rows.node kernel.now.checked.now n }
     requires marker { is_thing node ≡ false }
-    ensures pieces { OnOk result (pieces.new.items ≡ pieces.old.items ++ made_of checked.now n place node) }
-    ensures memory { IfErr result (λ e. e ≡ BuildError.Memory) }
+    ensures { OnOk result (pieces.new.items ≡ pieces.old.items ++ made_of kernel.now.checked.now n place node) }
 {
+    let checked = kernel.checked;
     match node {
         Node::Head => {
-            let result = result_of(row_at(checked, columns.end(checked, n)).node);
+            let result = result_of(row_at(checked, end_of(checked, &kernel.ends, n)).node);
             push_head(port_of(result), place, pieces)
         }
         Node::Split { .. } | Node::Switches { .. } => {
-            push_switches(checked, columns.imports(checked, n), place, pieces)
+            push_switches(checked, imports_at(kernel, n), place, pieces)
         }
         Node::Enter { .. } => {
-            let call = columns.end(checked, n);
+            let call = end_of(checked, &kernel.ends, n);
             push_enter(called(checked, n), call, place, pieces)
         }
         Node::Arg { enter, index, .. } => {
@@ -118,10 +105,10 @@ fn push_marker(
             push_send(checked, param, param, 0, place, pieces)
         }
         Node::Bounds { .. } | Node::Start | Node::LoopHead { .. } | Node::Carried { .. } => {
-            push_of_loop(checked, columns, n, place, node, pieces)
+            push_of_loop(kernel, n, place, node, pieces)
         }
         Node::Variable | Node::Entries | Node::Count | Node::Turn => {
-            push_of_loop(checked, columns, n, place, node, pieces)
+            push_of_loop(kernel, n, place, node, pieces)
         }
         Node::Reset { value } => push(pieces, Op::Reset(port_at(checked, value)), place),
         Node::Address { .. } => push_address(checked, n, place, pieces),
@@ -133,49 +120,50 @@ fn push_marker(
 /// Adds the instructions of the row n of this place and node, which is a marker of a loop that has some.
 #[inline(always)]
 fn push_of_loop(
-    checked: &Checked,
-    columns: Columns<'_>,
+    kernel: &Kernel<'_>,
     n: usize,
     place: usize,
     node: Node,
     pieces: &mut Vec<Piece>,
-) -> Result<(), BuildError>
-    requires columns { AreColumns checked.now columns }
-    requires within { n < length (programs.rows checked.now) }
-    requires node { node ≡ rows.node checked.now n }
+) -> Result<(), AllocError>
+    requires within { n < length (programs.rows kernel.now.checked.now) }
+    requires node { node ≡ rows.node kernel.now.checked.now n }
     requires marker { is_of_loop node ≡ true }
-    ensures pieces { OnOk result (pieces.new.items ≡ pieces.old.items ++ made_of checked.now n place node) }
-    ensures memory { IfErr result (λ e. e ≡ BuildError.Memory) }
+    ensures { OnOk result (pieces.new.items ≡ pieces.old.items ++ made_of kernel.now.checked.now n place node) }
 {
+    let checked = kernel.checked;
     match node {
         Node::Bounds { .. } => push_bounds(place, pieces),
-        Node::Start => push_start(checked, columns, n, place, pieces),
+        Node::Start => push_start(kernel, n, place, pieces),
         Node::LoopHead { .. } => {
-            push_head(port_at(checked, columns.end(checked, n)), place, pieces)
+            push_head(
+                port_at(checked, end_of(checked, &kernel.ends, n)),
+                place,
+                pieces,
+            )
         }
         Node::Carried { kind } => push(pieces, Op::Merge(port_of(kind)), place),
         Node::Count => push_count(place, pieces),
         Node::Variable => {
-            let next = columns.next(checked, n);
+            let next = next_of(checked, &kernel.nexts, n) as usize;
             push(pieces, Op::Merge(port_at(checked, next)), place)
         }
         Node::Entries => {
             let head = row_at(checked, n).block as usize;
-            push_entries(checked, columns.imports(checked, head), place, pieces)
+            push_entries(checked, imports_at(kernel, head), place, pieces)
         }
         Node::Turn => {
             let head = row_at(checked, n).block as usize;
-            push_turn(checked, columns.imports(checked, head), head, place, pieces)
+            push_turn(checked, imports_at(kernel, head), head, place, pieces)
         }
         _ => Ok(()),
     }
 }
 
 /// Adds the trigger and the way back of a block whose result goes to ports of this kind.
-fn push_head(kind: PortKind, place: usize, pieces: &mut Vec<Piece>) -> Result<(), BuildError>
-    ensures pieces { OnOk result (pieces.new.items ≡ pieces.old.items
+fn push_head(kind: PortKind, place: usize, pieces: &mut Vec<Piece>) -> Result<(), AllocError>
+    ensures { OnOk result (pieces.new.items ≡ pieces.old.items
         ++ rows.piece (Plain (Merge Signal)) place ∷ rows.piece (Plain (Back kind)) place ∷ []) }
-    ensures memory { IfErr result (λ e. e ≡ BuildError.Memory) }
 {
     push(pieces, Op::Merge(PortKind::Signal), place)?;
     push(pieces, Op::Back(kind), place)?;
@@ -188,10 +176,9 @@ fn push_switches(
     imports: &[u32],
     place: usize,
     pieces: &mut Vec<Piece>,
-) -> Result<(), BuildError>
-    ensures pieces { OnOk result (pieces.new.items ≡ pieces.old.items
+) -> Result<(), AllocError>
+    ensures { OnOk result (pieces.new.items ≡ pieces.old.items
         ++ rows.piece (Plain (Switch Signal)) place ∷ switches checked.now place imports.now) }
-    ensures memory { IfErr result (λ e. e ≡ BuildError.Memory) }
 {
     push(pieces, Op::Switch(PortKind::Signal), place)?;
     for import in imports {
@@ -210,10 +197,9 @@ fn push_entries(
     imports: &[u32],
     place: usize,
     pieces: &mut Vec<Piece>,
-) -> Result<(), BuildError>
-    ensures pieces { OnOk result (pieces.new.items
+) -> Result<(), AllocError>
+    ensures { OnOk result (pieces.new.items
         ≡ pieces.old.items ++ for_each checked.now Merge place imports.now) }
-    ensures memory { IfErr result (λ e. e ≡ BuildError.Memory) }
 {
     for import in imports {
         push(pieces, Op::Merge(port_at(checked, *import as usize)), place)?;
@@ -222,11 +208,10 @@ fn push_entries(
 }
 
 /// Adds what tells whether a loop with an index has a first one, and the switch of that.
-fn push_bounds(place: usize, pieces: &mut Vec<Piece>) -> Result<(), BuildError>
-    ensures pieces { OnOk result (pieces.new.items ≡ pieces.old.items
+fn push_bounds(place: usize, pieces: &mut Vec<Piece>) -> Result<(), AllocError>
+    ensures { OnOk result (pieces.new.items ≡ pieces.old.items
         ++ rows.piece (Plain (Binary (dyadic.Comparison Le))) place
         ∷ rows.piece (Plain (Switch Int)) place ∷ []) }
-    ensures memory { IfErr result (λ e. e ≡ BuildError.Memory) }
 {
     let within = Op::Binary(Dyadic::Comparison(Comparison::Le));
     push(pieces, within, place)?;
@@ -234,13 +219,12 @@ fn push_bounds(place: usize, pieces: &mut Vec<Piece>) -> Result<(), BuildError>
 }
 
 /// Adds what tells whether a loop with an index has a next one, and what gives that.
-fn push_count(place: usize, pieces: &mut Vec<Piece>) -> Result<(), BuildError>
-    ensures pieces { OnOk result (pieces.new.items ≡ pieces.old.items
+fn push_count(place: usize, pieces: &mut Vec<Piece>) -> Result<(), AllocError>
+    ensures { OnOk result (pieces.new.items ≡ pieces.old.items
         ++ rows.piece (Plain (Binary (dyadic.Comparison Lt))) place
         ∷ rows.piece (Plain (Switch Signal)) place ∷ rows.piece (Plain (Switch Int)) place
         ∷ rows.piece (Plain (Const (constant.Int (pos 1)))) place
         ∷ rows.piece (Plain (Binary (dyadic.Arithmetic Add))) place ∷ []) }
-    ensures memory { IfErr result (λ e. e ≡ BuildError.Memory) }
 {
     let below = Op::Binary(Dyadic::Comparison(Comparison::Lt));
     push(pieces, below, place)?;
@@ -258,12 +242,11 @@ fn push_turn(
     head: usize,
     place: usize,
     pieces: &mut Vec<Piece>,
-) -> Result<(), BuildError>
+) -> Result<(), AllocError>
     requires head { head < length (programs.rows checked.now) }
-    ensures pieces { OnOk result (pieces.new.items ≡ pieces.old.items
+    ensures { OnOk result (pieces.new.items ≡ pieces.old.items
         ++ rows.piece (Plain (Next Signal)) place
         ∷ for_each checked.now Next place (carried checked.now head ++ imports.now)) }
-    ensures memory { IfErr result (λ e. e ≡ BuildError.Memory) }
 {
     push(pieces, Op::Next(PortKind::Signal), place)?;
     for part in 0..carried_count(checked, head) {
@@ -278,46 +261,45 @@ fn push_turn(
 
 /// Adds the `enter` of the loop that begins at the row n, and the `send`s to its entries.
 fn push_start(
-    checked: &Checked,
-    columns: Columns<'_>,
+    kernel: &Kernel<'_>,
     n: usize,
     place: usize,
     pieces: &mut Vec<Piece>,
-) -> Result<(), BuildError>
-    requires columns { AreColumns checked.now columns }
-    requires within { n < length (programs.rows checked.now) }
-    requires start { rows.node checked.now n ≡ Start }
-    ensures pieces { OnOk result (pieces.new.items ≡ pieces.old.items ++ made_of checked.now n place Start) }
-    ensures memory { IfErr result (λ e. e ≡ BuildError.Memory) }
+) -> Result<(), AllocError>
+    requires within { n < length (programs.rows kernel.now.checked.now) }
+    requires start { rows.node kernel.now.checked.now n ≡ Start }
+    ensures { OnOk result (pieces.new.items ≡ pieces.old.items ++ made_of kernel.now.checked.now n place Start) }
 {
     let head = n + 1;
-    push_enter(head, columns.end(checked, head), place, pieces)?;
-    push_sends(checked, columns, head, place, pieces)
+    push_enter(
+        head,
+        end_of(kernel.checked, &kernel.ends, head),
+        place,
+        pieces,
+    )?;
+    push_sends(kernel, head, place, pieces)
 }
 
 /// Adds the `send`s to the entries of the loop with this head.
 #[inline]
 fn push_sends(
-    checked: &Checked,
-    columns: Columns<'_>,
+    kernel: &Kernel<'_>,
     head: usize,
     place: usize,
     pieces: &mut Vec<Piece>,
-) -> Result<(), BuildError>
-    requires columns { AreColumns checked.now columns }
-    requires head { is_loop_head (rows.node checked.now head) ≡ true }
-    ensures pieces { OnOk result (pieces.new.items
-        ≡ pieces.old.items ++ map (send_to checked.now place) (loop_entries checked.now head)) }
-    ensures memory { IfErr result (λ e. e ≡ BuildError.Memory) }
+) -> Result<(), AllocError>
+    requires { is_loop_head (rows.node kernel.now.checked.now head) ≡ true }
+    ensures { OnOk result (pieces.new.items
+        ≡ pieces.old.items ++ map (send_to kernel.now.checked.now place) (loop_entries kernel.now.checked.now head)) }
 {
-    push_carried_sends(checked, head, place, pieces)?;
-    let nexts = nexts_at(checked, columns, head);
-    let first = first_variable(checked, head);
-    push_variable_sends(checked, nexts, first, place, pieces)?;
-    let entries = entries_row(checked, columns, head);
+    push_carried_sends(kernel.checked, head, place, pieces)?;
+    let nexts = nexts_at(kernel, head);
+    let first = first_variable(kernel.checked, head);
+    push_variable_sends(kernel.checked, nexts, first, place, pieces)?;
+    let entries = entries_row(kernel, head);
     push_import_sends(
-        checked,
-        columns.imports(checked, head),
+        kernel.checked,
+        imports_at(kernel, head),
         entries,
         place,
         pieces,
@@ -330,11 +312,10 @@ fn push_carried_sends(
     head: usize,
     place: usize,
     pieces: &mut Vec<Piece>,
-) -> Result<(), BuildError>
+) -> Result<(), AllocError>
     requires head { head < length (programs.rows checked.now) }
-    ensures pieces { OnOk result (pieces.new.items
+    ensures { OnOk result (pieces.new.items
         ≡ pieces.old.items ++ map (send_to checked.now place) (map param_entry (carried checked.now head))) }
-    ensures memory { IfErr result (λ e. e ≡ BuildError.Memory) }
 {
     for part in 0..carried_count(checked, head) {
         let entry = head + 1 + part;
@@ -350,11 +331,10 @@ fn push_variable_sends(
     first: usize,
     place: usize,
     pieces: &mut Vec<Piece>,
-) -> Result<(), BuildError>
+) -> Result<(), AllocError>
     requires few { first < 2 ^ 63 }
-    ensures pieces { OnOk result (pieces.new.items
+    ensures { OnOk result (pieces.new.items
         ≡ pieces.old.items ++ map (send_to checked.now place) (variable_entries first nexts.now)) }
-    ensures memory { IfErr result (λ e. e ≡ BuildError.Memory) }
 {
     for (index, next) in nexts.iter().enumerate() {
         push_send(checked, *next as usize, first + index, 0, place, pieces)?;
@@ -369,10 +349,9 @@ fn push_import_sends(
     entries: usize,
     place: usize,
     pieces: &mut Vec<Piece>,
-) -> Result<(), BuildError>
-    ensures pieces { OnOk result (pieces.new.items
+) -> Result<(), AllocError>
+    ensures { OnOk result (pieces.new.items
         ≡ pieces.old.items ++ map (send_to checked.now place) (import_entries entries 0 imports.now)) }
-    ensures memory { IfErr result (λ e. e ≡ BuildError.Memory) }
 {
     for (part, import) in imports.iter().enumerate() {
         push_send(checked, *import as usize, entries, part, place, pieces)?;
@@ -386,10 +365,9 @@ fn push_enter(
     reply: usize,
     place: usize,
     pieces: &mut Vec<Piece>,
-) -> Result<(), BuildError>
-    ensures pieces { OnOk result
+) -> Result<(), AllocError>
+    ensures { OnOk result
         (pieces.new.items ≡ pieces.old.items ++ rows.piece (EnterAt head reply) place ∷ []) }
-    ensures memory { IfErr result (λ e. e ≡ BuildError.Memory) }
 {
     push_form(pieces, Form::EnterAt { head, call: reply }, place)
 }
@@ -402,10 +380,9 @@ fn push_send(
     part: usize,
     place: usize,
     pieces: &mut Vec<Piece>,
-) -> Result<(), BuildError>
-    ensures pieces { OnOk result (pieces.new.items ≡ pieces.old.items
+) -> Result<(), AllocError>
+    ensures { OnOk result (pieces.new.items ≡ pieces.old.items
         ++ send_to checked.now place (record { binder = binder; row = row; part = part }) ∷ []) }
-    ensures memory { IfErr result (λ e. e ≡ BuildError.Memory) }
 {
     let kind = port_at(checked, binder);
     push_form(pieces, Form::SendTo { kind, row, part }, place)
@@ -417,10 +394,9 @@ fn push_address(
     n: usize,
     place: usize,
     pieces: &mut Vec<Piece>,
-) -> Result<(), BuildError>
-    ensures pieces { OnOk result (pieces.new.items ≡ pieces.old.items
+) -> Result<(), AllocError>
+    ensures { OnOk result (pieces.new.items ≡ pieces.old.items
         ++ rows.piece (Plain (Address (rows.holds_array checked.now n))) place ∷ []) }
-    ensures memory { IfErr result (λ e. e ≡ BuildError.Memory) }
 {
     let nested = holds_array(checked, n);
     push(pieces, Op::Address { nested }, place)
@@ -432,10 +408,9 @@ fn push_store(
     address: usize,
     place: usize,
     pieces: &mut Vec<Piece>,
-) -> Result<(), BuildError>
-    ensures pieces { OnOk result (pieces.new.items ≡ pieces.old.items
+) -> Result<(), AllocError>
+    ensures { OnOk result (pieces.new.items ≡ pieces.old.items
         ++ rows.piece (Plain (Store (rows.holds_array checked.now address))) place ∷ []) }
-    ensures memory { IfErr result (λ e. e ≡ BuildError.Memory) }
 {
     let nested = holds_array(checked, address);
     push(pieces, Op::Store { nested }, place)
@@ -447,12 +422,11 @@ fn push_fetch(
     n: usize,
     place: usize,
     pieces: &mut Vec<Piece>,
-) -> Result<(), BuildError>
-    ensures pieces { OnOk result (pieces.new.items ≡ pieces.old.items
+) -> Result<(), AllocError>
+    ensures { OnOk result (pieces.new.items ≡ pieces.old.items
         ++ rows.piece (Plain (Address (rows.holds_array checked.now n))) place
         ∷ rows.piece (FetchAt (rows.holds_array checked.now n) n) place
         ∷ rows.piece (Plain (Merge (rows.port_at checked.now n))) place ∷ []) }
-    ensures memory { IfErr result (λ e. e ≡ BuildError.Memory) }
 {
     let nested = holds_array(checked, n);
     push_address(checked, n, place, pieces)?;
@@ -462,11 +436,10 @@ fn push_fetch(
 }
 
 /// Adds the answer's instruction.
-fn push_answer(checked: &Checked, pieces: &mut Vec<Piece>) -> Result<(), BuildError>
-    ensures pieces { OnOk result (pieces.new.items ≡ pieces.old.items
+fn push_answer(checked: &Checked, pieces: &mut Vec<Piece>) -> Result<(), AllocError>
+    ensures { OnOk result (pieces.new.items ≡ pieces.old.items
         ++ rows.piece (Plain (Merge (rows.port_of (result_of (rows.node checked.now checked.now.main)))))
         (programs.place checked.now checked.now.main) ∷ []) }
-    ensures memory { IfErr result (λ e. e ≡ BuildError.Memory) }
 {
     let main = row_at(checked, checked.main);
     push(
@@ -486,16 +459,14 @@ fn result_of(node: Node) -> Kind
     }
 }
 
-fn push(pieces: &mut Vec<Piece>, op: Op, place: usize) -> Result<(), BuildError>
-    ensures pieces { OnOk result (pieces.new.items ≡ pieces.old.items ++ rows.piece (Plain op) place ∷ []) }
-    ensures memory { IfErr result (λ e. e ≡ BuildError.Memory) }
+fn push(pieces: &mut Vec<Piece>, op: Op, place: usize) -> Result<(), AllocError>
+    ensures { OnOk result (pieces.new.items ≡ pieces.old.items ++ rows.piece (Plain op) place ∷ []) }
 {
     push_form(pieces, Form::Plain(op), place)
 }
 
-fn push_form(pieces: &mut Vec<Piece>, form: Form, place: usize) -> Result<(), BuildError>
-    ensures pieces { OnOk result (pieces.new.items ≡ pieces.old.items ++ rows.piece form place ∷ []) }
-    ensures memory { IfErr result (λ e. e ≡ BuildError.Memory) }
+fn push_form(pieces: &mut Vec<Piece>, form: Form, place: usize) -> Result<(), AllocError>
+    ensures { OnOk result (pieces.new.items ≡ pieces.old.items ++ rows.piece form place ∷ []) }
 {
     pieces.push(Piece { form, place })?;
     Ok(())

@@ -1,18 +1,19 @@
-//! Where an import stands among those of its head: by a look through the list where it is short, and else by one
-//! look-up for each use (docs/GRAPH.md, "Sources").
+//! Where a kernel's instructions and imports stand: the number of each row's first instruction, and where an import is
+//! among those of its head, by a look through the list where it is short, and else by one look-up for each use
+//! (docs/GRAPH.md, "Sources").
 
-ghost use Rattle.std.specs.Prelude.{◌≡◌, ◌<◌, ◌^◌, ◌==◌, None, IfErr, IfOk, OnOk};
+ghost use Rattle.std.specs.Prelude.{◌≡◌, ◌<◌, ◌≤◌, ◌^◌, None, IfOk, OnOk};
 ghost use Rattle.std.specs.HashMap.{get};
 ghost use Rattle.std.specs.Option.{option_or};
-ghost use Rattle.id_desugar.specs.Regions as regions;
-ghost use Rattle.id_pieces.specs.Rows.{slot_of};
-ghost use Rattle.id_pieces.specs.Slots.{AreColumns, AreShort, AreSlots, noted, noted_all, same_import};
+ghost use Rattle.std.proofs.Props.{props};
+ghost use Rattle.id_desugar.specs.Regions.{imports_of, order_of};
+ghost use Rattle.id_pieces.specs.Made.{AreFirsts, number_by};
+ghost use Rattle.id_pieces.specs.Rows.{size, slot_of};
+ghost use Rattle.id_pieces.specs.Slots.{AreNoted, AreShort, noted, noted_all, same_import};
 
-use crate::columns::Columns;
-use crate::error::BuildError;
-use id_check::Checked;
-use id_desugar::MOST;
-use std::alloc::Global;
+use crate::loops::imports_at;
+use id_desugar::{Kernel, MOST};
+use std::alloc::{AllocError, Global};
 use std::collections::HashMap;
 
 /// Up to so many imports of a head, one is looked for in the list itself. Most heads have fewer.
@@ -25,36 +26,49 @@ pub struct Import {
     pub binder: u32,
 }
 
-/// The columns of a program, and how many binders stand before one among those that its head imports, for each head
-/// with more than `SHORT` of them.
+/// A kernel, lent, with where its instructions and imports stand: what the passes over its rows go by.
+///
+/// Keeps: the kernel's graph has at most 1,000,000 instructions; `firsts` has the numbers that they get in the kernel's
+/// order; `numbers` has for each head with more than `SHORT` imports how many of them stand before each.
 #[derive(Drop)]
-pub struct Slots<'a> {
-    pub columns: Columns<'a>,
+pub struct Slots<'k> {
+    pub kernel: &'k Kernel<'k>,
+    /// For each row the number of its first instruction.
+    pub firsts: Vec<u32>,
     pub numbers: HashMap<Import, u32>,
+    pub ghost few: { size kernel.now.checked.now ≤ 1000000 } by { Prim.hlevel props },
+    pub ghost numbered: { AreFirsts kernel.now.checked.now (order_of kernel.now.checked.now)
+        firsts.items } by { Prim.hlevel props },
+    pub ghost short: { AreShort (get same_import numbers) } by { Prim.hlevel props },
+    pub ghost placed: { AreNoted kernel.now.checked.now (get same_import numbers) } by { Prim.hlevel props },
 }
 
-/// The slots of these imports.
-pub fn find_slots<'a>(
+/// The slots of this kernel, whose rows' first instructions have these numbers.
+pub fn find_slots<'k>(
     alloc: Global,
-    checked: &Checked,
-    columns: Columns<'a>,
-) -> Result<Slots<'a>, BuildError>
-    requires columns { AreColumns checked.now columns }
-    ensures slots { IfOk result (AreSlots checked.now) }
-    ensures memory { IfErr result (λ e. e ≡ BuildError.Memory) }
+    kernel: &'k Kernel<'k>,
+    firsts: Vec<u32>,
+) -> Result<Slots<'k>, AllocError>
+    requires few { size kernel.now.checked.now ≤ 1000000 }
+    requires firsts { AreFirsts kernel.now.checked.now (order_of kernel.now.checked.now) firsts.items }
+    ensures { IfOk result (λ s. s.kernel.now.checked.now ≡ kernel.now.checked.now) }
 {
-    let count = columns.imports.listed();
+    let count = kernel.imports.listed();
     if count > MOST {
-        return Err(BuildError::Memory);
+        return Err(AllocError);
     }
     let mut numbers = HashMap::new(alloc);
     for head in 0..count {
-        let imports = columns.imports(checked, head);
+        let imports = imports_at(kernel, head);
         if imports.len() > SHORT {
             note_all(&mut numbers, head as u32, imports)?;
         }
     }
-    Ok(Slots { columns, numbers })
+    Ok(Slots {
+        kernel,
+        firsts,
+        numbers,
+    })
 }
 
 /// Notes where the binders stand that a head imports, where nothing was noted yet.
@@ -62,15 +76,14 @@ fn note_all(
     numbers: &mut HashMap<Import, u32>,
     head: u32,
     imports: &[u32],
-) -> Result<(), BuildError>
-    requires short { AreShort (get same_import numbers.old) }
+) -> Result<(), AllocError>
+    requires { AreShort (get same_import numbers.old) }
     ensures short { OnOk result (AreShort (get same_import numbers.new)) }
     ensures numbers { OnOk result ((i : Import) → get same_import numbers.new i
         ≡ option_or (get same_import numbers.old i) (noted_all head imports.now i)) }
-    ensures memory { IfErr result (λ e. e ≡ BuildError.Memory) }
 {
     if imports.len() > MOST {
-        return Err(BuildError::Memory);
+        return Err(AllocError);
     }
     for (slot, binder) in imports.iter().enumerate() {
         let import = Import {
@@ -83,10 +96,9 @@ fn note_all(
 }
 
 /// Notes where an import stands, where nothing was noted yet.
-fn note(numbers: &mut HashMap<Import, u32>, import: Import, slot: u32) -> Result<(), BuildError>
-    ensures numbers { OnOk result ((i : Import) → get same_import numbers.new i
+fn note(numbers: &mut HashMap<Import, u32>, import: Import, slot: u32) -> Result<(), AllocError>
+    ensures { OnOk result ((i : Import) → get same_import numbers.new i
         ≡ option_or (get same_import numbers.old i) (noted import slot i)) }
-    ensures memory { IfErr result (λ e. e ≡ BuildError.Memory) }
 {
     if numbers.get(&import).is_none() {
         numbers.insert(import, slot)?;
@@ -95,12 +107,11 @@ fn note(numbers: &mut HashMap<Import, u32>, import: Import, slot: u32) -> Result
 }
 
 /// How many stand before the binder among those that a head imports.
-pub fn slot_of(checked: &Checked, slots: &Slots<'_>, head: usize, binder: usize) -> usize
-    requires slots { AreSlots checked.now slots.now }
-    ensures slot { result ≡ slot_of (regions.imports_of checked.now head) binder }
+pub fn slot_of(slots: &Slots<'_>, head: usize, binder: usize) -> usize
+    ensures slot { result ≡ slot_of (imports_of slots.now.kernel.now.checked.now head) binder }
     ensures within { result < 2 ^ 61 }
 {
-    let imports = slots.columns.imports(checked, head);
+    let imports = imports_at(slots.kernel, head);
     if imports.len() <= SHORT {
         return position(imports, binder);
     }
@@ -115,6 +126,17 @@ pub fn slot_of(checked: &Checked, slots: &Slots<'_>, head: usize, binder: usize)
     match slots.numbers.get(&import) {
         Some(slot) => *slot as usize,
         None => count,
+    }
+}
+
+/// The number of the first instruction of a row.
+pub fn number_at(slots: &Slots<'_>, row: usize) -> usize
+    ensures number { result ≡ number_by slots.now.firsts.items row 0 }
+    ensures few { result < 2 ^ 32 }
+{
+    match slots.firsts.get(row) {
+        Some(number) => *number as usize,
+        None => 0,
     }
 }
 

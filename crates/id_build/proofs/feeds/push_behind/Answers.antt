@@ -1,5 +1,5 @@
 -- The arcs that are pushed are those of the two feeds.
-use Rattle.std.proofs.Common.{◌≡◌, ◌∙◌, List, ℕ, ap, refl}
+use Rattle.std.proofs.Common.{◌≡◌, refl}
 use Rattle.std.proofs.lemmas.Result.{on_ok_weaker}
 use Rattle.id_pieces.specs.Made.{number_by}
 use Rattle.id_pieces.specs.Rows.{origin, output}
@@ -8,16 +8,12 @@ use Rattle.id_build.proofs.feeds.push_behind.Goals as goal
 
 pub returns : goal.returns
 returns c =
-    let P = c.args.checked.now in
-    let F = c.args.arcs.now.firsts.items in
+    let P = c.args.slots.now.kernel.now.checked.now in
+    let F = c.args.slots.now.firsts.items in
     let n = c.args.n in
-    let xs = c.args.arcs.now.list.items in
-    let first : c.number_by-first.result ≡ number_by F n 0 =
-    c.number_by-first.ensures.number ∙ ap (λ (f : List ℕ). number_by f n 0) c.as_slice.ensures.value in
-    record {
-      list = on_ok_weaker c.push_two.result
-          (two_are F F n 0 _ (output c.args.row) _ (origin P c.args.value) _ xs _ refl first c.output.ensures c.origin-value.ensures.origin)
-          c.push_two.ensures.list;
-      firsts = c.push_two.ensures.firsts;
-      memory = c.push_two.ensures.memory;
-    }
+    let xs = c.args.arcs.now.items in
+    let first : c.number_at-first.result ≡ number_by F n 0 =
+    c.number_at-first.ensures.number in
+    on_ok_weaker c.push_two.result
+    (two_are F F n 0 _ (output c.args.row) _ (origin P c.args.value) _ xs _ refl first c.output.ensures c.origin-value.ensures.origin)
+    c.push_two.ensures

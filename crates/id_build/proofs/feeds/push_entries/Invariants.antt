@@ -6,9 +6,7 @@ use Rattle.id_pieces.specs.Rows.{entry_feeds, turn_row}
 use Rattle.id_build.proofs.feeds.push_entries.Given as goal
 
 abbrev pub invariant-loop-part : goal.invariant-loop-part
-invariant-loop-part l = record {
-  list : l.arcs.list.items ++ map (arc_of l.fn.arcs.firsts.items l.n)
-      (entry_feeds (turn_row l.checked l.head) (1 + length (carried l.checked l.head) + l.part) l.part (drop l.part (imports_of l.checked l.head)))
-      ≡ l.fn.arcs.list.items ++ map (arc_of l.fn.arcs.firsts.items l.n) (entry_feeds (turn_row l.checked l.head) (1 + length (carried l.checked l.head)) 0 (imports_of l.checked l.head));
-  firsts : l.arcs.firsts.items ≡ l.fn.arcs.firsts.items;
-}
+invariant-loop-part l =
+    l.arcs.items ++ map (arc_of l.slots.firsts.items l.n)
+    (entry_feeds (turn_row l.slots.kernel.now.checked.now l.head) (1 + length (carried l.slots.kernel.now.checked.now l.head) + l.part) l.part (drop l.part (imports_of l.slots.kernel.now.checked.now l.head)))
+    ≡ l.fn.arcs.items ++ map (arc_of l.slots.firsts.items l.n) (entry_feeds (turn_row l.slots.kernel.now.checked.now l.head) (1 + length (carried l.slots.kernel.now.checked.now l.head)) 0 (imports_of l.slots.kernel.now.checked.now l.head))

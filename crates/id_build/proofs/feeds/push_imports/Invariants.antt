@@ -6,9 +6,8 @@ use Rattle.id_build.proofs.feeds.push_imports.Given as goal
 
 abbrev pub invariant-loop-binder : goal.invariant-loop-binder
 invariant-loop-binder l = record {
-  list : l.arcs.list.items ++ map (arc_of l.fn.arcs.firsts.items l.n)
-      (import_feeds l.checked l.source l.region (l.part + l.binder-index) (drop l.binder-index l.binders))
-      ≡ l.fn.arcs.list.items ++ map (arc_of l.fn.arcs.firsts.items l.n) (import_feeds l.checked l.source l.region l.part l.binders);
-  firsts : l.arcs.firsts.items ≡ l.fn.arcs.firsts.items;
-  to : l.to ≡ number_by l.fn.arcs.firsts.items l.n 0 + l.part + l.binder-index;
+  list : l.arcs.items ++ map (arc_of l.slots.firsts.items l.n)
+      (import_feeds l.slots.kernel.now.checked.now l.source l.region (l.part + l.binder-index) (drop l.binder-index l.binders))
+      ≡ l.fn.arcs.items ++ map (arc_of l.slots.firsts.items l.n) (import_feeds l.slots.kernel.now.checked.now l.source l.region l.part l.binders);
+  to : l.to ≡ number_by l.slots.firsts.items l.n 0 + l.part + l.binder-index;
 }

@@ -11,13 +11,13 @@ use Rattle.id_pieces.specs.Schemas.{block_of}
 use Rattle.id_build.proofs.BlocksLemmas.{blocks_push, heads_next}
 use Rattle.id_build.proofs.program.add_head.Goals as goal
 
-pub returns-then-is_head-clause-blocks : goal.returns-then-is_head-clause-blocks
-returns-then-is_head-clause-blocks c =
-    let P = c.args.checked.now in
-    let F = c.args.firsts.now in
+pub returns-then-is_head : goal.returns-then-is_head
+returns-then-is_head c =
+    let P = c.args.slots.now.kernel.now.checked.now in
+    let F = c.args.slots.now.firsts.items in
     let h = c.args.head in
     let test : is_head (node P h) ≡ true =
     ap (λ (r : Row). is_head r.node) (sym c.row_at.ensures) ∙ sym c.is_head.ensures ∙ c.if-is_head.true in
     on_ok_weaker c.add_procedure.result (λ new.
     blocks_push P F (heads_below (rows P) h) c.args.blocks.now.items c.add_procedure.new.blocks.items h c.requires.blocks new
-    ∙ ap (map (block_of P (number_by F))) (sym (heads_next P h test))) c.add_procedure.ensures.blocks
+    ∙ ap (map (block_of P (number_by F))) (sym (heads_next P h test))) c.add_procedure.ensures

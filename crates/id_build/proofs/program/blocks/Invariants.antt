@@ -7,4 +7,4 @@ use Rattle.id_pieces.specs.Schemas.{block_of}
 use Rattle.id_build.proofs.program.blocks.Given as goal
 
 abbrev pub invariant-loop-head : goal.invariant-loop-head
-invariant-loop-head l = l.blocks.items ≡ map (block_of l.checked (number_by l.firsts)) (heads_below (rows l.checked) l.head)
+invariant-loop-head l = l.blocks.items ≡ map (block_of l.slots.kernel.now.checked.now (number_by l.slots.firsts.items)) (heads_below (rows l.slots.kernel.now.checked.now) l.head)

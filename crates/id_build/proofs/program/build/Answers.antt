@@ -7,4 +7,4 @@ use Rattle.id_build.proofs.program.build.Goals as goal
 pub known-requires-clause-exist : goal.known-requires-clause-exist
 known-requires-clause-exist c =
     PortsExist-schemas c.args.kernel.now.checked.now (parts c.in_ok-blocks.blocks.items c.in_ok-blocks.instrs.items)
-    (schemas_of c.in_ok-blocks.ensures.parts.0)
+    (schemas_of c.in_ok-blocks.ensures.parts)

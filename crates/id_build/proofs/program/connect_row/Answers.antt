@@ -8,12 +8,14 @@ use Rattle.id_build.proofs.program.connect_row.Goals as goal
 
 pub connect_all-requires-clause-from : goal.connect_all-requires-clause-from
 connect_all-requires-clause-from c =
-    let own = map (arc_of c.args.arcs.now.firsts.items c.args.n) (feeds c.args.checked.now c.args.n) in
-    let vs = c.as_slice.ensures.value ∙ c.in_ok-push_feeds.ensures.list ∙ ap (λ (z : List Arc). z ++ own) c.requires.empty in
+    let S = c.args.slots.now in
+    let own = map (arc_of S.firsts.items c.args.n) (feeds S.kernel.now.checked.now c.args.n) in
+    let vs = c.as_slice.ensures.value ∙ c.in_ok-push_feeds.ensures ∙ ap (λ (z : List Arc). z ++ own) c.requires.empty in
     subst (All (IsBetween (length c.args.instrs.now.items))) (sym vs) c.requires.between
 
 pub returns-clause-instrs : goal.returns-clause-instrs
 returns-clause-instrs c =
-    let own = map (arc_of c.args.arcs.now.firsts.items c.args.n) (feeds c.args.checked.now c.args.n) in
-    let vs = c.as_slice.ensures.value ∙ c.in_ok-push_feeds.ensures.list ∙ ap (λ (z : List Arc). z ++ own) c.requires.empty in
+    let S = c.args.slots.now in
+    let own = map (arc_of S.firsts.items c.args.n) (feeds S.kernel.now.checked.now c.args.n) in
+    let vs = c.as_slice.ensures.value ∙ c.in_ok-push_feeds.ensures ∙ ap (λ (z : List Arc). z ++ own) c.requires.empty in
     c.in_ok-connect_all.ensures ∙ ap (fold connected c.args.instrs.now.items) vs

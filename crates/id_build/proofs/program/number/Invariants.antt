@@ -6,8 +6,8 @@ use Rattle.id_build.proofs.program.number.Given as goal
 
 abbrev pub invariant-loop-n : goal.invariant-loop-n
 invariant-loop-n l = record {
-  count : l.count ≡ length (pieces_in l.checked (take l.n-index l.order));
-  many : length l.firsts.items ≡ length (rows l.checked);
-  firsts : (m : ℕ) → m < length (rows l.checked) → number_by l.firsts.items m 0 ≡ first_in l.checked 0 (take l.n-index l.order) m;
+  count : l.count ≡ length (pieces_in l.kernel.checked.now (take l.n-index l.order));
+  many : length l.firsts.items ≡ length (rows l.kernel.checked.now);
+  firsts : (m : ℕ) → m < length (rows l.kernel.checked.now) → number_by l.firsts.items m 0 ≡ first_in l.kernel.checked.now 0 (take l.n-index l.order) m;
   few : l.count ≤ 1000000;
 }

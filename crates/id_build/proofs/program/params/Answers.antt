@@ -13,32 +13,32 @@ use Rattle.id_build.proofs.program.params.Goals.{else-loop-n-test, then-loop-n-t
 
 pub loop-n-init : goal.loop-n-init
 loop-n-init c =
-    let F = c.args.firsts.now in
-    c.new-entries.ensures.items ∙ ap (map (λ x. number_by F x 0)) (sym (params_start c.args.checked.now c.args.head c.requires.within c.requires.head))
+    let F = c.args.slots.now.firsts.items in
+    c.new-entries.ensures.items ∙ ap (map (λ x. number_by F x 0)) (sym (params_start c.args.slots.now.kernel.now.checked.now c.args.head c.requires.within c.requires.head))
 
 pub loop-n-preserved : goal.loop-n-preserved
 loop-n-preserved c =
-    let P = c.args.checked.now in
-    let F = c.args.firsts.now in
+    let P = c.args.slots.now.kernel.now.checked.now in
+    let F = c.args.slots.now.firsts.items in
     let h = c.args.head in
     let n = c.loop-n.n in
     let low : h < n = omega (arith, c.loop-n.auto.n) in
-    let high : n < end_of P h = omega (arith, c.loop-n-test.true, c.end-n-end.ensures) in
+    let high : n < end_of P h = omega (arith, c.loop-n-test.true, c.end_of-n-end.ensures) in
     let is : is_param (node P n) ≡ true =
     ap (λ (r : Row). is_param r.node) (sym c.row_at.ensures) ∙ sym c.is_param.ensures ∙ c.if-not-is_param.false in
     let taken = is_taken P h n c.requires.within c.requires.head low high is in
-    entries_next P F c.loop-n.entries.items c.push_param.new.entries.items h n taken c.loop-n.invariant c.in_ok-push_param.ensures.entries
+    entries_next P F c.loop-n.entries.items c.push_param.new.entries.items h n taken c.loop-n.invariant c.in_ok-push_param.ensures
 
-pub returns-clause-entries : goal.returns-clause-entries
-returns-clause-entries c =
-    let P = c.args.checked.now in
-    let F = c.args.firsts.now in
+pub returns : goal.returns
+returns c =
+    let P = c.args.slots.now.kernel.now.checked.now in
+    let F = c.args.slots.now.firsts.items in
     let h = c.args.head in
     let l = c.requires.within in
     let t = c.requires.head in
     let n = c.loop-n.n in
     let low : h < n = omega (arith, c.loop-n.auto.n) in
-    let ends : c.end-n-end.result ≡ end_of P h = c.end-n-end.ensures in
+    let ends : c.end_of-n-end.result ≡ end_of P h = c.end_of-n-end.ensures in
     let auto = c.loop-n.auto.n-end (omega (arith, ends, end_behind P h l t)) in
     let all : params_below (rows P) h n ≡ params_at (rows P) h = elim c.loop-n-test.branch [
       | else-loop-n-test w ↦ (

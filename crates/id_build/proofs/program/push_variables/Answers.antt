@@ -5,26 +5,25 @@ use Rattle.id_desugar.specs.Regions.{carried, nexts_of}
 use Rattle.id_pieces.specs.Made.{number_by}
 use Rattle.id_pieces.specs.Rows.{Entry, entries_row, variable_entries}
 use Rattle.id_pieces.proofs.FeedsLemmas.{rest_done}
-use Rattle.id_pieces.proofs.ResultLemmas.{is_err, on_ok}
 use Rattle.id_pieces.proofs.SendsLemmas.{variable_entries-next}
 use Rattle.id_build.proofs.BlocksLemmas.{carried_entries}
 use Rattle.id_build.proofs.program.push_variables.Goals as goal
 
 pub loop-variable-init : goal.loop-variable-init
 loop-variable-init c =
-    let F = c.args.firsts.now in
+    let F = c.args.slots.now.firsts.items in
     let f : Entry → ℕ = λ q. number_by F q.row q.part in
     let h = c.args.head + 1 in
     let none : h - h ≡ 0 = omega arith in
     let old : List ℕ = c.args.entries.now.items in
-    let ns = carried c.args.checked.now c.args.head ++ nexts_of c.args.checked.now c.args.head in
+    let ns = carried c.args.slots.now.kernel.now.checked.now c.args.head ++ nexts_of c.args.slots.now.kernel.now.checked.now c.args.head in
     ap (λ k. old ++ map f (variable_entries (h + k) (drop k ns))) none ∙ ap (λ v. old ++ map f (variable_entries v ns)) (add-zero h)
 
 pub loop-variable-preserved : goal.loop-variable-preserved
 loop-variable-preserved c =
-    let P = c.args.checked.now in
+    let P = c.args.slots.now.kernel.now.checked.now in
     let h = c.args.head in
-    let F = c.args.firsts.now in
+    let F = c.args.slots.now.firsts.items in
     let v = c.loop-variable.variable in
     let i = v - (h + 1) in
     let f : Entry → ℕ = λ q. number_by F q.row q.part in
@@ -35,26 +34,20 @@ loop-variable-preserved c =
     let up : (v + 1) - (h + 1) ≡ i + 1 = omega (arith, low) in
     let row : h + 1 + i ≡ v = omega (arith, low) in
     let pushed = c.in_ok-push.ensures.items ∙ ap (λ n. c.loop-variable.entries.items ++ n ∷ [])
-    (c.number_by.ensures.number ∙ ap (λ k. number_by F k 0) (sym row)) in
+    (c.number_at.ensures.number ∙ ap (λ k. number_by F k 0) (sym row)) in
     variable_entries-next f (h + 1) i ((v + 1) - (h + 1)) ns c.loop-variable.entries.items c.push.new.self.items
     (c.args.entries.now.items ++ map f (variable_entries (h + 1) ns)) less up c.loop-variable.invariant pushed
 
-pub returns-clause-entries : goal.returns-clause-entries
-returns-clause-entries c =
-    let P = c.args.checked.now in
+pub returns : goal.returns
+returns c =
+    let P = c.args.slots.now.kernel.now.checked.now in
     let h = c.args.head in
-    let f : Entry → ℕ = λ q. number_by c.args.firsts.now q.row q.part in
+    let f : Entry → ℕ = λ q. number_by c.args.slots.now.firsts.items q.row q.part in
     let i = c.loop-variable.variable - (h + 1) in
     let ns = carried P h ++ nexts_of P h in
     let end : length ns ≤ i = omega (arith, c.loop-variable-test.false, c.requires.imported, length-append (carried P h) (nexts_of P h)) in
     rest_done (λ z. map f (variable_entries (h + 1 + i) z)) i ns c.loop-variable.entries.items _ refl end c.loop-variable.invariant
-    ∙ ap (λ (z : List ℕ). c.args.entries.now.items ++ z) (carried_entries P c.args.firsts.now h)
+    ∙ ap (λ (z : List ℕ). c.args.entries.now.items ++ z) (carried_entries P c.args.slots.now.firsts.items h)
 
-pub returns-in_err-push : goal.returns-in_err-push
-returns-in_err-push c = record {
-  entries = on_ok _ c.from_residual.result c.from_residual.ensures.0;
-  memory = is_err _ c.from_residual.result c.from_residual.ensures.1;
-}
-
-pub overflow_cast-number_by : goal.overflow_cast-number_by
-overflow_cast-number_by c = omega (arith, c.number_by.ensures.few)
+pub overflow_cast-number_at : goal.overflow_cast-number_at
+overflow_cast-number_at c = omega (arith, c.number_at.ensures.few)

@@ -5,6 +5,6 @@ use Rattle.id_build.proofs.size.is_small.Given as goal
 
 abbrev pub invariant-loop-n : goal.invariant-loop-n
 invariant-loop-n l = record {
-  is : l.size ≡ size_below l.checked l.n;
+  is : l.size ≡ size_below l.kernel.checked.now l.n;
   small : l.size ≤ 1000000;
 }

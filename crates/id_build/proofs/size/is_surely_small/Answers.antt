@@ -9,7 +9,7 @@ pub loop-n-preserved : goal.loop-n-preserved
 loop-n-preserved c =
     let P = c.args.checked.now in
     record {
-      most = omega (arith, c.loop-n.invariant.most, c.most_made-most.ensures.most, size_below-next P c.loop-n.n);
+      most = omega (arith, c.loop-n.invariant.most, c.most_made.ensures.most, size_below-next P c.loop-n.n);
       small = omega (arith, c.if-most-gt1000000.false);
     }
 

@@ -12,44 +12,44 @@ use Rattle.id_build.proofs.size.made_count.Goals as goal
 
 pub carried_count-carried-requires : goal.carried_count-carried-requires
 carried_count-carried-requires c =
-    let P = c.args.checked.now in
+    let P = c.args.kernel.now.checked.now in
     let is : node P c.args.n ≡ Start = ap (λ r. r.node) (sym c.row_at-row.ensures) ∙ c.in-Start.is in
-    (start_head P c.args.n c.requires.within is).0
+    (start_head P c.args.n c.requires is).0
 
 pub carried_count-requires : goal.carried_count-requires
 carried_count-requires c =
-    let P = c.args.checked.now in
+    let P = c.args.kernel.now.checked.now in
     let is : node P c.args.n ≡ Turn = ap (λ r. r.node) (sym c.row_at-row.ensures) ∙ c.in-Turn.is in
-    omega (arith, turn_head P c.args.n c.requires.within is, ap (λ (r : Row). r.block) c.row_at-row.ensures)
+    omega (arith, turn_head P c.args.n c.requires is, ap (λ (r : Row). r.block) c.row_at-row.ensures)
 
-pub nexts_at-nexts-requires-clause-head : goal.nexts_at-nexts-requires-clause-head
-nexts_at-nexts-requires-clause-head c =
-    let P = c.args.checked.now in
+pub nexts_at-nexts-requires : goal.nexts_at-nexts-requires
+nexts_at-nexts-requires c =
+    let P = c.args.kernel.now.checked.now in
     let is : node P c.args.n ≡ Start = ap (λ r. r.node) (sym c.row_at-row.ensures) ∙ c.in-Start.is in
-    ap is_loop_head (start_head P c.args.n c.requires.within is).1
+    ap is_loop_head (start_head P c.args.n c.requires is).1
 
 pub returns-in-Split-clause-count : goal.returns-in-Split-clause-count
 returns-in-Split-clause-count c =
-    let P = c.args.checked.now in
+    let P = c.args.kernel.now.checked.now in
     let n = c.args.n in
     let is : node P n ≡ Split c.in-Split.test = ap (λ r. r.node) (sym c.row_at-row.ensures) ∙ c.in-Split.is in
-    omega (arith, ap length c.imports.ensures, length-split P n (place P n) c.in-Split.test, ap (λ m. length (made_of P n (place P n) m)) is)
+    omega (arith, ap length c.imports_at.ensures, length-split P n (place P n) c.in-Split.test, ap (λ m. length (made_of P n (place P n) m)) is)
 
 pub returns-in-Switches-clause-count : goal.returns-in-Switches-clause-count
 returns-in-Switches-clause-count c =
-    let P = c.args.checked.now in
+    let P = c.args.kernel.now.checked.now in
     let n = c.args.n in
     let is : node P n ≡ Switches c.in-Switches.test = ap (λ r. r.node) (sym c.row_at-row.ensures) ∙ c.in-Switches.is in
-    omega (arith, ap length c.imports-in-Switches.ensures, length-switches P n (place P n) c.in-Switches.test, ap (λ m. length (made_of P n (place P n) m)) is)
+    omega (arith, ap length c.imports_at-in-Switches.ensures, length-switches P n (place P n) c.in-Switches.test, ap (λ m. length (made_of P n (place P n) m)) is)
 
 pub returns-in-Start-clause-count : goal.returns-in-Start-clause-count
 returns-in-Start-clause-count c =
-    let P = c.args.checked.now in
+    let P = c.args.kernel.now.checked.now in
     let n = c.args.n in
     let is : node P n ≡ Start = ap (λ r. r.node) (sym c.row_at-row.ensures) ∙ c.in-Start.is in
     omega (
       arith,
-      ap length c.imports-in-Start.ensures,
+      ap length c.imports_at-in-Start.ensures,
       length-start P n (place P n),
       ap (λ m. length (made_of P n (place P n) m)) is,
       ap length c.nexts_at-nexts.ensures.nexts,
@@ -57,12 +57,12 @@ returns-in-Start-clause-count c =
 
 pub returns-in-Entries-clause-count : goal.returns-in-Entries-clause-count
 returns-in-Entries-clause-count c =
-    let P = c.args.checked.now in
+    let P = c.args.kernel.now.checked.now in
     let n = c.args.n in
     let is : node P n ≡ Entries = ap (λ r. r.node) (sym c.row_at-row.ensures) ∙ c.in-Entries.is in
     omega (
       arith,
-      ap length c.imports-in-Entries.ensures,
+      ap length c.imports_at-in-Entries.ensures,
       length-entries P n (place P n),
       ap (λ m. length (made_of P n (place P n) m)) is,
       ap (λ (r : Row). length (imports_of P r.block)) c.row_at-row.ensures,
@@ -70,12 +70,12 @@ returns-in-Entries-clause-count c =
 
 pub returns-in-Turn-clause-count : goal.returns-in-Turn-clause-count
 returns-in-Turn-clause-count c =
-    let P = c.args.checked.now in
+    let P = c.args.kernel.now.checked.now in
     let n = c.args.n in
     let is : node P n ≡ Turn = ap (λ r. r.node) (sym c.row_at-row.ensures) ∙ c.in-Turn.is in
     omega (
       arith,
-      ap length c.imports-in-Turn.ensures,
+      ap length c.imports_at-in-Turn.ensures,
       length-turn P n (place P n),
       ap (λ m. length (made_of P n (place P n) m)) is,
       ap (λ (r : Row). length (imports_of P r.block)) c.row_at-row.ensures,

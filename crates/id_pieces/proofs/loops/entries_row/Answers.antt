@@ -6,17 +6,14 @@ use Rattle.id_pieces.proofs.loops.entries_row.Goals as goal
 
 pub overflow_add-result : goal.overflow_add-result
 overflow_add-result c =
-    let P = c.args.checked.now in
+    let P = c.args.kernel.now.checked.now in
     let h = c.args.head in
-    omega (arith, head_inside P h c.requires.head, rows_few P, carried_few P h, c.first_variable.ensures, c.nexts_at.ensures.few)
+    omega (arith, head_inside P h c.requires, rows_few P, carried_few P h, c.first_variable.ensures, c.nexts_at.ensures.few)
 
 pub returns : goal.returns
 returns c =
     ap (λ v. v + length c.nexts_at.result.now) c.first_variable.ensures
-    ∙ ap (λ (l : List ℕ). first_variable c.args.checked.now c.args.head + length l) c.nexts_at.ensures.nexts
-
-pub nexts_at-requires : goal.nexts_at-requires
-nexts_at-requires c = record { columns = c.requires.columns; head = c.requires.head }
+    ∙ ap (λ (l : List ℕ). first_variable c.args.kernel.now.checked.now c.args.head + length l) c.nexts_at.ensures.nexts
 
 pub first_variable-requires : goal.first_variable-requires
-first_variable-requires c = head_inside c.args.checked.now c.args.head c.requires.head
+first_variable-requires c = head_inside c.args.kernel.now.checked.now c.args.head c.requires

@@ -7,59 +7,50 @@ use Rattle.id_pieces.proofs.loops.nexts_at.Goals as goal
 
 pub overflow_sub-result : goal.overflow_sub-result
 overflow_sub-result c =
-    let P = c.args.checked.now in
+    let P = c.args.kernel.now.checked.now in
     let h = c.args.head in
-    let all = c.imports-handed.ensures ∙ ap (imports_of P) c.switches_row.ensures.switches ∙ nexts_first P h c.requires.head in
+    let all = c.imports_at-handed.ensures ∙ ap (imports_of P) c.switches_row.ensures.switches ∙ nexts_first P h c.requires in
     let first : c.if-has_index.first ≡ length (bound_of P h) = elim c.if-has_index.branch [
       | then-has_index w ↦ w.first-is ∙ sym (bound_count P h true (sym c.has_index.ensures ∙ w.if-has_index.true))
       | else-has_index w ↦ w.first-is ∙ sym (bound_count P h false (sym c.has_index.ensures ∙ w.if-has_index.false))
     ] in
-    (middle_is c.if-has_index.first (bound_of P h) (nexts_of P h) (imports_of P h) _ _ all c.imports-inner.ensures first).0
+    (middle_is c.if-has_index.first (bound_of P h) (nexts_of P h) (imports_of P h) _ _ all c.imports_at-inner.ensures first).0
 
 pub slice_bounds-result-start : goal.slice_bounds-result-start
 slice_bounds-result-start c =
-    let P = c.args.checked.now in
+    let P = c.args.kernel.now.checked.now in
     let h = c.args.head in
-    let all = c.imports-handed.ensures ∙ ap (imports_of P) c.switches_row.ensures.switches ∙ nexts_first P h c.requires.head in
+    let all = c.imports_at-handed.ensures ∙ ap (imports_of P) c.switches_row.ensures.switches ∙ nexts_first P h c.requires in
     let first : c.if-has_index.first ≡ length (bound_of P h) = elim c.if-has_index.branch [
       | then-has_index w ↦ w.first-is ∙ sym (bound_count P h true (sym c.has_index.ensures ∙ w.if-has_index.true))
       | else-has_index w ↦ w.first-is ∙ sym (bound_count P h false (sym c.has_index.ensures ∙ w.if-has_index.false))
     ] in
-    (middle_is c.if-has_index.first (bound_of P h) (nexts_of P h) (imports_of P h) _ _ all c.imports-inner.ensures first).1
+    (middle_is c.if-has_index.first (bound_of P h) (nexts_of P h) (imports_of P h) _ _ all c.imports_at-inner.ensures first).1
 
 pub slice_bounds-result-count : goal.slice_bounds-result-count
 slice_bounds-result-count c =
-    let P = c.args.checked.now in
+    let P = c.args.kernel.now.checked.now in
     let h = c.args.head in
-    let all = c.imports-handed.ensures ∙ ap (imports_of P) c.switches_row.ensures.switches ∙ nexts_first P h c.requires.head in
+    let all = c.imports_at-handed.ensures ∙ ap (imports_of P) c.switches_row.ensures.switches ∙ nexts_first P h c.requires in
     let first : c.if-has_index.first ≡ length (bound_of P h) = elim c.if-has_index.branch [
       | then-has_index w ↦ w.first-is ∙ sym (bound_count P h true (sym c.has_index.ensures ∙ w.if-has_index.true))
       | else-has_index w ↦ w.first-is ∙ sym (bound_count P h false (sym c.has_index.ensures ∙ w.if-has_index.false))
     ] in
-    (middle_is c.if-has_index.first (bound_of P h) (nexts_of P h) (imports_of P h) _ _ all c.imports-inner.ensures first).1
+    (middle_is c.if-has_index.first (bound_of P h) (nexts_of P h) (imports_of P h) _ _ all c.imports_at-inner.ensures first).1
 
 pub returns-clause-nexts : goal.returns-clause-nexts
 returns-clause-nexts c =
-    let P = c.args.checked.now in
+    let P = c.args.kernel.now.checked.now in
     let h = c.args.head in
-    let all = c.imports-handed.ensures ∙ ap (imports_of P) c.switches_row.ensures.switches ∙ nexts_first P h c.requires.head in
+    let all = c.imports_at-handed.ensures ∙ ap (imports_of P) c.switches_row.ensures.switches ∙ nexts_first P h c.requires in
     let first : c.if-has_index.first ≡ length (bound_of P h) = elim c.if-has_index.branch [
       | then-has_index w ↦ w.first-is ∙ sym (bound_count P h true (sym c.has_index.ensures ∙ w.if-has_index.true))
       | else-has_index w ↦ w.first-is ∙ sym (bound_count P h false (sym c.has_index.ensures ∙ w.if-has_index.false))
     ] in
-    (middle_is c.if-has_index.first (bound_of P h) (nexts_of P h) (imports_of P h) _ _ all c.imports-inner.ensures first).2
+    (middle_is c.if-has_index.first (bound_of P h) (nexts_of P h) (imports_of P h) _ _ all c.imports_at-inner.ensures first).2
 
 pub switches_row-requires : goal.switches_row-requires
-switches_row-requires c = record {
-  columns = c.requires.columns;
-  within = head_inside c.args.checked.now c.args.head c.requires.head;
-}
-
-pub imports-inner-requires : goal.imports-inner-requires
-imports-inner-requires c = c.requires.columns
-
-pub imports-handed-requires : goal.imports-handed-requires
-imports-handed-requires c = c.requires.columns
+switches_row-requires c = head_inside c.args.kernel.now.checked.now c.args.head c.requires
 
 pub has_index-requires : goal.has_index-requires
-has_index-requires c = head_inside c.args.checked.now c.args.head c.requires.head
+has_index-requires c = head_inside c.args.kernel.now.checked.now c.args.head c.requires

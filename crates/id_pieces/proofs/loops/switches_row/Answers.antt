@@ -7,4 +7,4 @@ use Rattle.id_pieces.proofs.loops.switches_row.Goals as goal
 pub returns-clause-within : goal.returns-clause-within
 returns-clause-within c =
     let is = c.switches_at.ensures ∙ ap (λ r. switches_at r.node) c.row_at.ensures in
-    omega (arith, is, switches_inside c.args.checked.now c.end.result _ (omega (arith, c.requires.within)) refl)
+    omega (arith, is, switches_inside c.args.kernel.now.checked.now c.end_of-end.result _ (omega (arith, c.requires)) refl)

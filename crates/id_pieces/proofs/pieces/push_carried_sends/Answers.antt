@@ -4,18 +4,11 @@ use Rattle.id_desugar.specs.Regions.{carried}
 use Rattle.id_pieces.specs.Rows.{param_entry, send_to}
 use Rattle.id_pieces.proofs.FeedsLemmas.{rest_done}
 use Rattle.id_pieces.proofs.LoopsLemmas.{carried_at}
-use Rattle.id_pieces.proofs.ResultLemmas.{if_err, on_ok}
 use Rattle.id_pieces.proofs.SendsLemmas.{carried_entries-next}
 use Rattle.id_pieces.proofs.pieces.push_carried_sends.Goals as goal
 
 pub loop-part-init : goal.loop-part-init
 loop-part-init c = refl
-
-pub returns-in_err-push_send : goal.returns-in_err-push_send
-returns-in_err-push_send c = record {
-  pieces = on_ok _ c.from_residual.result c.from_residual.ensures.0;
-  memory = if_err _ c.from_residual.result _ c.from_residual.ensures.1 c.in_err-push_send.ensures.memory;
-}
 
 pub loop-part-preserved : goal.loop-part-preserved
 loop-part-preserved c =
@@ -25,11 +18,8 @@ loop-part-preserved c =
     let xs = c.loop-part.pieces.items in
     let low : i < length (carried P h) = omega (arith, c.loop-part-test.true, c.carried_count-part-end.ensures.count) in
     carried_entries-next (send_to P c.args.place) i (carried P h) xs c.push_send.new.pieces.items _ low c.loop-part.invariant
-    (c.in_ok-push_send.ensures.pieces ∙ ap (λ b. xs ++ send_to P c.args.place (param_entry b) ∷ []) (sym (carried_at P h i low)))
+    (c.in_ok-push_send.ensures ∙ ap (λ b. xs ++ send_to P c.args.place (param_entry b) ∷ []) (sym (carried_at P h i low)))
 
 pub returns : goal.returns
-returns c = record {
-  pieces = rest_done (λ z. map (send_to c.args.checked.now c.args.place) (map param_entry z)) c.loop-part.part (carried c.args.checked.now c.args.head)
-      c.loop-part.pieces.items _ refl (omega (arith, c.loop-part-test.false, c.carried_count-part-end.ensures.count)) c.loop-part.invariant;
-  memory = tt;
-}
+returns c = rest_done (λ z. map (send_to c.args.checked.now c.args.place) (map param_entry z)) c.loop-part.part (carried c.args.checked.now c.args.head)
+    c.loop-part.pieces.items _ refl (omega (arith, c.loop-part-test.false, c.carried_count-part-end.ensures.count)) c.loop-part.invariant

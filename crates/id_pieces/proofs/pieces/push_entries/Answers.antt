@@ -4,15 +4,8 @@ use Rattle.id_instr.specs.declared.instr.Op.TheVariants.{Merge}
 use Rattle.id_pieces.specs.declared.arc.Form.TheVariants.{Plain}
 use Rattle.id_pieces.specs.Rows.{for_each, piece}
 use Rattle.id_pieces.proofs.FeedsLemmas.{rest_done}
-use Rattle.id_pieces.proofs.ResultLemmas.{if_err, on_ok}
 use Rattle.id_pieces.proofs.SendsLemmas.{for_each-next}
 use Rattle.id_pieces.proofs.pieces.push_entries.Goals as goal
-
-pub returns-in_err-push : goal.returns-in_err-push
-returns-in_err-push c = record {
-  pieces = on_ok _ c.from_residual.result c.from_residual.ensures.0;
-  memory = if_err _ c.from_residual.result _ c.from_residual.ensures.1 c.in_err-push.ensures.memory;
-}
 
 pub loop-import-init : goal.loop-import-init
 loop-import-init c = refl
@@ -21,13 +14,10 @@ pub loop-import-preserved : goal.loop-import-preserved
 loop-import-preserved c =
     let e = c.args.place in
     let xs = c.loop-import.pieces.items in
-    let one = c.in_ok-push.ensures.pieces ∙ ap (λ k. xs ++ piece (Plain (Merge k)) e ∷ []) c.port_at.ensures in
+    let one = c.in_ok-push.ensures ∙ ap (λ k. xs ++ piece (Plain (Merge k)) e ∷ []) c.port_at.ensures in
     for_each-next c.args.checked.now Merge e c.loop-import.import-index c.args.imports.now xs c.push.new.pieces.items _ c.loop-import-test.true
     c.loop-import.invariant one
 
 pub returns : goal.returns
-returns c = record {
-  pieces = rest_done (for_each c.args.checked.now Merge c.args.place) c.loop-import.import-index c.args.imports.now c.loop-import.pieces.items _ refl
-      c.loop-import-test.false c.loop-import.invariant;
-  memory = tt;
-}
+returns c = rest_done (for_each c.args.checked.now Merge c.args.place) c.loop-import.import-index c.args.imports.now c.loop-import.pieces.items _ refl
+    c.loop-import-test.false c.loop-import.invariant

@@ -2,27 +2,17 @@
 use Rattle.std.proofs.Common.{map, refl}
 use Rattle.id_pieces.specs.Rows.{import_entries, send_to}
 use Rattle.id_pieces.proofs.FeedsLemmas.{rest_done}
-use Rattle.id_pieces.proofs.ResultLemmas.{if_err, on_ok}
 use Rattle.id_pieces.proofs.SendsLemmas.{import_entries-next}
 use Rattle.id_pieces.proofs.pieces.push_import_sends.Goals as goal
 
 pub loop-part-init : goal.loop-part-init
 loop-part-init c = refl
 
-pub returns-in_err-push_send : goal.returns-in_err-push_send
-returns-in_err-push_send c = record {
-  pieces = on_ok _ c.from_residual.result c.from_residual.ensures.0;
-  memory = if_err _ c.from_residual.result _ c.from_residual.ensures.1 c.in_err-push_send.ensures.memory;
-}
-
 pub loop-part-preserved : goal.loop-part-preserved
 loop-part-preserved c =
     import_entries-next (send_to c.args.checked.now c.args.place) c.args.entries c.loop-part.part c.args.imports.now c.loop-part.pieces.items
-    c.push_send.new.pieces.items _ c.loop-part-test.true c.loop-part.invariant c.in_ok-push_send.ensures.pieces
+    c.push_send.new.pieces.items _ c.loop-part-test.true c.loop-part.invariant c.in_ok-push_send.ensures
 
 pub returns : goal.returns
-returns c = record {
-  pieces = rest_done (λ z. map (send_to c.args.checked.now c.args.place) (import_entries c.args.entries c.loop-part.part z)) c.loop-part.part c.args.imports.now
-      c.loop-part.pieces.items _ refl c.loop-part-test.false c.loop-part.invariant;
-  memory = tt;
-}
+returns c = rest_done (λ z. map (send_to c.args.checked.now c.args.place) (import_entries c.args.entries c.loop-part.part z)) c.loop-part.part c.args.imports.now
+    c.loop-part.pieces.items _ refl c.loop-part-test.false c.loop-part.invariant

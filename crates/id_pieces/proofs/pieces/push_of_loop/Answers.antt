@@ -8,7 +8,7 @@ use Rattle.id_pieces.proofs.pieces.push_of_loop.Goals as goal
 
 pub push_turn-requires : goal.push_turn-requires
 push_turn-requires c =
-    let P = c.args.checked.now in
+    let P = c.args.kernel.now.checked.now in
     let n = c.args.n in
     let inner = not_last P (table_of P) n c.requires.within (λ last. (let bad : Turn ≡ Program = sym c.in-Turn.is ∙ c.requires.node ∙ last in cc)) in
     let low = ((table_of P).block n inner).0 in

@@ -5,16 +5,16 @@ use Rattle.id_pieces.proofs.LoopsLemmas.{entries_within, head_inside, loop_head_
 use Rattle.id_pieces.proofs.pieces.push_sends.Goals as goal
 
 pub push_carried_sends-requires : goal.push_carried_sends-requires
-push_carried_sends-requires c = record { head = head_inside c.args.checked.now c.args.head c.requires.head }
+push_carried_sends-requires c = record { head = head_inside c.args.kernel.now.checked.now c.args.head c.requires }
 
 pub first_variable-first-requires : goal.first_variable-first-requires
-first_variable-first-requires c = head_inside c.args.checked.now c.args.head c.requires.head
+first_variable-first-requires c = head_inside c.args.kernel.now.checked.now c.args.head c.requires
 
 pub push_variable_sends-requires : goal.push_variable_sends-requires
 push_variable_sends-requires c =
-    let P = c.args.checked.now in
+    let P = c.args.kernel.now.checked.now in
     let h = c.args.head in
     let rows = P.table.rows in
-    let z = loop_head_is (node P h) c.requires.head in
-    let low = entries_within P h z.0 (head_inside P h c.requires.head) z.1 in
+    let z = loop_head_is (node P h) c.requires in
+    let low = entries_within P h z.0 (head_inside P h c.requires) z.1 in
     record { few = omega (arith, low, rows.ok.0, rows.ok.1, rows.small, c.first_variable-first.ensures) }

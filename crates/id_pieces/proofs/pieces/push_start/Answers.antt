@@ -4,5 +4,5 @@ use Rattle.id_desugar.specs.Regions.{is_loop_head}
 use Rattle.id_pieces.proofs.LoopsLemmas.{start_head}
 use Rattle.id_pieces.proofs.pieces.push_start.Goals as goal
 
-pub push_sends-requires-clause-head : goal.push_sends-requires-clause-head
-push_sends-requires-clause-head c = ap is_loop_head (start_head c.args.checked.now c.args.n c.requires.within c.requires.start).1
+pub push_sends-requires : goal.push_sends-requires
+push_sends-requires c = ap is_loop_head (start_head c.args.kernel.now.checked.now c.args.n c.requires.within c.requires.start).1

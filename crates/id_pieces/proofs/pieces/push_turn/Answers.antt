@@ -8,33 +8,14 @@ use Rattle.id_pieces.specs.declared.arc.Form.TheVariants.{Plain}
 use Rattle.id_pieces.specs.Rows.{for_each, piece, port_at}
 use Rattle.id_pieces.proofs.FeedsLemmas.{rest_done}
 use Rattle.id_pieces.proofs.LoopsLemmas.{carried_at}
-use Rattle.id_pieces.proofs.ResultLemmas.{if_err, on_ok}
 use Rattle.id_pieces.proofs.SendsLemmas.{begun, for_each-before, for_each-next}
 use Rattle.id_pieces.proofs.pieces.push_turn.Goals as goal
-
-pub returns-in_err-push : goal.returns-in_err-push
-returns-in_err-push c = record {
-  pieces = on_ok _ c.from_residual.result c.from_residual.ensures.0;
-  memory = if_err _ c.from_residual.result _ c.from_residual.ensures.1 c.in_err-push.ensures.memory;
-}
-
-pub returns-in_err-push-2 : goal.returns-in_err-push-2
-returns-in_err-push-2 c = record {
-  pieces = on_ok _ c.from_residual-in_err-push-2.result c.from_residual-in_err-push-2.ensures.0;
-  memory = if_err _ c.from_residual-in_err-push-2.result _ c.from_residual-in_err-push-2.ensures.1 c.in_err-push-2.ensures.memory;
-}
-
-pub returns-in_err-push-3 : goal.returns-in_err-push-3
-returns-in_err-push-3 c = record {
-  pieces = on_ok _ c.from_residual-in_err-push-3.result c.from_residual-in_err-push-3.ensures.0;
-  memory = if_err _ c.from_residual-in_err-push-3.result _ c.from_residual-in_err-push-3.ensures.1 c.in_err-push-3.ensures.memory;
-}
 
 pub loop-part-init : goal.loop-part-init
 loop-part-init c =
     let e = c.args.place in
     begun c.args.pieces.now.items c.push.new.pieces.items (for_each c.args.checked.now Next e (carried c.args.checked.now c.args.head ++ c.args.imports.now))
-    (piece (Plain (Next Signal)) e) c.in_ok-push.ensures.pieces
+    (piece (Plain (Next Signal)) e) c.in_ok-push.ensures
 
 pub loop-part-preserved : goal.loop-part-preserved
 loop-part-preserved c =
@@ -44,7 +25,7 @@ loop-part-preserved c =
     let i = c.loop-part.part in
     let xs = c.loop-part.pieces.items in
     let low : i < length (carried P h) = omega (arith, c.loop-part-test.true, c.carried_count-part-end.ensures.count) in
-    let one = c.in_ok-push-2.ensures.pieces ∙ ap (λ k. xs ++ piece (Plain (Next k)) e ∷ []) c.port_at.ensures
+    let one = c.in_ok-push-2.ensures ∙ ap (λ k. xs ++ piece (Plain (Next k)) e ∷ []) c.port_at.ensures
     ∙ ap (λ b. xs ++ piece (Plain (Next (port_at P b))) e ∷ []) (sym (carried_at P h i low)) in
     for_each-before P Next e i (carried P h) c.args.imports.now xs c.push-in-loop-part.new.pieces.items _ low c.loop-part.invariant one
 
@@ -59,13 +40,10 @@ pub loop-import-preserved : goal.loop-import-preserved
 loop-import-preserved c =
     let e = c.args.place in
     let xs = c.loop-import.pieces.items in
-    let one = c.in_ok-push-3.ensures.pieces ∙ ap (λ k. xs ++ piece (Plain (Next k)) e ∷ []) c.port_at-in-loop-import.ensures in
+    let one = c.in_ok-push-3.ensures ∙ ap (λ k. xs ++ piece (Plain (Next k)) e ∷ []) c.port_at-in-loop-import.ensures in
     for_each-next c.args.checked.now Next e c.loop-import.import-index c.args.imports.now xs c.push-in-loop-import.new.pieces.items _ c.loop-import-test.true
     c.loop-import.invariant one
 
 pub returns : goal.returns
-returns c = record {
-  pieces = rest_done (for_each c.args.checked.now Next c.args.place) c.loop-import.import-index c.args.imports.now c.loop-import.pieces.items _ refl
-      c.loop-import-test.false c.loop-import.invariant;
-  memory = tt;
-}
+returns c = rest_done (for_each c.args.checked.now Next c.args.place) c.loop-import.import-index c.args.imports.now c.loop-import.pieces.items _ refl
+    c.loop-import-test.false c.loop-import.invariant

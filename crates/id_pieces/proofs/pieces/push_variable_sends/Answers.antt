@@ -2,7 +2,6 @@
 use Rattle.std.proofs.Common.{◌+◌, ◌++◌, add-zero, ap, map, refl}
 use Rattle.id_pieces.specs.Rows.{send_to, variable_entries}
 use Rattle.id_pieces.proofs.FeedsLemmas.{rest_done}
-use Rattle.id_pieces.proofs.ResultLemmas.{if_err, on_ok}
 use Rattle.id_pieces.proofs.SendsLemmas.{variable_entries-next}
 use Rattle.id_pieces.proofs.pieces.push_variable_sends.Goals as goal
 
@@ -11,21 +10,12 @@ loop-index-preserved c =
     let i = c.loop-index.index in
     variable_entries-next (send_to c.args.checked.now c.args.place) c.args.first i (i + 1) c.args.nexts.now c.loop-index.pieces.items
     c.push_send.new.pieces.items _
-    c.loop-index-test.true refl c.loop-index.invariant c.in_ok-push_send.ensures.pieces
+    c.loop-index-test.true refl c.loop-index.invariant c.in_ok-push_send.ensures
 
 pub loop-index-init : goal.loop-index-init
 loop-index-init c =
     ap (λ v. c.args.pieces.now.items ++ map (send_to c.args.checked.now c.args.place) (variable_entries v c.args.nexts.now)) (add-zero c.args.first)
 
-pub returns-in_err-push_send : goal.returns-in_err-push_send
-returns-in_err-push_send c = record {
-  pieces = on_ok _ c.from_residual.result c.from_residual.ensures.0;
-  memory = if_err _ c.from_residual.result _ c.from_residual.ensures.1 c.in_err-push_send.ensures.memory;
-}
-
 pub returns : goal.returns
-returns c = record {
-  pieces = rest_done (λ z. map (send_to c.args.checked.now c.args.place) (variable_entries (c.args.first + c.loop-index.index) z)) c.loop-index.index
-      c.args.nexts.now c.loop-index.pieces.items _ refl c.loop-index-test.false c.loop-index.invariant;
-  memory = tt;
-}
+returns c = rest_done (λ z. map (send_to c.args.checked.now c.args.place) (variable_entries (c.args.first + c.loop-index.index) z)) c.loop-index.index
+    c.args.nexts.now c.loop-index.pieces.items _ refl c.loop-index-test.false c.loop-index.invariant

@@ -9,5 +9,5 @@ use Rattle.id_pieces.proofs.slots.find_slots.Given as goal
 abbrev pub invariant-loop-head : goal.invariant-loop-head
 invariant-loop-head l = record {
   short : AreShort (get same_import l.numbers);
-  numbers : (i : Import) → get same_import l.numbers i ≡ noted_below (long_of l.checked) l.head i;
+  numbers : (i : Import) → get same_import l.numbers i ≡ noted_below (long_of l.kernel.checked.now) l.head i;
 }
