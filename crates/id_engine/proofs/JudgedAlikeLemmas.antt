@@ -50,10 +50,10 @@ record AreOne (g h : Parts) (vs us : List Constant) : Type 0 where
 
 are_one : (text : List ℕ) (words : List (List ℕ)) (P Q : Checked) (g h : Parts) (vs us : List Constant) → IsProgramOf text P → IsProgramOf text Q
     → IsOwn P g → IsOwn Q h → AreInputsOf P words vs → AreInputsOf Q words us → AreOne g h vs us
-are_one text words P Q g h vs us i j own other are also =
+are_one text words P Q g h vs us i j own there are also =
     let alike : AreAlike P Q = AreAlike-text text P Q i j in
     record {
-      graph = one_graph P Q alike g h own other;
+      graph = one_graph P Q alike g h own there;
       inputs = inputs_same Q words vs us (inputs_to P Q alike words vs are) also;
     }
 
