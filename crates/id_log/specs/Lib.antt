@@ -1,0 +1,2 @@
+-- What public contracts cite.
+pub mod Logs
