@@ -8,6 +8,7 @@ pub mod EndsLemmas
 pub mod FrontLemmas
 pub mod MoreLemmas
 pub mod JudgeLemmas
+mod HearLemmas
 pub mod ClearLemmas
 pub mod OnlyLemmas
 pub mod ReadLemmas

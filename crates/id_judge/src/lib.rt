@@ -2,9 +2,10 @@
 //!
 //! Keeps: what is in flight stands in no order; where a message stands is found by what it names, and else by a look at
 //! each.
-//! Errors: `MachineError`; nothing is left of a judge then.
-//! Read first: `specs/Verdicts.antt`, then `judge_events`; `specs/Lines.antt`, `specs/Judging.antt`, then `Judge`.
-//! Not here: the machine's step (`id_element`), legal lists and their laws (`id_runs`), the lines (`id_trace`).
+//! Errors: `MachineError`, and `LogFault` of a log; nothing is left of a judge then.
+//! Read first: `specs/Verdicts.antt`, then `judge_events`; `specs/Lines.antt`, `specs/Judging.antt`, then `Judge`;
+//! `specs/Listening.antt`, then `hear`.
+//! Not here: the machine's step (`id_element`), legal lists and their laws (`id_runs`), the lines (`id_trace`), logs (`id_log`).
 #![tactic(auto)]
 
 mod bench;
@@ -15,6 +16,7 @@ mod hint;
 mod judge;
 mod line;
 mod lines;
+mod listen;
 mod pool;
 mod said;
 mod same;
@@ -28,4 +30,5 @@ pub use events::judge_events;
 pub use given::Given;
 pub use id_core::{Keeps, Machine, MachineError};
 pub use judge::{Judge, MAX_LINE, judge_lines};
+pub use listen::hear;
 pub use verdict::{Cause, Verdict};
