@@ -1,6 +1,6 @@
 -- Lemmas on traces that are judged (specs/Judgements.antt).
 use Rattle.std.proofs.Common.{◌≡◌, ◌≢◌, ◌<◌, ◌≤◌, ◌+◌, ◌∙◌, ℕ, Bool, List, [], ◌∷◌, ◌++◌, length, refl, sym, subst, ap, arith}
-use Rattle.std.proofs.Common.{Result, Ok, Err, IfOk, IfErr, OnOk}
+use Rattle.std.proofs.Common.{Result, Ok, Err, Option, IfOk, IfErr, OnOk}
 use Rattle.std.proofs.lemmas.List.{length-append}
 use Rattle.id_check.specs.declared.checked.Checked.{Checked}
 use Rattle.id_value.specs.declared.Constant.{Constant}
@@ -26,6 +26,7 @@ use Rattle.id_judge.specs.declared.verdict.Cause.{Cause}
 use Rattle.id_judge.specs.declared.verdict.Verdict.TheVariants.{Legal}
 use Rattle.id_judge.specs.Lines.{IsFirstLine, IsLineVerdict}
 use Rattle.id_judge.proofs.ClearLines.{clear_lines}
+use Rattle.id_log.specs.Logs.{Ahead, Hears}
 use Rattle.id_compile.specs.declared.error.EngineError.{EngineError}
 use Rattle.id_compile.specs.declared.error.EngineError.TheVariants.{Memory, Write}
 use Rattle.id_compile.specs.Programs.{HasInputs, IsProgramOf}
@@ -37,10 +38,14 @@ use Rattle.id_engine.specs.Commands.Shows.{legal, other}
 use Rattle.id_engine.specs.Judged.{cause_text, legal_text, other_text}
 use Rattle.id_engine.specs.Judgements.{IsJudged, IsOutput, IsPrintedSo, JudgesSo, PrintsJudged, PrintsLegal}
 use Rattle.id_engine.specs.Judgements.JudgesSo.{judged, unallowed}
+use Rattle.id_engine.specs.declared.judge.Unjudged.{Unjudged}
+use Rattle.id_engine.specs.declared.judge.Unjudged.TheVariants.{Refused, Broken}
+use Rattle.id_engine.specs.Listening.{IsInsideFor, IsUnheard, IsUnjudged, Listens, refused_so}
 use Rattle.id_engine.specs.Judgements.PrintsJudged.{all_out, front_out, none_out}
 use Rattle.id_engine.specs.Judgements.PrintsLegal.{reported, unreported}
 use Rattle.id_engine.specs.Reports.{AreAllowed, IsTrueOf, status_of}
 use Rattle.id_engine.proofs.AnsweredLemmas.{late_unallowed, refused_unallowed}
+use Rattle.id_engine.proofs.HearLemmas.{hears_any, hears_map, hears_some}
 use Rattle.id_engine.proofs.RunLemmas.{IsTrueOf-laws}
 use Rattle.id_engine.proofs.ShownLemmas.{Shows-from_report}
 
@@ -195,3 +200,53 @@ module _ (text : List ℕ) (ws : List (List ℕ)) (P : Checked) (is : IsProgramO
   JudgesSo-inside result (judged status output allowed shows (front_out e printed)) = tt
   JudgesSo-inside result (judged status output allowed shows (none_out same)) = tt
   JudgesSo-inside result (unallowed e why same) = (late_unallowed text count 1 e why).0
+
+-- ---- a log
+
+module _ (P : Checked) (vs : List Constant) (text : List ℕ) (a : Option Ahead) (count : ℕ) (b : Bool) (old new : SinkView) where
+  -- what is so of all that the log may have is so of the log
+  pub Listens-from : (r : Result ℕ EngineError) (s : Result ℕ Unjudged) → s ≡ refused_so r → Hears a (λ trace. JudgesSo P vs text trace count b old new r)
+      → Listens P vs text a count b old new s
+  Listens-from (Ok status) s is h = subst (λ (x : Result ℕ Unjudged). Listens P vs text a count b old new x) (sym is) h
+  Listens-from (Err e) s is h = subst (λ (x : Result ℕ Unjudged). Listens P vs text a count b old new x) (sym is) h
+
+  -- and so it is without a verdict
+  pub Listens-unheard : (e : Unjudged) → IsUnheard a count e → new ≡ old → Listens P vs text a count b old new (Err e)
+  Listens-unheard (Refused e) why same = hears_any a _ (λ trace. unallowed e why same)
+  Listens-unheard (Broken fault) why same = (why.0, why.1, same)
+
+module _ (text : List ℕ) (ws : List (List ℕ)) (P : Checked) (is : IsProgramOf text P) (small : size P ≤ 1000000) (vs : List Constant)
+    (are : AreInputsOf P ws vs) (a : Option Ahead) (count : ℕ) (b : Bool) (old new : SinkView) where
+  pub Listens-shown : (result : Result ℕ Unjudged) → Listens P vs text a count b old new result
+      → IfOk result (λ status. Hears a (λ trace. ShowsAll (Judge b ws count trace) text old new status))
+  Listens-shown (Ok status) h = hears_map a _ _ (λ trace j. JudgesSo-shown text ws P is small vs are trace count b old new (Ok status) j) h
+  Listens-shown (Err e) h = tt
+
+  pub Listens-cut : (result : Result ℕ Unjudged) → Listens P vs text a count b old new result → result ≡ Err (Refused Write)
+      → Hears a (λ trace. ShowsFront (Judge b ws count trace) text old new)
+  Listens-cut (Ok status) h w = absurd cc
+  Listens-cut (Err (Refused e)) h w =
+      let same : e ≡ Write = cc in
+      hears_map a _ _ (λ trace j. JudgesSo-cut text ws P is small vs are trace count b old new (Err e) j (ap (λ x. Err x) same)) h
+  Listens-cut (Err (Broken fault)) h w = absurd cc
+
+  pub Listens-silent : (result : Result ℕ Unjudged) → Listens P vs text a count b old new result → IfErr result (λ e. e ≢ Refused Write → new ≡ old)
+  Listens-silent (Ok status) h = tt
+  Listens-silent (Err (Refused e)) h =
+      let s = hears_some a _ h in
+      λ no. JudgesSo-silent text ws P is small vs are s.0 count b old new (Err e) s.1 (λ w. no (ap (λ x. Refused x) w))
+  Listens-silent (Err (Broken fault)) h = λ no. h.2
+
+  pub Listens-taken : (result : Result ℕ Unjudged) → Listens P vs text a count b old new result → OnOk result (IsTakenRun text ws count 1)
+  Listens-taken (Ok status) h = let s = hears_some a _ h in JudgesSo-taken text ws P is small vs are s.0 count b old new (Ok status) s.1
+  Listens-taken (Err e) h = tt
+
+  pub Listens-refused : (result : Result ℕ Unjudged) → Listens P vs text a count b old new result → IfErr result (IsUnjudged a text ws count)
+  Listens-refused (Ok status) h = tt
+  Listens-refused (Err (Refused e)) h = let s = hears_some a _ h in JudgesSo-refused text ws P is small vs are s.0 count b old new (Err e) s.1
+  Listens-refused (Err (Broken fault)) h = h.1
+
+  pub Listens-inside : (result : Result ℕ Unjudged) → Listens P vs text a count b old new result → IfErr result (IsInsideFor text)
+  Listens-inside (Ok status) h = tt
+  Listens-inside (Err (Refused e)) h = let s = hears_some a _ h in JudgesSo-inside text ws P is small vs are s.0 count b old new (Err e) s.1
+  Listens-inside (Err (Broken fault)) h = tt

@@ -10,6 +10,7 @@ pub mod LeftLemmas
 pub mod TraceLemmas
 pub mod KeepsLemmas
 pub mod PrintedLemmas
+pub mod HearLemmas
 pub mod JudgedLemmas
 pub mod HeldBackLemmas
 pub mod StatusLemmas

@@ -10,13 +10,17 @@ use Rattle.id_compile.specs.declared.refusal.Cause.{Cause}
 use Rattle.id_compile.specs.declared.refusal.Detail.{Detail}
 use Rattle.id_compile.specs.declared.refusal.Detail.TheVariants.{Nothing, Place, Kinds, Word}
 use Rattle.id_compile.specs.declared.refusal.Refusal.{Refusal}
-use Rattle.id_sink.specs.declared.source.ReadFault.{ReadFault}
 use Rattle.id_sink.specs.declared.source.SourceFault.{SourceFault}
-use Rattle.id_sink.specs.Reading.{IsToldFor, IsUnread, IsUnreadFor, fault_for}
-use Rattle.id_engine.specs.Commands.{ShowsFront}
+use Rattle.id_sink.specs.Reading.{IsToldText, IsUnread}
+use Rattle.id_log.specs.declared.log.LogFault.{LogFault}
+use Rattle.id_log.specs.Logs.{Ahead, Hears, MayBreak}
+use Rattle.id_args.specs.declared.request.Request.TheVariants as asks
+use Rattle.id_engine.specs.Asked.{IsToJudge}
+use Rattle.id_engine.proofs.HearLemmas.{hears_any, hears_map}
+use Rattle.id_engine.specs.Commands.{ShowsAll, ShowsFront}
 use Rattle.id_compile.specs.Refusals.{compiler_refusal, IsDetailInside, IsInsideOf, IsPrintedLine, IsToldRefusal, IsWord, Tells, plain, row_of, source_cause}
-use Rattle.id_engine.specs.Served.{AreToldBytes, AreUnread, command_of, trace_of, words_of, IsRefusedRequest, IsRunFront, Serves, refused, Drives}
-use Rattle.id_engine.specs.Served.Drives.{no_trace, served, unread}
+use Rattle.id_engine.specs.Served.{command_of, log_fault, trace_of, words_of, IsRefusedRequest, IsRun, IsRunFront, IsTaken, Serves, done, refused, Drives, DrivesBy, DrivesWith, broken, heard}
+use Rattle.id_engine.specs.Served.Drives.{served, unread}
 use Rattle.id_engine.specs.Served.Serves.{cut}
 
 -- ---- errors
@@ -64,37 +68,71 @@ Serves-error text bytes r out out' err err' Memory n front made silent why told 
 Serves-error text bytes r out out' err err' Write n front made silent why told = cut (front refl) (made refl) told
 
 -- a source's fault is refused
-pub Drives-unread : (told : Option (Result (List ℕ) SourceFault)) (bytes : List ℕ → Option (Result (List ℕ) ReadFault)) (r : Request)
+pub Drives-unread : (told : Option (Result (List ℕ) SourceFault)) (logs : List ℕ → Option Ahead) (r : Request)
     (out err err' : SinkView) (fault : SourceFault) (x : Cause) (n : ℕ) →
     IsUnread told fault
-    → x ≡ source_cause fault → n ≡ (row_of x).2 → IsPrintedLine [] (plain x) err err' → Drives told bytes r out out err err' n
-Drives-unread told bytes r out err err' fault x n h is status printed =
+    → x ≡ source_cause fault → n ≡ (row_of x).2 → IsPrintedLine [] (plain x) err err' → Drives told logs r out out err err' n
+Drives-unread told logs r out err err' fault x n h is status printed =
     let line : IsPrintedLine [] (plain (source_cause fault)) err err' = subst (λ (y : Cause). IsPrintedLine [] (plain y) err err') is printed in
-    subst (λ (k : ℕ). Drives told bytes r out out err err' k) (sym (status ∙ ap (λ (y : Cause). (row_of y).2) is)) (unread fault h refl line)
+    subst (λ (k : ℕ). Drives told logs r out out err err' k) (sym (status ∙ ap (λ (y : Cause). (row_of y).2) is)) (unread fault h refl line)
 
--- and so is that of a trace
-pub Drives-no_trace : (told : Option (Result (List ℕ) SourceFault)) (bytes : List ℕ → Option (Result (List ℕ) ReadFault)) (r : Request)
-    (out err err' : SinkView) (fault : ReadFault) (y : SourceFault) (x : Cause) (n : ℕ) →
-    AreUnread bytes (trace_of r) fault
-    → y ≡ fault_for fault → x ≡ source_cause y → n ≡ (row_of x).2 → IsPrintedLine [] (plain x) err err' → Drives told bytes r out out err err' n
-Drives-no_trace told bytes r out err err' fault y x n h from is status printed =
-    let same : x ≡ source_cause (fault_for fault) = is ∙ ap source_cause from in
-    let line : IsPrintedLine [] (plain (source_cause (fault_for fault))) err err' = subst (λ (z : Cause). IsPrintedLine [] (plain z) err err') same printed in
-    subst (λ (k : ℕ). Drives told bytes r out out err err' k) (sym (status ∙ ap (λ (z : Cause). (row_of z).2) same)) (no_trace fault h refl line)
+-- and so is that of a log
+pub DrivesBy-broken : (text : List ℕ) (a : Option Ahead) (r : Request) (out out' err err' : SinkView) (fault : LogFault) (y : SourceFault) (x : Cause)
+    (n : ℕ) → MayBreak a fault → y ≡ log_fault fault → x ≡ source_cause y → n ≡ (row_of x).2 → out' ≡ out → IsPrintedLine [] (plain x) err err'
+    → DrivesBy text a r out out' err err' n
+DrivesBy-broken text a r out out' err err' fault y x n h from is status silent printed =
+    let same : x ≡ source_cause (log_fault fault) = is ∙ ap source_cause from in
+    let line : IsPrintedLine [] (plain (source_cause (log_fault fault))) err err' = subst (λ (z : Cause). IsPrintedLine [] (plain z) err err') same printed in
+    subst (λ (k : ℕ). DrivesBy text a r out out' err err' k) (sym (status ∙ ap (λ (z : Cause). (row_of z).2) same)) (broken fault h silent line)
 
--- ---- a source that tells of bytes what it told before
+-- ---- a log
 
-module _ (old new : List ℕ → Option (Result (List ℕ) ReadFault)) (same : (n : List ℕ) → new n ≡ old n) where
-  told_before : (file : Option (List ℕ)) (bytes : List ℕ) → AreToldBytes new file bytes → AreToldBytes old file bytes
-  told_before None bytes h = h
-  told_before (Some file) bytes h = subst (λ (o : Option (Result (List ℕ) ReadFault)). IsToldFor o bytes) (same file) h
+-- a request that names a log asks to judge it
+pub asks_to_judge : (r : Request) (name : List ℕ) → Some name ≡ trace_of r → IsToJudge r
+asks_to_judge (asks.Check file) name is = absurd cc
+asks_to_judge (asks.Graph file) name is = absurd cc
+asks_to_judge (asks.Draw file) name is = absurd cc
+asks_to_judge (asks.Run file inputs count trace steps order names) name is = absurd cc
+asks_to_judge (asks.Facts file rounds inputs) name is = absurd cc
+asks_to_judge (asks.Why file rounds inputs) name is = absurd cc
+asks_to_judge (asks.Judge file trace inputs count names) name is = tt
 
-  unread_before : (file : Option (List ℕ)) (fault : ReadFault) → AreUnread new file fault → AreUnread old file fault
-  unread_before None fault h = h
-  unread_before (Some file) fault h = subst (λ (o : Option (Result (List ℕ) ReadFault)). IsUnreadFor o fault) (same file) h
+-- a failed write is told of all that a log may have
+pub hears_cut : (a : Option Ahead) (P : List ℕ → Type 0) (e : EngineError) → (e ≡ Write → Hears a P) → Hears a (λ bytes. e ≡ Write → P bytes)
+hears_cut a P (Compile x) h = hears_any a _ (λ bytes w. absurd cc)
+hears_cut a P (MissingInput x) h = hears_any a _ (λ bytes w. absurd cc)
+hears_cut a P (UnknownInput j) h = hears_any a _ (λ bytes w. absurd cc)
+hears_cut a P (RepeatedInput j) h = hears_any a _ (λ bytes w. absurd cc)
+hears_cut a P (BadInput j) h = hears_any a _ (λ bytes w. absurd cc)
+hears_cut a P BadElements h = hears_any a _ (λ bytes w. absurd cc)
+hears_cut a P BadSteps h = hears_any a _ (λ bytes w. absurd cc)
+hears_cut a P BadRounds h = hears_any a _ (λ bytes w. absurd cc)
+hears_cut a P TooManyFacts h = hears_any a _ (λ bytes w. absurd cc)
+hears_cut a P Memory h = hears_any a _ (λ bytes w. absurd cc)
+hears_cut a P Write h = hears_map a P _ (λ bytes p w. p) (h refl)
 
-  pub Drives-before : (told : Option (Result (List ℕ) SourceFault)) (r : Request) (out out' err err' : SinkView) (n : ℕ)
-      → Drives told new r out out' err err' n → Drives told old r out out' err err' n
-  Drives-before told r out out' err err' n (served text bytes is are serves) = served text bytes is (told_before (trace_of r) bytes are) serves
-  Drives-before told r out out' err err' n (unread fault is silent printed) = unread fault is silent printed
-  Drives-before told r out out' err err' n (no_trace fault are silent printed) = no_trace fault (unread_before (trace_of r) fault are) silent printed
+-- what is so of the log that a request names
+pub Drives-by : (told : Option (Result (List ℕ) SourceFault)) (logs : List ℕ → Option Ahead) (r : Request) (text : List ℕ) (out out' err err' : SinkView)
+    (n : ℕ) (name : List ℕ) → Some name ≡ trace_of r → IsToldText told text → DrivesBy text (logs name) r out out' err err' n
+    → Drives told logs r out out' err err' n
+Drives-by told logs r text out out' err err' n name is text_is by =
+    served text text_is (subst (λ (file : Option (List ℕ)). DrivesWith logs file text r out out' err err' n) is by)
+
+-- and where it names none
+pub Drives-served : (told : Option (Result (List ℕ) SourceFault)) (logs : List ℕ → Option Ahead) (r : Request) (text : List ℕ)
+    (out out' err err' : SinkView) (n : ℕ) → None ≡ trace_of r → IsToldText told text → Serves text [] r out out' err err' n
+    → Drives told logs r out out' err err' n
+Drives-served told logs r text out out' err err' n is text_is serves =
+    served text text_is (subst (λ (file : Option (List ℕ)). DrivesWith logs file text r out out' err err' n) is serves)
+
+-- a log is judged, and what comes of that is printed
+pub DrivesBy-heard : (text : List ℕ) (a : Option Ahead) (r : Request) (out out' err : SinkView) (n : ℕ)
+    → Hears a (λ bytes. ShowsAll (command_of bytes r) text out out' n) → IsTaken text r → IsRun text r out out' n → DrivesBy text a r out out' err err n
+DrivesBy-heard text a r out out' err n h taken ran = heard (hears_map a _ _ (λ bytes shown. done shown taken ran refl) h)
+
+-- or refused
+pub DrivesBy-refused : (text : List ℕ) (a : Option Ahead) (r : Request) (out out' err err' : SinkView) (e : EngineError) (n : ℕ)
+    → (e ≡ Write → Hears a (λ bytes. ShowsFront (command_of bytes r) text out out')) → (e ≡ Write → IsRunFront text r out out')
+    → (e ≢ Write → out' ≡ out) → IsRefusedRequest text r e → IsToldRefusal text (words_of r) e err err' n → DrivesBy text a r out out' err err' n
+DrivesBy-refused text a r out out' err err' e n front made silent why told =
+    heard (hears_map a _ _ (λ bytes cut_so. Serves-error text bytes r out out' err err' e n cut_so made silent why told) (hears_cut a _ e front))

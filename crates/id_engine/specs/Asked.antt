@@ -51,3 +51,13 @@ IsOfRun (asks.Run file inputs count trace steps order names) = Unit {0}
 IsOfRun (asks.Facts file rounds inputs) = ⊥
 IsOfRun (asks.Why file rounds inputs) = ⊥
 IsOfRun (asks.Judge file trace inputs count names) = Unit {0}
+
+-- the request asks to judge a log
+abbrev pub IsToJudge : Request → Type 0
+IsToJudge (asks.Check file) = ⊥
+IsToJudge (asks.Graph file) = ⊥
+IsToJudge (asks.Draw file) = ⊥
+IsToJudge (asks.Run file inputs count trace steps order names) = ⊥
+IsToJudge (asks.Facts file rounds inputs) = ⊥
+IsToJudge (asks.Why file rounds inputs) = ⊥
+IsToJudge (asks.Judge file trace inputs count names) = Unit {0}

@@ -13,6 +13,7 @@ pub mod Status
 pub mod AtOnce
 pub mod LastRound
 pub mod Reasoned
+pub mod Listening
 pub mod Served
 pub mod Settled
 -- For use inside.

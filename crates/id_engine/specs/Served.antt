@@ -11,9 +11,12 @@ use Rattle.id_args.specs.Requests.{AskFor, words_read}
 use Rattle.id_compile.specs.declared.error.EngineError.{EngineError}
 use Rattle.id_compile.specs.declared.error.EngineError.TheVariants.{Write}
 use Rattle.id_compile.specs.declared.refusal.Cause.TheVariants as cause
-use Rattle.id_sink.specs.declared.source.ReadFault.{ReadFault}
 use Rattle.id_sink.specs.declared.source.SourceFault.{SourceFault}
-use Rattle.id_sink.specs.Reading.{IsToldText, IsUnread, IsUnreadFor, IsToldFor, fault_for}
+use Rattle.id_sink.specs.declared.source.SourceFault.TheVariants as fault
+use Rattle.id_sink.specs.Reading.{IsToldText, IsUnread}
+use Rattle.id_log.specs.declared.log.LogFault.{LogFault}
+use Rattle.id_log.specs.declared.log.LogFault.TheVariants as lost
+use Rattle.id_log.specs.Logs.{Ahead, Hears, MayBreak}
 use Rattle.id_compile.specs.Programs.{HasProgram}
 use Rattle.id_engine.specs.Commands.{Command, Check, List_graph, Draw_graph, Facts, Judge, Run, ShowsAll}
 use Rattle.id_engine.specs.Commands.{ShowsFront, Why}
@@ -32,7 +35,7 @@ file_of (asks.Facts file rounds inputs) = file.now
 file_of (asks.Why file rounds inputs) = file.now
 file_of (asks.Judge file trace inputs count names) = file.now
 
--- the file of the trace that a request asks to judge
+-- the log that a request asks to judge
 abbrev pub trace_of : Request → Option (List ℕ)
 trace_of (asks.Check file) = None
 trace_of (asks.Graph file) = None
@@ -124,38 +127,36 @@ pub data Serves (text bytes : List ℕ) (r : Request) (out out' err err' : SinkV
       → IsToldRefusal text (words_of r) Write err err' status →
       Serves text bytes r out out' err err' status
 
--- the bytes are those that the source told of the trace that a request asks to judge, if it told any
-abbrev pub AreToldBytes : (List ℕ → Option (Result (List ℕ) ReadFault)) → Option (List ℕ) → List ℕ
-    → Type 0
-AreToldBytes told None bytes = bytes ≡ []
-AreToldBytes told (Some file) bytes = IsToldFor (told file) bytes
+-- why there is no text where a log can't be read
+abbrev pub log_fault : LogFault → SourceFault
+log_fault lost.File = fault.File
+log_fault lost.Memory = fault.Memory
 
--- the trace that a request asks to judge can't be read
-abbrev pub AreUnread : (List ℕ → Option (Result (List ℕ) ReadFault)) → Option (List ℕ) → ReadFault
-    → Type 0
-AreUnread told None fault = ⊥
-AreUnread told (Some file) fault = IsUnreadFor (told file) fault
+-- what a request asks for is done with a text and with what a log has ahead, whatever stands behind what was read of
+-- it; or the log broke off, and that is refused
+pub data DrivesBy (text : List ℕ) (a : Option Ahead) (r : Request) (out out' err err' : SinkView) : ℕ → Type 0 where
+  heard : {status : ℕ} → Hears a (λ bytes. Serves text bytes r out out' err err' status) →
+      DrivesBy text a r out out' err err' status
+  broken : (fault : LogFault) → MayBreak a fault → out' ≡ out
+      → IsPrintedLine [] (plain (source_cause (log_fault fault))) err err' →
+      DrivesBy text a r out out' err err' (row_of (source_cause (log_fault fault))).2
 
--- the trace of a request, which may have none, is read
-abbrev pub AreBytesRead : {A : Type 0} → (List ℕ → Option (Result (List ℕ) ReadFault)) → Option (List ℕ)
-    → Result (Vec ℕ A) ReadFault → Type 0
-AreBytesRead told file (Ok v) = AreToldBytes told file v.items
-AreBytesRead told file (Err fault) = AreUnread told file fault
+-- the same of the log that a request asks to judge; of another request no log is read
+abbrev pub DrivesWith : (List ℕ → Option Ahead) → Option (List ℕ) → List ℕ → Request → SinkView → SinkView → SinkView
+    → SinkView → ℕ → Type 0
+DrivesWith told None text r out out' err err' status = Serves text [] r out out' err err' status
+DrivesWith told (Some name) text r out out' err err' status = DrivesBy text (told name) r out out' err err' status
 
--- a request is done with what the source tells of its files: the text is served, with the trace where it has one, or
--- the fault of one of the two is refused
-pub data Drives (told : Option (Result (List ℕ) SourceFault))
-    (told_bytes : List ℕ → Option (Result (List ℕ) ReadFault)) (r : Request) (out out' err err' : SinkView) :
-    ℕ → Type 0 where
-  served : {status : ℕ} (text bytes : List ℕ) → IsToldText told text
-      → AreToldBytes told_bytes (trace_of r) bytes → Serves text bytes r out out' err err' status
-      → Drives told told_bytes r out out' err err' status
+-- a request is done with what is told of its files: the text is served, with the log where it asks to judge one; or the
+-- fault of the text is refused
+pub data Drives (told : Option (Result (List ℕ) SourceFault)) (told_log : List ℕ → Option Ahead) (r : Request)
+    (out out' err err' : SinkView) : ℕ → Type 0 where
+  served : {status : ℕ} (text : List ℕ) → IsToldText told text
+      → DrivesWith told_log (trace_of r) text r out out' err err' status
+      → Drives told told_log r out out' err err' status
   unread : (fault : SourceFault) → IsUnread told fault → out' ≡ out
       → IsPrintedLine [] (plain (source_cause fault)) err err' →
-      Drives told told_bytes r out out' err err' (row_of (source_cause fault)).2
-  no_trace : (fault : ReadFault) → AreUnread told_bytes (trace_of r) fault → out' ≡ out
-      → IsPrintedLine [] (plain (source_cause (fault_for fault))) err err' →
-      Drives told told_bytes r out out' err err' (row_of (source_cause (fault_for fault))).2
+      Drives told told_log r out out' err err' (row_of (source_cause fault)).2
 
 -- help is printed whole, or a write of it failed
 pub data HasHelped (text : List ℕ) (out out' err err' : SinkView) : ℕ → Type 0 where
@@ -176,20 +177,19 @@ Answers out out' err err' (Refused text) status = (out' ≡ out) × IsSaid (stri
 Answers out out' err err' Memory status = (out' ≡ out) × IsPrintedLine [] (plain cause.Memory) err err'
     × (status ≡ 5)
 
--- the words are served, with what the source tells of each name: what they ask for is done, or it is answered why they
+-- the words are served, with what is told of each name: what they ask for is done, or it is answered why they
 -- ask for nothing
 pub record ServesWords (words : List (List ℕ)) (told : List ℕ → Option (Result (List ℕ) SourceFault))
-    (told_bytes : List ℕ → Option (Result (List ℕ) ReadFault)) (out out' err err' : SinkView) (status : ℕ)
+    (told_log : List ℕ → Option Ahead) (out out' err err' : SinkView) (status : ℕ)
     : Type 0 where
   pub asked : Result Request Unasked
   pub read : AskFor (words_read words) asked
-  pub done : IfOk asked (λ r. Drives (told (file_of r)) told_bytes r out out' err err' status)
+  pub done : IfOk asked (λ r. Drives (told (file_of r)) told_log r out out' err err' status)
   pub answered : IfErr asked (λ u. Answers out out' err err' u status)
 
 -- words that were had are served, and of words that could not be had it is answered why
 abbrev pub AnswersWords : Result (List (List ℕ)) Unasked → (List ℕ → Option (Result (List ℕ) SourceFault))
-    → (List ℕ → Option (Result (List ℕ) ReadFault)) → SinkView → SinkView → SinkView → SinkView → ℕ
-    → Type 0
-AnswersWords (Ok words) told told_bytes out out' err err' status =
-    ServesWords words told told_bytes out out' err err' status
-AnswersWords (Err u) told told_bytes out out' err err' status = Answers out out' err err' u status
+    → (List ℕ → Option Ahead) → SinkView → SinkView → SinkView → SinkView → ℕ → Type 0
+AnswersWords (Ok words) told told_log out out' err err' status =
+    ServesWords words told told_log out out' err err' status
+AnswersWords (Err u) told told_log out out' err err' status = Answers out out' err err' u status

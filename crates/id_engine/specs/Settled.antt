@@ -2,9 +2,9 @@
 use Rattle.std.specs.Prelude.{◌≡◌, ◌≢◌, ℕ, List, [], Option, Result, Ok, Err}
 use Rattle.id_sink.specs.declared.sink.SinkFault.{SinkFault}
 use Rattle.id_sink.specs.Told.{SinkView}
-use Rattle.id_sink.specs.declared.source.ReadFault.{ReadFault}
 use Rattle.id_sink.specs.declared.source.SourceFault.{SourceFault}
 use Rattle.id_sink.specs.Writing.{DeviceView, IsSentOn, told_of}
+use Rattle.id_log.specs.Logs.{Ahead}
 use Rattle.id_args.specs.declared.request.Unasked.{Unasked}
 use Rattle.id_compile.specs.declared.refusal.Cause.TheVariants as cause
 use Rattle.id_compile.specs.Refusals.{IsPrintedLine, plain, row_of}
@@ -26,13 +26,13 @@ pub data Settles (old new : DeviceView) (err err' : SinkView) (status result : �
 -- the words are answered, then standard output sends on what it holds back, and then standard error
 pub record AnswersSettled (words : Result (List (List ℕ)) Unasked)
     (told : List ℕ → Option (Result (List ℕ) SourceFault))
-    (told_bytes : List ℕ → Option (Result (List ℕ) ReadFault)) (out out' err err' : DeviceView) (result : ℕ)
+    (told_log : List ℕ → Option Ahead) (out out' err err' : DeviceView) (result : ℕ)
     : Type 0 where
   pub status : ℕ
   pub out_told : DeviceView
   pub err_told : DeviceView
   pub err_settled : DeviceView
-  pub answered : AnswersWords words told told_bytes (told_of out) (told_of out_told) (told_of err)
+  pub answered : AnswersWords words told told_log (told_of out) (told_of out_told) (told_of err)
       (told_of err_told) status
   pub settled : Settles out_told out' (told_of err_told) (told_of err_settled) status result
   pub sent : Result (Unit {0}) SinkFault

@@ -1,32 +1,45 @@
-//! A trace, judged as one of a text.
+//! A log, or a trace in memory, judged as one of a text.
 
 ghost use Rattle.std.specs.Prelude.{◌≡◌, ◌≢◌, ◌≤◌, ◌<◌, false, length, map};
-ghost use Rattle.std.specs.Prelude.{IfErr, IfOk, OnOk, ◌++◌};
+ghost use Rattle.std.specs.Prelude.{[], Err, IfErr, IfOk, OnOk, ◌++◌};
 ghost use Rattle.id_build.specs.Own.{IsOwn};
 ghost use Rattle.id_source.specs.Sources.{AreInputs};
 ghost use Rattle.id_print.specs.Reports.{report_text};
 ghost use Rattle.id_print.specs.Within.{ReportWithin};
 ghost use Rattle.id_sink.specs.Told.{Prints};
+ghost use Rattle.id_log.specs.Logs.{Hears};
+ghost use Rattle.id_judge.specs.Judging.{HasRead, IsReady, JudgesOn};
 ghost use Rattle.id_judge.specs.Lines.{IsLineVerdict};
 ghost use Rattle.id_compile.specs.Programs.{IsPlacedWithin};
 ghost use Rattle.id_compile.specs.Refusals.{IsInsideOf, IsRefusedRun, IsTakenRun};
 ghost use Rattle.id_engine.specs.Commands.{ShowsAll, ShowsFront};
 ghost use Rattle.id_engine.specs.Commands as command;
 ghost use Rattle.id_engine.specs.Judged.{cause_text, legal_text, other_text};
-ghost use Rattle.id_engine.specs.Judgements.{IsPrintedSo, JudgesSo, PrintsJudged, PrintsLegal};
+ghost use Rattle.id_engine.specs.Judgements.{IsPrintedSo, PrintsJudged, PrintsLegal};
+ghost use Rattle.id_engine.specs.Listening.{IsInsideFor, IsUnheard, IsUnjudged, Listens, refused_so};
 ghost use Rattle.id_engine.specs.Reports.{AreAllowed, AreReportsWithin, IsUnallowed};
 ghost use Rattle.id_engine.specs.Runs.{keeps_for};
 
 use crate::run::{keeps_for, status_of};
 use id_compile::{EngineError, Prepared, prepare};
 use id_core::{Machine, MachineError};
-use id_judge::{Cause, Verdict, judge_lines};
+use id_judge::{Cause, Judge, Verdict, hear};
+use id_log::{InMemory, Log, LogFault};
 use id_print::{PrintError, Report, Sink, put, run_report, write_report};
 use id_sink::put_long;
 use std::alloc::Global;
 
 /// The status where a trace is none of a run.
 const NO_RUN: u8 = 6;
+
+/// Why a log was not judged.
+#[derive(Drop)]
+pub enum Unjudged {
+    /// The program is refused, or what was to be printed of it.
+    Refused(EngineError),
+    /// The log broke off.
+    Broken(LogFault),
+}
 
 /// What is said of a cause.
 fn cause_bytes(cause: Cause) -> &'static [u8]
@@ -137,108 +150,171 @@ fn print_machine<W: Sink>(
     status
 }
 
-/// Writes that the event at this position can't follow, and why, and answers the status.
-fn print_other<W: Sink>(
-    trace: &[u8],
-    position: usize,
-    cause: Cause,
-    out: &mut W,
-) -> Result<u8, EngineError>
-    requires { position < length trace.now }
+/// Writes that the event at this position can't follow, and why, and answers the status. No number is left for an event
+/// behind all that can be counted.
+fn print_other<W: Sink>(position: usize, cause: Cause, out: &mut W) -> Result<u8, EngineError>
     ensures { PrintsJudged (other_text position (cause_text cause)) 6 (W.told out.old) (W.told out.new) result }
 {
-    let within = position < trace.len();
-    prove!(within);
+    if position == usize::MAX {
+        return Err(EngineError::Memory);
+    }
     let why = cause_bytes(cause);
     let written = put_other(out, position, why);
     printed(written, NO_RUN)
 }
 
-/// What the judge says of a trace, as one of a run of a compiled program with its inputs.
-fn verdict_of<'a>(
+/// A judge of traces of a compiled program with its inputs, which has read nothing.
+fn start_judge<'a>(
     alloc: Global,
     prepared: &'a Prepared,
-    trace: &[u8],
     count: u32,
     names: bool,
-) -> Result<Verdict<'a>, EngineError>
+) -> Result<Judge<'a>, EngineError>
     requires { AreInputs prepared.now.compiled.checked prepared.now.inputs.values }
     ensures own { IsOwn prepared.now.compiled.checked prepared.now.compiled.graph }
-    ensures verdict { IfOk result
-        (IsLineVerdict prepared.now.compiled.graph prepared.now.inputs.values count (keeps_for false names)
-        trace.now) }
+    ensures ready { IfOk result IsReady }
+    ensures judges { IfOk result (JudgesOn prepared.now.compiled.graph count (keeps_for false names)) }
+    ensures read { IfOk result (HasRead prepared.now.inputs.values []) }
     ensures allowed { OnOk result (AreAllowed count 1) }
     ensures refused { IfErr result (IsUnallowed count 1) }
 {
     id_laws::inputs_fit();
-    match judge_lines(
+    match Judge::new(
         alloc,
         prepared.compiled.valid(),
         &prepared.inputs,
         count,
         keeps_for(false, names),
-        trace,
     ) {
-        Ok(verdict) => Ok(verdict),
+        Ok(judge) => Ok(judge),
         Err(MachineError::BadElements) => Err(EngineError::BadElements),
         Err(MachineError::Memory) => Err(EngineError::Memory),
     }
 }
 
-/// Judges a trace as one of a run of a compiled program with its inputs, and writes what comes of that.
-fn judge_prepared<W: Sink>(
+/// What the judge says of a log, as of the trace of a run of a compiled program with its inputs.
+fn verdict_of<'a, L: Log>(
+    alloc: Global,
+    prepared: &'a Prepared,
+    log: &mut L,
+    count: u32,
+    names: bool,
+) -> Result<Verdict<'a>, Unjudged>
+    requires { AreInputs prepared.now.compiled.checked prepared.now.inputs.values }
+    ensures own { IsOwn prepared.now.compiled.checked prepared.now.compiled.graph }
+    ensures verdict { IfOk result (λ v. Hears (L.ahead log.old) (λ trace. IsLineVerdict prepared.now.compiled.graph
+        prepared.now.inputs.values count (keeps_for false names) trace v)) }
+    ensures allowed { OnOk result (AreAllowed count 1) }
+    ensures refused { IfErr result (IsUnheard (L.ahead log.old) count) }
+{
+    match start_judge(alloc, prepared, count, names) {
+        Ok(judge) => match hear(alloc, judge, log) {
+            Ok(verdict) => Ok(verdict),
+            Err(fault) => Err(Unjudged::Broken(fault)),
+        },
+        Err(error) => Err(Unjudged::Refused(error)),
+    }
+}
+
+/// The status that was answered, or why there is none.
+fn refused(answer: Result<u8, EngineError>) -> Result<u8, Unjudged>
+    ensures { result ≡ refused_so answer }
+{
+    match answer {
+        Ok(status) => Ok(status),
+        Err(error) => Err(Unjudged::Refused(error)),
+    }
+}
+
+/// Judges a log as the trace of a run of a compiled program with its inputs, and writes what comes of that.
+fn judge_prepared<L: Log, W: Sink>(
     alloc: Global,
     prepared: &Prepared,
     text: &str,
-    trace: &[u8],
+    log: &mut L,
     count: u32,
     names: bool,
     out: &mut W,
-) -> Result<u8, EngineError>
+) -> Result<u8, Unjudged>
     requires inputs { AreInputs prepared.now.compiled.checked prepared.now.inputs.values }
     requires within { IsPlacedWithin (length text.now) prepared.now.compiled.checked }
     requires short { length text.now ≤ 1048576 }
-    ensures { JudgesSo prepared.now.compiled.checked prepared.now.inputs.values text.now trace.now count names
+    ensures { Listens prepared.now.compiled.checked prepared.now.inputs.values text.now (L.ahead log.old) count names
         (W.told out.old) (W.told out.new) result }
 {
     id_laws::sound();
     id_laws::complete();
     id_laws::legal_lists();
-    match verdict_of(alloc, prepared, trace, count, names) {
-        Ok(Verdict::Legal(machine, events)) => {
-            print_machine(alloc, machine, events, text, names, out)
-        }
-        Ok(Verdict::CannotFollow(position, cause)) => print_other(trace, position, cause, out),
+    match verdict_of(alloc, prepared, log, count, names) {
+        Ok(Verdict::Legal(machine, events)) => refused(print_machine(
+            alloc, machine, events, text, names, out,
+        )),
+        Ok(Verdict::CannotFollow(position, cause)) => refused(print_other(position, cause, out)),
         Err(error) => Err(error),
     }
 }
 
 /// The same, and lets the program go.
-fn judge_once<W: Sink>(
+fn judge_once<L: Log, W: Sink>(
     alloc: Global,
     prepared: Prepared,
     text: &str,
-    trace: &[u8],
+    log: &mut L,
     count: u32,
     names: bool,
     out: &mut W,
-) -> Result<u8, EngineError>
+) -> Result<u8, Unjudged>
     requires inputs { AreInputs prepared.compiled.checked prepared.inputs.values }
     requires within { IsPlacedWithin (length text.now) prepared.compiled.checked }
     requires short { length text.now ≤ 1048576 }
-    ensures { JudgesSo prepared.compiled.checked prepared.inputs.values text.now trace.now count names
+    ensures { Listens prepared.compiled.checked prepared.inputs.values text.now (L.ahead log.old) count names
         (W.told out.old) (W.told out.new) result }
 {
-    let status = judge_prepared(alloc, &prepared, text, trace, count, names, out);
+    let status = judge_prepared(alloc, &prepared, text, log, count, names, out);
     drop(prepared);
     status
 }
 
-/// Compiles a text, judges whether these bytes are the trace of a run of it on the inputs that the words give, on so
-/// many elements, and writes what `idc judge` prints: that they are, and the report of that run, with what names have
+/// Compiles a text, judges whether what a log has is the trace of a run of it on the inputs that the words give, on so
+/// many elements, and writes what `idc judge` prints: that it is, and the report of that run, with what names have
 /// where `names` asks for it; or which event is the first that can't follow, and why. It answers the status: that of
 /// the report, 0 where the run is quiet, 1 where it has a fault, 3 where messages are left; and 6 where there is no
-/// such run.
+/// such run. The log is read as it comes, and no line of it is kept: a line from which on there is no run is told when
+/// it is there, and nothing behind it is read.
+pub fn judge_log<L: Log, W: Sink>(
+    alloc: Global,
+    text: &str,
+    log: &mut L,
+    inputs: &[&str],
+    count: u32,
+    names: bool,
+    out: &mut W,
+) -> Result<u8, Unjudged>
+    // What is printed is what the judge says of all that the log has, and of a run what it shows; the source's
+    // equations give it.
+    ensures shown { IfOk result (λ status. Hears (L.ahead log.old)
+        (λ trace. ShowsAll (command.Judge names (map (λ w. w.now) inputs.now) count trace) text.now (W.told out.old)
+        (W.told out.new) status)) }
+
+    // After a failed write a front of such a text is out, and after any other error nothing.
+    ensures cut { result ≡ Err (Unjudged.Refused EngineError.Write) → Hears (L.ahead log.old)
+        (λ trace. ShowsFront (command.Judge names (map (λ w. w.now) inputs.now) count trace) text.now (W.told out.old)
+        (W.told out.new)) }
+    ensures silent { IfErr result
+        (λ e. e ≢ Unjudged.Refused EngineError.Write → W.told out.new ≡ W.told out.old) }
+
+    // A refusal comes for its cause alone, at a place of the text: as that of a run of one step, or of the log's.
+    ensures taken { OnOk result (IsTakenRun text.now (map (λ w. w.now) inputs.now) count 1) }
+    ensures refused { IfErr result (IsUnjudged (L.ahead log.old) text.now (map (λ w. w.now) inputs.now) count) }
+    ensures inside { IfErr result (IsInsideFor text.now) }
+{
+    match prepare(alloc, text, inputs) {
+        Ok(prepared) => judge_once(alloc, prepared, text, log, count, names, out),
+        Err(error) => Err(Unjudged::Refused(error)),
+    }
+}
+
+/// The same of bytes in memory.
 pub fn judge_text<W: Sink>(
     alloc: Global,
     text: &str,
@@ -264,8 +340,11 @@ pub fn judge_text<W: Sink>(
     ensures refused { IfErr result (IsRefusedRun text.now (map (λ w. w.now) inputs.now) count 1) }
     ensures inside { IfErr result (IsInsideOf text.now) }
 {
-    match prepare(alloc, text, inputs) {
-        Ok(prepared) => judge_once(alloc, prepared, text, trace, count, names, out),
-        Err(error) => Err(error),
+    let mut log = InMemory { bytes: trace };
+    match judge_log(alloc, text, &mut log, inputs, count, names, out) {
+        Ok(status) => Ok(status),
+        Err(Unjudged::Refused(error)) => Err(error),
+        // bytes in memory end as they are
+        Err(Unjudged::Broken(_)) => Err(EngineError::Memory),
     }
 }

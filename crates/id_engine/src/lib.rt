@@ -29,11 +29,12 @@ pub use id_compile::{
     Cause, CompileError, Compiled, Detail, EngineError, Refusal, compile, put_refusal,
 };
 pub use id_elements::{MAX_STEPS, Settings};
+pub use id_log::{InMemory, Log, LogFault, Logs, Opened, SystemLogs};
 pub use id_sink::{
     Device, Disk, Folder, ReadFault, Source, SourceFault, Stream, SystemFolder, read_text,
     write_some,
 };
-pub use judge::judge_text;
+pub use judge::{Unjudged, judge_log, judge_text};
 pub use program::{drive_asked, serve};
 pub use run::{at_every_moment, engine, judged_alike, one_answer, one_program, printed_alike};
 pub use status::{at_once, last_round, status_told, stopped_short};

@@ -1,23 +1,24 @@
-//! The whole program over any source of texts and any sinks.
+//! The whole program over any source of texts, any logs and any sinks.
 
-ghost use Rattle.std.specs.Prelude.{◌≡◌, [], map, IfErr, IfOk, List, ℕ, Option, Result};
-ghost use Rattle.id_engine.specs.Asked.{IsComputed, IsOfRun, IsToRun, PrintsAsked};
+ghost use Rattle.std.specs.Prelude.{◌≡◌, [], map, option_map, IfErr, IfOk, List, ℕ, Option, Result};
+ghost use Rattle.id_engine.specs.Asked.{IsComputed, IsOfRun, IsToJudge, IsToRun, PrintsAsked};
 ghost use Rattle.id_compile.specs.Refusals.{IsInsideOf, IsPrintedLine, IsToldRefusal, plain, row_of};
-ghost use Rattle.id_engine.specs.Served.{Answers, AreBytesRead, Drives, HasHelped, Serves, file_of, trace_of};
+ghost use Rattle.id_engine.specs.Served.{Answers, Drives, DrivesBy, HasHelped, Serves, file_of, log_fault, trace_of};
 ghost use Rattle.id_engine.specs.Served.{words_of};
 ghost use Rattle.id_sink.specs.Reading.{IsToldText};
 ghost use Rattle.id_sink.specs.declared.source.SourceFault.{SourceFault};
 
 use crate::commands::{check_text, draw_text, facts_text, graph_text};
-use crate::judge::judge_text;
+use crate::judge::{Unjudged, judge_log, judge_text};
 use crate::run::engine;
 use crate::why::reasons_text;
 use id_args::{Request, Unasked};
 use id_compile::{Cause, EngineError, Source, of_engine_error, of_source_fault, plain, refuse};
 use id_core::{Gate, Keeps, Open};
 use id_elements::Settings;
+use id_log::{Log, LogFault, Logs};
 use id_print::{Sink, put};
-use id_sink::{ReadFault, source_fault};
+use id_sink::SourceFault;
 use std::alloc::Global;
 use std::sync::Wait;
 use std::thread::Threads;
@@ -231,81 +232,123 @@ fn file_of<'a>(request: &Request<'a>) -> &'a str
     }
 }
 
-/// The bytes of the trace that a request asks to judge, and none where it asks for something else.
-fn read_trace<S: Source>(
-    alloc: Global,
-    request: &Request<'_>,
-    source: &mut S,
-) -> Result<Vec<u8>, ReadFault>
-    ensures { AreBytesRead (S.told_bytes source.old) (trace_of request.now) result }
+/// The log that a request asks to judge.
+fn trace_of<'a>(request: &Request<'a>) -> Option<&'a str>
+    ensures { option_map (λ name. name.now) result ≡ trace_of request.now }
 {
     match request {
-        Request::Judge { trace, .. } => source.read_bytes(alloc, trace),
+        Request::Judge { trace, .. } => Some(*trace),
         Request::Check { .. }
         | Request::Graph { .. }
         | Request::Draw { .. }
         | Request::Run { .. }
         | Request::Facts { .. }
-        | Request::Why { .. } => Ok(Vec::new(alloc)),
+        | Request::Why { .. } => None,
     }
 }
 
-/// Reads the trace of a request, where it has one, and serves it with that and with its text.
-fn serve_text<R: Threads + Wait + Sync, S: Source, O: Sink, E: Sink>(
+/// Why there is no text where a log can't be read.
+fn log_fault(fault: LogFault) -> SourceFault
+    ensures { result ≡ log_fault fault }
+{
+    match fault {
+        LogFault::File => SourceFault::File,
+        LogFault::Memory => SourceFault::Memory,
+    }
+}
+
+/// Judges a log as a request asks for, and answers the status.
+fn judge_asked<L: Log, O: Sink, E: Sink>(
+    alloc: Global,
+    request: &Request<'_>,
+    text: &str,
+    log: &mut L,
+    out: &mut O,
+    err: &mut E,
+) -> u8
+    requires { IsToJudge request.now }
+    ensures { DrivesBy text.now (L.ahead log.old) request.now (O.told out.old) (O.told out.new) (E.told err.old)
+        (E.told err.new) result }
+{
+    match request {
+        Request::Judge {
+            inputs,
+            count,
+            names,
+            ..
+        } => match judge_log(alloc, text, log, inputs.as_slice(), *count, *names, out) {
+            Ok(status) => status,
+            Err(Unjudged::Refused(error)) => tell(request, &error, text, err),
+            Err(Unjudged::Broken(fault)) => refuse_plainly(of_source_fault(log_fault(fault)), err),
+        },
+        _ => unreachable!(),
+    }
+}
+
+/// Serves a request with its text, and with the log that it asks to judge, where it asks for that.
+fn serve_text<R: Threads + Wait + Sync, T: Logs, O: Sink, E: Sink>(
     rt: &R,
     alloc: Global,
     request: &Request<'_>,
     text: &str,
-    source: &mut S,
+    logs: &mut T,
     out: &mut O,
     err: &mut E,
 ) -> u8
     ensures { (told : Option (Result (List ℕ) SourceFault)) → IsToldText told text.now
-        → Drives told (S.told_bytes source.old) request.now (O.told out.old) (O.told out.new) (E.told err.old)
+        → Drives told (T.told logs.old) request.now (O.told out.old) (O.told out.new) (E.told err.old)
         (E.told err.new) result }
 {
-    match read_trace(alloc, request, source) {
-        Ok(trace) => serve(rt, alloc, request, text, trace.as_slice(), &Open, out, err),
-        Err(fault) => refuse_plainly(of_source_fault(source_fault(fault)), err),
+    match trace_of(request) {
+        Some(name) => match logs.open(alloc, name) {
+            Ok(log) => {
+                let mut log = log;
+                judge_asked(alloc, request, text, &mut log, out, err)
+            }
+            Err(fault) => refuse_plainly(of_source_fault(log_fault(fault)), err),
+        },
+        None => serve(rt, alloc, request, text, &[], &Open, out, err),
     }
 }
 
-/// Reads the text of a request, and its trace, and serves it.
-fn serve_file<R: Threads + Wait + Sync, S: Source, O: Sink, E: Sink>(
+/// Reads the text of a request, and serves it.
+fn serve_file<R: Threads + Wait + Sync, S: Source, T: Logs, O: Sink, E: Sink>(
     rt: &R,
     alloc: Global,
     request: &Request<'_>,
     source: &mut S,
+    logs: &mut T,
     out: &mut O,
     err: &mut E,
 ) -> u8
-    ensures { Drives (S.told source.old (file_of request.now)) (S.told_bytes source.old) request.now (O.told out.old)
+    ensures { Drives (S.told source.old (file_of request.now)) (T.told logs.old) request.now (O.told out.old)
         (O.told out.new) (E.told err.old) (E.told err.new) result }
 {
     match source.read(alloc, file_of(request)) {
-        Ok(text) => serve_text(rt, alloc, request, text.as_str(), source, out, err),
+        Ok(text) => serve_text(rt, alloc, request, text.as_str(), logs, out, err),
         Err(fault) => refuse_plainly(of_source_fault(fault), err),
     }
 }
 
 /// Does what words were read to ask for, or answers why they ask for nothing, and answers the status. It reads texts
-/// from `source`, writes what was asked for to `out` and refusals to `err`.
-pub fn drive_asked<R: Threads + Wait + Sync, S: Source, O: Sink, E: Sink>(
+/// from `source` and logs from `logs`, writes what was asked for to `out` and refusals to `err`.
+pub fn drive_asked<R: Threads + Wait + Sync, S: Source, T: Logs, O: Sink, E: Sink>(
     rt: &R,
     alloc: Global,
     asked: &Result<Request<'_>, Unasked>,
     source: &mut S,
+    logs: &mut T,
     out: &mut O,
     err: &mut E,
 ) -> u8
     ensures asked { IfOk asked.now
-        (λ r. Drives (S.told source.old (file_of r)) (S.told_bytes source.old) r (O.told out.old) (O.told out.new)
+        (λ r. Drives (S.told source.old (file_of r)) (T.told logs.old) r (O.told out.old) (O.told out.new)
         (E.told err.old) (E.told err.new) result) }
     ensures unasked { IfErr asked.now
         (λ u. Answers (O.told out.old) (O.told out.new) (E.told err.old) (E.told err.new) u result) }
 {
     match asked {
-        Ok(request) => serve_file(rt, alloc, request, source, out, err),
+        Ok(request) => serve_file(rt, alloc, request, source, logs, out, err),
         Err(unasked) => answer(unasked, out, err),
     }
 }

@@ -1,4 +1,4 @@
-//! The whole program over any words, any source of texts and any sinks.
+//! The whole program over any words, any source of texts, any logs and any sinks.
 
 ghost use Rattle.std.specs.Prelude.{map};
 ghost use Rattle.std.specs.Result.{result_map_both};
@@ -10,6 +10,7 @@ use crate::program::drive_asked;
 use crate::stream::settle;
 use id_args::{Request, Unasked, read_words};
 use id_compile::Source;
+use id_log::Logs;
 use id_print::Sink;
 use id_sink::{Device, Stream};
 use std::alloc::Global;
@@ -26,40 +27,42 @@ fn is_compiled(asked: &Result<Request<'_>, Unasked>) -> bool {
 }
 
 /// The whole program: does what the words ask for, the program's own name left out, and answers the status. It reads
-/// texts from `source`, writes what was asked for to `out` and refusals to `err`.
-pub fn drive<R: Threads + Wait + Sync, N: AsStr, S: Source, O: Sink, E: Sink>(
+/// texts from `source` and logs from `logs`, writes what was asked for to `out` and refusals to `err`.
+pub fn drive<R: Threads + Wait + Sync, N: AsStr, S: Source, T: Logs, O: Sink, E: Sink>(
     rt: &R,
     alloc: Global,
     words: &[N],
     source: &mut S,
+    logs: &mut T,
     out: &mut O,
     err: &mut E,
 ) -> u8
-    ensures { ServesWords (map N.text words.now) (S.told source.old) (S.told_bytes source.old) (O.told out.old)
+    ensures { ServesWords (map N.text words.now) (S.told source.old) (T.told logs.old) (O.told out.old)
         (O.told out.new) (E.told err.old) (E.told err.new) result }
 {
     let asked = read_words(alloc, words);
     if is_compiled(&asked) {
         keep_memory(alloc);
     }
-    drive_asked(rt, alloc, &asked, source, out, err)
+    drive_asked(rt, alloc, &asked, source, logs, out, err)
 }
 
 /// Serves the words, or answers why they could not be had.
-fn answer_words<R: Threads + Wait + Sync, N: AsStr + Drop, S: Source, O: Sink, E: Sink>(
+fn answer_words<R: Threads + Wait + Sync, N: AsStr + Drop, S: Source, T: Logs, O: Sink, E: Sink>(
     rt: &R,
     alloc: Global,
     words: Result<Vec<N>, Unasked>,
     source: &mut S,
+    logs: &mut T,
     out: &mut O,
     err: &mut E,
 ) -> u8
     ensures { AnswersWords (result_map_both (λ ws. map N.text ws.items) (λ u. u) words) (S.told source.old)
-        (S.told_bytes source.old) (O.told out.old) (O.told out.new) (E.told err.old) (E.told err.new) result }
+        (T.told logs.old) (O.told out.old) (O.told out.new) (E.told err.old) (E.told err.new) result }
 {
     match words {
-        Ok(words) => drive(rt, alloc, words.as_slice(), source, out, err),
-        Err(unasked) => drive_asked(rt, alloc, &Err(unasked), source, out, err),
+        Ok(words) => drive(rt, alloc, words.as_slice(), source, logs, out, err),
+        Err(unasked) => drive_asked(rt, alloc, &Err(unasked), source, logs, out, err),
     }
 }
 
@@ -69,6 +72,7 @@ pub fn drive_settled<
     R: Threads + Wait + Sync,
     N: AsStr + Drop,
     S: Source,
+    T: Logs,
     D: Device + Drop,
     F: Device + Drop,
 >(
@@ -76,14 +80,15 @@ pub fn drive_settled<
     alloc: Global,
     words: Result<Vec<N>, Unasked>,
     source: &mut S,
+    logs: &mut T,
     out: &mut Stream<D>,
     err: &mut Stream<F>,
 ) -> u8
     ensures { AnswersSettled (result_map_both (λ ws. map N.text ws.items) (λ u. u) words) (S.told source.old)
-        (S.told_bytes source.old) (D.view out.old.writer) (D.view out.new.writer) (F.view err.old.writer)
+        (T.told logs.old) (D.view out.old.writer) (D.view out.new.writer) (F.view err.old.writer)
         (F.view err.new.writer) result }
 {
-    let status = answer_words(rt, alloc, words, source, out, err);
+    let status = answer_words(rt, alloc, words, source, logs, out, err);
     let settled = settle(out, err, status);
     let _ = err.writer.send_on();
     settled

@@ -10,7 +10,7 @@
 mod tests;
 
 use id_args::arguments;
-use id_engine::{Disk, Stream, SystemFolder, Unasked, drive_settled};
+use id_engine::{Disk, Stream, SystemFolder, SystemLogs, Unasked, drive_settled};
 use std::io::BufWriter;
 use std::process::ExitCode;
 use std::rt::{Env, Files};
@@ -27,20 +27,32 @@ fn serve_process<R: Env + Files + AllocGlobal + Threads + Wait + Sync>(
     let mut source = Disk {
         folder: SystemFolder { rt },
     };
+    let mut logs = SystemLogs {
+        rt,
+        input: host.stdin(),
+    };
     let mut err = Stream {
         writer: host.stderr(),
     };
     match BufWriter::new(alloc, host.stdout()) {
         Ok(writer) => {
             let mut out = Stream { writer };
-            drive_settled(rt, alloc, arguments(rt), &mut source, &mut out, &mut err)
+            drive_settled(
+                rt,
+                alloc,
+                arguments(rt),
+                &mut source,
+                &mut logs,
+                &mut out,
+                &mut err,
+            )
         }
         Err(_) => {
             let mut out = Stream {
                 writer: host.stdout(),
             };
             let words: Result<Vec<String>, Unasked> = Err(Unasked::Memory);
-            drive_settled(rt, alloc, words, &mut source, &mut out, &mut err)
+            drive_settled(rt, alloc, words, &mut source, &mut logs, &mut out, &mut err)
         }
     }
 }

@@ -1,6 +1,7 @@
 use id_args::read_words;
 use id_engine::{
-    Device, ReadFault, Request, Source, SourceFault, Stream, drive, drive_asked, settle,
+    Device, Log, LogFault, Logs, ReadFault, Request, Source, SourceFault, Stream, drive,
+    drive_asked, settle,
 };
 use id_sink::{Sink, SinkFault, put};
 use std::alloc::{AllocError, Global};
@@ -53,7 +54,7 @@ fn with_room<R: Abort + AllocGlobal>(rt: &R, room: usize) -> Telling<'_, R> {
 /// The trace that the source below has: the first events of a run of `def main(): int = 7;` on one element.
 const TRACE: &[u8] = b"1 0 token c0.0#0 1.0 signal\n2 0 token c0.0#0 3.0 signal\n";
 
-/// A source with one text, named `text.id`, and one trace, named `trace`.
+/// A source with one text, named `text.id`.
 #[derive(Drop)]
 struct OneText<'a> {
     text: &'a str,
@@ -74,10 +75,77 @@ impl Source for OneText<'_> {
     }
 
     fn read_bytes(&mut self, alloc: Global, name: &str) -> Result<Vec<u8>, ReadFault> {
-        if name != "trace" {
-            return Err(ReadFault::File);
+        let _ = alloc;
+        let _ = name;
+        Err(ReadFault::File)
+    }
+}
+
+/// A log that gives the first so many bytes of the trace, at most so many by a read, and then fails, or ends.
+#[derive(Drop)]
+struct Piecewise {
+    at: usize,
+    most: usize,
+    end: usize,
+    fails: bool,
+}
+
+impl Log for Piecewise {
+    ghost use Rattle.std.specs.Prelude.{None};
+
+    ghost ahead = { λ _. None };
+
+    fn read(&mut self, room: &mut [u8]) -> Result<usize, LogFault> {
+        let end = self.end.min(TRACE.len());
+        if self.at >= end {
+            return if self.fails {
+                Err(LogFault::File)
+            } else {
+                Ok(0)
+            };
         }
-        Vec::from_slice(alloc, TRACE).map_err(|_| ReadFault::Memory)
+        let n = room.len().min(self.most).min(end - self.at);
+        room[..n].copy_from_slice(&TRACE[self.at..self.at + n]);
+        self.at += n;
+        Ok(n)
+    }
+}
+
+/// Logs of which there is one, named `trace`: it is read in such pieces, up to there.
+#[derive(Drop)]
+struct OneLog {
+    most: usize,
+    end: usize,
+    fails: bool,
+}
+
+impl Logs for OneLog {
+    ghost use Rattle.std.specs.Prelude.{None};
+
+    type Log = Piecewise;
+
+    ghost told = { λ _ _. None };
+
+    fn open(&mut self, alloc: Global, name: &str) -> Result<Piecewise, LogFault> {
+        let _ = alloc;
+        if name != "trace" {
+            return Err(LogFault::File);
+        }
+        Ok(Piecewise {
+            at: 0,
+            most: self.most,
+            end: self.end,
+            fails: self.fails,
+        })
+    }
+}
+
+/// The log of which a read gives the whole trace.
+fn whole_log() -> OneLog {
+    OneLog {
+        most: 1_000_000,
+        end: 1_000_000,
+        fails: false,
     }
 }
 
@@ -96,6 +164,17 @@ fn print<R: Abort + AllocGlobal + Threads + Wait + Sync>(
     line: &str,
     room: usize,
 ) -> Result<Printed, AllocError> {
+    print_of(rt, text, line, &mut whole_log(), room)
+}
+
+/// The same, with these logs.
+fn print_of<R: Abort + AllocGlobal + Threads + Wait + Sync>(
+    rt: &R,
+    text: &str,
+    line: &str,
+    logs: &mut OneLog,
+    room: usize,
+) -> Result<Printed, AllocError> {
     let alloc = rt.alloc();
     let mut words = Vec::new(alloc);
     for word in line.split('|') {
@@ -104,7 +183,15 @@ fn print<R: Abort + AllocGlobal + Threads + Wait + Sync>(
     let mut source = OneText { text };
     let mut out = with_room(rt, room);
     let mut err = with_room(rt, 1_000_000);
-    let status = drive(rt, alloc, words.as_slice(), &mut source, &mut out, &mut err);
+    let status = drive(
+        rt,
+        alloc,
+        words.as_slice(),
+        &mut source,
+        logs,
+        &mut out,
+        &mut err,
+    );
     Ok(Printed {
         out: out.bytes,
         err: err.bytes,
@@ -292,7 +379,15 @@ fn is_refused<R: Abort + AllocGlobal + Threads + Wait + Sync>(
         writer: Halting { turn: 0 },
     };
     let mut err = with_room(rt, 100);
-    let status = drive_asked(rt, alloc, &asked, &mut source, &mut out, &mut err);
+    let status = drive_asked(
+        rt,
+        alloc,
+        &asked,
+        &mut source,
+        &mut whole_log(),
+        &mut out,
+        &mut err,
+    );
     status == 4 && err.bytes.as_slice() == line.as_bytes()
 }
 
@@ -319,6 +414,65 @@ fn refuses_no_steps_and_elements_beyond_64(rt: HostRuntime) {
     assert!(&rt; is_refused(&rt, 1, 0, "refused 20 BadSteps\n"));
     assert!(&rt; is_refused(&rt, 0, 0, "refused 19 BadElements\n"));
     assert!(&rt; is_refused(&rt, 65, 1, "refused 19 BadElements\n"));
+}
+
+#[test]
+fn judges_a_log_as_it_comes(rt: HostRuntime) -> Result<(), Fail> {
+    // pieces of a byte; the first line, and a front of it; a read that fails behind the last line, or behind a wrong one
+    let (seven, given) = ("def main(): int = 7;", "def main(n: int): int = n;");
+    for (text, words, most, end, fails, out, err, status) in [
+        (
+            seven,
+            "",
+            1,
+            100,
+            false,
+            "legal 2\nstopped\nanswer none\n",
+            "",
+            3,
+        ),
+        (
+            seven,
+            "",
+            7,
+            28,
+            false,
+            "legal 1\nstopped\nanswer none\n",
+            "",
+            3,
+        ),
+        (
+            seven,
+            "",
+            7,
+            27,
+            false,
+            "event 1: this is no line of an event\n",
+            "",
+            6,
+        ),
+        (seven, "", 9, 100, true, "", "refused 4 File\n", 5),
+        (
+            given,
+            "|n=1",
+            9,
+            100,
+            true,
+            "event 2: no such message is in flight\n",
+            "",
+            6,
+        ),
+    ] {
+        let mut logs = OneLog { most, end, fails };
+        let line = format!(in rt.alloc(); "judge|text.id|trace{words}")?;
+        let got = print_of(&rt, text, line.as_str(), &mut logs, 1_000_000)?;
+        assert!(&rt;
+            got.out.as_slice() == out.as_bytes() && got.status == status,
+            "{most} {end}"
+        );
+        assert!(&rt; got.err.as_slice() == err.as_bytes(), "{most} {end}");
+    }
+    Ok(())
 }
 
 #[test]
@@ -426,7 +580,15 @@ fn print_sparing<R: Abort + AllocGlobal + Threads + Wait + Sync>(
         bytes,
     };
     let mut err = with_room(rt, 100);
-    let status = drive(rt, alloc, &words, &mut source, &mut out, &mut err);
+    let status = drive(
+        rt,
+        alloc,
+        &words,
+        &mut source,
+        &mut whole_log(),
+        &mut out,
+        &mut err,
+    );
     Printed {
         out: out.bytes,
         err: err.bytes,

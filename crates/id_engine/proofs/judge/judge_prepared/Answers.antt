@@ -1,41 +1,45 @@
 use Rattle.std.proofs.Common.{refl}
 use Rattle.id_source.specs.Sources.{Source, source}
-use Rattle.id_engine.specs.Judgements.JudgesSo.{unallowed}
-use Rattle.id_engine.proofs.JudgedLemmas.{IsTrueOf-judged, JudgesSo-legal, JudgesSo-other, kept_so, within_trace}
+use Rattle.id_engine.proofs.HearLemmas.{hears_map, hears_some}
+use Rattle.id_engine.proofs.JudgedLemmas.{IsTrueOf-judged, JudgesSo-legal, JudgesSo-other, Listens-from, Listens-unheard, kept_so}
 use Rattle.id_engine.proofs.PlacedLemmas.{report_within}
 use Rattle.id_engine.proofs.judge.judge_prepared.Goals as goal
 
 pub print_machine-requires-clause-kept : goal.print_machine-requires-clause-kept
 print_machine-requires-clause-kept g c =
     let p = c.args.prepared.now in
-    kept_so p.compiled.graph p.inputs.values c.args.count c.args.trace.now _ c.in-Ok-Legal.machine c.in-Ok-Legal.events (rw c.in-Ok-Legal.field-0-is at c.in-Ok-Legal.ensures.verdict)
+    let h = hears_some _ _ (rw c.in-Ok-Legal.field-0-is at c.in-Ok-Legal.ensures.verdict) in
+    kept_so p.compiled.graph p.inputs.values c.args.count h.0 _ c.in-Ok-Legal.machine c.in-Ok-Legal.events h.1
 
 pub print_machine-requires-clause-inside : goal.print_machine-requires-clause-inside
 print_machine-requires-clause-inside g c =
     let p = c.args.prepared.now in
     let S : Source = source p.compiled.checked p.inputs.values in
+    let h = hears_some _ _ (rw c.in-Ok-Legal.field-0-is at c.in-Ok-Legal.ensures.verdict) in
     λ r from. report_within S c.requires.within c.args.names r
-    (IsTrueOf-judged p.compiled.checked p.inputs.values c.args.text.now c.args.trace.now c.args.count c.args.names p.compiled.graph c.requires.inputs
-    c.in-Ok-Legal.ensures.own _ c.in-Ok-Legal.machine c.in-Ok-Legal.events r c.sound.ensures c.complete.ensures c.legal_lists.ensures (rw c.in-Ok-Legal.field-0-is at c.in-Ok-Legal.ensures.verdict) from)
+    (IsTrueOf-judged p.compiled.checked p.inputs.values c.args.text.now h.0 c.args.count c.args.names p.compiled.graph c.requires.inputs
+    c.in-Ok-Legal.ensures.own _ c.in-Ok-Legal.machine c.in-Ok-Legal.events r c.sound.ensures c.complete.ensures c.legal_lists.ensures h.1 from)
 
 pub returns-in-Ok-Legal : goal.returns-in-Ok-Legal
 returns-in-Ok-Legal g c =
     let p = c.args.prepared.now in
-    JudgesSo-legal p.compiled.checked p.inputs.values c.args.text.now c.args.trace.now c.args.count c.args.names p.compiled.graph c.requires.inputs
+    Listens-from p.compiled.checked p.inputs.values c.args.text.now _ c.args.count c.args.names _ _ c.print_machine.result c.refused.result c.refused.ensures
+    (hears_map _ _ _ (λ trace h.
+    JudgesSo-legal p.compiled.checked p.inputs.values c.args.text.now trace c.args.count c.args.names p.compiled.graph c.requires.inputs
     c.in-Ok-Legal.ensures.own _ c.in-Ok-Legal.machine c.in-Ok-Legal.events c.sound.ensures c.complete.ensures c.legal_lists.ensures c.in-Ok-Legal.ensures.allowed
-    (rw c.in-Ok-Legal.field-0-is at c.in-Ok-Legal.ensures.verdict) _ _ c.print_machine.result c.print_machine.ensures
-
-pub print_other-requires : goal.print_other-requires
-print_other-requires g c =
-    let p = c.args.prepared.now in
-    within_trace p.compiled.graph p.inputs.values c.args.count c.args.trace.now _ _ (rw c.in-Ok-CannotFollow.field-0-is at c.in-Ok-CannotFollow.ensures.verdict)
+    h _ _ c.print_machine.result c.print_machine.ensures)
+    (rw c.in-Ok-Legal.field-0-is at c.in-Ok-Legal.ensures.verdict))
 
 pub returns-in-Ok-CannotFollow : goal.returns-in-Ok-CannotFollow
 returns-in-Ok-CannotFollow g c =
     let p = c.args.prepared.now in
-    JudgesSo-other p.compiled.checked p.inputs.values c.args.text.now c.args.trace.now c.args.count c.args.names p.compiled.graph c.requires.inputs
-    c.in-Ok-CannotFollow.ensures.own _ _ c.in-Ok-CannotFollow.ensures.allowed (rw c.in-Ok-CannotFollow.field-0-is at c.in-Ok-CannotFollow.ensures.verdict) _ _ c.print_other.result
-    c.print_other.ensures
+    Listens-from p.compiled.checked p.inputs.values c.args.text.now _ c.args.count c.args.names _ _ c.print_other.result c.refused-in-Ok-CannotFollow.result c.refused-in-Ok-CannotFollow.ensures
+    (hears_map _ _ _ (λ trace h.
+    JudgesSo-other p.compiled.checked p.inputs.values c.args.text.now trace c.args.count c.args.names p.compiled.graph c.requires.inputs
+    c.in-Ok-CannotFollow.ensures.own _ _ c.in-Ok-CannotFollow.ensures.allowed h _ _ c.print_other.result c.print_other.ensures)
+    (rw c.in-Ok-CannotFollow.field-0-is at c.in-Ok-CannotFollow.ensures.verdict))
 
 pub returns-in-Err : goal.returns-in-Err
-returns-in-Err g c = unallowed c.in-Err.error c.in-Err.ensures.refused refl
+returns-in-Err g c =
+    let p = c.args.prepared.now in
+    Listens-unheard p.compiled.checked p.inputs.values c.args.text.now _ c.args.count c.args.names _ _ c.in-Err.error c.in-Err.ensures.refused refl

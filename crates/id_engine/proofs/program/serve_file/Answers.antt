@@ -2,7 +2,7 @@ use Rattle.std.proofs.Common.{ℕ, List, sym, subst}
 use Rattle.std.specs.Prelude.{string_bytes}
 use Rattle.id_sink.specs.Reading.{IsToldText, IsUnread}
 use Rattle.id_engine.specs.Served.{file_of}
-use Rattle.id_engine.proofs.ServedLemmas.{Drives-before, Drives-unread}
+use Rattle.id_engine.proofs.ServedLemmas.{Drives-unread}
 use Rattle.id_engine.proofs.program.serve_file.Goals as goal
 
 pub returns-in-Ok : goal.returns-in-Ok
@@ -10,10 +10,8 @@ returns-in-Ok g c =
     let told = g.S.Source.told c.args.source.now in
     let here : IsToldText (told (file_of c.args.request.now)) (string_bytes c.in-Ok.text) =
     subst (λ (n : List ℕ). IsToldText (told n) (string_bytes c.in-Ok.text)) c.file_of.ensures c.in-Ok.ensures.text in
-    Drives-before (g.S.Source.told_bytes c.args.source.now) (g.S.Source.told_bytes c.read.new.self) c.in-Ok.ensures.kept (told (file_of c.args.request.now))
-    c.args.request.now _ _ _ _ c.serve_text.result
-    (c.serve_text.ensures (told (file_of c.args.request.now))
-    (subst (λ (t : List ℕ). IsToldText (told (file_of c.args.request.now)) t) (sym c.as_str.ensures.value) here))
+    c.serve_text.ensures (told (file_of c.args.request.now))
+    (subst (λ (t : List ℕ). IsToldText (told (file_of c.args.request.now)) t) (sym c.as_str.ensures.value) here)
 
 pub returns-in-Err : goal.returns-in-Err
 returns-in-Err g c =
