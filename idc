@@ -40,7 +40,10 @@ if [[ ${1-} =~ ^(run|check|graph|facts|judge|why)$ ]]; then
     at=2
     while [[ ${!at-} == --* ]]; do at=$((at + 1)); done
     why=$(why_no_file "${!at-}")
-    [ "$1" != judge ] || [ -n "$why" ] || { at=$((at + 1)) && why=$(why_no_file "${!at-}"); }
+    if [ "$1" = judge ] && [ -z "$why" ]; then
+        at=$((at + 1))
+        [ "${!at-}" = - ] || why=$(why_no_file "${!at-}")
+    fi
     if [ -n "$why" ] && [ -n "${!at-}" ]; then
         "${words[@]}" "$@"
         status=$?
