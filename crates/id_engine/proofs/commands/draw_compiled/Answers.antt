@@ -1,13 +1,14 @@
 use Rattle.std.proofs.Common.{◌≤◌, All, length, sym, ap, subst, ◌∙◌}
 use Rattle.id_instr.specs.Graph.{Parts}
 use Rattle.id_graph.specs.Dot.{dot_text}
+use Rattle.id_build.specs.Own.{schemas_of}
 use Rattle.id_engine.proofs.PlacedLemmas.{instrs_within}
 use Rattle.id_engine.proofs.commands.draw_compiled.Goals as goal
 
 pub draw-requires-clause-places : goal.draw-requires-clause-places
 draw-requires-clause-places c =
     subst (λ (g : Parts). All (λ i. i.place ≤ length c.args.text.now) g.instrs) (sym (c.graph.ensures.value ∙ c.valid.ensures.value))
-    (instrs_within c.requires.within c.args.compiled.now.graph c.valid.ensures.kept)
+    (instrs_within c.requires.within c.args.compiled.now.graph (schemas_of c.valid.ensures.kept))
 
 pub returns-in-Ok-clause-picture : goal.returns-in-Ok-clause-picture
 returns-in-Ok-clause-picture c = c.in-Ok.ensures ∙ ap (dot_text c.args.text.now) (c.graph.ensures.value ∙ c.valid.ensures.value)

@@ -1,6 +1,7 @@
 use Rattle.std.proofs.Common.{◌≤◌, All, length, sym, ap, subst, ◌∙◌}
 use Rattle.id_instr.specs.Graph.{Parts}
 use Rattle.id_graph.specs.Listing.{listing}
+use Rattle.id_build.specs.Own.{schemas_of}
 use Rattle.id_engine.proofs.PlacedLemmas.{instrs_within}
 use Rattle.id_engine.proofs.commands.list_compiled.Goals as goal
 
@@ -8,7 +9,7 @@ pub list-requires-clause-places : goal.list-requires-clause-places
 list-requires-clause-places c =
     let p = c.args.compiled in
     subst (λ (g : Parts). All (λ i. i.place ≤ length c.args.text.now) g.instrs) (sym (c.graph.ensures.value ∙ c.into_valid-valid.ensures.value))
-    (instrs_within c.requires.within p.graph c.into_valid-valid.ensures.kept)
+    (instrs_within c.requires.within p.graph (schemas_of c.into_valid-valid.ensures.kept))
 
 pub returns-in-Ok-clause-listing : goal.returns-in-Ok-clause-listing
 returns-in-Ok-clause-listing c = record {
