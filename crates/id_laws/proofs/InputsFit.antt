@@ -16,13 +16,13 @@ use Rattle.id_source.specs.Sources.{AreFor, AreInputs, source, constant_kind}
 use Rattle.id_pieces.specs.Rows.{node, port_at, port_of}
 use Rattle.id_pieces.specs.Schemas.{Numbered, Schemas}
 use Rattle.id_laws.specs.Activations.{main_head}
-use Rattle.id_laws.proofs.Arcs.{enters}
-use Rattle.id_laws.proofs.Blocks.{a_param}
-use Rattle.id_laws.proofs.Assumed.{IsKnown}
-use Rattle.id_laws.proofs.HasKinds.{param_suits}
-use Rattle.id_laws.proofs.Start.{main_block, the_block}
-use Rattle.id_laws.proofs.ValidPorts.{port_is}
-use Rattle.id_laws.proofs.ValidRoles.{op_made}
+use Rattle.id_laws.proofs.Rows.Arcs.{enters}
+use Rattle.id_laws.proofs.Rows.Blocks.{a_param}
+use Rattle.id_laws.proofs.Rows.Assumed.{IsKnown}
+use Rattle.id_laws.proofs.Validity.HasKinds.{param_suits}
+use Rattle.id_laws.proofs.Rows.Start.{main_block, the_block}
+use Rattle.id_laws.proofs.Validity.ValidPorts.{port_is}
+use Rattle.id_laws.proofs.Validity.ValidRoles.{op_made}
 
 token_port : (v : Constant) → token_kind (constant_value v) ≡ port_of (constant_kind v)
 token_port (value.Int n) = refl

@@ -1,5 +1,5 @@
-use Rattle.id_laws.proofs.HasKinds.{Has_kind}
-use Rattle.id_laws.proofs.Known.{known}
+use Rattle.id_laws.proofs.Validity.HasKinds.{Has_kind}
+use Rattle.id_laws.proofs.Rows.Known.{known}
 use Rattle.id_laws.proofs.kinded.Goals as goal
 
 pub returns : goal.returns

@@ -1,5 +1,5 @@
-use Rattle.id_laws.proofs.Known.{known}
-use Rattle.id_laws.proofs.LabelsOnce.{are_labels}
+use Rattle.id_laws.proofs.Rows.Known.{known}
+use Rattle.id_laws.proofs.Labelling.LabelsOnce.{are_labels}
 use Rattle.id_laws.proofs.labels.Goals as goal
 
 pub returns : goal.returns

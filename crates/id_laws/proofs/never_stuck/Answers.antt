@@ -1,8 +1,8 @@
 -- The run is one of `Reached`, whose events are never stuck.
 use Rattle.id_runs.proofs.Runs.{reached}
-use Rattle.id_laws.proofs.Known.{known}
-use Rattle.id_laws.proofs.Wholes.{are_whole}
-use Rattle.id_laws.proofs.SoundRuns.{free_at}
+use Rattle.id_laws.proofs.Rows.Known.{known}
+use Rattle.id_laws.proofs.Telling.Wholes.{are_whole}
+use Rattle.id_laws.proofs.Soundness.SoundRuns.{free_at}
 use Rattle.id_laws.proofs.never_stuck.Goals as goal
 
 pub returns : goal.returns

@@ -1,5 +1,5 @@
 -- Each message has a key of its own among those of the block that its activation's context was opened for.
-use Rattle.id_laws.proofs.ByBlocks as blocks
+use Rattle.id_laws.proofs.Bounding.ByBlocks as blocks
 use Rattle.id_laws.proofs.bounds.bounded_by_block.Goals as goal
 
 pub returns : goal.returns

@@ -1,5 +1,5 @@
 -- Each delivery is an event more, of which there are no more than the paths pay for.
-use Rattle.id_laws.proofs.RestLemmas.{rest_from}
+use Rattle.id_laws.proofs.Bounding.RestLemmas.{rest_from}
 use Rattle.id_laws.proofs.bounds.comes_to_rest.Goals as goal
 
 pub returns : goal.returns

@@ -1,0 +1,19 @@
+-- Where what a run handles stands: each context has one seat, and each tag one path.
+pub mod Names
+pub mod Counted
+pub mod Seats
+pub mod Opened
+pub mod Sent
+pub mod Started
+pub mod Begun
+pub mod Sendings
+pub mod Senders
+pub mod Iterations
+pub mod OneEnd
+pub mod Movers
+pub mod Steps
+pub mod OneWay
+pub mod OneSender
+pub mod TagPaths
+pub mod Sites
+pub mod PathsApart
