@@ -32,18 +32,23 @@ pub struct Door {
 
 impl Model for Door {
     ghost use Rattle.std.specs.Arc.{arc_value};
-    ghost use Rattle.id_inbox.specs.Doors.{DoorView};
+    ghost use Rattle.id_inbox.specs.Doors.{DoorView, seen_at};
     ghost use Rattle.crossbeam_queue.specs.SegTies.{IsSegPassOf};
 
     ghost Value = { DoorView };
 
-    ghost view = { λ d. record { queue = (arc_value d.inbox).line; hand = d.pass.me.view.client } };
+    ghost view = { λ d. record {
+      queue = (arc_value d.inbox).line;
+      hand = d.pass.me.view.client;
+      saw = seen_at d.pass.me.view.stage d.pass.me.view.at;
+    } };
 
     ghost invariant = { λ d. IsSegPassOf (arc_value d.inbox).line d.pass };
 }
 
 impl Door {
     ghost use Rattle.std.specs.Prelude.{◌≡◌, ◌<◌, [], IfOk, OnErr, MatchOption, MatchResult};
+    ghost use Rattle.id_inbox.specs.Doors.{WantsMore};
     ghost use Rattle.id_inbox.specs.Hands.{KnowsAll, both_of, first_hand, kept_of, new_hand, sending, taking};
 
     /// The first door to a new inbox.
@@ -56,16 +61,16 @@ impl Door {
     }
 
     /// Sends the messages of a letter, all at once. The letter comes back where there is no memory for a block of the
-    /// queue, or its places are used up, and then nothing has changed.
+    /// queue, or its places are used up: it has seen that another block is wanted, or that no place is left, and nothing
+    /// else has changed.
     pub fn push<R: Wait>(&mut self, rt: &R, letter: Queue) -> Result<(), Queue>
         requires { 0 < self.old.hand.parts }
         ensures { MatchResult result
-            (λ _. self.new ≡ record self.old { hand = sending self.old.hand letter.messages })
-            (λ back. (back ≡ letter) × (self.new ≡ self.old)) }
+            (λ _. self.new ≡ record self.old { hand = sending self.old.hand letter.messages; saw = self.new.saw })
+            (λ back. (back ≡ letter) × (self.new ≡ record self.old { saw = self.new.saw }) × WantsMore self.new.saw) }
     {
-        self.inbox
-            .line
-            .push_as::<Sends, R>(rt, &mut self.pass, letter)
+        let line = &self.inbox.line;
+        line.push_as::<Sends, R>(rt, &mut self.pass, letter)
     }
 
     /// Takes the letter that was sent first, if the inbox was found to have one. Where it was not, and the door has all
@@ -73,8 +78,8 @@ impl Door {
     pub fn pop<R: Wait>(&mut self, rt: &R) -> Option<Queue>
         requires { 0 < self.old.hand.parts }
         ensures { MatchOption result
-            ((self.new ≡ self.old) × KnowsAll self.old.hand [])
-            (λ letter. self.new ≡ record self.old { hand = taking self.old.hand letter.messages }) }
+            ((self.new ≡ record self.old { saw = self.new.saw }) × KnowsAll self.old.hand [])
+            (λ letter. self.new ≡ record self.old { hand = taking self.old.hand letter.messages; saw = self.new.saw }) }
     {
         self.inbox.line.pop_as::<Takes, R>(rt, &mut self.pass)
     }
@@ -82,8 +87,9 @@ impl Door {
     /// Another door to the same inbox, for another thread, with one of the parts. After an error nothing has changed.
     pub fn split(&mut self) -> Result<Door, AllocError>
         requires { 1 < self.old.hand.parts }
-        ensures new { IfOk result (λ d. d ≡ record { queue = self.old.queue; hand = new_hand }) }
-        ensures old { IfOk result (λ d. self.new ≡ record self.old { hand = kept_of self.old.hand }) }
+        ensures new { IfOk result (λ d. d ≡ record { queue = self.old.queue; hand = new_hand; saw = d.saw }) }
+        ensures old { IfOk result
+            (λ d. self.new ≡ record self.old { hand = kept_of self.old.hand; saw = self.new.saw }) }
         ensures err { OnErr result (self.new ≡ self.old) }
     {
         let inbox = Arc::try_clone(&self.inbox)?;
@@ -94,7 +100,7 @@ impl Door {
     /// Takes in another door to the same inbox, with its parts, and with what it has sent and taken. Takes no memory.
     pub fn absorb(&mut self, other: Door)
         requires { other.queue ≡ self.old.queue }
-        ensures { self.new ≡ record self.old { hand = both_of self.old.hand other.hand } }
+        ensures { self.new ≡ record self.old { hand = both_of self.old.hand other.hand; saw = self.new.saw } }
     {
         let Door { inbox: _, pass } = other;
         self.inbox.line.absorb::<Cut>(&mut self.pass, pass);
