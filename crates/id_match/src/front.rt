@@ -105,8 +105,8 @@ const EMPTY_PAIR: Pair = Pair {
 /// instruction's values of as many iterations as there are places stand at a place each.
 const ITERATION: u64 = 31;
 
-/// By what the number of a context is scrambled, to 64 bits of which the upper half tells where its places begin: 2^64 by
-/// the golden ratio, so that those of contexts that follow one another lie evenly apart.
+/// By what the number of a context is scrambled, to 64 bits of which the upper half tells where its places begin: 2^64
+/// by the golden ratio, so that those of contexts that follow one another lie evenly apart.
 const SCRAMBLE: u64 = 0x9e37_79b9_7f4a_7c15;
 
 /// The place of a tag's numbers among so many pairs.

@@ -42,6 +42,9 @@ use rear::{Rear, sort_by_tag};
 use std::alloc::{AllocError, Global};
 use std::marker::Model;
 
+/// Below so many pairs a front is small: one of a mebibyte is not.
+const SMALL: usize = 0x4000;
+
 /// The values that wait for their partner, by tag and port.
 #[derive(Drop)]
 pub struct Waiting {
@@ -177,12 +180,14 @@ impl Waiting {
     }
 
     // Makes the front larger where many values stand behind it since their slots are taken, or came and went, or there
-    // is none.
+    // is none. A small one is made larger early, since that takes little memory.
     #[inline(always)]
     fn make_room(&mut self)
         ensures { self.new ≡ self.old }
     {
-        if self.crowded > self.front.len() / 8 || self.front.is_empty() {
+        let len = self.front.len();
+        let most = if len < SMALL { len / 8 } else { len };
+        if self.crowded > most || self.front.is_empty() {
             self.grow();
         }
     }
@@ -194,7 +199,9 @@ impl Waiting {
         ensures { self.new ≡ self.old }
     {
         self.crowded = 0;
-        if count(&self.front) + self.rear.len() >= self.front.len() / 2 {
+        let len = self.front.len();
+        let least = if len < SMALL { len / 2 } else { len };
+        if count(&self.front) + self.rear.len() >= least {
             if let Some(front) = larger_front(self.alloc, &self.front, &self.rear) {
                 self.front = front;
             }
