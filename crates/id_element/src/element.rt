@@ -10,7 +10,7 @@ use crate::stretch::{Ran, run};
 use crate::taking::take;
 use id_bank::{Cells, Reader};
 use id_flight::{Access, Queue};
-use id_record::{Events, Fault, Faulted, Keeps, Step, Telling, full_step, tag_of};
+use id_record::{Events, Fault, Faulted, Keeps, Step, Tellings, full_step, tag_of};
 use id_tag::{Message, Payload, PlainToken};
 use id_valid::Valid;
 use std::alloc::{AllocError, Global};
@@ -433,8 +433,8 @@ impl<'a> Element<'a> {
     }
 
     /// What its events tell of contexts, of structures and of instruction 0, in order. Takes no memory.
-    pub fn tellings(&self) -> &[Telling]
-        ensures { result.now ≡ tellings self.now.state.events }
+    pub fn tellings(&self) -> &Tellings
+        ensures { result.now.items ≡ tellings self.now.state.events }
     {
         self.storage.log.tellings()
     }

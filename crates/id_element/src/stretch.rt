@@ -73,11 +73,11 @@ pub fn run<G: Gate>(
                 return Ran::Failed;
             }
             Ok(Short::Apart) => {
-                leave(near, list, token);
+                leave(near, list, &token);
                 return Ran::Apart;
             }
             Err(error) => {
-                leave(near, list, token);
+                leave(near, list, &token);
                 return Ran::Refused(error);
             }
         }
@@ -86,11 +86,11 @@ pub fn run<G: Gate>(
             None => return Ran::Went,
         }
         if !has_room(near, list, most) {
-            leave(near, list, token);
+            leave(near, list, &token);
             return Ran::Went;
         }
     }
-    leave(near, list, token);
+    leave(near, list, &token);
     Ran::Went
 }
 
@@ -106,13 +106,13 @@ fn has_room(near: &Near, list: &Queue, most: usize) -> bool
 
 /// Moves what is near to the end of a list, and this token behind it. There is room for them. Takes no memory.
 #[inline(never)]
-fn leave(near: &mut Near, list: &mut Queue, token: PlainToken)
+fn leave(near: &mut Near, list: &mut Queue, token: &PlainToken)
     requires { length near.old.messages < list.old.room }
     ensures empty { near.new.messages ≡ [] }
-    ensures messages { list.new.messages ≡ (list.old.messages ++ near.old.messages) ++ message_of token ∷ [] }
+    ensures messages { list.new.messages ≡ (list.old.messages ++ near.old.messages) ++ message_of token.now ∷ [] }
 {
     near.give_back(list);
-    list.push_plain_reserved(&token);
+    list.push_plain_reserved(token);
 }
 
 impl<'a> Storage<'a> {
@@ -221,8 +221,7 @@ impl<'a> Storage<'a> {
             Reacted::Fires(operands) => {
                 self.hold(gate);
                 near.give_back(list);
-                let copy = *token;
-                self.conclude_full(instr, &copy, stamp, operands, list)
+                self.conclude_full(instr, token, stamp, operands, list)
             }
             Reacted::Apart => Short::Apart,
         }

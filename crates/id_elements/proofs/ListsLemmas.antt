@@ -37,49 +37,10 @@ unused_push ds d unused sent taken f =
 pub parts_push : (n : ℕ) (ds : List DoorView) (d : DoorView) → HaveParts n ds → d.hand.parts ≡ n → HaveParts n (ds ++ d ∷ [])
 parts_push n ds d parts mine = grind (arith, common_steps)
 
--- a door that gave a part away
-abbrev pub cut_door : DoorView → DoorView
-cut_door d = record d { hand = kept_of d.hand }
-
--- the door that got it
-abbrev pub new_door : DoorView → DoorView
-new_door d = record { queue = d.queue; hand = new_hand }
-
--- a list of doors that were all split
-pub cut_all : (ds : List DoorView) → IsCut ds (map cut_door ds)
-cut_all ds = record { queues = queues ds; parts = λ n h. parts n ds h; sent = λ f. sent f ds; taken = λ f. taken f ds }
-  where
-    queues : (ds : List DoorView) → queues_of (map cut_door ds) ≡ queues_of ds
-    queues [] = refl
-    queues (d ∷ ds) = ap (λ qs. d.queue ∷ qs) (queues ds)
-
-    parts : (n : ℕ) (ds : List DoorView) → HaveParts n ds → HaveParts (n - 1) (map cut_door ds)
-    parts n [] h k d lt = absurd (omega arith)
-    parts n (x ∷ xs) h zero d lt = ap (λ (k : ℕ). k - 1) (h 0 d (omega arith))
-    parts n (x ∷ xs) h (suc k) d lt = parts n xs (λ j e l. h (suc j) e (omega arith)) k d (omega arith)
-
-    sent : (f : Message → ℕ) (ds : List DoorView) → sent_by f (map cut_door ds) ≡ sent_by f ds
-    sent f [] = refl
-    sent f (d ∷ ds) = omega (arith, sent_by-cons f d ds, sent_by-cons f (cut_door d) (map cut_door ds), sent f ds)
-
-    taken : (f : Message → ℕ) (ds : List DoorView) → taken_by f (map cut_door ds) ≡ taken_by f ds
-    taken f [] = refl
-    taken f (d ∷ ds) = omega (arith, taken_by-cons f d ds, taken_by-cons f (cut_door d) (map cut_door ds), taken f ds)
-
-pub new_queues : (ds : List DoorView) → queues_of (map new_door ds) ≡ queues_of ds
-new_queues [] = refl
-new_queues (d ∷ ds) = ap (λ qs. d.queue ∷ qs) (new_queues ds)
-
-pub new_parts : (ds : List DoorView) → HaveParts 1 (map new_door ds)
-new_parts [] k d lt = absurd (omega arith)
-new_parts (x ∷ xs) zero d lt = refl
-new_parts (x ∷ xs) (suc k) d lt = new_parts xs k d (omega arith)
-
-pub new_unused : (ds : List DoorView) → AreUnused (map new_door ds)
-new_unused [] f = (refl, refl)
-new_unused (d ∷ ds) f =
-    let r = new_unused ds f in
-    (omega (arith, sent_by-cons f (new_door d) (map new_door ds), r), omega (arith, taken_by-cons f (new_door d) (map new_door ds), r))
+-- one more inbox
+queues_push : (ds : List DoorView) (d : DoorView) → queues_of (ds ++ d ∷ []) ≡ queues_of ds ++ d.queue ∷ []
+queues_push [] d = refl
+queues_push (x ∷ xs) d = ap (λ qs. x.queue ∷ qs) (queues_push xs d)
 
 length_queues : (xs : List DoorView) → length (queues_of xs) ≡ length xs
 length_queues [] = refl
@@ -111,7 +72,7 @@ pub record IsMerging (old all theirs new : List DoorView) : Type 0 where
 -- joining from the last door on
 pub merging : (old all theirs new : List DoorView) (d e d' : DoorView)
     → queues_of all ≡ queues_of old → HaveParts 1 all → IsMerging old all (theirs ++ e ∷ []) new
-    → d ≡ get_or new (length theirs) d → d' ≡ record d { hand = both_of d.hand e.hand }
+    → d ≡ get_or new (length theirs) d → d' ≡ record d { hand = both_of d.hand e.hand; saw = d'.saw }
     → IsMerging old all theirs (set new (length theirs) d')
 merging old all theirs new d e d' same parts m is made =
     let n : ℕ = length theirs in
@@ -158,33 +119,73 @@ merged old all new m = record {
   taken = λ f. omega (arith, m.taken f);
 }
 
-same_place : (xs : List DoorView) (i : ℕ) (d : DoorView) → i < length xs → get_or (map cut_door (take i xs) ++ drop i xs) i d ≡ get_or xs i d
-same_place [] i d lt = absurd (omega arith)
-same_place (x ∷ xs) zero d lt = refl
-same_place (x ∷ xs) (suc i) d lt = same_place xs i d (omega arith)
+-- doors of which the first so many were split, and the doors that were split off
+pub record IsSplitting (old new theirs : List DoorView) (i : ℕ) : Type 0 where
+  pub queues : queues_of new ≡ queues_of old
+  pub cut : (n j : ℕ) (d : DoorView) → HaveParts n old → j < i → j < length new → (get_or new j d).hand.parts ≡ n - 1
+  pub whole : (j : ℕ) (d : DoorView) → i ≤ j → get_or new j d ≡ get_or old j d
+  pub sent : (f : Message → ℕ) → sent_by f new ≡ sent_by f old
+  pub taken : (f : Message → ℕ) → taken_by f new ≡ taken_by f old
+  pub theirs_queues : queues_of theirs ≡ queues_of (take i old)
+  pub theirs_parts : HaveParts 1 theirs
+  pub theirs_unused : AreUnused theirs
 
 -- one more door was split
-pub split_more : (xs ys zs : List DoorView) (i : ℕ) (d d' e : DoorView) → i < length xs
-    → ys ≡ map cut_door (take i xs) ++ drop i xs → zs ≡ map new_door (take i xs)
-    → d ≡ get_or ys i d → d' ≡ cut_door d → e ≡ new_door d
-    → (set ys i d' ≡ map cut_door (take (i + 1) xs) ++ drop (i + 1) xs) × (zs ++ e ∷ [] ≡ map new_door (take (i + 1) xs))
-split_more xs ys zs i d d' e lt cut made is cut' made' =
-    let at : d ≡ get_or xs i d = is ∙ (ap (λ ws. get_or ws i d) cut ∙ same_place xs i d lt) in
-    let new : e ≡ new_door (get_or xs i d) = made' ∙ ap new_door at in (
-      ap (λ (y : DoorView). set ys i y) cut' ∙ map_over_more cut_door xs ys i d lt cut is,
-      (ap (λ ws. ws ++ e ∷ []) made ∙ ap (λ y. map new_door (take i xs) ++ y ∷ []) new) ∙ sym (map_more new_door xs i d lt),
-    )
+pub split_more : (old new theirs : List DoorView) (i : ℕ) (d d' e : DoorView) → i < length old → IsSplitting old new theirs i
+    → d ≡ get_or new i d → d' ≡ record d { hand = kept_of d.hand; saw = d'.saw }
+    → e ≡ record { queue = d.queue; hand = new_hand; saw = e.saw }
+    → IsSplitting old (set new i d') (theirs ++ e ∷ []) (i + 1)
+split_more old new theirs i d d' e lt s is cut made =
+    let long : length new ≡ length old = same_length new old s.queues in
+    let lt' : i < length new = omega (arith, long, lt) in
+    let was : (x : DoorView) → d ≡ get_or old i x = λ x.
+    is ∙ (get_or_from_slice_get new i (get_or new i x) d (slice_get-get_or new i x lt') ∙ s.whole i x (omega arith)) in
+    record {
+      queues = queues_set new i d d' is lt' (ap (λ (y : DoorView). y.queue) cut) ∙ s.queues;
+      cut = λ n j x h low within.
+          ⊎_elim (λ (here : i ≡ j).
+          let at : get_or (set new i d') i x ≡ d' = get_or-set_same new i d' x lt' in
+          let less : d'.hand.parts ≡ d.hand.parts - 1 = ap (λ (y : DoorView). y.hand.parts) cut in
+          let all : d.hand.parts ≡ n = ap (λ (y : DoorView). y.hand.parts) (was x) ∙ h i x lt in
+          subst (λ (k : ℕ). (get_or (set new i d') k x).hand.parts ≡ n - 1) here
+          (ap (λ (y : DoorView). y.hand.parts) at ∙ (less ∙ ap (λ (k : ℕ). k - 1) all)))
+          (λ (apart : i ≢ j).
+          let ne : j ≢ i = λ (q : j ≡ i). apart (sym q) in
+          rw get_or-set_other (s.cut n j x h (omega arith) (omega (arith, length-set new i d'))))
+          (cases_eq i j);
+      whole = λ j x high. let ne : j ≢ i = omega arith in rw get_or-set_other (s.whole j x (omega arith));
+      sent = λ f.
+          let a = sent_by-set f new i d d' is lt' in
+          let b : sum_by f d'.hand.sent ≡ sum_by f d.hand.sent = ap (λ (y : DoorView). sum_by f y.hand.sent) cut in
+          let c = s.sent f in
+          omega (arith, a, b, c);
+      taken = λ f.
+          let a = taken_by-set f new i d d' is lt' in
+          let b : sum_by f d'.hand.taken ≡ sum_by f d.hand.taken = ap (λ (y : DoorView). sum_by f y.hand.taken) cut in
+          let c = s.taken f in
+          omega (arith, a, b, c);
+      theirs_queues =
+          let q : e.queue ≡ (get_or old i d).queue = ap (λ (y : DoorView). y.queue) made ∙ ap (λ (y : DoorView). y.queue) (was d) in
+          queues_push theirs e
+          ∙ (ap (λ qs. qs ++ e.queue ∷ []) s.theirs_queues
+          ∙ (ap (λ x. queues_of (take i old) ++ x ∷ []) q ∙ sym (map_more (λ (y : DoorView). y.queue) old i d lt)));
+      theirs_parts = parts_push 1 theirs e s.theirs_parts (ap (λ (y : DoorView). y.hand.parts) made);
+      theirs_unused = unused_push theirs e s.theirs_unused (ap (λ (y : DoorView). y.hand.sent) made)
+          (ap (λ (y : DoorView). y.hand.taken) made);
+    }
 
 -- all doors were split
-pub split_end : (xs ys zs : List DoorView) (i : ℕ) → length xs ≤ i → ys ≡ map cut_door (take i xs) ++ drop i xs → zs ≡ map new_door (take i xs)
-    → IsCut xs ys × ((queues_of zs ≡ queues_of xs) × (HaveParts 1 zs × AreUnused zs))
-split_end xs ys zs i all cut made =
-    let whole : take i xs ≡ xs = take_all i xs all in
-    let none : drop i xs ≡ [] = drop_all i xs all in
-    let ys_are : ys ≡ map cut_door xs = cut ∙ ((ap (λ ws. map cut_door ws ++ drop i xs) whole ∙ ap (λ ws. map cut_door xs ++ ws) none) ∙ append-nil (map cut_door xs)) in
-    let zs_are : zs ≡ map new_door xs = made ∙ ap (map new_door) whole in (
-      subst (λ (ws : List DoorView). IsCut xs ws) (sym ys_are) (cut_all xs),
-      subst (λ (ws : List DoorView). (queues_of ws ≡ queues_of xs) × (HaveParts 1 ws × AreUnused ws)) (sym zs_are) (new_queues xs, (new_parts xs, new_unused xs)),
+pub split_end : (old new theirs : List DoorView) (i : ℕ) → length old ≤ i → IsSplitting old new theirs i
+    → IsCut old new × ((queues_of theirs ≡ queues_of old) × (HaveParts 1 theirs × AreUnused theirs))
+split_end old new theirs i all s =
+    let long : length new ≡ length old = same_length new old s.queues in (
+      record {
+        queues = s.queues;
+        parts = λ n h k x lt. s.cut n k x h (omega (arith, long, lt, all)) lt;
+        sent = s.sent;
+        taken = s.taken;
+      },
+      (s.theirs_queues ∙ ap queues_of (take_all i old all), (s.theirs_parts, s.theirs_unused)),
     )
 
 -- the last door of those that are left stands at its place among all

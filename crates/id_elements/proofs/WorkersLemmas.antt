@@ -274,7 +274,7 @@ module _ (goes : Bool) (ds : List DoorView) (e : ElementView) (own came back str
 
   -- a letter was put into an inbox, and an empty one stands in its place
   pub IsKept-posted : (q empty : QueueView) → q ≡ get_or ls i q → empty.messages ≡ []
-      → d' ≡ record d { hand = sending d.hand q.messages } → IsKept (worker_of goes (set ds i d') e own came back stray (set ls i empty))
+      → d' ≡ record d { hand = sending d.hand q.messages; saw = d'.saw } → IsKept (worker_of goes (set ds i d') e own came back stray (set ls i empty))
   IsKept-posted q empty at none h = IsKept-door came (set ls i empty) (ap (λ (y : DoorView). y.hand.parts) h) (length-set ls i empty) (λ f.
       let a : sum_by f d'.hand.sent ≡ sum_by f (d.hand.sent ++ q.messages) = ap (λ (y : DoorView). sum_by f y.hand.sent) h in
       let b : sum_by f d'.hand.taken ≡ sum_by f d.hand.taken = ap (λ (y : DoorView). sum_by f y.hand.taken) h in
@@ -285,7 +285,7 @@ module _ (goes : Bool) (ds : List DoorView) (e : ElementView) (own came back str
       omega (arith, a, b, c, r, w, sum_by-append f d.hand.sent q.messages))
 
   -- it came back
-  pub IsKept-returned : (q empty s : QueueView) → q ≡ get_or ls i q → s ≡ q → d' ≡ d
+  pub IsKept-returned : (q empty s : QueueView) → q ≡ get_or ls i q → s ≡ q → d' ≡ record d { saw = d'.saw }
       → IsKept (worker_of goes (set ds i d') e own came back stray (set (set ls i empty) i s))
   IsKept-returned q empty s at same h =
       IsKept-door came (set (set ls i empty) i s) (ap (λ (y : DoorView). y.hand.parts) h)

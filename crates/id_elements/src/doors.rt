@@ -32,8 +32,9 @@ pub fn open_all(alloc: Global, count: u32) -> Result<Vec<Door>, AllocError>
 /// Puts a message into an inbox, in a letter of its own.
 fn put<R: Wait>(rt: &R, alloc: Global, door: &mut Door, message: Message) -> Result<(), AllocError>
     requires { 0 < door.old.hand.parts }
-    ensures ok { OnOk result (door.new ≡ record door.old { hand = sending door.old.hand (message ∷ []) }) }
-    ensures err { OnErr result (door.new ≡ door.old) }
+    ensures ok { OnOk result
+        (door.new ≡ record door.old { hand = sending door.old.hand (message ∷ []); saw = door.new.saw }) }
+    ensures err { OnErr result (door.new ≡ record door.old { saw = door.new.saw }) }
 {
     let mut letter = Queue::new(alloc);
     letter.push_back(message)?;

@@ -9,7 +9,7 @@ ghost use Rattle.id_observe.specs.Tellings.{AreOf, value_told};
 
 use crate::paths::{Paths, value_by};
 use id_element::Element;
-use id_record::Telling;
+use id_record::Tellings;
 use id_source::{Site, SourceValue};
 use id_tag::{Structure, Value};
 use id_valid::Valid;
@@ -79,11 +79,11 @@ fn first_value(elements: &[Element<'_>]) -> Option<Value>
 }
 
 /// The first value that came to the answer, of what is told.
-fn first_answer(tellings: &[Telling]) -> Option<Value>
-    ensures { result ≡ slice_get (filter_map value_told tellings.now) 0 }
+fn first_answer(tellings: &Tellings) -> Option<Value>
+    ensures { result ≡ slice_get (filter_map value_told tellings.now.items) 0 }
 {
-    for telling in tellings {
-        let value = value_by(*telling);
+    for position in 0..tellings.len() {
+        let value = value_by(tellings.telling(position));
         if value.is_some() {
             return value;
         }

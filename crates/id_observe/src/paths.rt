@@ -14,7 +14,7 @@ ghost use Rattle.id_observe.specs.Tellings.{AddsOne, AddsTold, AreOf, entered_to
 
 use id_element::{Element, op_at};
 use id_instr::{Graph, Op};
-use id_record::{Telling, Told};
+use id_record::{Telling, Tellings, Told};
 use id_source::{Path, PathStep, Site};
 use id_tag::{Context, NearHasher, Structure, Tag, Value};
 use id_value::Sequence;
@@ -48,11 +48,11 @@ fn add_record(graph: &Graph, element: &Element<'_>, tables: &mut Tables) -> Resu
 }
 
 /// Adds what is told, in order.
-fn add_tellings(graph: &Graph, tellings: &[Telling], tables: &mut Tables) -> Result<(), AllocError>
-    ensures { OnOk result (AddsTold graph.now tellings.now tables.old tables.new) }
+fn add_tellings(graph: &Graph, tellings: &Tellings, tables: &mut Tables) -> Result<(), AllocError>
+    ensures { OnOk result (AddsTold graph.now tellings.now.items tables.old tables.new) }
 {
-    for telling in tellings {
-        add_telling(graph, *telling, tables)?;
+    for position in 0..tellings.len() {
+        add_telling(graph, tellings.telling(position), tables)?;
     }
     Ok(())
 }

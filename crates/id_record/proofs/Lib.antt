@@ -1,4 +1,5 @@
 pub mod TellingsLemmas
 pub mod EachLemmas
+pub mod AsidesLemmas
 pub mod SendsLemmas
 pub mod RecordsLemmas

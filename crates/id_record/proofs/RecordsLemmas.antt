@@ -17,7 +17,7 @@ use Rattle.id_record.specs.declared.step.Step.TheVariants.{Went}
 use Rattle.id_record.specs.Events.{EventView, full_step}
 use Rattle.id_record.specs.Handlings.{AreThere, HasThere}
 use Rattle.id_record.specs.Kept.{KeptView, keeps_all, keeps_names, merged_by, noted, replied}
-use Rattle.id_record.specs.Sends.{numbered, replies}
+use Rattle.id_record.specs.Sends.{numbered}
 use Rattle.id_record.specs.Tellings.{any_stuck, fault_in, first_fault, is_stuck, merged, merged_in, tellings, told_in}
 use Rattle.id_record.specs.Records.{AreKept, event_of_handled, events_from, replies_in, sent_for}
 use Rattle.id_record.proofs.EachLemmas.{each-append, each-weaker}

@@ -5,6 +5,8 @@ pub mod Handlings
 pub mod PlainFirings
 pub mod CellEvents
 pub mod Tellings
+pub mod Shorts
+pub mod ShortHandlings
 pub mod Kept
 pub mod Sends
 pub mod Records

@@ -15,7 +15,8 @@ use crate::past::History;
 use crate::payload::{tag_of, value_of};
 use crate::plain_firing::{PlainFiring, plain_handled};
 use crate::step::{Step, full_step};
-use crate::telling::{Faulted, Telling};
+use crate::telling::Faulted;
+use crate::tellings::Tellings;
 use id_instr::{Dest, Graph, Op};
 use id_ops::Fired;
 use id_tag::{Message, Payload, Tag};
@@ -247,8 +248,8 @@ impl<'a> Record<'a> {
     }
 
     /// What the events tell, in order. Takes no memory.
-    pub fn tellings(&self) -> &[Telling]
-        ensures { result.now ≡ tellings self.now.events }
+    pub fn tellings(&self) -> &Tellings
+        ensures { result.now.items ≡ tellings self.now.events }
     {
         self.kept.tellings()
     }

@@ -9,8 +9,11 @@ ghost use Rattle.id_record.specs.Kept.{keeps_all, keeps_names, merged_by};
 ghost use Rattle.id_record.specs.Tellings.{fault_in, merged_in, told_in};
 
 use crate::handled::Handled;
+use crate::handlings::Handlings;
+use crate::room::widen;
 use crate::step::{Step, full_step};
 use crate::telling::{Faulted, Telling, came_in, fault_in, is_merged, is_stuck, made_in};
+use crate::tellings::Tellings;
 use id_instr::Graph;
 use id_tag::{Payload, Tag};
 use std::alloc::{AllocError, Global};
@@ -58,9 +61,9 @@ pub struct Kept {
     // How many replies they have, and how many more may come until room is made again.
     replied: usize,
     spare: usize,
-    tellings: Vec<Telling>,
+    tellings: Tellings,
     merged: Vec<Payload>,
-    events: Vec<Handled>,
+    events: Handlings,
     replies: Vec<Tag>,
     fault: Option<Faulted>,
     stuck: bool,
@@ -92,9 +95,10 @@ impl Model for Kept {
 
     ghost invariant = { λ k. (k.len ≤ k.end)
         × (k.replied + k.spare < 2 ^ 64)
-        × (vec_len k.tellings + 2 * (k.end - k.len) ≤ vec_capacity k.tellings)
+        × (2 * (k.end - k.len) ≤ k.tellings.room) × (2 * (k.end - k.len) ≤ k.tellings.room_aside)
         × (keeps_names k.keeps ≡ true → vec_len k.merged + (k.end - k.len) ≤ vec_capacity k.merged)
-        × (keeps_all k.keeps ≡ true → vec_len k.events + (k.end - k.len) ≤ vec_capacity k.events)
+        × (keeps_all k.keeps ≡ true → k.end - k.len ≤ k.events.room)
+        × (keeps_all k.keeps ≡ true → k.end - k.len ≤ k.events.room_aside)
         × (keeps_all k.keeps ≡ true → vec_len k.replies + k.spare ≤ vec_capacity k.replies) };
 }
 
@@ -125,9 +129,9 @@ impl Kept {
             end: 0,
             replied: 0,
             spare: 0,
-            tellings: Vec::new(alloc),
+            tellings: Tellings::new(alloc),
             merged: Vec::new(alloc),
-            events: Vec::new(alloc),
+            events: Handlings::new(alloc),
             replies: Vec::new(alloc),
             fault: None,
             stuck: false,
@@ -243,10 +247,10 @@ impl Kept {
     }
 
     /// What they tell. Takes no memory.
-    pub fn tellings(&self) -> &[Telling]
-        ensures { result.now ≡ self.now.tellings }
+    pub fn tellings(&self) -> &Tellings
+        ensures { result.now.items ≡ self.now.tellings }
     {
-        self.tellings.as_slice()
+        &self.tellings
     }
 
     /// What came to merges. Takes no memory.
@@ -258,11 +262,11 @@ impl Kept {
 
     /// The event at a position, of those that are kept. Takes no memory.
     #[inline(always)]
-    pub fn event(&self, position: usize) -> &Handled
+    pub fn event(&self, position: usize) -> Handled
         requires { position < length self.now.events }
-        ensures { slice_get self.now.events position ≡ Some result.now }
+        ensures { slice_get self.now.events position ≡ Some result }
     {
-        &self.events[position]
+        self.events.handled(position)
     }
 
     /// Their replies. Takes no memory.
@@ -290,22 +294,29 @@ impl Kept {
 /// Makes room in these for what is to be kept of more events.
 fn make_room(
     keeps: Keeps,
-    tellings: &mut Vec<Telling>,
+    tellings: &mut Tellings,
     merged: &mut Vec<Payload>,
-    events: &mut Vec<Handled>,
+    events: &mut Handlings,
 ) -> Result<(), AllocError>
     ensures told { tellings.new.items ≡ tellings.old.items }
     ensures merged { merged.new.items ≡ merged.old.items }
     ensures events { events.new.items ≡ events.old.items }
-    ensures room_told { OnOk result (vec_len tellings.new + 64 ≤ vec_capacity tellings.new) }
+    ensures room_told { OnOk result (64 ≤ tellings.new.room) }
+    ensures room_aside { OnOk result (64 ≤ tellings.new.room_aside) }
     ensures room_merged { OnOk result
         (IsTrue (keeps_names keeps) → vec_len merged.new + 32 ≤ vec_capacity merged.new) }
     ensures room_events { OnOk result
-        (IsTrue (keeps_all keeps) → vec_len events.new + 32 ≤ vec_capacity events.new) }
+        (IsTrue (keeps_all keeps) → 32 ≤ events.new.room) }
+    ensures room_events_aside { OnOk result
+        (IsTrue (keeps_all keeps) → 32 ≤ events.new.room_aside) }
 {
     tellings.reserve(2 * MANY)?;
     reserve_if(keeps.names(), merged, MANY)?;
-    reserve_if(keeps.all(), events, MANY)
+    if keeps.all() {
+        events.reserve(MANY)
+    } else {
+        Ok(())
+    }
 }
 
 /// Makes room for so many more, where they are kept.
@@ -313,7 +324,7 @@ fn reserve_if<T: Drop>(kept: bool, list: &mut Vec<T>, count: usize) -> Result<()
     ensures same { list.new.items ≡ list.old.items }
     ensures room { OnOk result (IsTrue kept → vec_len list.new + count ≤ vec_capacity list.new) }
 {
-    if kept { list.reserve(count) } else { Ok(()) }
+    if kept { widen(list, count) } else { Ok(()) }
 }
 
 /// Makes room for so many replies, where they are kept.
@@ -330,12 +341,13 @@ fn make_room_for_replies(
 }
 
 /// Keeps what an event tells. Takes no memory.
-fn keep_told(tellings: &mut Vec<Telling>, event: &Handled)
-    requires { vec_len tellings.old + 2 ≤ vec_capacity tellings.old }
+fn keep_told(tellings: &mut Tellings, event: &Handled)
+    requires room { 2 ≤ tellings.old.room }
+    requires room_aside { 2 ≤ tellings.old.room_aside }
     ensures items { tellings.new.items
         ≡ tellings.old.items ++ told_in event.now.message.payload event.now.reaction.fired }
-    ensures len { vec_len tellings.new ≤ vec_len tellings.old + 2 }
-    ensures capacity { vec_capacity tellings.new ≡ vec_capacity tellings.old }
+    ensures room { tellings.old.room ≤ tellings.new.room + 2 }
+    ensures room_aside { tellings.old.room_aside ≤ tellings.new.room_aside + 2 }
 {
     add(tellings, came_in(&event.message.payload));
     add(
@@ -345,11 +357,12 @@ fn keep_told(tellings: &mut Vec<Telling>, event: &Handled)
 }
 
 /// Adds what is told, if something is. Takes no memory.
-fn add(tellings: &mut Vec<Telling>, telling: Option<Telling>)
-    requires { vec_len tellings.old + 1 ≤ vec_capacity tellings.old }
+fn add(tellings: &mut Tellings, telling: Option<Telling>)
+    requires room { 1 ≤ tellings.old.room }
+    requires room_aside { 1 ≤ tellings.old.room_aside }
     ensures items { tellings.new.items ≡ tellings.old.items ++ cons_option telling [] }
-    ensures len { vec_len tellings.new ≤ vec_len tellings.old + 1 }
-    ensures capacity { vec_capacity tellings.new ≡ vec_capacity tellings.old }
+    ensures room { tellings.old.room ≤ tellings.new.room + 1 }
+    ensures room_aside { tellings.old.room_aside ≤ tellings.new.room_aside + 1 }
 {
     if let Some(telling) = telling {
         tellings.push_reserved(telling);
@@ -369,15 +382,16 @@ fn keep_merged(keeps: Keeps, merged: &mut Vec<Payload>, graph: &Graph, payload: 
 }
 
 /// Keeps an event, where all are kept. Takes no memory.
-fn keep_event(keeps: Keeps, events: &mut Vec<Handled>, event: &Handled)
-    requires { IsTrue (keeps_all keeps) → vec_len events.old + 1 ≤ vec_capacity events.old }
+fn keep_event(keeps: Keeps, events: &mut Handlings, event: &Handled)
+    requires room { IsTrue (keeps_all keeps) → 1 ≤ events.old.room }
+    requires room_aside { IsTrue (keeps_all keeps) → 1 ≤ events.old.room_aside }
     ensures items { events.new.items
         ≡ (if keeps_all keeps then events.old.items ++ event.now ∷ [] else events.old.items) }
-    ensures len { vec_len events.new ≤ vec_len events.old + 1 }
-    ensures capacity { vec_capacity events.new ≡ vec_capacity events.old }
+    ensures room { events.old.room ≤ events.new.room + 1 }
+    ensures room_aside { events.old.room_aside ≤ events.new.room_aside + 1 }
 {
     if keeps.all() {
-        events.push_reserved(*event);
+        events.push_reserved(event);
     }
 }
 

@@ -9,14 +9,17 @@
 
 mod cell_event;
 mod handled;
+mod handlings;
 mod history;
 mod kept;
 mod outputs;
 mod past;
 mod payload;
 mod plain_firing;
+mod room;
 mod step;
 mod telling;
+mod tellings;
 
 pub use cell_event::{CellAnswer, CellEvent};
 pub use handled::{Handled, Handling, NO_REPLIES, Reaction, Replies};
@@ -30,3 +33,4 @@ pub use payload::{tag_of, value_of};
 pub use plain_firing::PlainFiring;
 pub use step::{Fault, Step, Verdict, full_step};
 pub use telling::{Faulted, Telling, Told, is_value_merge};
+pub use tellings::Tellings;

@@ -4,7 +4,7 @@ use crate::graphs::countdown;
 use crate::rows::{Expected, deliver, is_traced};
 use id_core::{Keeps, Machine, takes_inputs};
 use id_graph::{Constant, Graph, list};
-use id_print::{Report, is_within, run_report, write_report};
+use id_print::{Report, run_report, write_report};
 use id_source::Inputs;
 use id_valid::Valid;
 use id_value::Sequence;
@@ -113,7 +113,6 @@ name /1:25#1@1:42 = 0
 /// Whether the report is printed so.
 fn is_printed(rt: &impl Abort, report: &Report) -> bool {
     assert!(rt; TEXT.len() <= 1_000_000);
-    assert!(rt; is_within(report, TEXT.len()));
     let mut sink = Expected {
         rest: REPORT.as_bytes(),
     };

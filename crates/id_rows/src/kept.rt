@@ -4,7 +4,7 @@ use crate::rows::Expected;
 use crate::workers::{graph_of, run_with};
 use id_core::{Keeps, Machine, Merged, Observed, Open, merge_records};
 use id_elements::Settings;
-use id_print::{Report, is_within, run_report, write_report};
+use id_print::{Report, run_report, write_report};
 use id_valid::Valid;
 use std::alloc::{AllocError, Global};
 use std::process::Abort;
@@ -47,7 +47,6 @@ cell @1:25[1] = 5
 /// Whether the report is printed so.
 fn is_printed(rt: &impl Abort, report: &Report, named: bool, lines: &str) -> bool {
     assert!(rt; TEXT.len() <= 1_000_000);
-    assert!(rt; is_within(report, TEXT.len()));
     let mut sink = Expected {
         rest: lines.as_bytes(),
     };

@@ -234,7 +234,7 @@ module _ (g : Parts) (count : ℕ) where
 
   module _ (ss : List State) (h : AreReplayed g count ss) where
     led : (n : ℕ) (s : State) → slice_get ss n ≡ Some s → Leads g count n fresh s.events s
-    led n s at = let r = h.each n s at in replayed g count n s r.state (recursion_from_All _ s.events r.legal)
+    led n s at = replayed g count n s (h.replayed n s at) (recursion_from_All _ s.events (h.legal n s at))
 
     owned : AreOwn 0 ss
     owned = own 0 ss (λ n s at.

@@ -1,26 +1,25 @@
 -- All events of elements in order, as runs (docs/MACHINE.md, "Runs").
-use Rattle.std.specs.Prelude.{◌≡◌, ◌⊎◌, ℕ, Some, List, length, slice_get}
+use Rattle.std.specs.Prelude.{◌≡◌, ◌⊎◌, ℕ, Some, List, All, length, slice_get}
 use Rattle.std.specs.List.{flat_map}
 use Rattle.id_instr.specs.Graph.{Parts}
 use Rattle.id_tag.specs.declared.Message.{Message}
 use Rattle.id_value.specs.declared.Constant.{Constant}
 use Rattle.id_value.specs.List.{Among}
-use Rattle.id_record.specs.declared.kept.Keeps.TheVariants as keeps
 use Rattle.id_core.specs.Events.{EventView}
 use Rattle.id_core.specs.Steps.{State}
 use Rattle.id_core.specs.Machines.{World, start, start_messages}
-use Rattle.id_element.specs.Replays.{Replays}
+use Rattle.id_element.specs.Replays.{IsLegal, IsReplayed}
 use Rattle.id_observe.specs.Paths.{events_of}
 use Rattle.id_observe.specs.Firsts.{AreMergedOf}
 use Rattle.id_runs.specs.Legal.{InSomeOrder, LeadTo, IsRunOf}
 use Rattle.id_runs.specs.Accounts.{IsAccounted}
 
 -- the states are those of so many elements of the graph, in order of their numbers, each of which its record leads to,
--- however much is kept of that
+-- by legal events
 pub record AreReplayed (g : Parts) (count : ℕ) (ss : List State) : Type 0 where
   pub len : length ss ≡ count
-  pub each : (n : ℕ) (s : State) → slice_get ss n ≡ Some s
-      → Replays (record { number = n; count = count; graph = g; keeps = keeps.All; state = s })
+  pub replayed : (n : ℕ) (s : State) → slice_get ss n ≡ Some s → IsReplayed g n s
+  pub legal : (n : ℕ) (s : State) → slice_get ss n ≡ Some s → All (IsLegal g count n) s.events
 
 -- these events are a legal list from the start, which ends in these states with these messages in flight, in some order
 pub record IsLegalOrder (g : Parts) (vs : List Constant) (count : ℕ) (es : List EventView) (w : World) : Type 0 where

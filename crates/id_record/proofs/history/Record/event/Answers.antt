@@ -32,7 +32,7 @@ new-requires c =
 pub replies_in-requires : goal.replies_in-requires
 replies_in-requires c =
     let r = c.self.inside in
-    let h = c.event-handled.result.now in
+    let h = c.event-handled.result in
     let all : keeps_all r.kept.keeps ≡ true = ap keeps_all (ap (λ v. v.keeps) c.self.view_is ∙ c.requires.keeps) in
     let there : slice_get r.handled c.args.position ≡ Some h =
     sym (ap (λ hs. slice_get hs c.args.position) (c.self.invariant.events all)) ∙ c.event-handled.ensures in
@@ -42,7 +42,7 @@ replies_in-requires c =
 pub returns : goal.returns
 returns c =
     let r = c.self.inside in
-    let h = c.event-handled.result.now in
+    let h = c.event-handled.result in
     let all : keeps_all r.kept.keeps ≡ true = ap keeps_all (ap (λ v. v.keeps) c.self.view_is ∙ c.requires.keeps) in
     let there : slice_get r.handled c.args.position ≡ Some h =
     sym (ap (λ hs. slice_get hs c.args.position) (c.self.invariant.events all)) ∙ c.event-handled.ensures in

@@ -1,0 +1,24 @@
+-- What was handled is the last, and the rest stays.
+use Rattle.std.proofs.Common.{◌++◌, ◌∷◌, [], sym, ap, subst, ◌∙◌}
+use Rattle.std.specs.Prelude.{All}
+use Rattle.std.proofs.lemmas.List.Elements.{All-push}
+use Rattle.id_record.specs.ShortHandlings.{IsThere, handled_of}
+use Rattle.id_record.proofs.AsidesLemmas.{all-kept, told-more}
+use Rattle.id_record.proofs.handlings.Handlings.push_reserved.Goals as goal
+
+pub returns-clause-items : goal.returns-clause-items
+returns-clause-items c =
+    let t = c.self.inside in
+    let made = c.short_for-short in
+    told-more IsThere handled_of t.asides.items made.new.asides.items t.shorts.items c.push_reserved.new.self.items made.result c.args.event.now
+    made.ensures.others c.self.invariant made.ensures.is c.push_reserved.ensures.items
+    ∙ ap (λ v. v.items ++ c.args.event.now ∷ []) c.self.view_is
+
+pub invariant_of-self : goal.invariant_of-self
+invariant_of-self c =
+    let t = c.self.inside in
+    let made = c.short_for-short in
+    let more = made.new.asides.items in
+    subst (λ ss. All (IsThere more) ss) (sym c.push_reserved.ensures.items)
+    (All-push (IsThere more) t.shorts.items made.result
+    (all-kept IsThere handled_of t.asides.items more t.shorts.items made.ensures.others c.self.invariant) made.ensures.within)
