@@ -17,7 +17,6 @@ use Rattle.id_print.specs.declared.helds.Held.{Held}
 use Rattle.id_print.specs.declared.helds.Held.TheVariants.{Array, Cell}
 use Rattle.id_print.specs.Helds.{AreCellsUp, AreShapesUp, around, is_before, is_cell_first, joined}
 use Rattle.id_print.specs.Names.{HeldBefore, IsOrderOf, OfOneThing, held_cmp, site_cmp}
-use Rattle.id_print.specs.Within.{HeldWithin, HeldsWithin}
 use Rattle.id_print.proofs.NamesLemmas.{first_lt, helds_told, in_order-from_sort, site_total}
 
 -- ---- the first line
@@ -46,13 +45,6 @@ pub has_array : (ss : List Shape) (cs : List CellValue) → 0 < length ss + leng
 has_array [] [] h e = absurd (omega arith)
 has_array [] (c ∷ cs) h e = cc
 has_array (s ∷ ss) cs h e = omega arith
-
--- ---- lines that are printed
-
-pub within_first : (size : ℕ) (x : Held) (lines left : List Held) → HeldsWithin size lines → lines ≡ x ∷ left → HeldWithin size x × HeldsWithin size left
-within_first size x lines left h e =
-    let all : HeldsWithin size (x ∷ left) = subst (HeldsWithin size) e h in
-    (all 0 x (omega arith), λ k d within. all (suc k) d (omega arith))
 
 -- ---- the same lines
 

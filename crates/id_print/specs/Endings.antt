@@ -3,8 +3,8 @@ use Rattle.std.specs.Prelude.{◌≡◌, []}
 use Rattle.id_core.specs.Machines.{MachineView, IsQuiet}
 use Rattle.id_core.specs.Observed.{faults}
 use Rattle.id_core.specs.Firsts.{IsFirstFault}
-use Rattle.id_print.specs.declared.within.Ending.{Ending}
-use Rattle.id_print.specs.declared.within.Ending.TheVariants.{Quiet, Stopped, Fault}
+use Rattle.id_print.specs.declared.ending.Ending.{Ending}
+use Rattle.id_print.specs.declared.ending.Ending.TheVariants.{Quiet, Stopped, Fault}
 
 -- the machine ended so: at the first fault of all its events, by stamp and then by element, and where it shows none,
 -- quiet or not

@@ -3,7 +3,6 @@ pub mod Endings
 pub mod Helds
 pub mod Names
 pub mod RunReports
-pub mod Within
 pub mod Telling
 pub mod Texts
 pub mod Pens

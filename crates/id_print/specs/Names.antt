@@ -5,8 +5,7 @@ use Rattle.std.specs.declared.cmp.Ordering.{Ordering}
 use Rattle.std.specs.declared.cmp.Ordering.TheVariants.{Less, Equal, Greater}
 use Rattle.std.specs.Ordering.{int_cmp, nat_cmp, ordering_then}
 use Rattle.std.specs.Cmp.Lexicographic.{slice_cmp}
-use Rattle.id_core.specs.Machines.{MachineView}
-use Rattle.id_core.specs.Observed.{CellValue, cell_value, cell_values, structures}
+use Rattle.id_core.specs.Observed.{CellValue, cell_value}
 use Rattle.id_value.specs.List.{Among, AllDiffer}
 use Rattle.id_source.specs.declared.Ask.{Ask}
 use Rattle.id_source.specs.declared.NameValue.{NameValue}
@@ -48,9 +47,9 @@ HeldBefore h k = SiteBefore (held_name h) (held_name k) ⊎ ((held_name h ≡ he
 abbrev pub WaitBefore : Ask → Ask → Type 0
 WaitBefore a b = SiteBefore a.fetch b.fetch
 
--- the lines about the structures that a machine shows, and then those about their cells
-abbrev pub held_lines : MachineView → List Held
-held_lines m = map Array (structures m.graph m.world) ++ map Cell (cell_values m.graph m.world)
+-- the lines about structures, and then those about cells
+abbrev pub held_lines : List Shape → List CellValue → List Held
+held_lines ss cs = map Array ss ++ map Cell cs
 
 -- names in order
 abbrev pub IsSortedOf : List NameValue → List NameValue → Type 0

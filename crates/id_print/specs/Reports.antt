@@ -2,8 +2,8 @@
 use Rattle.std.specs.Prelude.{ℕ, Bool, if◌then◌else◌, List, []}
 use Rattle.id_source.specs.declared.NameValue.{NameValue}
 use Rattle.id_print.specs.Texts.{quiet_text, stopped_text, fault_text}
-use Rattle.id_print.specs.declared.within.Ending.{Ending}
-use Rattle.id_print.specs.declared.within.Ending.TheVariants.{Quiet, Stopped, Fault}
+use Rattle.id_print.specs.declared.ending.Ending.{Ending}
+use Rattle.id_print.specs.declared.ending.Ending.TheVariants.{Quiet, Stopped, Fault}
 use Rattle.id_print.specs.declared.run_reports.Report.{Report}
 use Rattle.std.specs.Prelude.{ℕ, List}
 

@@ -2,7 +2,7 @@
 use Rattle.std.specs.Prelude.{◌≡◌, [], Bool, IsTrue, IsFalse}
 use Rattle.id_source.specs.Orders.{NamesRise, Rises}
 use Rattle.id_core.specs.Machines.{MachineView}
-use Rattle.id_core.specs.Observed.{answer, names, waiting}
+use Rattle.id_core.specs.Observed.{answer, cell_values, names, structures, waiting}
 use Rattle.id_print.specs.declared.run_reports.Report.{Report}
 use Rattle.id_print.specs.Endings.{EndsSo}
 use Rattle.id_print.specs.Names.{IsOrderOf, IsSortedOf, AreApart, AreApartBy, HeldBefore, WaitBefore}
@@ -15,8 +15,9 @@ pub record IsReportFrom (m : MachineView) (named : Bool) (r : Report) : Type 0 w
   pub sorted : IsTrue named → IsSortedOf r.names (names m.graph m.world)
   pub rise : IsTrue named → AreApart (names m.graph m.world) → NamesRise r.names
   pub none : IsFalse named → r.names ≡ []
-  pub held : IsOrderOf HeldBefore r.structures (held_lines m)
-  pub held_rise : AreApartBy OfOneThing (held_lines m) → Rises HeldBefore r.structures
+  pub held : IsOrderOf HeldBefore r.structures (held_lines (structures m.graph m.world) (cell_values m.graph m.world))
+  pub held_rise : AreApartBy OfOneThing (held_lines (structures m.graph m.world) (cell_values m.graph m.world))
+      → Rises HeldBefore r.structures
   pub waits : IsOrderOf WaitBefore r.waiting (waiting m.graph m.world)
   pub waits_rise : AreApartBy OfOneFetch (waiting m.graph m.world) → Rises WaitBefore r.waiting
   pub ends : EndsSo m r.ending

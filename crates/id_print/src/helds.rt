@@ -1,16 +1,13 @@
 //! The lines of a report about structures and their cells, which are kept as two lists in order.
 
-ghost use Rattle.std.specs.Prelude.{◌≡◌, ◌↔◌, ◌<◌, ◌+◌, ◌++◌, All, IfOk, IsTrue, IsPermutation};
+ghost use Rattle.std.specs.Prelude.{◌≡◌, ◌↔◌, ◌<◌, ◌+◌, ◌++◌, IfOk, IsTrue, IsPermutation};
 ghost use Rattle.std.specs.Prelude.{drop, length, map};
 ghost use Rattle.id_source.specs.Orders.{Rises};
 ghost use Rattle.id_print.specs.declared.helds.Held.TheVariants as held;
 ghost use Rattle.id_print.specs.Helds.{AreCellsUp, AreShapesUp, is_cell_first, joined};
 ghost use Rattle.id_print.specs.Names.{AreApartBy, HeldBefore, IsOrderOf, OfOneThing, held_cmp};
-ghost use Rattle.id_sink.specs.Within.{FilledWithin, SiteWithin};
-ghost use Rattle.id_print.specs.Within.{HeldsWithin};
 
 use crate::names::compare_sites;
-use crate::within::{is_filled_within, is_site_within};
 use id_core::CellValue;
 use id_source::Shape;
 use id_value::Sequence;
@@ -64,14 +61,6 @@ impl Helds {
         ensures { self.now ≡ joined result.0.now result.1.now }
     {
         (self.shapes.as_slice(), self.cells.as_slice())
-    }
-
-    /// Whether every place of these lines lies in a text of so many bytes. Takes no memory.
-    pub fn are_within(&self, size: usize) -> bool
-        ensures { IsTrue result ↔ HeldsWithin size self.now }
-    {
-        are_shapes_within(self.shapes.as_slice(), size)
-            && are_cells_within(self.cells.as_slice(), size)
     }
 }
 
@@ -133,18 +122,4 @@ pub fn behind_first<T>(list: &[T]) -> &[T]
     ensures { result.now ≡ drop 1 list.now }
 {
     &list[1..]
-}
-
-fn are_shapes_within(shapes: &[Shape], size: usize) -> bool
-    ensures { IsTrue result ↔ All (λ s. SiteWithin size s.name) shapes.now }
-{
-    shapes.iter().all(|shape| is_site_within(&shape.name, size))
-}
-
-fn are_cells_within(cells: &[CellValue], size: usize) -> bool
-    ensures { IsTrue result ↔ All (λ c. FilledWithin size c.name c.value) cells.now }
-{
-    cells
-        .iter()
-        .all(|cell| is_filled_within(&cell.name, &cell.value, size))
 }

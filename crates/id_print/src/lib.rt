@@ -8,18 +8,18 @@
 //! (`id_compile`).
 #![tactic(auto)]
 
+mod ending;
 mod helds;
 mod names;
 mod reasons;
 mod reports;
 mod rows;
 mod run_reports;
-mod within;
 
+pub use ending::Ending;
 pub use helds::{Held, Helds};
 pub use id_sink::{PrintError, Sink, SinkFault, put, put_number, put_place};
 pub use reasons::write_reasons;
 pub use reports::{report, write_fault, write_report};
 pub use rows::write_round;
-pub use run_reports::{Report, is_within, run_report};
-pub use within::Ending;
+pub use run_reports::{Report, run_report};

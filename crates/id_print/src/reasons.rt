@@ -1,13 +1,11 @@
 //! What lacks a value in a round, a line for each thing.
 
-ghost use Rattle.std.specs.Prelude.{◌≡◌, ◌≤◌, ◌++◌, ℕ, length, codes};
-ghost use Rattle.id_check.specs.Programs.{place};
-ghost use Rattle.id_sink.specs.Told.{Prints};
-ghost use Rattle.id_sink.specs.Within.{ValueWithin};
+ghost use Rattle.std.specs.Prelude.{◌≡◌, ◌≤◌, length};
+ghost use Rattle.id_sink.specs.Told.{Prints, PrintsWith};
 ghost use Rattle.id_print.specs.Texts.{answer_text, answer_value_text};
-ghost use Rattle.id_print.specs.Pens.{value_in};
-ghost use Rattle.id_print.specs.Reasons.{answer_in, asked_text, body_text, cells_text, end_text, fails_text, given_text, has_all};
-ghost use Rattle.id_print.specs.Reasons.{ArePlaced, line_text, lines_text, stores_text, thing_text, things_text};
+ghost use Rattle.id_print.specs.Reasons.{answer_in, asked_text, body_text, cells_text, end_text, fails_text};
+ghost use Rattle.id_print.specs.Reasons.{given_text, has_all};
+ghost use Rattle.id_print.specs.Reasons.{line_text, lines_text, stores_text, thing_text, things_text};
 ghost use Rattle.id_print.specs.Reasons.{values_text, waits_text, wanted_text, reasons_text};
 
 use crate::rows::{Pen, put_cell_behind, put_site_behind, put_value};
@@ -27,7 +25,6 @@ pub fn write_reasons<W: Sink>(
     sink: &mut W,
 ) -> Result<(), PrintError>
     requires fits { length text.now ≤ MAX_BYTES }
-    requires inside { ArePlaced (length text.now) checked.now }
     ensures { Prints (W.told sink.old) (W.told sink.new)
         (reasons_text (record { text = text.now; checked = checked.now; facts = reasons.paths }) n reasons) result }
 {
@@ -55,10 +52,8 @@ fn put_answer<W: Sink>(
     pen: &mut Pen<'_>,
     answer: Option<RowValue>,
 ) -> Result<(), PrintError>
-    requires { ArePlaced (length pen.old.text) pen.old.checked }
-    ensures prints { Prints (W.told sink.old) (W.told sink.new)
+    ensures { PrintsWith (W.told sink.old) (W.told sink.new) pen.old pen.new
         (answer_text pen.old.text (answer_in pen.old answer)) result }
-    ensures same { pen.new ≡ pen.old }
 {
     put(sink, b"answer ")?;
     put_answer_value(sink, pen, answer)?;
@@ -70,10 +65,8 @@ fn put_answer_value<W: Sink>(
     pen: &mut Pen<'_>,
     answer: Option<RowValue>,
 ) -> Result<(), PrintError>
-    requires { ArePlaced (length pen.old.text) pen.old.checked }
-    ensures prints { Prints (W.told sink.old) (W.told sink.new)
+    ensures { PrintsWith (W.told sink.old) (W.told sink.new) pen.old pen.new
         (answer_value_text pen.old.text (answer_in pen.old answer)) result }
-    ensures same { pen.new ≡ pen.old }
 {
     match answer {
         None => put(sink, b"none"),
@@ -83,9 +76,7 @@ fn put_answer_value<W: Sink>(
 
 /// The line of each thing, in order.
 fn put_lines<W: Sink>(sink: &mut W, pen: &mut Pen<'_>, lines: &[Line]) -> Result<(), PrintError>
-    requires { ArePlaced (length pen.old.text) pen.old.checked }
-    ensures prints { Prints (W.told sink.old) (W.told sink.new) (lines_text pen.old lines.now) result }
-    ensures same { pen.new ≡ pen.old }
+    ensures { PrintsWith (W.told sink.old) (W.told sink.new) pen.old pen.new (lines_text pen.old lines.now) result }
 {
     for line in lines {
         put_line(sink, pen, line)?;
@@ -94,9 +85,7 @@ fn put_lines<W: Sink>(sink: &mut W, pen: &mut Pen<'_>, lines: &[Line]) -> Result
 }
 
 fn put_line<W: Sink>(sink: &mut W, pen: &mut Pen<'_>, line: &Line) -> Result<(), PrintError>
-    requires { ArePlaced (length pen.old.text) pen.old.checked }
-    ensures prints { Prints (W.told sink.old) (W.told sink.new) (line_text pen.old line.now) result }
-    ensures same { pen.new ≡ pen.old }
+    ensures { PrintsWith (W.told sink.old) (W.told sink.new) pen.old pen.new (line_text pen.old line.now) result }
 {
     put_body(sink, pen, line)?;
     put(sink, b"\n")
@@ -104,9 +93,7 @@ fn put_line<W: Sink>(sink: &mut W, pen: &mut Pen<'_>, line: &Line) -> Result<(),
 
 /// The line of a thing that fails or waits, without its end.
 fn put_body<W: Sink>(sink: &mut W, pen: &mut Pen<'_>, line: &Line) -> Result<(), PrintError>
-    requires { ArePlaced (length pen.old.text) pen.old.checked }
-    ensures prints { Prints (W.told sink.old) (W.told sink.new) (body_text pen.old line.now) result }
-    ensures same { pen.new ≡ pen.old }
+    ensures { PrintsWith (W.told sink.old) (W.told sink.new) pen.old pen.new (body_text pen.old line.now) result }
 {
     if has_all(line.cells.as_slice(), line.needs.as_slice()) {
         put_fails(sink, pen, line)
@@ -124,9 +111,7 @@ fn has_all(cells: &[Cell], needs: &[Point]) -> bool
 
 /// A thing that fails, and the values that it has.
 fn put_fails<W: Sink>(sink: &mut W, pen: &mut Pen<'_>, line: &Line) -> Result<(), PrintError>
-    requires { ArePlaced (length pen.old.text) pen.old.checked }
-    ensures prints { Prints (W.told sink.old) (W.told sink.new) (fails_text pen.old line.now) result }
-    ensures same { pen.new ≡ pen.old }
+    ensures { PrintsWith (W.told sink.old) (W.told sink.new) pen.old pen.new (fails_text pen.old line.now) result }
 {
     put(sink, b"fails")?;
     put_thing(sink, pen, line.thing)?;
@@ -136,9 +121,7 @@ fn put_fails<W: Sink>(sink: &mut W, pen: &mut Pen<'_>, line: &Line) -> Result<()
 
 /// A thing that waits, and for what.
 fn put_waits<W: Sink>(sink: &mut W, pen: &mut Pen<'_>, line: &Line) -> Result<(), PrintError>
-    requires { ArePlaced (length pen.old.text) pen.old.checked }
-    ensures prints { Prints (W.told sink.old) (W.told sink.new) (waits_text pen.old line.now) result }
-    ensures same { pen.new ≡ pen.old }
+    ensures { PrintsWith (W.told sink.old) (W.told sink.new) pen.old pen.new (waits_text pen.old line.now) result }
 {
     put(sink, b"waits")?;
     put_thing(sink, pen, line.thing)?;
@@ -153,9 +136,8 @@ fn put_wanted<W: Sink>(
     cells: &[Cell],
     needs: &[Point],
 ) -> Result<(), PrintError>
-    requires { ArePlaced (length pen.old.text) pen.old.checked }
-    ensures prints { Prints (W.told sink.old) (W.told sink.new) (wanted_text pen.old cells.now needs.now) result }
-    ensures same { pen.new ≡ pen.old }
+    ensures { PrintsWith (W.told sink.old) (W.told sink.new) pen.old pen.new
+        (wanted_text pen.old cells.now needs.now) result }
 {
     if cells.is_empty() {
         put_things(sink, pen, needs)
@@ -167,9 +149,7 @@ fn put_wanted<W: Sink>(
 
 /// The stores that may fill a cell.
 fn put_stores<W: Sink>(sink: &mut W, pen: &mut Pen<'_>, stores: &[Point]) -> Result<(), PrintError>
-    requires { ArePlaced (length pen.old.text) pen.old.checked }
-    ensures prints { Prints (W.told sink.old) (W.told sink.new) (stores_text pen.old stores.now) result }
-    ensures same { pen.new ≡ pen.old }
+    ensures { PrintsWith (W.told sink.old) (W.told sink.new) pen.old pen.new (stores_text pen.old stores.now) result }
 {
     if stores.is_empty() {
         put(sink, b" of none")
@@ -181,9 +161,7 @@ fn put_stores<W: Sink>(sink: &mut W, pen: &mut Pen<'_>, stores: &[Point]) -> Res
 
 /// Things, each behind a blank.
 fn put_things<W: Sink>(sink: &mut W, pen: &mut Pen<'_>, things: &[Point]) -> Result<(), PrintError>
-    requires { ArePlaced (length pen.old.text) pen.old.checked }
-    ensures prints { Prints (W.told sink.old) (W.told sink.new) (things_text pen.old things.now) result }
-    ensures same { pen.new ≡ pen.old }
+    ensures { PrintsWith (W.told sink.old) (W.told sink.new) pen.old pen.new (things_text pen.old things.now) result }
 {
     for thing in things {
         put_thing(sink, pen, *thing)?;
@@ -192,9 +170,7 @@ fn put_things<W: Sink>(sink: &mut W, pen: &mut Pen<'_>, things: &[Point]) -> Res
 }
 
 fn put_thing<W: Sink>(sink: &mut W, pen: &mut Pen<'_>, thing: Point) -> Result<(), PrintError>
-    requires { ArePlaced (length pen.old.text) pen.old.checked }
-    ensures prints { Prints (W.told sink.old) (W.told sink.new) (thing_text pen.old thing) result }
-    ensures same { pen.new ≡ pen.old }
+    ensures { PrintsWith (W.told sink.old) (W.told sink.new) pen.old pen.new (thing_text pen.old thing) result }
 {
     put(sink, b" ")?;
     put_site_behind(sink, pen, thing.path, thing.row)
@@ -202,9 +178,7 @@ fn put_thing<W: Sink>(sink: &mut W, pen: &mut Pen<'_>, thing: Point) -> Result<(
 
 /// Cells, each behind a blank.
 fn put_cells<W: Sink>(sink: &mut W, pen: &mut Pen<'_>, cells: &[Cell]) -> Result<(), PrintError>
-    requires { ArePlaced (length pen.old.text) pen.old.checked }
-    ensures prints { Prints (W.told sink.old) (W.told sink.new) (cells_text pen.old cells.now) result }
-    ensures same { pen.new ≡ pen.old }
+    ensures { PrintsWith (W.told sink.old) (W.told sink.new) pen.old pen.new (cells_text pen.old cells.now) result }
 {
     for cell in cells {
         put_asked(sink, pen, *cell)?;
@@ -213,9 +187,7 @@ fn put_cells<W: Sink>(sink: &mut W, pen: &mut Pen<'_>, cells: &[Cell]) -> Result
 }
 
 fn put_asked<W: Sink>(sink: &mut W, pen: &mut Pen<'_>, cell: Cell) -> Result<(), PrintError>
-    requires { ArePlaced (length pen.old.text) pen.old.checked }
-    ensures prints { Prints (W.told sink.old) (W.told sink.new) (asked_text pen.old cell) result }
-    ensures same { pen.new ≡ pen.old }
+    ensures { PrintsWith (W.told sink.old) (W.told sink.new) pen.old pen.new (asked_text pen.old cell) result }
 {
     put(sink, b" ")?;
     put_cell_behind(sink, pen, cell.name, cell.index)
@@ -227,9 +199,7 @@ fn put_values<W: Sink>(
     pen: &mut Pen<'_>,
     values: &[RowValue],
 ) -> Result<(), PrintError>
-    requires { ArePlaced (length pen.old.text) pen.old.checked }
-    ensures prints { Prints (W.told sink.old) (W.told sink.new) (values_text pen.old values.now) result }
-    ensures same { pen.new ≡ pen.old }
+    ensures { PrintsWith (W.told sink.old) (W.told sink.new) pen.old pen.new (values_text pen.old values.now) result }
 {
     for value in values {
         put_given(sink, pen, *value)?;
@@ -238,9 +208,7 @@ fn put_values<W: Sink>(
 }
 
 fn put_given<W: Sink>(sink: &mut W, pen: &mut Pen<'_>, value: RowValue) -> Result<(), PrintError>
-    requires { ArePlaced (length pen.old.text) pen.old.checked }
-    ensures prints { Prints (W.told sink.old) (W.told sink.new) (given_text pen.old value) result }
-    ensures same { pen.new ≡ pen.old }
+    ensures { PrintsWith (W.told sink.old) (W.told sink.new) pen.old pen.new (given_text pen.old value) result }
 {
     put(sink, b" ")?;
     put_value(sink, pen, value)

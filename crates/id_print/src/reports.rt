@@ -2,7 +2,7 @@
 
 ghost use Rattle.std.specs.Prelude.{◌≡◌, ◌≢◌, ◌≤◌, ◌++◌, [], codes, length, IfOk, IsTrue};
 ghost use Rattle.id_record.specs.declared.kept.Keeps.TheVariants as keeps;
-ghost use Rattle.id_sink.specs.Told.{Prints};
+ghost use Rattle.id_sink.specs.Told.{Prints, PrintsWith};
 ghost use Rattle.id_print.specs.Texts.{kind_text, fault_head_text, fault_text, answer_text, answer_value_text};
 ghost use Rattle.id_print.specs.Texts.{name_text, names_text, helds_text, waiting_text, waitings_text};
 ghost use Rattle.id_print.specs.Texts.{shown_text, quiet_text, stopped_text, stores_text, second_text};
@@ -10,15 +10,11 @@ ghost use Rattle.id_sink.specs.Texts.{site_text};
 ghost use Rattle.id_sink.specs.Texts.{shape_text, filled_text};
 ghost use Rattle.id_print.specs.Helds.{joined};
 ghost use Rattle.id_print.specs.Reports.{asked, report_text};
-ghost use Rattle.id_sink.specs.Within.{SiteWithin, FilledWithin, AskWithin};
-ghost use Rattle.id_print.specs.Within.{SecondWithin, FaultWithin, NameWithin};
-ghost use Rattle.id_print.specs.Within.{NamesWithin, HeldsWithin, AsksWithin, AnswerWithin};
-ghost use Rattle.id_print.specs.Within.{ReportWithin};
 ghost use Rattle.id_print.specs.RunReports.{IsReportFrom};
 
+use crate::ending::Ending;
 use crate::helds::{Helds, behind_first, has_lines, is_cell_first};
 use crate::run_reports::{Report, run_report};
-use crate::within::Ending;
 use id_elements::Run;
 use id_observe::CellValue;
 use id_sink::{
@@ -67,7 +63,6 @@ fn put_fault_head<W: Sink>(kind: FaultKind, sink: &mut W) -> Result<(), PrintErr
 /// Writes the line of a fault. Takes no memory.
 pub fn write_fault<W: Sink>(fault: &SourceFault, text: &str, sink: &mut W) -> Result<(), PrintError>
     requires fits { length text.now ≤ MAX_BYTES }
-    requires inside { FaultWithin (length text.now) fault.now }
     ensures { Prints (W.told sink.old) (W.told sink.new) (fault_text text.now fault.now) result }
 {
     let mut cursor = Cursor::new(text);
@@ -88,10 +83,8 @@ fn put_failed<W: Sink>(
     kind: FaultKind,
     site: &Site,
 ) -> Result<(), PrintError>
-    requires { SiteWithin (length cursor.old) site.now }
-    ensures prints { Prints (W.told sink.old) (W.told sink.new)
+    ensures { PrintsWith (W.told sink.old) (W.told sink.new) cursor.old cursor.new
         (fault_head_text kind ++ (site_text cursor.old site.now ++ codes "\n")) result }
-    ensures same { cursor.new ≡ cursor.old }
 {
     put_fault_head(kind, sink)?;
     put_site(sink, cursor, site)?;
@@ -106,10 +99,8 @@ fn put_second<W: Sink>(
     first: &Site,
     second: &Site,
 ) -> Result<(), PrintError>
-    requires { SecondWithin (length cursor.old) name.now first.now second.now }
-    ensures prints { Prints (W.told sink.old) (W.told sink.new)
+    ensures { PrintsWith (W.told sink.old) (W.told sink.new) cursor.old cursor.new
         (codes "fault second store of " ++ second_text cursor.old name.now index first.now second.now) result }
-    ensures same { cursor.new ≡ cursor.old }
 {
     put(sink, b"fault second store of ")?;
     put_cell(sink, cursor, name, index)?;
@@ -123,11 +114,8 @@ fn put_stores<W: Sink>(
     first: &Site,
     second: &Site,
 ) -> Result<(), PrintError>
-    requires first { SiteWithin (length cursor.old) first.now }
-    requires second { SiteWithin (length cursor.old) second.now }
-    ensures prints { Prints (W.told sink.old) (W.told sink.new)
+    ensures { PrintsWith (W.told sink.old) (W.told sink.new) cursor.old cursor.new
         (codes " at " ++ stores_text cursor.old first.now second.now) result }
-    ensures same { cursor.new ≡ cursor.old }
 {
     put(sink, b" at ")?;
     put_site(sink, cursor, first)?;
@@ -140,10 +128,8 @@ fn put_other_store<W: Sink>(
     cursor: &mut Cursor<'_>,
     store: &Site,
 ) -> Result<(), PrintError>
-    requires { SiteWithin (length cursor.old) store.now }
-    ensures prints { Prints (W.told sink.old) (W.told sink.new)
+    ensures { PrintsWith (W.told sink.old) (W.told sink.new) cursor.old cursor.new
         (codes " and " ++ (site_text cursor.old store.now ++ codes "\n")) result }
-    ensures same { cursor.new ≡ cursor.old }
 {
     put(sink, b" and ")?;
     put_site(sink, cursor, store)?;
@@ -155,9 +141,8 @@ fn put_answer_value<W: Sink>(
     cursor: &mut Cursor<'_>,
     answer: &Option<SourceValue>,
 ) -> Result<(), PrintError>
-    requires { AnswerWithin (length cursor.old) answer.now }
-    ensures prints { Prints (W.told sink.old) (W.told sink.new) (answer_value_text cursor.old answer.now) result }
-    ensures same { cursor.new ≡ cursor.old }
+    ensures { PrintsWith (W.told sink.old) (W.told sink.new) cursor.old cursor.new
+        (answer_value_text cursor.old answer.now) result }
 {
     match answer {
         None => put(sink, b"none"),
@@ -170,9 +155,8 @@ fn put_answer<W: Sink>(
     cursor: &mut Cursor<'_>,
     answer: &Option<SourceValue>,
 ) -> Result<(), PrintError>
-    requires { AnswerWithin (length cursor.old) answer.now }
-    ensures prints { Prints (W.told sink.old) (W.told sink.new) (answer_text cursor.old answer.now) result }
-    ensures same { cursor.new ≡ cursor.old }
+    ensures { PrintsWith (W.told sink.old) (W.told sink.new) cursor.old cursor.new
+        (answer_text cursor.old answer.now) result }
 {
     put(sink, b"answer ")?;
     put_answer_value(sink, cursor, answer)?;
@@ -185,9 +169,8 @@ fn put_names<W: Sink>(
     cursor: &mut Cursor<'_>,
     names: &[NameValue],
 ) -> Result<(), PrintError>
-    requires { NamesWithin (length cursor.old) names.now }
-    ensures prints { Prints (W.told sink.old) (W.told sink.new) (names_text cursor.old names.now) result }
-    ensures same { cursor.new ≡ cursor.old }
+    ensures { PrintsWith (W.told sink.old) (W.told sink.new) cursor.old cursor.new
+        (names_text cursor.old names.now) result }
 {
     for name in names {
         put_name(sink, cursor, name)?;
@@ -200,9 +183,8 @@ fn put_name<W: Sink>(
     cursor: &mut Cursor<'_>,
     name: &NameValue,
 ) -> Result<(), PrintError>
-    requires { NameWithin (length cursor.old) name.now }
-    ensures prints { Prints (W.told sink.old) (W.told sink.new) (name_text cursor.old name.now) result }
-    ensures same { cursor.new ≡ cursor.old }
+    ensures { PrintsWith (W.told sink.old) (W.told sink.new) cursor.old cursor.new
+        (name_text cursor.old name.now) result }
 {
     put(sink, b"name ")?;
     put_point_value(sink, cursor, &name.path, name.place, &name.value)
@@ -214,9 +196,8 @@ fn put_helds<W: Sink>(
     cursor: &mut Cursor<'_>,
     helds: &Helds,
 ) -> Result<(), PrintError>
-    requires { HeldsWithin (length cursor.old) helds.now }
-    ensures prints { Prints (W.told sink.old) (W.told sink.new) (helds_text cursor.old helds.now) result }
-    ensures same { cursor.new ≡ cursor.old }
+    ensures { PrintsWith (W.told sink.old) (W.told sink.new) cursor.old cursor.new
+        (helds_text cursor.old helds.now) result }
 {
     let (shapes, cells) = helds.parts();
     put_joined(sink, cursor, shapes, cells)
@@ -229,10 +210,8 @@ fn put_joined<W: Sink>(
     shapes: &[Shape],
     cells: &[CellValue],
 ) -> Result<(), PrintError>
-    requires { HeldsWithin (length cursor.old) (joined shapes.now cells.now) }
-    ensures prints { Prints (W.told sink.old) (W.told sink.new)
+    ensures { PrintsWith (W.told sink.old) (W.told sink.new) cursor.old cursor.new
         (helds_text cursor.old (joined shapes.now cells.now)) result }
-    ensures same { cursor.new ≡ cursor.old }
 {
     let mut shapes = shapes;
     let mut cells = cells;
@@ -253,10 +232,8 @@ fn put_array<W: Sink>(
     cursor: &mut Cursor<'_>,
     shape: &Shape,
 ) -> Result<(), PrintError>
-    requires { SiteWithin (length cursor.old) shape.now.name }
-    ensures prints { Prints (W.told sink.old) (W.told sink.new)
+    ensures { PrintsWith (W.told sink.old) (W.told sink.new) cursor.old cursor.new
         (codes "array " ++ shape_text cursor.old shape.now) result }
-    ensures same { cursor.new ≡ cursor.old }
 {
     put(sink, b"array ")?;
     put_shape(sink, cursor, shape)
@@ -267,10 +244,8 @@ fn put_present<W: Sink>(
     cursor: &mut Cursor<'_>,
     cell: &CellValue,
 ) -> Result<(), PrintError>
-    requires { FilledWithin (length cursor.old) cell.now.name cell.now.value }
-    ensures prints { Prints (W.told sink.old) (W.told sink.new)
+    ensures { PrintsWith (W.told sink.old) (W.told sink.new) cursor.old cursor.new
         (codes "cell " ++ (filled_text cursor.old cell.now.name cell.now.index cell.now.value ++ codes "\n")) result }
-    ensures same { cursor.new ≡ cursor.old }
 {
     put(sink, b"cell ")?;
     put_site(sink, cursor, &cell.name)?;
@@ -283,9 +258,8 @@ fn put_waitings<W: Sink>(
     cursor: &mut Cursor<'_>,
     asks: &[Ask],
 ) -> Result<(), PrintError>
-    requires { AsksWithin (length cursor.old) asks.now }
-    ensures prints { Prints (W.told sink.old) (W.told sink.new) (waitings_text cursor.old asks.now) result }
-    ensures same { cursor.new ≡ cursor.old }
+    ensures { PrintsWith (W.told sink.old) (W.told sink.new) cursor.old cursor.new
+        (waitings_text cursor.old asks.now) result }
 {
     for ask in asks {
         put_waiting(sink, cursor, ask)?;
@@ -294,9 +268,8 @@ fn put_waitings<W: Sink>(
 }
 
 fn put_waiting<W: Sink>(sink: &mut W, cursor: &mut Cursor<'_>, ask: &Ask) -> Result<(), PrintError>
-    requires { AskWithin (length cursor.old) ask.now }
-    ensures prints { Prints (W.told sink.old) (W.told sink.new) (waiting_text cursor.old ask.now) result }
-    ensures same { cursor.new ≡ cursor.old }
+    ensures { PrintsWith (W.told sink.old) (W.told sink.new) cursor.old cursor.new
+        (waiting_text cursor.old ask.now) result }
 {
     put(sink, b"waiting ")?;
     put_ask(sink, cursor, ask)
@@ -308,11 +281,8 @@ fn put_shown<W: Sink>(
     report: &Report,
     names: &[NameValue],
 ) -> Result<(), PrintError>
-    requires inside { ReportWithin (length cursor.old) report.now }
-    requires names { NamesWithin (length cursor.old) names.now }
-    ensures prints { Prints (W.told sink.old) (W.told sink.new)
+    ensures { PrintsWith (W.told sink.old) (W.told sink.new) cursor.old cursor.new
         (shown_text cursor.old report.now.answer names.now report.now.structures) result }
-    ensures same { cursor.new ≡ cursor.old }
 {
     put_answer(sink, cursor, &report.answer)?;
     put_names(sink, cursor, names)?;
@@ -325,11 +295,8 @@ fn put_quiet<W: Sink>(
     report: &Report,
     names: &[NameValue],
 ) -> Result<(), PrintError>
-    requires inside { ReportWithin (length cursor.old) report.now }
-    requires names { NamesWithin (length cursor.old) names.now }
-    ensures prints { Prints (W.told sink.old) (W.told sink.new)
+    ensures { PrintsWith (W.told sink.old) (W.told sink.new) cursor.old cursor.new
         (quiet_text cursor.old report.now.answer names.now report.now.structures report.now.waiting) result }
-    ensures same { cursor.new ≡ cursor.old }
 {
     put_shown(sink, cursor, report, names)?;
     put_waitings(sink, cursor, report.waiting.as_slice())
@@ -341,11 +308,8 @@ fn put_stopped<W: Sink>(
     report: &Report,
     names: &[NameValue],
 ) -> Result<(), PrintError>
-    requires inside { ReportWithin (length cursor.old) report.now }
-    requires names { NamesWithin (length cursor.old) names.now }
-    ensures prints { Prints (W.told sink.old) (W.told sink.new)
+    ensures { PrintsWith (W.told sink.old) (W.told sink.new) cursor.old cursor.new
         (stopped_text cursor.old report.now.answer names.now report.now.structures) result }
-    ensures same { cursor.new ≡ cursor.old }
 {
     put(sink, b"stopped\n")?;
     put_shown(sink, cursor, report, names)
@@ -371,7 +335,6 @@ pub fn write_report<W: Sink>(
     sink: &mut W,
 ) -> Result<(), PrintError>
     requires fits { length text.now ≤ MAX_BYTES }
-    requires inside { ReportWithin (length text.now) report.now }
     ensures { Prints (W.told sink.old) (W.told sink.new) (report_text text.now names report.now) result }
 {
     let shown = asked(names, report.names.as_slice());

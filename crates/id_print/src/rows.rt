@@ -1,14 +1,12 @@
 //! The facts of a round by path and row, a line for each, without their paths.
 
 ghost use Rattle.std.specs.Prelude.{◌≡◌, ◌≤◌, ◌++◌, length, codes};
-ghost use Rattle.id_sink.specs.Told.{Prints};
-ghost use Rattle.id_sink.specs.Texts.{ask_text, bounds_text, cell_text, equal_text, filled_text, point_value_text};
-ghost use Rattle.id_sink.specs.Texts.{shape_text, site_text, value_text};
-ghost use Rattle.id_sink.specs.Within.{AskWithin, FilledWithin, SiteWithin, ValueWithin};
-ghost use Rattle.id_print.specs.Within.{FactWithin, FactsWithin, HasWithin, PutWithin};
+ghost use Rattle.id_sink.specs.Told.{Prints, PrintsWith};
+ghost use Rattle.id_sink.specs.Texts.{bounds_text, cell_text, equal_text, filled_text, point_value_text};
+ghost use Rattle.id_sink.specs.Texts.{site_text, value_text};
 ghost use Rattle.id_facts.specs.Listed.{facts_in};
 ghost use Rattle.id_source.specs.Facts.{ask, put, shape};
-ghost use Rattle.id_print.specs.Texts.{fact_text, facts_text, put_text};
+ghost use Rattle.id_print.specs.Texts.{fact_text, facts_text};
 ghost use Rattle.id_print.specs.Pens.{fact_in, name_in, path_in, place_in, site_in, value_in};
 
 use id_check::Checked;
@@ -22,6 +20,8 @@ use id_text::MAX_BYTES;
 use std::marker::Model;
 
 /// A cursor of the text, its program, the facts, and room for the steps of a path of them.
+///
+/// Keeps: no path of the facts has more steps than there is room for. Clauses see the text, the program and the facts.
 #[derive(Drop)]
 pub(crate) struct Pen<'a> {
     pub(crate) cursor: Cursor<'a>,
@@ -64,7 +64,6 @@ pub fn write_round<W: Sink>(
     sink: &mut W,
 ) -> Result<(), PrintError>
     requires fits { length text.now ≤ MAX_BYTES }
-    requires inside { FactsWithin (length text.now) (facts_in checked.now round.paths round.rows.items) }
     ensures { Prints (W.told sink.old) (W.told sink.new)
         (facts_text text.now (facts_in checked.now round.paths round.rows.items)) result }
 {
@@ -81,10 +80,8 @@ pub fn write_round<W: Sink>(
 
 /// The lines of facts, in order.
 fn put_rows<W: Sink>(sink: &mut W, pen: &mut Pen<'_>, rows: &[RowFact]) -> Result<(), PrintError>
-    requires { FactsWithin (length pen.old.text) (facts_in pen.old.checked pen.old.facts rows.now) }
-    ensures prints { Prints (W.told sink.old) (W.told sink.new)
+    ensures { PrintsWith (W.told sink.old) (W.told sink.new) pen.old pen.new
         (facts_text pen.old.text (facts_in pen.old.checked pen.old.facts rows.now)) result }
-    ensures same { pen.new ≡ pen.old }
 {
     for row in rows {
         put_row(sink, pen, *row)?;
@@ -93,9 +90,8 @@ fn put_rows<W: Sink>(sink: &mut W, pen: &mut Pen<'_>, rows: &[RowFact]) -> Resul
 }
 
 fn put_row<W: Sink>(sink: &mut W, pen: &mut Pen<'_>, fact: RowFact) -> Result<(), PrintError>
-    requires { FactWithin (length pen.old.text) (fact_in pen.old fact) }
-    ensures prints { Prints (W.told sink.old) (W.told sink.new) (fact_text pen.old.text (fact_in pen.old fact)) result }
-    ensures same { pen.new ≡ pen.old }
+    ensures { PrintsWith (W.told sink.old) (W.told sink.new) pen.old pen.new
+        (fact_text pen.old.text (fact_in pen.old fact)) result }
 {
     match fact {
         RowFact::On { path, row } => put_on(sink, pen, path, row),
@@ -123,10 +119,8 @@ fn put_on<W: Sink>(
     path: Trail,
     row: usize,
 ) -> Result<(), PrintError>
-    requires { SiteWithin (length pen.old.text) (site_in pen.old path row) }
-    ensures prints { Prints (W.told sink.old) (W.told sink.new)
+    ensures { PrintsWith (W.told sink.old) (W.told sink.new) pen.old pen.new
         (codes "on " ++ (site_text pen.old.text (site_in pen.old path row) ++ codes "\n")) result }
-    ensures same { pen.new ≡ pen.old }
 {
     put(sink, b"on ")?;
     put_site(sink, pen, path, row)?;
@@ -140,11 +134,9 @@ fn put_has<W: Sink>(
     row: usize,
     value: RowValue,
 ) -> Result<(), PrintError>
-    requires { HasWithin (length pen.old.text) (path_in pen.old path) (place_in pen.old row) (value_in pen.old value) }
-    ensures prints { Prints (W.told sink.old) (W.told sink.new)
+    ensures { PrintsWith (W.told sink.old) (W.told sink.new) pen.old pen.new
         (codes "has " ++ point_value_text pen.old.text (path_in pen.old path) (place_in pen.old row)
         (value_in pen.old value)) result }
-    ensures same { pen.new ≡ pen.old }
 {
     put(sink, b"has ")?;
     put_site(sink, pen, path, row)?;
@@ -159,11 +151,9 @@ fn put_shape<W: Sink>(
     low: i64,
     high: i64,
 ) -> Result<(), PrintError>
-    requires { SiteWithin (length pen.old.text) (name_in pen.old name) }
-    ensures prints { Prints (W.told sink.old) (W.told sink.new)
+    ensures { PrintsWith (W.told sink.old) (W.told sink.new) pen.old pen.new
         (codes "shape " ++ (site_text pen.old.text (name_in pen.old name) ++ (codes " " ++ bounds_text low high)))
         result }
-    ensures same { pen.new ≡ pen.old }
 {
     put(sink, b"shape ")?;
     put_name(sink, pen, name)?;
@@ -180,12 +170,9 @@ fn put_stored<W: Sink>(
     index: i64,
     value: RowValue,
 ) -> Result<(), PrintError>
-    requires filled { FilledWithin (length pen.old.text) (name_in pen.old name) (value_in pen.old value) }
-    requires store { SiteWithin (length pen.old.text) (site_in pen.old path row) }
-    ensures prints { Prints (W.told sink.old) (W.told sink.new)
+    ensures { PrintsWith (W.told sink.old) (W.told sink.new) pen.old pen.new
         (codes "put " ++ (filled_text pen.old.text (name_in pen.old name) index (value_in pen.old value)
         ++ (codes " by " ++ (site_text pen.old.text (site_in pen.old path row) ++ codes "\n")))) result }
-    ensures same { pen.new ≡ pen.old }
 {
     put(sink, b"put ")?;
     put_filled(sink, pen, name, index, value)?;
@@ -199,10 +186,8 @@ fn put_store<W: Sink>(
     path: Trail,
     row: usize,
 ) -> Result<(), PrintError>
-    requires { SiteWithin (length pen.old.text) (site_in pen.old path row) }
-    ensures prints { Prints (W.told sink.old) (W.told sink.new)
+    ensures { PrintsWith (W.told sink.old) (W.told sink.new) pen.old pen.new
         (codes " by " ++ (site_text pen.old.text (site_in pen.old path row) ++ codes "\n")) result }
-    ensures same { pen.new ≡ pen.old }
 {
     put(sink, b" by ")?;
     put_site_behind(sink, pen, path, row)?;
@@ -217,12 +202,9 @@ fn put_asked<W: Sink>(
     name: usize,
     index: i64,
 ) -> Result<(), PrintError>
-    requires fetch { SiteWithin (length pen.old.text) (site_in pen.old path row) }
-    requires name { SiteWithin (length pen.old.text) (name_in pen.old name) }
-    ensures prints { Prints (W.told sink.old) (W.told sink.new)
+    ensures { PrintsWith (W.told sink.old) (W.told sink.new) pen.old pen.new
         (codes "ask " ++ (site_text pen.old.text (site_in pen.old path row)
         ++ (codes " of " ++ (cell_text pen.old.text (name_in pen.old name) index ++ codes "\n")))) result }
-    ensures same { pen.new ≡ pen.old }
 {
     put(sink, b"ask ")?;
     put_site(sink, pen, path, row)?;
@@ -236,10 +218,8 @@ fn put_asked_cell<W: Sink>(
     name: usize,
     index: i64,
 ) -> Result<(), PrintError>
-    requires { SiteWithin (length pen.old.text) (name_in pen.old name) }
-    ensures prints { Prints (W.told sink.old) (W.told sink.new)
+    ensures { PrintsWith (W.told sink.old) (W.told sink.new) pen.old pen.new
         (codes " of " ++ (cell_text pen.old.text (name_in pen.old name) index ++ codes "\n")) result }
-    ensures same { pen.new ≡ pen.old }
 {
     put(sink, b" of ")?;
     put_cell_behind(sink, pen, name, index)?;
@@ -253,10 +233,8 @@ pub(crate) fn put_cell_behind<W: Sink>(
     name: usize,
     index: i64,
 ) -> Result<(), PrintError>
-    requires { SiteWithin (length pen.old.text) (name_in pen.old name) }
-    ensures prints { Prints (W.told sink.old) (W.told sink.new)
+    ensures { PrintsWith (W.told sink.old) (W.told sink.new) pen.old pen.new
         (cell_text pen.old.text (name_in pen.old name) index) result }
-    ensures same { pen.new ≡ pen.old }
 {
     pen.turn();
     let done = put_cell(sink, pen, name, index);
@@ -272,10 +250,8 @@ fn put_filled<W: Sink>(
     index: i64,
     value: RowValue,
 ) -> Result<(), PrintError>
-    requires { FilledWithin (length pen.old.text) (name_in pen.old name) (value_in pen.old value) }
-    ensures prints { Prints (W.told sink.old) (W.told sink.new)
+    ensures { PrintsWith (W.told sink.old) (W.told sink.new) pen.old pen.new
         (filled_text pen.old.text (name_in pen.old name) index (value_in pen.old value)) result }
-    ensures same { pen.new ≡ pen.old }
 {
     put_cell(sink, pen, name, index)?;
     put_equal(sink, pen, value)
@@ -288,10 +264,8 @@ fn put_cell<W: Sink>(
     name: usize,
     index: i64,
 ) -> Result<(), PrintError>
-    requires { SiteWithin (length pen.old.text) (name_in pen.old name) }
-    ensures prints { Prints (W.told sink.old) (W.told sink.new)
+    ensures { PrintsWith (W.told sink.old) (W.told sink.new) pen.old pen.new
         (cell_text pen.old.text (name_in pen.old name) index) result }
-    ensures same { pen.new ≡ pen.old }
 {
     put_name(sink, pen, name)?;
     put_index(sink, index)
@@ -299,10 +273,8 @@ fn put_cell<W: Sink>(
 
 /// A value after `=`.
 fn put_equal<W: Sink>(sink: &mut W, pen: &mut Pen<'_>, value: RowValue) -> Result<(), PrintError>
-    requires { ValueWithin (length pen.old.text) (value_in pen.old value) }
-    ensures prints { Prints (W.told sink.old) (W.told sink.new)
+    ensures { PrintsWith (W.told sink.old) (W.told sink.new) pen.old pen.new
         (equal_text pen.old.text (value_in pen.old value)) result }
-    ensures same { pen.new ≡ pen.old }
 {
     put(sink, b" = ")?;
     put_value(sink, pen, value)
@@ -314,10 +286,8 @@ pub(crate) fn put_value<W: Sink>(
     pen: &mut Pen<'_>,
     value: RowValue,
 ) -> Result<(), PrintError>
-    requires { ValueWithin (length pen.old.text) (value_in pen.old value) }
-    ensures prints { Prints (W.told sink.old) (W.told sink.new)
+    ensures { PrintsWith (W.told sink.old) (W.told sink.new) pen.old pen.new
         (value_text pen.old.text (value_in pen.old value)) result }
-    ensures same { pen.new ≡ pen.old }
 {
     match value {
         RowValue::Int(n) => put_int(sink, n),
@@ -328,9 +298,8 @@ pub(crate) fn put_value<W: Sink>(
 
 /// The name of a structure, behind something else on the line.
 fn put_name_behind<W: Sink>(sink: &mut W, pen: &mut Pen<'_>, name: usize) -> Result<(), PrintError>
-    requires { SiteWithin (length pen.old.text) (name_in pen.old name) }
-    ensures prints { Prints (W.told sink.old) (W.told sink.new) (site_text pen.old.text (name_in pen.old name)) result }
-    ensures same { pen.new ≡ pen.old }
+    ensures { PrintsWith (W.told sink.old) (W.told sink.new) pen.old pen.new
+        (site_text pen.old.text (name_in pen.old name)) result }
 {
     let made = pen.tree.fact(name);
     put_site_behind(sink, pen, path_of(made), row_of(made))
@@ -338,9 +307,8 @@ fn put_name_behind<W: Sink>(sink: &mut W, pen: &mut Pen<'_>, name: usize) -> Res
 
 /// The name of a structure: the path and the place of its `array`.
 fn put_name<W: Sink>(sink: &mut W, pen: &mut Pen<'_>, name: usize) -> Result<(), PrintError>
-    requires { SiteWithin (length pen.old.text) (name_in pen.old name) }
-    ensures prints { Prints (W.told sink.old) (W.told sink.new) (site_text pen.old.text (name_in pen.old name)) result }
-    ensures same { pen.new ≡ pen.old }
+    ensures { PrintsWith (W.told sink.old) (W.told sink.new) pen.old pen.new
+        (site_text pen.old.text (name_in pen.old name)) result }
 {
     let made = pen.tree.fact(name);
     put_site(sink, pen, path_of(made), row_of(made))
@@ -353,10 +321,8 @@ pub(crate) fn put_site_behind<W: Sink>(
     path: Trail,
     row: usize,
 ) -> Result<(), PrintError>
-    requires { SiteWithin (length pen.old.text) (site_in pen.old path row) }
-    ensures prints { Prints (W.told sink.old) (W.told sink.new)
+    ensures { PrintsWith (W.told sink.old) (W.told sink.new) pen.old pen.new
         (site_text pen.old.text (site_in pen.old path row)) result }
-    ensures same { pen.new ≡ pen.old }
 {
     pen.turn();
     let done = put_site(sink, pen, path, row);
@@ -371,10 +337,8 @@ fn put_site<W: Sink>(
     path: Trail,
     row: usize,
 ) -> Result<(), PrintError>
-    requires { SiteWithin (length pen.old.text) (site_in pen.old path row) }
-    ensures prints { Prints (W.told sink.old) (W.told sink.new)
+    ensures { PrintsWith (W.told sink.old) (W.told sink.new) pen.old pen.new
         (site_text pen.old.text (site_in pen.old path row)) result }
-    ensures same { pen.new ≡ pen.old }
 {
     let start = write_steps(&mut pen.steps, pen.checked, &pen.tree, path);
     put_steps(sink, &mut pen.cursor, &pen.steps[start..])?;

@@ -1,21 +1,17 @@
 //! Reports of runs: how a run ended, and what it has shown, in order.
 
-ghost use Rattle.std.specs.Prelude.{◌≡◌, ◌≢◌, ◌↔◌, ◌++◌, [], false, map, IsTrue, IsFalse, IfOk};
+ghost use Rattle.std.specs.Prelude.{◌≡◌, ◌≢◌, [], false, IsTrue, IsFalse, IfOk};
 ghost use Rattle.id_record.specs.declared.kept.Keeps.TheVariants as keeps;
-ghost use Rattle.id_core.specs.Observed.{answer, faults, names, waiting};
+ghost use Rattle.id_core.specs.Observed.{answer, cell_values, faults, names, structures, waiting};
 ghost use Rattle.id_source.specs.Orders.{NamesRise, Rises};
-ghost use Rattle.id_print.specs.declared.helds.Held.TheVariants as held;
 ghost use Rattle.id_print.specs.Endings.{EndsSo};
 ghost use Rattle.id_print.specs.Names.{IsOrderOf, IsSortedOf, AreApart, AreApartBy, HeldBefore, WaitBefore};
 ghost use Rattle.id_print.specs.Names.{OfOneThing, OfOneFetch, held_lines};
 ghost use Rattle.id_print.specs.RunReports.{IsReportFrom};
-ghost use Rattle.id_print.specs.Within.{ReportWithin};
 
+use crate::ending::Ending;
 use crate::helds::Helds;
 use crate::names::{sorted_asks, sorted_names};
-use crate::within::{
-    Ending, are_asks_within, are_names_within, is_answer_within, is_ending_within,
-};
 use id_core::{CellValue, Machine};
 use id_source::{Ask, NameValue, Shape, SourceValue};
 use id_value::Sequence;
@@ -89,9 +85,12 @@ struct InOrder {
 /// What a run shows of its answer and of structures, in order.
 fn machine_held(alloc: Global, machine: &Machine<'_>) -> Result<InOrder, AllocError>
     ensures answer { IfOk result (λ r. r.answer ≡ answer machine.now.graph machine.now.world) }
-    ensures held { IfOk result (λ r. IsOrderOf HeldBefore r.lines (held_lines machine.now)) }
-    ensures held_rise { IfOk result
-        (λ r. AreApartBy OfOneThing (held_lines machine.now) → Rises HeldBefore r.lines) }
+    ensures held { let m = machine.now in
+        let all = held_lines (structures m.graph m.world) (cell_values m.graph m.world) in
+        IfOk result (λ r. IsOrderOf HeldBefore r.lines all) }
+    ensures held_rise { let m = machine.now in
+        let all = held_lines (structures m.graph m.world) (cell_values m.graph m.world) in
+        IfOk result (λ r. AreApartBy OfOneThing all → Rises HeldBefore r.lines) }
     ensures waiting { IfOk result
         (λ r. IsOrderOf WaitBefore r.waiting (waiting machine.now.graph machine.now.world)) }
     ensures waiting_rise { IfOk result
@@ -114,10 +113,8 @@ fn in_order(
     waiting: Sequence<Ask>,
 ) -> Result<InOrder, AllocError>
     ensures answer { IfOk result (λ r. r.answer ≡ answer) }
-    ensures held { IfOk result
-        (λ r. IsOrderOf HeldBefore r.lines (map held.Array shapes ++ map held.Cell cells)) }
-    ensures held_rise { IfOk result
-        (λ r. AreApartBy OfOneThing (map held.Array shapes ++ map held.Cell cells) → Rises HeldBefore r.lines) }
+    ensures held { IfOk result (λ r. IsOrderOf HeldBefore r.lines (held_lines shapes cells)) }
+    ensures held_rise { IfOk result (λ r. AreApartBy OfOneThing (held_lines shapes cells) → Rises HeldBefore r.lines) }
     ensures waiting { IfOk result (λ r. IsOrderOf WaitBefore r.waiting waiting) }
     ensures waiting_rise { IfOk result (λ r. AreApartBy OfOneFetch waiting → Rises WaitBefore r.waiting) }
 {
@@ -160,15 +157,4 @@ fn ending_without_fault(machine: &Machine<'_>) -> Ending
     } else {
         Ending::Stopped
     }
-}
-
-/// Whether every place that the report tells lies in a text of so many bytes. Takes no memory.
-pub fn is_within(report: &Report, size: usize) -> bool
-    ensures { IsTrue result ↔ ReportWithin size report.now }
-{
-    is_ending_within(&report.ending, size)
-        && is_answer_within(&report.answer, size)
-        && are_names_within(report.names.as_slice(), size)
-        && report.structures.are_within(size)
-        && are_asks_within(report.waiting.as_slice(), size)
 }

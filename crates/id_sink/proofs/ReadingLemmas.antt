@@ -9,7 +9,7 @@ use Rattle.std.proofs.lemmas.Str.{IsUtf8-from_is_utf8, is_utf8-from_IsUtf8, IsUt
 use Rattle.id_sink.specs.declared.source.ReadFault.{ReadFault}
 use Rattle.id_sink.specs.declared.source.SourceFault.{SourceFault}
 use Rattle.id_sink.specs.declared.source.SourceFault.TheVariants.{TooLong, File, Memory}
-use Rattle.id_sink.specs.Reading.{AreRead, IsFrontOf, IsRead, IsReadOf, IsTextOf, text_in, told_text}
+use Rattle.id_sink.specs.Reading.{IsFrontOf, IsRead, IsReadOf, IsTextOf, text_in, told_text}
 
 -- bytes above the limit are too long, whatever they are
 text_in-long : (bytes : List ℕ) → 1048576 < length bytes → text_in bytes ≡ Err TooLong
@@ -70,15 +70,3 @@ module _ {A : Type 0} where
       IsTextOf items r → IfSome known (λ bytes. IsReadOf bytes r)
   of_known None items r e h = tt
   of_known (Some bytes) items r e h = known_of_all bytes r (subst (λ xs. IsTextOf xs r) e h)
-
--- ---- all bytes
-
--- a front as long as can be that has fewer bytes is all
-module _ {B : Type 0} where
-  pub all_read : (told : Option (Result (List ℕ) ReadFault)) (v : Vec ℕ B) → IsFrontOf told 18446744073709551615 (Ok v) →
-      (length v.items ≡ 18446744073709551615 → ⊥) → AreRead told (Ok v)
-  all_read None v f h = tt
-  all_read (Some (Ok bytes)) v f h =
-      let short : length (take 18446744073709551615 bytes) ≡ 18446744073709551615 → ⊥ = λ e. h (subst (λ xs. length xs ≡ 18446744073709551615) (sym f) e) in
-      f ∙ take_all 18446744073709551615 bytes (omega (arith, length-take 18446744073709551615 bytes, short))
-  all_read (Some (Err e)) v f h = absurd f

@@ -1,7 +1,6 @@
 -- What public clauses cite.
 pub mod Told
 pub mod Texts
-pub mod Within
 pub mod Reading
 pub mod Writing
 pub mod Telling

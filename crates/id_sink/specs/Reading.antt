@@ -39,25 +39,6 @@ IsReadOf bytes (Err TooLong) = 1048576 < length bytes
 IsReadOf bytes (Err File) = Unit {0}
 IsReadOf bytes (Err Memory) = Unit {0}
 
--- the source told these bytes, if it told anything
-abbrev pub IsToldFor : Option (Result (List ℕ) ReadFault) → List ℕ → Type 0
-IsToldFor None bytes = Unit {0}
-IsToldFor (Some (Ok told)) bytes = bytes ≡ told
-IsToldFor (Some (Err fault)) bytes = ⊥
-
--- the source told this fault, if it told anything, or memory was refused; more bytes than any memory has room for can't
--- be read
-abbrev pub IsUnreadFor : Option (Result (List ℕ) ReadFault) → ReadFault → Type 0
-IsUnreadFor None fault = Unit {0}
-IsUnreadFor (Some (Ok bytes)) unread.File = 18446744073709551615 ≤ length bytes
-IsUnreadFor (Some (Ok bytes)) unread.Memory = Unit {0}
-IsUnreadFor (Some (Err told)) fault = (fault ≡ told) ⊎ (fault ≡ unread.Memory)
-
--- a read of all bytes answers those that the source told of, or why not
-abbrev pub AreRead : {A : Type 0} → Option (Result (List ℕ) ReadFault) → Result (Vec ℕ A) ReadFault → Type 0
-AreRead told (Ok v) = IsToldFor told v.items
-AreRead told (Err fault) = IsUnreadFor told fault
-
 -- what these bytes are as a text
 abbrev pub text_in : List ℕ → Result (List ℕ) SourceFault
 text_in bytes = if nat_le (length bytes) 1048576 then (if is_utf8 bytes then Ok bytes else Err File) else Err TooLong

@@ -58,3 +58,9 @@ PrintsBy old new text (Err e) = PrintsFront old new text
 -- the text is printed: the whole of it at an Ok, and at an Err a front of it before a write that failed
 pub record Prints (old new : SinkView) (text : List ℕ) (answer : Result (Unit {0}) PrintError) : Type 0 where
   pub printed : PrintsBy old new text answer
+
+-- the text is printed with a cursor or a pen, which stays what it was
+pub record PrintsWith {A : Type 0} (old new : SinkView) (before after : A) (text : List ℕ)
+    (answer : Result (Unit {0}) PrintError) : Type 0 where
+  pub prints : Prints old new text answer
+  pub same : after ≡ before

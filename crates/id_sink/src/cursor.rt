@@ -1,6 +1,6 @@
 //! The lines and columns of many places of a text, one after another, without memory for the lines.
 
-ghost use Rattle.std.specs.Prelude.{◌≡◌, ◌≤◌, length};
+ghost use Rattle.std.specs.Prelude.{◌≡◌, ◌≤◌, length, take};
 ghost use Rattle.id_text.specs.Places.{line_of, column_of};
 ghost use Rattle.id_sink.specs.Cursors.{IsSeries, IsSpot};
 ghost use Rattle.id_sink.specs.Texts.{has_brace};
@@ -28,6 +28,9 @@ pub struct Series {
 ///
 /// From a place to a later one only the bytes between them are read; places that rise take one pass over the text in
 /// all. So do places that rise again and again from one that they come back to.
+///
+/// Keeps: the text is one that may be compiled, by its length, and each place that was looked up lies in it and has its
+/// line and column. Clauses see the text alone.
 #[derive(Drop)]
 pub struct Cursor<'a> {
     text: &'a str,
@@ -63,25 +66,25 @@ impl<'a> Cursor<'a> {
         }
     }
 
-    /// The line and column of a place.
+    /// The line and column of a place. One behind the end of the text has those of the end.
     pub fn line_col(&mut self, at: usize) -> (u32, u32)
-        requires { at ≤ length self.old }
         ensures line { result.0 ≡ line_of self.old at }
         ensures column { result.1 ≡ column_of self.old at }
         ensures same { self.new ≡ self.old }
     {
-        self.place = series_at(self.text.as_bytes(), self.place, at);
+        let text = self.text.as_bytes();
+        self.place = series_at(text, self.place, inside(text, at));
         (self.place.last.line, self.place.last.column)
     }
 
     /// The line and column of the place of a step of a path.
     pub fn step_line_col(&mut self, at: usize) -> (u32, u32)
-        requires { at ≤ length self.old }
         ensures line { result.0 ≡ line_of self.old at }
         ensures column { result.1 ≡ column_of self.old at }
         ensures same { self.new ≡ self.old }
     {
-        self.step = series_at(self.text.as_bytes(), self.step, at);
+        let text = self.text.as_bytes();
+        self.step = series_at(text, self.step, inside(text, at));
         (self.step.last.line, self.step.last.column)
     }
 
@@ -106,6 +109,14 @@ impl<'a> Cursor<'a> {
             None => false,
         }
     }
+}
+
+/// The place, or the end of the text where that comes before it.
+fn inside(text: &[u8], at: usize) -> usize
+    ensures inside { result ≤ length text.now }
+    ensures same { take result text.now ≡ take at text.now }
+{
+    at.min(text.len())
 }
 
 /// The start of a text.

@@ -2,7 +2,7 @@
 
 ghost use Rattle.std.specs.Prelude.{◌≡◌, ◌↔◌, take, IfOk, IfSome, List, Option, Result, ℕ};
 ghost use Rattle.std.specs.IoError.{error_kind};
-ghost use Rattle.id_sink.specs.Reading.{AreRead, IsFrontOf, IsRead, IsReadOf, IsTextOf, fault_for, told_text};
+ghost use Rattle.id_sink.specs.Reading.{IsFrontOf, IsRead, IsReadOf, IsTextOf, fault_for, told_text};
 
 use id_text::MAX_BYTES;
 use std::alloc::Global;
@@ -22,25 +22,16 @@ pub enum SourceFault {
     Memory,
 }
 
-/// Something that has texts, and bytes, under names.
+/// Something that has texts under names.
 pub trait Source {
-    ghost use Rattle.id_sink.specs.declared.source.ReadFault.{ReadFault};
     ghost use Rattle.id_sink.specs.declared.source.SourceFault.{SourceFault};
 
     /// The text that a read of this name would give, or why there is none, where it tells that.
     ghost told: { Self → List ℕ → Option (Result (List ℕ) SourceFault) };
 
-    /// The bytes of this name, or why they can't be read, where it tells that.
-    ghost told_bytes: { Self → List ℕ → Option (Result (List ℕ) ReadFault) };
-
     /// The text of this name. Want of memory can stand in the place of any answer.
     fn read(&mut self, alloc: Global, name: &str) -> Result<String, SourceFault>
-        ensures text { IsRead (told self.old name.now) result }
-        ensures kept { (n : List ℕ) → told_bytes self.new n ≡ told_bytes self.old n };
-
-    /// All bytes of this name, whatever they are. Want of memory can stand in the place of any answer.
-    fn read_bytes(&mut self, alloc: Global, name: &str) -> Result<Vec<u8>, ReadFault>
-        ensures { AreRead (told_bytes self.old name.now) result };
+        ensures text { IsRead (told self.old name.now) result };
 }
 
 /// Why the bytes of a name weren't read.
@@ -107,7 +98,7 @@ impl<R: Read + Drop> Folder for Opened<R> {
     }
 }
 
-/// A folder's bytes as texts, and as they are.
+/// A folder's bytes as texts.
 #[derive(Drop)]
 pub struct Disk<F: Folder + Drop> {
     pub folder: F,
@@ -116,14 +107,8 @@ pub struct Disk<F: Folder + Drop> {
 impl<F: Folder + Drop> Source for Disk<F> {
     ghost told = { λ disk name. told_text (F.told disk.folder name) };
 
-    ghost told_bytes = { λ disk name. F.told disk.folder name };
-
     fn read(&mut self, alloc: Global, name: &str) -> Result<String, SourceFault> {
         read_text(alloc, &mut self.folder, name)
-    }
-
-    fn read_bytes(&mut self, alloc: Global, name: &str) -> Result<Vec<u8>, ReadFault> {
-        all_bytes(alloc, &mut self.folder, name)
     }
 }
 
@@ -141,21 +126,6 @@ pub fn read_text<F: Folder>(
     match folder.front(alloc, name, MAX_BYTES + 1) {
         Ok(bytes) => text_of(bytes),
         Err(fault) => Err(source_fault(fault)),
-    }
-}
-
-/// All bytes of this name. More than memory can have are told as `File`.
-fn all_bytes<F: Folder>(alloc: Global, folder: &mut F, name: &str) -> Result<Vec<u8>, ReadFault>
-    ensures { AreRead (F.told folder.old name.now) result }
-{
-    match folder.front(alloc, name, usize::MAX) {
-        Ok(bytes) => {
-            if bytes.len() == usize::MAX {
-                return Err(ReadFault::File);
-            }
-            Ok(bytes)
-        }
-        Err(fault) => Err(fault),
     }
 }
 

@@ -2,12 +2,11 @@
 
 ghost use Rattle.std.specs.Prelude.{◌≡◌, ◌≤◌, ◌++◌, length, decimal, codes};
 ghost use Rattle.std.specs.Fmt.{signed_decimal};
-ghost use Rattle.id_sink.specs.Told.{Prints};
+ghost use Rattle.id_sink.specs.Told.{Prints, PrintsWith};
 ghost use Rattle.id_sink.specs.Texts.{iteration_text, line_column_text, place_text, step_text, steps_text};
 ghost use Rattle.id_sink.specs.Texts.{point_text, point_value_text, truth_text, value_text, site_text, equal_text};
 ghost use Rattle.id_sink.specs.Texts.{bounds_text, shape_text, cell_text, filled_text, ask_text};
 ghost use Rattle.id_sink.specs.Texts.{content_text, number_content_text};
-ghost use Rattle.id_sink.specs.Within.{StepsWithin, PointWithin, SiteWithin, ValueWithin, FilledWithin, AskWithin};
 
 use crate::cursor::Cursor;
 use crate::line::Piece;
@@ -67,9 +66,8 @@ fn put_step<W: Sink>(
     cursor: &mut Cursor<'_>,
     step: &PathStep,
 ) -> Result<(), PrintError>
-    requires { step.now.place ≤ length cursor.old }
-    ensures prints { Prints (W.told sink.old) (W.told sink.new) (step_text cursor.old step.now) result }
-    ensures same { cursor.new ≡ cursor.old }
+    ensures { PrintsWith (W.told sink.old) (W.told sink.new) cursor.old cursor.new
+        (step_text cursor.old step.now) result }
 {
     let (line, column) = cursor.step_line_col(step.place);
     put(sink, b"/")?;
@@ -95,9 +93,8 @@ pub fn put_steps<W: Sink>(
     cursor: &mut Cursor<'_>,
     steps: &[PathStep],
 ) -> Result<(), PrintError>
-    requires { StepsWithin (length cursor.old) steps.now }
-    ensures prints { Prints (W.told sink.old) (W.told sink.new) (steps_text cursor.old steps.now) result }
-    ensures same { cursor.new ≡ cursor.old }
+    ensures { PrintsWith (W.told sink.old) (W.told sink.new) cursor.old cursor.new
+        (steps_text cursor.old steps.now) result }
 {
     for step in steps {
         put_step(sink, cursor, step)?;
@@ -107,9 +104,8 @@ pub fn put_steps<W: Sink>(
 
 /// A place after `@`.
 pub fn put_at<W: Sink>(sink: &mut W, cursor: &mut Cursor<'_>, at: usize) -> Result<(), PrintError>
-    requires { at ≤ length cursor.old }
-    ensures prints { Prints (W.told sink.old) (W.told sink.new) (codes "@" ++ place_text cursor.old at) result }
-    ensures same { cursor.new ≡ cursor.old }
+    ensures { PrintsWith (W.told sink.old) (W.told sink.new) cursor.old cursor.new
+        (codes "@" ++ place_text cursor.old at) result }
 {
     let (line, column) = cursor.line_col(at);
     let mut piece = Piece::new();
@@ -127,9 +123,8 @@ pub fn put_point<W: Sink>(
     path: &Path,
     place: usize,
 ) -> Result<(), PrintError>
-    requires { PointWithin (length cursor.old) path.now place }
-    ensures prints { Prints (W.told sink.old) (W.told sink.new) (point_text cursor.old path.now place) result }
-    ensures same { cursor.new ≡ cursor.old }
+    ensures { PrintsWith (W.told sink.old) (W.told sink.new) cursor.old cursor.new
+        (point_text cursor.old path.now place) result }
 {
     put_steps(sink, cursor, path.steps.as_slice())?;
     put_at(sink, cursor, place)
@@ -141,9 +136,8 @@ pub fn put_site<W: Sink>(
     cursor: &mut Cursor<'_>,
     site: &Site,
 ) -> Result<(), PrintError>
-    requires { SiteWithin (length cursor.old) site.now }
-    ensures prints { Prints (W.told sink.old) (W.told sink.new) (site_text cursor.old site.now) result }
-    ensures same { cursor.new ≡ cursor.old }
+    ensures { PrintsWith (W.told sink.old) (W.told sink.new) cursor.old cursor.new
+        (site_text cursor.old site.now) result }
 {
     put_point(sink, cursor, &site.path, site.place)
 }
@@ -154,9 +148,8 @@ pub fn put_site_behind<W: Sink>(
     cursor: &mut Cursor<'_>,
     site: &Site,
 ) -> Result<(), PrintError>
-    requires { SiteWithin (length cursor.old) site.now }
-    ensures prints { Prints (W.told sink.old) (W.told sink.new) (site_text cursor.old site.now) result }
-    ensures same { cursor.new ≡ cursor.old }
+    ensures { PrintsWith (W.told sink.old) (W.told sink.new) cursor.old cursor.new
+        (site_text cursor.old site.now) result }
 {
     cursor.turn();
     let done = put_site(sink, cursor, site);
@@ -172,11 +165,8 @@ pub fn put_point_value<W: Sink>(
     place: usize,
     value: &SourceValue,
 ) -> Result<(), PrintError>
-    requires point { PointWithin (length cursor.old) path.now place }
-    requires value { ValueWithin (length cursor.old) value.now }
-    ensures prints { Prints (W.told sink.old) (W.told sink.new)
+    ensures { PrintsWith (W.told sink.old) (W.told sink.new) cursor.old cursor.new
         (point_value_text cursor.old path.now place value.now) result }
-    ensures same { cursor.new ≡ cursor.old }
 {
     put_point(sink, cursor, path, place)?;
     put_equal(sink, cursor, value)?;
@@ -189,9 +179,8 @@ fn put_equal<W: Sink>(
     cursor: &mut Cursor<'_>,
     value: &SourceValue,
 ) -> Result<(), PrintError>
-    requires { ValueWithin (length cursor.old) value.now }
-    ensures prints { Prints (W.told sink.old) (W.told sink.new) (equal_text cursor.old value.now) result }
-    ensures same { cursor.new ≡ cursor.old }
+    ensures { PrintsWith (W.told sink.old) (W.told sink.new) cursor.old cursor.new
+        (equal_text cursor.old value.now) result }
 {
     put(sink, b" = ")?;
     put_value(sink, cursor, value)
@@ -203,9 +192,8 @@ pub fn put_shape<W: Sink>(
     cursor: &mut Cursor<'_>,
     shape: &Shape,
 ) -> Result<(), PrintError>
-    requires { SiteWithin (length cursor.old) shape.now.name }
-    ensures prints { Prints (W.told sink.old) (W.told sink.new) (shape_text cursor.old shape.now) result }
-    ensures same { cursor.new ≡ cursor.old }
+    ensures { PrintsWith (W.told sink.old) (W.told sink.new) cursor.old cursor.new
+        (shape_text cursor.old shape.now) result }
 {
     put_site(sink, cursor, &shape.name)?;
     put(sink, b" ")?;
@@ -238,9 +226,8 @@ pub fn put_cell<W: Sink>(
     name: &Site,
     index: i64,
 ) -> Result<(), PrintError>
-    requires { SiteWithin (length cursor.old) name.now }
-    ensures prints { Prints (W.told sink.old) (W.told sink.new) (cell_text cursor.old name.now index) result }
-    ensures same { cursor.new ≡ cursor.old }
+    ensures { PrintsWith (W.told sink.old) (W.told sink.new) cursor.old cursor.new
+        (cell_text cursor.old name.now index) result }
 {
     put_site(sink, cursor, name)?;
     put_index(sink, index)
@@ -253,9 +240,8 @@ fn put_cell_behind<W: Sink>(
     name: &Site,
     index: i64,
 ) -> Result<(), PrintError>
-    requires { SiteWithin (length cursor.old) name.now }
-    ensures prints { Prints (W.told sink.old) (W.told sink.new) (cell_text cursor.old name.now index) result }
-    ensures same { cursor.new ≡ cursor.old }
+    ensures { PrintsWith (W.told sink.old) (W.told sink.new) cursor.old cursor.new
+        (cell_text cursor.old name.now index) result }
 {
     cursor.turn();
     let done = put_cell(sink, cursor, name, index);
@@ -271,10 +257,8 @@ pub fn put_filled<W: Sink>(
     index: i64,
     value: &SourceValue,
 ) -> Result<(), PrintError>
-    requires { FilledWithin (length cursor.old) name.now value.now }
-    ensures prints { Prints (W.told sink.old) (W.told sink.new)
+    ensures { PrintsWith (W.told sink.old) (W.told sink.new) cursor.old cursor.new
         (filled_text cursor.old name.now index value.now) result }
-    ensures same { cursor.new ≡ cursor.old }
 {
     put_cell(sink, cursor, name, index)?;
     put_equal(sink, cursor, value)
@@ -287,9 +271,8 @@ pub fn put_content<W: Sink>(
     index: i64,
     value: &SourceValue,
 ) -> Result<(), PrintError>
-    requires { ValueWithin (length cursor.old) value.now }
-    ensures prints { Prints (W.told sink.old) (W.told sink.new) (content_text cursor.old index value.now) result }
-    ensures same { cursor.new ≡ cursor.old }
+    ensures { PrintsWith (W.told sink.old) (W.told sink.new) cursor.old cursor.new
+        (content_text cursor.old index value.now) result }
 {
     match value {
         SourceValue::Int(n) => put_number_content(sink, index, *n),
@@ -322,9 +305,8 @@ fn put_other_content<W: Sink>(
     index: i64,
     value: &SourceValue,
 ) -> Result<(), PrintError>
-    requires { ValueWithin (length cursor.old) value.now }
-    ensures prints { Prints (W.told sink.old) (W.told sink.new) (content_text cursor.old index value.now) result }
-    ensures same { cursor.new ≡ cursor.old }
+    ensures { PrintsWith (W.told sink.old) (W.told sink.new) cursor.old cursor.new
+        (content_text cursor.old index value.now) result }
 {
     put_index(sink, index)?;
     put_equal(sink, cursor, value)?;
@@ -333,9 +315,8 @@ fn put_other_content<W: Sink>(
 
 /// A fetch and the cell that it asks for, and the end of the line.
 pub fn put_ask<W: Sink>(sink: &mut W, cursor: &mut Cursor<'_>, ask: &Ask) -> Result<(), PrintError>
-    requires { AskWithin (length cursor.old) ask.now }
-    ensures prints { Prints (W.told sink.old) (W.told sink.new) (ask_text cursor.old ask.now) result }
-    ensures same { cursor.new ≡ cursor.old }
+    ensures { PrintsWith (W.told sink.old) (W.told sink.new) cursor.old cursor.new
+        (ask_text cursor.old ask.now) result }
 {
     put_site(sink, cursor, &ask.fetch)?;
     put_asked_cell(sink, cursor, &ask.name, ask.index)
@@ -348,10 +329,8 @@ fn put_asked_cell<W: Sink>(
     name: &Site,
     index: i64,
 ) -> Result<(), PrintError>
-    requires { SiteWithin (length cursor.old) name.now }
-    ensures prints { Prints (W.told sink.old) (W.told sink.new)
+    ensures { PrintsWith (W.told sink.old) (W.told sink.new) cursor.old cursor.new
         (codes " of " ++ (cell_text cursor.old name.now index ++ codes "\n")) result }
-    ensures same { cursor.new ≡ cursor.old }
 {
     put(sink, b" of ")?;
     put_cell_behind(sink, cursor, name, index)?;
@@ -380,9 +359,8 @@ pub fn put_value<W: Sink>(
     cursor: &mut Cursor<'_>,
     value: &SourceValue,
 ) -> Result<(), PrintError>
-    requires { ValueWithin (length cursor.old) value.now }
-    ensures prints { Prints (W.told sink.old) (W.told sink.new) (value_text cursor.old value.now) result }
-    ensures same { cursor.new ≡ cursor.old }
+    ensures { PrintsWith (W.told sink.old) (W.told sink.new) cursor.old cursor.new
+        (value_text cursor.old value.now) result }
 {
     match value {
         SourceValue::Int(n) => put_int(sink, *n),

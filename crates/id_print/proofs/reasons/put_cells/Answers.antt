@@ -6,14 +6,14 @@ use Rattle.id_print.specs.Reasons.{asked_text}
 use Rattle.id_print.proofs.ReasonsLemmas.{all-of}
 use Rattle.id_print.proofs.reasons.put_cells.Goals as goal
 
-pub put_asked-requires : goal.put_asked-requires
-put_asked-requires g c = rw c.loop-cell.invariant.same c.requires
-
-pub returns-in_err-put_asked-clause-prints : goal.returns-in_err-put_asked-clause-prints
-returns-in_err-put_asked-clause-prints g c =
+pub returns-in_err-put_asked : goal.returns-in_err-put_asked
+returns-in_err-put_asked g c =
     let prints = rw c.loop-cell.invariant.same at c.in_err-put_asked.ensures.prints in
-    Prints-more_stop (asked_text c.args.pen.now) c.args.cells.now c.loop-cell.cell-index _ _ _ _ _ _ _
-    (slice_get-get_or c.args.cells.now c.loop-cell.cell-index _ c.loop-cell-test.true) c.loop-cell.invariant.printed prints c.from_residual.ensures.0
+    record {
+      prints = Prints-more_stop (asked_text c.args.pen.now) c.args.cells.now c.loop-cell.cell-index _ _ _ _ _ _ _
+          (slice_get-get_or c.args.cells.now c.loop-cell.cell-index _ c.loop-cell-test.true) c.loop-cell.invariant.printed prints c.from_residual.ensures.0;
+      same = c.in_err-put_asked.ensures.same ∙ c.loop-cell.invariant.same;
+    }
 
 pub loop-cell-preserved : goal.loop-cell-preserved
 loop-cell-preserved g c =
@@ -24,6 +24,8 @@ loop-cell-preserved g c =
       same = c.in_ok-put_asked.ensures.same ∙ c.loop-cell.invariant.same;
     }
 
-pub returns-clause-prints : goal.returns-clause-prints
-returns-clause-prints g c =
-    same_text _ _ _ _ _ (all-of (asked_text c.args.pen.now) c.args.cells.now c.loop-cell.cell-index c.loop-cell-test.false) c.loop-cell.invariant.printed
+pub returns : goal.returns
+returns g c = record {
+  prints = same_text _ _ _ _ _ (all-of (asked_text c.args.pen.now) c.args.cells.now c.loop-cell.cell-index c.loop-cell-test.false) c.loop-cell.invariant.printed;
+  same = c.loop-cell.invariant.same;
+}

@@ -1,33 +1,41 @@
 -- One part behind the other.
-use Rattle.std.proofs.Common.{codes, ◌++◌}
+use Rattle.std.proofs.Common.{codes, ◌++◌, ◌∙◌, refl}
 use Rattle.id_sink.proofs.SinkLemmas.{Prints-stop, Prints-then}
 use Rattle.id_print.specs.Reasons.{thing_text, values_text}
 use Rattle.id_print.proofs.reasons.put_fails.Goals as goal
 
-pub returns-in_err-put-clause-prints : goal.returns-in_err-put-clause-prints
-returns-in_err-put-clause-prints g c =
+pub returns-in_err-put : goal.returns-in_err-put
+returns-in_err-put g c =
     let pen = c.args.pen.now in
     let line = c.args.line.now in
-    Prints-stop _ _ _ (thing_text pen line.thing ++ (codes " on" ++ values_text pen line.values.items)) _ _ c.in_err-put.ensures c.from_residual.ensures.0
+    record {
+      prints = Prints-stop _ _ _ (thing_text pen line.thing ++ (codes " on" ++ values_text pen line.values.items)) _ _ c.in_err-put.ensures c.from_residual.ensures.0;
+      same = refl;
+    }
 
-pub returns-in_err-put_thing-clause-prints : goal.returns-in_err-put_thing-clause-prints
-returns-in_err-put_thing-clause-prints g c =
+pub returns-in_err-put_thing : goal.returns-in_err-put_thing
+returns-in_err-put_thing g c =
     let pen = c.args.pen.now in
     let line = c.args.line.now in
-    Prints-then _ _ _ _ _ _ _ c.in_ok-put.ensures
-    (Prints-stop _ _ _ (codes " on" ++ values_text pen line.values.items) _ _ c.in_err-put_thing.ensures.prints c.from_residual-in_err-put_thing.ensures.0)
+    record {
+      prints = Prints-then _ _ _ _ _ _ _ c.in_ok-put.ensures
+          (Prints-stop _ _ _ (codes " on" ++ values_text pen line.values.items) _ _ c.in_err-put_thing.ensures.prints c.from_residual-in_err-put_thing.ensures.0);
+      same = c.in_err-put_thing.ensures.same;
+    }
 
-pub returns-in_err-put-2-clause-prints : goal.returns-in_err-put-2-clause-prints
-returns-in_err-put-2-clause-prints g c =
+pub returns-in_err-put-2 : goal.returns-in_err-put-2
+returns-in_err-put-2 g c =
     let pen = c.args.pen.now in
     let line = c.args.line.now in
-    Prints-then _ _ _ _ _ _ _ c.in_ok-put.ensures (Prints-then _ _ _ _ _ _ _ c.in_ok-put_thing.ensures.prints
-    (Prints-stop _ _ _ (values_text pen line.values.items) _ _ c.in_err-put-2.ensures c.from_residual-in_err-put-2.ensures.0))
+    record {
+      prints = Prints-then _ _ _ _ _ _ _ c.in_ok-put.ensures (Prints-then _ _ _ _ _ _ _ c.in_ok-put_thing.ensures.prints
+          (Prints-stop _ _ _ (values_text pen line.values.items) _ _ c.in_err-put-2.ensures c.from_residual-in_err-put-2.ensures.0));
+      same = c.in_ok-put_thing.ensures.same;
+    }
 
-pub put_values-requires : goal.put_values-requires
-put_values-requires g c = rw c.in_ok-put_thing.ensures.same c.requires
-
-pub returns-clause-prints : goal.returns-clause-prints
-returns-clause-prints g c =
-    Prints-then _ _ _ _ _ _ _ c.in_ok-put.ensures (Prints-then _ _ _ _ _ _ _ c.in_ok-put_thing.ensures.prints
-    (Prints-then _ _ _ _ _ _ _ c.in_ok-put-2.ensures (rw (c.in_ok-put_thing.ensures.same, c.as_slice.ensures.value) at c.put_values.ensures.prints)))
+pub returns : goal.returns
+returns g c = record {
+  prints = Prints-then _ _ _ _ _ _ _ c.in_ok-put.ensures (Prints-then _ _ _ _ _ _ _ c.in_ok-put_thing.ensures.prints
+      (Prints-then _ _ _ _ _ _ _ c.in_ok-put-2.ensures (rw (c.in_ok-put_thing.ensures.same, c.as_slice.ensures.value) at c.put_values.ensures.prints)));
+  same = c.put_values.ensures.same ∙ c.in_ok-put_thing.ensures.same;
+}

@@ -6,14 +6,14 @@ use Rattle.id_print.specs.Reasons.{thing_text}
 use Rattle.id_print.proofs.ReasonsLemmas.{all-of}
 use Rattle.id_print.proofs.reasons.put_things.Goals as goal
 
-pub put_thing-requires : goal.put_thing-requires
-put_thing-requires g c = rw c.loop-thing.invariant.same c.requires
-
-pub returns-in_err-put_thing-clause-prints : goal.returns-in_err-put_thing-clause-prints
-returns-in_err-put_thing-clause-prints g c =
+pub returns-in_err-put_thing : goal.returns-in_err-put_thing
+returns-in_err-put_thing g c =
     let prints = rw c.loop-thing.invariant.same at c.in_err-put_thing.ensures.prints in
-    Prints-more_stop (thing_text c.args.pen.now) c.args.things.now c.loop-thing.thing-index _ _ _ _ _ _ _
-    (slice_get-get_or c.args.things.now c.loop-thing.thing-index _ c.loop-thing-test.true) c.loop-thing.invariant.printed prints c.from_residual.ensures.0
+    record {
+      prints = Prints-more_stop (thing_text c.args.pen.now) c.args.things.now c.loop-thing.thing-index _ _ _ _ _ _ _
+          (slice_get-get_or c.args.things.now c.loop-thing.thing-index _ c.loop-thing-test.true) c.loop-thing.invariant.printed prints c.from_residual.ensures.0;
+      same = c.in_err-put_thing.ensures.same ∙ c.loop-thing.invariant.same;
+    }
 
 pub loop-thing-preserved : goal.loop-thing-preserved
 loop-thing-preserved g c =
@@ -24,6 +24,8 @@ loop-thing-preserved g c =
       same = c.in_ok-put_thing.ensures.same ∙ c.loop-thing.invariant.same;
     }
 
-pub returns-clause-prints : goal.returns-clause-prints
-returns-clause-prints g c =
-    same_text _ _ _ _ _ (all-of (thing_text c.args.pen.now) c.args.things.now c.loop-thing.thing-index c.loop-thing-test.false) c.loop-thing.invariant.printed
+pub returns : goal.returns
+returns g c = record {
+  prints = same_text _ _ _ _ _ (all-of (thing_text c.args.pen.now) c.args.things.now c.loop-thing.thing-index c.loop-thing-test.false) c.loop-thing.invariant.printed;
+  same = c.loop-thing.invariant.same;
+}

@@ -6,14 +6,14 @@ use Rattle.id_print.specs.Reasons.{given_text}
 use Rattle.id_print.proofs.ReasonsLemmas.{all-of}
 use Rattle.id_print.proofs.reasons.put_values.Goals as goal
 
-pub put_given-requires : goal.put_given-requires
-put_given-requires g c = rw c.loop-value.invariant.same c.requires
-
-pub returns-in_err-put_given-clause-prints : goal.returns-in_err-put_given-clause-prints
-returns-in_err-put_given-clause-prints g c =
+pub returns-in_err-put_given : goal.returns-in_err-put_given
+returns-in_err-put_given g c =
     let prints = rw c.loop-value.invariant.same at c.in_err-put_given.ensures.prints in
-    Prints-more_stop (given_text c.args.pen.now) c.args.values.now c.loop-value.value-index _ _ _ _ _ _ _
-    (slice_get-get_or c.args.values.now c.loop-value.value-index _ c.loop-value-test.true) c.loop-value.invariant.printed prints c.from_residual.ensures.0
+    record {
+      prints = Prints-more_stop (given_text c.args.pen.now) c.args.values.now c.loop-value.value-index _ _ _ _ _ _ _
+          (slice_get-get_or c.args.values.now c.loop-value.value-index _ c.loop-value-test.true) c.loop-value.invariant.printed prints c.from_residual.ensures.0;
+      same = c.in_err-put_given.ensures.same ∙ c.loop-value.invariant.same;
+    }
 
 pub loop-value-preserved : goal.loop-value-preserved
 loop-value-preserved g c =
@@ -24,6 +24,8 @@ loop-value-preserved g c =
       same = c.in_ok-put_given.ensures.same ∙ c.loop-value.invariant.same;
     }
 
-pub returns-clause-prints : goal.returns-clause-prints
-returns-clause-prints g c =
-    same_text _ _ _ _ _ (all-of (given_text c.args.pen.now) c.args.values.now c.loop-value.value-index c.loop-value-test.false) c.loop-value.invariant.printed
+pub returns : goal.returns
+returns g c = record {
+  prints = same_text _ _ _ _ _ (all-of (given_text c.args.pen.now) c.args.values.now c.loop-value.value-index c.loop-value-test.false) c.loop-value.invariant.printed;
+  same = c.loop-value.invariant.same;
+}

@@ -1,4 +1,4 @@
-use Rattle.std.proofs.Common.{codes, rules, w64, ◌++◌}
+use Rattle.std.proofs.Common.{codes, rules, w64, ◌++◌, ◌∙◌, refl}
 use mir.Val.{SFits}
 use Rattle.std.proofs.lemmas.Int.{to_z-of_z}
 use Rattle.id_sink.specs.Texts.{cell_text, site_text}
@@ -6,21 +6,30 @@ use Rattle.id_print.specs.Pens.{name_in, site_in}
 use Rattle.id_sink.proofs.SinkLemmas.{Prints-stop, Prints-then}
 use Rattle.id_print.proofs.rows.put_asked.Goals as goal
 
-pub returns-in_err-put-clause-prints : goal.returns-in_err-put-clause-prints
-returns-in_err-put-clause-prints g c =
+pub returns-in_err-put : goal.returns-in_err-put
+returns-in_err-put g c =
     let pen = c.args.pen.now in
-    Prints-stop _ _ _ (site_text pen.text (site_in pen c.args.path c.args.row)
-    ++ (codes " of " ++ (cell_text pen.text (name_in pen c.args.name) c.args.index ++ codes "\n"))) _ _ c.in_err-put.ensures c.from_residual.ensures.0
+    record {
+      prints = Prints-stop _ _ _ (site_text pen.text (site_in pen c.args.path c.args.row)
+          ++ (codes " of " ++ (cell_text pen.text (name_in pen c.args.name) c.args.index ++ codes "\n"))) _ _ c.in_err-put.ensures c.from_residual.ensures.0;
+      same = refl;
+    }
 
-pub returns-in_err-put_site-clause-prints : goal.returns-in_err-put_site-clause-prints
-returns-in_err-put_site-clause-prints g c =
+pub returns-in_err-put_site : goal.returns-in_err-put_site
+returns-in_err-put_site g c =
     let pen = c.args.pen.now in
-    Prints-then _ _ _ _ _ _ _ c.in_ok-put.ensures
-    (Prints-stop _ _ _ (codes " of " ++ (cell_text pen.text (name_in pen c.args.name) c.args.index ++ codes "\n")) _ _ c.in_err-put_site.ensures.prints
-    c.from_residual-in_err-put_site.ensures.0)
+    record {
+      prints = Prints-then _ _ _ _ _ _ _ c.in_ok-put.ensures
+          (Prints-stop _ _ _ (codes " of " ++ (cell_text pen.text (name_in pen c.args.name) c.args.index ++ codes "\n")) _ _ c.in_err-put_site.ensures.prints
+          c.from_residual-in_err-put_site.ensures.0);
+      same = c.in_err-put_site.ensures.same;
+    }
 
-pub returns-clause-prints : goal.returns-clause-prints
-returns-clause-prints g c =
+pub returns : goal.returns
+returns g c =
     let index_fits : SFits w64 c.args.index = search rules in
-    Prints-then _ _ _ _ _ _ _ c.in_ok-put.ensures (Prints-then _ _ _ _ _ _ _ c.in_ok-put_site.ensures.prints
-    (rw (to_z-of_z w64 c.args.index index_fits) at (rw c.in_ok-put_site.ensures.same at c.put_asked_cell.ensures.prints)))
+    record {
+      prints = Prints-then _ _ _ _ _ _ _ c.in_ok-put.ensures (Prints-then _ _ _ _ _ _ _ c.in_ok-put_site.ensures.prints
+          (rw (to_z-of_z w64 c.args.index index_fits) at (rw c.in_ok-put_site.ensures.same at c.put_asked_cell.ensures.prints)));
+      same = c.put_asked_cell.ensures.same ∙ c.in_ok-put_site.ensures.same;
+    }

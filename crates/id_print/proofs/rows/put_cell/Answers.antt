@@ -5,11 +5,16 @@ use Rattle.std.proofs.lemmas.Int.{to_z-of_z}
 use Rattle.id_sink.proofs.SinkLemmas.{Prints-stop, Prints-then}
 use Rattle.id_print.proofs.rows.put_cell.Goals as goal
 
-pub returns-in_err-put_name-clause-prints : goal.returns-in_err-put_name-clause-prints
-returns-in_err-put_name-clause-prints g c =
-    Prints-stop _ _ _ (codes "[" ++ (signed_decimal c.args.index ++ codes "]")) _ _ c.in_err-put_name.ensures.prints c.from_residual.ensures.0
+pub returns-in_err-put_name : goal.returns-in_err-put_name
+returns-in_err-put_name g c = record {
+  prints = Prints-stop _ _ _ (codes "[" ++ (signed_decimal c.args.index ++ codes "]")) _ _ c.in_err-put_name.ensures.prints c.from_residual.ensures.0;
+  same = c.in_err-put_name.ensures.same;
+}
 
-pub returns-clause-prints : goal.returns-clause-prints
-returns-clause-prints g c =
+pub returns : goal.returns
+returns g c =
     let index_fits : SFits w64 c.args.index = search rules in
-    Prints-then _ _ _ _ _ _ _ c.in_ok-put_name.ensures.prints (rw (to_z-of_z w64 c.args.index index_fits) at c.put_index.ensures)
+    record {
+      prints = Prints-then _ _ _ _ _ _ _ c.in_ok-put_name.ensures.prints (rw (to_z-of_z w64 c.args.index index_fits) at c.put_index.ensures);
+      same = c.in_ok-put_name.ensures.same;
+    }

@@ -3,21 +3,6 @@ use mir.Val.{SFits}
 use Rattle.std.proofs.lemmas.Int.{to_z-of_z}
 use Rattle.id_print.proofs.rows.put_row.Goals as goal
 
-pub put_on-requires : goal.put_on-requires
-put_on-requires g c = rw c.in-On.is at c.requires
-
-pub put_has-requires : goal.put_has-requires
-put_has-requires g c = rw c.in-Has.is at c.requires
-
-pub put_shape-requires : goal.put_shape-requires
-put_shape-requires g c = rw c.in-Shape.is at c.requires
-
-pub put_stored-requires : goal.put_stored-requires
-put_stored-requires g c = let h = rw c.in-Put.is at c.requires in record { filled = h.filled; store = h.store }
-
-pub put_asked-requires : goal.put_asked-requires
-put_asked-requires g c = let h = rw c.in-Ask.is at c.requires in record { fetch = h.fetch; name = h.name }
-
 pub returns-in-On : goal.returns-in-On
 returns-in-On g c = record { prints = rw c.in-On.is c.put_on.ensures.prints; same = c.put_on.ensures.same }
 

@@ -1,26 +1,14 @@
 -- The steps that are written are those of the path, and then its place comes.
-use Rattle.std.proofs.Common.{List, codes, length, sym, subst, ◌++◌}
-use Rattle.id_source.specs.declared.PathStep.{PathStep}
+use Rattle.std.proofs.Common.{codes, rules, subst, ◌++◌}
 use Rattle.id_sink.specs.Told.{Prints}
 use Rattle.id_sink.specs.Texts.{place_text, site_text}
-use Rattle.id_sink.specs.Within.{SiteWithin, StepsWithin}
 use Rattle.id_sink.proofs.SinkLemmas.{Prints-stop, Prints-then}
 use Rattle.id_print.specs.Pens.{PenView, place_in, site_in}
 use Rattle.id_print.proofs.RowsLemmas.{steps-told}
 use Rattle.id_print.proofs.rows.put_site.Goals as goal
 
-pub put_steps-requires : goal.put_steps-requires
-put_steps-requires g c =
-    let v : PenView = record { text = c.pen.inside.cursor; checked = c.pen.inside.checked.now; facts = c.pen.inside.tree } in
-    let told = steps-told v c.args.path c.deref.result.now c.write_steps-start.new.steps.items c.write_steps-start.result c.deref.ensures.value
-    c.write_steps-start.ensures.steps in
-    let W : PenView → Type 0 = λ u. SiteWithin (length u.text) (site_in u c.args.path c.args.row) in
-    let within : W v = subst W (sym c.pen.view_is) c.requires in
-    let S : List PathStep → Type 0 = λ ss. StepsWithin (length v.text) ss in
-    subst S (sym told) within.path
-
-pub returns-in_err-put_steps-clause-prints : goal.returns-in_err-put_steps-clause-prints
-returns-in_err-put_steps-clause-prints g c =
+pub returns-in_err-put_steps : goal.returns-in_err-put_steps
+returns-in_err-put_steps g c =
     let v : PenView = record { text = c.pen.inside.cursor; checked = c.pen.inside.checked.now; facts = c.pen.inside.tree } in
     let told = steps-told v c.args.path c.deref.result.now c.write_steps-start.new.steps.items c.write_steps-start.result c.deref.ensures.value
     c.write_steps-start.ensures.steps in
@@ -28,10 +16,13 @@ returns-in_err-put_steps-clause-prints g c =
     (site_text u.text (site_in u c.args.path c.args.row)) c.from_residual.result in
     let here : P v = Prints-stop _ _ _ (codes "@" ++ place_text v.text (place_in v c.args.row)) _ _ (rw told at c.in_err-put_steps.ensures.prints)
     c.from_residual.ensures.0 in
-    subst P c.pen.view_is here
+    record {
+      prints = subst P c.pen.view_is here;
+      same = search rules;
+    }
 
-pub returns-clause-prints : goal.returns-clause-prints
-returns-clause-prints g c =
+pub returns : goal.returns
+returns g c =
     let v : PenView = record { text = c.pen.inside.cursor; checked = c.pen.inside.checked.now; facts = c.pen.inside.tree } in
     let told = steps-told v c.args.path c.deref.result.now c.write_steps-start.new.steps.items c.write_steps-start.result c.deref.ensures.value
     c.write_steps-start.ensures.steps in
@@ -39,4 +30,7 @@ returns-clause-prints g c =
     (site_text u.text (site_in u c.args.path c.args.row)) c.put_at.result in
     let place = rw c.place_of.ensures at (rw c.in_ok-put_steps.ensures.same at c.put_at.ensures.prints) in
     let here : P v = Prints-then _ _ _ _ _ _ _ (rw told at c.in_ok-put_steps.ensures.prints) place in
-    subst P c.pen.view_is here
+    record {
+      prints = subst P c.pen.view_is here;
+      same = search rules;
+    }

@@ -1,4 +1,8 @@
+use Rattle.std.proofs.Common.{◌∙◌}
 use Rattle.id_print.proofs.rows.put_site_behind.Goals as goal
 
-pub returns-clause-prints : goal.returns-clause-prints
-returns-clause-prints g c = rw c.turn.ensures at c.put_site-done.ensures.prints
+pub returns : goal.returns
+returns g c = record {
+  prints = rw c.turn.ensures at c.put_site-done.ensures.prints;
+  same = c.turn-2.ensures ∙ c.put_site-done.ensures.same ∙ c.turn.ensures;
+}

@@ -3,31 +3,31 @@ use Rattle.id_sink.specs.Texts.{has_brace, iteration_text, place_text}
 use Rattle.id_sink.proofs.SinkLemmas.{Prints-stop, Prints-then}
 use Rattle.id_sink.proofs.texts.put_step.Goals as goal
 
-pub returns-in_err-put-clause-prints : goal.returns-in_err-put-clause-prints
-returns-in_err-put-clause-prints g c =
+pub returns-in_err-put : goal.returns-in_err-put
+returns-in_err-put g c =
     let text = c.args.cursor.now in
     let s = c.args.step.now in
-    Prints-stop _ _ _ (place_text text s.place ++ iteration_text (has_brace text s.place) s.number) _ _ c.in_err-put.ensures c.from_residual.ensures.0
+    record {
+      prints = Prints-stop _ _ _ (place_text text s.place ++ iteration_text (has_brace text s.place) s.number) _ _ c.in_err-put.ensures c.from_residual.ensures.0;
+      same = c.step_line_col-line.ensures.same;
+    }
 
-pub returns-in_err-put-clause-same : goal.returns-in_err-put-clause-same
-returns-in_err-put-clause-same g c = c.step_line_col-line.ensures.same
-
-pub returns-in_err-put_line_column-clause-prints : goal.returns-in_err-put_line_column-clause-prints
-returns-in_err-put_line_column-clause-prints g c =
+pub returns-in_err-put_line_column : goal.returns-in_err-put_line_column
+returns-in_err-put_line_column g c =
     let text = c.args.cursor.now in
     let s = c.args.step.now in
     let at = c.step_line_col-line.ensures in
-    Prints-then _ _ _ _ _ _ _ c.in_ok-put.ensures (Prints-stop _ _ _ (iteration_text (has_brace text s.place) s.number) _ _
-    (rw (at.line, at.column) at c.in_err-put_line_column.ensures) c.from_residual-in_err-put_line_column.ensures.0)
+    record {
+      prints = Prints-then _ _ _ _ _ _ _ c.in_ok-put.ensures (Prints-stop _ _ _ (iteration_text (has_brace text s.place) s.number) _ _
+          (rw (at.line, at.column) at c.in_err-put_line_column.ensures) c.from_residual-in_err-put_line_column.ensures.0);
+      same = c.step_line_col-line.ensures.same;
+    }
 
-pub returns-in_err-put_line_column-clause-same : goal.returns-in_err-put_line_column-clause-same
-returns-in_err-put_line_column-clause-same g c = c.step_line_col-line.ensures.same
-
-pub returns-clause-prints : goal.returns-clause-prints
-returns-clause-prints g c =
+pub returns : goal.returns
+returns g c =
     let at = c.step_line_col-line.ensures in
-    Prints-then _ _ _ _ _ _ _ c.in_ok-put.ensures (Prints-then _ _ _ _ _ _ _ (rw (at.line, at.column) at c.in_ok-put_line_column.ensures)
-    (rw (c.has_brace.ensures, at.same) at c.put_iteration.ensures))
-
-pub returns-clause-same : goal.returns-clause-same
-returns-clause-same g c = c.step_line_col-line.ensures.same
+    record {
+      prints = Prints-then _ _ _ _ _ _ _ c.in_ok-put.ensures (Prints-then _ _ _ _ _ _ _ (rw (at.line, at.column) at c.in_ok-put_line_column.ensures)
+          (rw (c.has_brace.ensures, at.same) at c.put_iteration.ensures));
+      same = c.step_line_col-line.ensures.same;
+    }

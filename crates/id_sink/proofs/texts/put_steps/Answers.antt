@@ -4,11 +4,14 @@ use Rattle.id_sink.specs.Texts.{step_text}
 use Rattle.id_sink.proofs.TextsLemmas.{Prints-more, Prints-more_stop}
 use Rattle.id_sink.proofs.texts.put_steps.Goals as goal
 
-pub returns-in_err-put_step-clause-prints : goal.returns-in_err-put_step-clause-prints
-returns-in_err-put_step-clause-prints g c =
+pub returns-in_err-put_step : goal.returns-in_err-put_step
+returns-in_err-put_step g c =
     let prints = rw c.loop-step.invariant.same at c.in_err-put_step.ensures.prints in
-    Prints-more_stop (step_text c.args.cursor.now) c.args.steps.now c.loop-step.step-index _ _ _ _ _ _ _
-    (slice_get-get_or c.args.steps.now c.loop-step.step-index _ c.loop-step-test.true) c.loop-step.invariant.printed prints c.from_residual.ensures.0
+    record {
+      prints = Prints-more_stop (step_text c.args.cursor.now) c.args.steps.now c.loop-step.step-index _ _ _ _ _ _ _
+          (slice_get-get_or c.args.steps.now c.loop-step.step-index _ c.loop-step-test.true) c.loop-step.invariant.printed prints c.from_residual.ensures.0;
+      same = c.in_err-put_step.ensures.same ∙ c.loop-step.invariant.same;
+    }
 
 pub loop-step-preserved : goal.loop-step-preserved
 loop-step-preserved g c =
