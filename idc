@@ -40,9 +40,15 @@ if [[ ${1-} =~ ^(run|check|graph|facts|judge|why)$ ]]; then
     at=2
     while [[ ${!at-} == --* ]]; do at=$((at + 1)); done
     why=$(why_no_file "${!at-}")
-    if [ "$1" = judge ] && [ -z "$why" ]; then
-        at=$((at + 1))
-        [ "${!at-}" = - ] || why=$(why_no_file "${!at-}")
+    if [ "$1" = judge ]; then # each word behind its file that is no option and gives no input names a log
+        while [ -z "$why" ] && [ "$at" -lt $# ]; do
+            at=$((at + 1))
+            case ${!at} in
+            -) ;;
+            --elements) at=$((at + 1)) ;;
+            *) why=$(why_no_file "${!at}") ;;
+            esac
+        done
     fi
     if [ -n "$why" ] && [ -n "${!at-}" ]; then
         "${words[@]}" "$@"

@@ -1,7 +1,7 @@
 -- Lemmas on specs/Matches.antt and specs/Requests.antt.
 use Rattle.std.proofs.Common.{◌≡◌, ◌∙◌, ◌<◌, ◌^◌, ◌-◌, ℕ, List, [], Bool, true, false, Option, Some, None, Result, Ok, Err, MatchOption, Decides}
-use Rattle.std.proofs.Common.{ap, ap₂, subst, sym, refl, inl, inr, map, option_map, length, codes}
-use Rattle.std.specs.Prelude.{slice_get, unwrap_or}
+use Rattle.std.proofs.Common.{◌∷◌, arith, cond, ap, ap₂, subst, sym, refl, inl, inr, map, option_map, length, codes}
+use Rattle.std.specs.Prelude.{filter, slice_get, unwrap_or}
 use Rattle.std.specs.Str.{bytes_eq}
 use Rattle.std.specs.Str.Parse.{ParsesBool, ParsesUnsigned}
 use Rattle.std.specs.Option.{option_map_or}
@@ -24,10 +24,10 @@ use Rattle.id_args.specs.declared.request.Unasked.TheVariants.{Help, Refused, Me
 use Rattle.id_args.specs.Commands.{program_app}
 use Rattle.id_args.specs.declared.request.Request.{Request}
 use Rattle.id_args.specs.declared.request.Request.TheVariants as asks
-use Rattle.id_args.specs.Requests.{AskFor, HasFile, HasNumber, HasOrder, HasTrace, IsNumber, IsRequestOf, input_words, is_set}
+use Rattle.id_args.specs.Requests.{AreLogs, AskFor, HasFile, HasNumber, HasOrder, IsNumber, IsRequestOf, input_words, is_set, judge_words, names_log}
 use Rattle.id_args.specs.Matches.{Gives, IsNumberOf, Tells}
 
-true_false : true ≡ false → ⊥
+pub true_false : true ≡ false → ⊥
 true_false e = cc
 
 pub none_some : {X : Type 0} {x : X} → None ≡ Some x → ⊥
@@ -127,7 +127,7 @@ only_six name rows check graph run facts why judge (asks.Draw file) h = graph h.
 only_six name rows check graph run facts why judge (asks.Run file inputs count trace steps order names) h = run h.0
 only_six name rows check graph run facts why judge (asks.Facts file rounds inputs) h = facts h.0
 only_six name rows check graph run facts why judge (asks.Why file rounds inputs) h = why h.0
-only_six name rows check graph run facts why judge (asks.Judge file trace inputs count names) h = judge h.0
+only_six name rows check graph run facts why judge (asks.Judge file logs inputs count names) h = judge h.0
 
 -- each request has a file
 pub no_file : (name : Text) (rows : List Row) → ((file : Text) → HasFile rows file → ⊥) → (r : Request) → IsRequestOf name rows r → ⊥
@@ -137,7 +137,7 @@ no_file name rows none (asks.Draw file) h = none file.now h.1
 no_file name rows none (asks.Run file inputs count trace steps order names) h = none file.now h.1
 no_file name rows none (asks.Facts file rounds inputs) h = none file.now h.1
 no_file name rows none (asks.Why file rounds inputs) h = none file.now h.1
-no_file name rows none (asks.Judge file trace inputs count names) h = none file.now h.1
+no_file name rows none (asks.Judge file logs inputs count names) h = none file.now h.1
 
 -- what a request to run has, else it is none
 pub no_run : (rows : List Row) → ((count steps : ℕ) (order : Option ℕ) → HasNumber 32 (codes "elements") rows count → HasNumber 64 (codes "steps") rows steps
@@ -148,7 +148,7 @@ no_run rows none (asks.Draw file) h = names_differ (codes "run") (codes "graph")
 no_run rows none (asks.Run file inputs count trace steps order names) h = none count steps order h.3 h.5 h.6
 no_run rows none (asks.Facts file rounds inputs) h = names_differ (codes "run") (codes "facts") refl refl h.0
 no_run rows none (asks.Why file rounds inputs) h = names_differ (codes "run") (codes "why") refl refl h.0
-no_run rows none (asks.Judge file trace inputs count names) h = names_differ (codes "run") (codes "judge") refl refl h.0
+no_run rows none (asks.Judge file logs inputs count names) h = names_differ (codes "run") (codes "judge") refl refl h.0
 
 -- a request for facts has a round
 pub no_facts : (rows : List Row) → ((rounds : ℕ) → HasNumber 32 (codes "ROUNDS") rows rounds → ⊥) → (r : Request)
@@ -159,7 +159,7 @@ no_facts rows none (asks.Draw file) h = names_differ (codes "facts") (codes "gra
 no_facts rows none (asks.Run file inputs count trace steps order names) h = names_differ (codes "facts") (codes "run") refl refl h.0
 no_facts rows none (asks.Facts file rounds inputs) h = none rounds h.2
 no_facts rows none (asks.Why file rounds inputs) h = names_differ (codes "facts") (codes "why") refl refl h.0
-no_facts rows none (asks.Judge file trace inputs count names) h = names_differ (codes "facts") (codes "judge") refl refl h.0
+no_facts rows none (asks.Judge file logs inputs count names) h = names_differ (codes "facts") (codes "judge") refl refl h.0
 
 -- a request to say why has a round
 pub no_why : (rows : List Row) → ((rounds : ℕ) → HasNumber 32 (codes "rounds") rows rounds → ⊥) → (r : Request)
@@ -170,10 +170,11 @@ no_why rows none (asks.Draw file) h = names_differ (codes "why") (codes "graph")
 no_why rows none (asks.Run file inputs count trace steps order names) h = names_differ (codes "why") (codes "run") refl refl h.0
 no_why rows none (asks.Facts file rounds inputs) h = names_differ (codes "why") (codes "facts") refl refl h.0
 no_why rows none (asks.Why file rounds inputs) h = none rounds h.2
-no_why rows none (asks.Judge file trace inputs count names) h = names_differ (codes "why") (codes "judge") refl refl h.0
+no_why rows none (asks.Judge file logs inputs count names) h = names_differ (codes "why") (codes "judge") refl refl h.0
 
--- a request to judge has a trace and a number of elements
-pub no_judge : (rows : List Row) → ((file : Text) (count : ℕ) → HasTrace rows file → HasNumber 32 (codes "elements") rows count → ⊥) → (r : Request)
+-- a request to judge has a number of elements, and logs that a judge takes
+pub no_judge : (rows : List Row) → ((count : ℕ) (logs : List Text) → HasNumber 32 (codes "elements") rows count
+    → logs ≡ filter names_log (judge_words rows) → AreLogs logs → ⊥) → (r : Request)
     → IsRequestOf (codes "judge") rows r → ⊥
 no_judge rows none (asks.Check file) h = names_differ (codes "judge") (codes "check") refl refl h.0
 no_judge rows none (asks.Graph file) h = names_differ (codes "judge") (codes "graph") refl refl h.0
@@ -181,12 +182,39 @@ no_judge rows none (asks.Draw file) h = names_differ (codes "judge") (codes "gra
 no_judge rows none (asks.Run file inputs count trace steps order names) h = names_differ (codes "judge") (codes "run") refl refl h.0
 no_judge rows none (asks.Facts file rounds inputs) h = names_differ (codes "judge") (codes "facts") refl refl h.0
 no_judge rows none (asks.Why file rounds inputs) h = names_differ (codes "judge") (codes "why") refl refl h.0
-no_judge rows none (asks.Judge file trace inputs count names) h = none trace.now count h.2 h.4
+no_judge rows none (asks.Judge file logs inputs count names) h = none count (map (λ w. w.now) logs.items) h.5 h.2 h.3
 
 -- the input words are the values that the getter gives
 pub input_words-read : (f : Found) (given : Option (List Text)) → given ≡ option_map raw_values (matched_of f (codes "INPUT"))
     → unwrap_or given [] ≡ input_words (rows_of f)
 input_words-read f given e = ap (λ o. unwrap_or o []) (e ∙ raw_values-rows f (codes "INPUT"))
+
+-- the words of `judge` are the values that the getter gives
+pub judge_words-read : (f : Found) (given : Option (List Text)) → given ≡ option_map raw_values (matched_of f (codes "WORD"))
+    → unwrap_or given [] ≡ judge_words (rows_of f)
+judge_words-read f given e = ap (λ o. unwrap_or o []) (e ∙ raw_values-rows f (codes "WORD"))
+
+-- no words name no log that a judge takes
+pub no_logs : (rows : List Row) (given : Option (List Text)) → given ≡ None → unwrap_or given [] ≡ judge_words rows → (logs : List Text)
+    → logs ≡ filter names_log (judge_words rows) → AreLogs logs → ⊥
+no_logs rows given none is logs all are =
+    let empty : logs ≡ [] = all ∙ ap (filter names_log) (sym is ∙ ap (λ o. unwrap_or o []) none) in
+    omega (arith, are.0, ap length empty)
+
+-- what passes a test of what things give gives what passes it of what they give
+map-filter : {X : Type 0} (f : X → Text) (test : Text → Bool) (xs : List X) → map f (filter (λ x. test (f x)) xs) ≡ filter test (map f xs)
+map-filter f test [] = refl
+map-filter f test (x ∷ xs) = by (test (f x)) (map-filter f test xs)
+  where
+    by : (b : Bool) → map f (filter (λ x. test (f x)) xs) ≡ filter test (map f xs)
+        → map f (cond b (x ∷ filter (λ x. test (f x)) xs) (filter (λ x. test (f x)) xs)) ≡ cond b (f x ∷ filter test (map f xs)) (filter test (map f xs))
+    by true h = ap (λ t. f x ∷ t) h
+    by false h = h
+
+-- the words of `judge` that pass a test
+pub words_that : {X : Type 0} (f : X → Text) (test : Text → Bool) (rows : List Row) (words found : List X)
+    → found ≡ filter (λ w. test (f w)) words → map f words ≡ judge_words rows → map f found ≡ filter test (judge_words rows)
+words_that f test rows words found is all = ap (map f) is ∙ map-filter f test words ∙ ap (filter test) all
 
 -- the program is a command of which `clap` says what it makes of words
 program_is_simple : is_simple program_app ≡ true

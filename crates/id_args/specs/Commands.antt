@@ -61,9 +61,13 @@ rounds_rule = record (new_rule (codes "ROUNDS")) {
 abbrev pub rounds_option_rule : Rule
 rounds_option_rule = number_rule (codes "rounds") (Signed (pos 0) (pos 10000)) (codes "300")
 
--- the file of a trace, which has to be there
-abbrev pub trace_rule : Rule
-trace_rule = record (new_rule (codes "TRACE")) { required = true }
+-- the words of `judge` behind its file, one at least
+abbrev pub words_rule : Rule
+words_rule = record (new_rule (codes "WORD")) {
+  required = true;
+  value_names = 1;
+  range = Some (record { start_inclusive = 1; end_inclusive = usize_max });
+}
 
 -- a command with these arguments
 abbrev pub command_shape : Text → List Rule → Shape
@@ -90,12 +94,13 @@ run_shape = command_shape (codes "run") run_rules
 abbrev pub facts_shape : Shape
 facts_shape = command_shape (codes "facts") (file_rule ∷ rounds_rule ∷ inputs_rule ∷ [])
 
+-- the command `why`: its file, the input words and `--rounds`
 abbrev pub why_shape : Shape
 why_shape = command_shape (codes "why") (file_rule ∷ inputs_rule ∷ rounds_option_rule ∷ [])
 
 -- the arguments of `judge`
 abbrev pub judge_rules : List Rule
-judge_rules = file_rule ∷ trace_rule ∷ inputs_rule ∷ elements_rule ∷ flag_rule (codes "names") ∷ []
+judge_rules = file_rule ∷ words_rule ∷ elements_rule ∷ flag_rule (codes "names") ∷ []
 
 -- the command `judge`
 abbrev pub judge_shape : Shape

@@ -3,6 +3,8 @@ use Rattle.std.specs.Prelude.{◌≡◌, ◌≢◌, ◌⊎◌, ◌<◌, ◌^◌,
 use Rattle.std.specs.Prelude.{true, false, ⊤}
 use Rattle.std.specs.Prelude.{List, [], map, length, codes, ◌∷◌, ◌++◌, string_bytes}
 use Rattle.std.specs.Prelude.{Option, Some, None, Result, Ok, Err, unwrap_or, slice_get, if◌then◌else◌, IsSomeAnd}
+use Rattle.std.specs.Prelude.{◌≤◌, count_by, filter, nat_eq, not}
+use Rattle.std.specs.List.{list_any}
 use Rattle.std.specs.Option.{option_map_or}
 use Rattle.std.specs.Str.{bytes_eq}
 use Rattle.std.specs.Str.Parse.{IsNumeral, digits_value, without_leading_plus}
@@ -44,13 +46,29 @@ HasOrder rows (Some seed) = HasNumber 64 (codes "order") rows seed
 abbrev pub HasFile : List Row → Text → Type 0
 HasFile rows file = first_of (codes "FILE") rows ≡ Some file
 
--- the trace is that of the words
-abbrev pub HasTrace : List Row → Text → Type 0
-HasTrace rows file = first_of (codes "TRACE") rows ≡ Some file
-
 -- the input words, in order
 abbrev pub input_words : List Row → List Text
 input_words rows = unwrap_or (all_of (codes "INPUT") rows) []
+
+-- the words of `judge` behind its file, in order
+abbrev pub judge_words : List Row → List Text
+judge_words rows = unwrap_or (all_of (codes "WORD") rows) []
+
+-- a word gives an input: a `=` stands in it
+abbrev pub gives_input : Text → Bool
+gives_input word = list_any (λ b. nat_eq b 61) word
+
+-- a word names a log: it gives no input
+abbrev pub names_log : Text → Bool
+names_log word = not (gives_input word)
+
+-- a word names standard input
+abbrev pub names_stream : Text → Bool
+names_stream word = bytes_eq word (codes "-")
+
+-- from 1 to 64 logs, and standard input once at the most
+abbrev pub AreLogs : List Text → Type 0
+AreLogs logs = (0 < length logs) × (length logs ≤ 64) × (count_by names_stream logs ≤ 1)
 
 -- the command of this name with these matches asks for the request
 abbrev pub IsRequestOf : Text → List Row → Request → Type 0
@@ -69,10 +87,11 @@ IsRequestOf name rows (asks.Facts file rounds inputs) =
 IsRequestOf name rows (asks.Why file rounds inputs) =
     (name ≡ codes "why") × HasFile rows file.now × HasNumber 32 (codes "rounds") rows rounds
     × (map (λ w. w.now) inputs.items ≡ input_words rows)
-IsRequestOf name rows (asks.Judge file trace inputs count names) =
-    (name ≡ codes "judge") × HasFile rows file.now × HasTrace rows trace.now
-    × (map (λ w. w.now) inputs.items ≡ input_words rows) × HasNumber 32 (codes "elements") rows count
-    × (names ≡ is_set (codes "names") rows)
+IsRequestOf name rows (asks.Judge file logs inputs count names) =
+    (name ≡ codes "judge") × HasFile rows file.now
+    × (map (λ w. w.now) logs.items ≡ filter names_log (judge_words rows)) × AreLogs (map (λ w. w.now) logs.items)
+    × (map (λ w. w.now) inputs.items ≡ filter gives_input (judge_words rows))
+    × HasNumber 32 (codes "elements") rows count × (names ≡ is_set (codes "names") rows)
 
 -- ---- what words ask for
 

@@ -12,6 +12,9 @@ const DEFAULT_ELEMENTS: &str = "1";
 /// The most elements that the words may ask for.
 const MAX_ELEMENTS: i64 = 64;
 
+/// The most logs that the words may name.
+const MAX_LOGS: usize = 64;
+
 /// The steps that an element may make where the words say nothing.
 const DEFAULT_STEPS: &str = "1000000";
 
@@ -47,7 +50,8 @@ Example:
     };
 }
 
-ghost use Rattle.std.specs.Prelude.{◌≡◌, ◌++◌, ◌∷◌, [], List, IfErr, IfOk, OnOk, codes, false, map};
+ghost use Rattle.std.specs.Prelude.{◌≡◌, ◌++◌, ◌∷◌, ◌↔◌, [], List, IfErr, IfOk, IsTrue, OnOk, codes, false, filter};
+ghost use Rattle.std.specs.Prelude.{map};
 ghost use Rattle.std.specs.IoError.{error_kind};
 ghost use Rattle.std.specs.List.{All};
 ghost use Rattle.clap.specs.Simple.{Shape};
@@ -56,10 +60,11 @@ ghost use Rattle.id_args.specs.Commands.{AreCommands, IsCommand, bare_shape, che
 ghost use Rattle.id_args.specs.Commands.{elements_rule, facts_shape, file_rule, flag_rule, graph_shape};
 ghost use Rattle.id_args.specs.Commands.{inputs_rule, judge_rules, judge_shape, number_rule, order_rule};
 ghost use Rattle.id_args.specs.Commands.{program_app, rounds_option_rule, rounds_rule, run_rules, run_shape, steps_rule};
-ghost use Rattle.id_args.specs.Commands.{trace_rule, why_shape};
+ghost use Rattle.id_args.specs.Commands.{why_shape, words_rule};
 ghost use Rattle.id_args.specs.Matches.{Gives, IsAsked, IsAskedIn, IsNumberOf, IsOrderOf, IsRefusal, Tells};
-ghost use Rattle.id_args.specs.Requests.{AskFor, HasFile, HasTrace, IsRequestOf, IsUnread, IsUnreadWords};
-ghost use Rattle.id_args.specs.Requests.{end_in_help, input_words, is_help, is_set, words_read};
+ghost use Rattle.id_args.specs.Requests.{AreLogs, AskFor, HasFile, IsRequestOf, IsUnread, IsUnreadWords};
+ghost use Rattle.id_args.specs.Requests.{judge_words, names_log, words_read};
+ghost use Rattle.id_args.specs.Requests.{end_in_help, gives_input, input_words, is_help, is_set};
 
 mod request;
 #[cfg(test)]
@@ -98,6 +103,49 @@ Options of judge:
 
 "
 );
+
+/// What help calls a word of `judge` behind its file.
+const JUDGED: &str =
+    "A log: the events of a run, a line each, as run prints them with --trace; - is standard input. Or \
+    a value for the parameter of main with that name";
+
+/// What stands below the help of `facts`.
+const FACTS_HELP: &str = "Statuses:
+  0  the facts of the round are printed
+  2  the text or an input is refused
+  3  there are too many facts
+  4  the command line is refused
+  5  a file can't be read, memory ran out, or a write failed
+
+Example:
+  idc facts examples/factorial.id 5 n=3";
+
+/// What stands below the help of `why`.
+const WHY_HELP: &str = "Statuses:
+  0  the answer, and what lacks a value, are printed
+  2  the text or an input is refused
+  3  there are too many facts
+  4  the command line is refused
+  5  a file can't be read, memory ran out, or a write failed
+
+Example:
+  idc why examples/each_other.id";
+
+/// What stands below the help of `judge`.
+const JUDGE_HELP: &str =
+    "Several logs are merged as they are read, whole lines by stamp and then by element.
+
+Statuses:
+  0  it is the trace of a run that is quiet
+  1  it is that of a run that stopped at a fault
+  2  the text or an input is refused
+  3  it is that of a run in which messages are left
+  4  the command line is refused
+  5  a file can't be read, memory ran out, or a write failed
+  6  the trace is none of a run
+
+Example:
+  idc judge examples/factorial.id LOG.0 LOG.1 n=10 --elements 2";
 
 /// The argument that names the file.
 fn file_argument<'a>(alloc: Global) -> Arg<'a>
@@ -203,14 +251,16 @@ fn rounds_option<'a>(alloc: Global) -> Arg<'a>
     number_option(alloc, "rounds", parser, DEFAULT_ROUNDS, help)
 }
 
-/// The argument that names the file of a trace.
-fn trace_argument<'a>(alloc: Global) -> Arg<'a>
-    ensures rule { rule_of result ≡ trace_rule }
+/// The argument for the words of `judge` behind its file.
+fn words_argument<'a>(alloc: Global) -> Arg<'a>
+    ensures rule { rule_of result ≡ words_rule }
     ensures local { result.global ≡ false }
 {
-    Arg::new(alloc, "TRACE").required(true).help(
-        "The events of a run, a line each, as run prints them with --trace",
-    )
+    Arg::new(alloc, "WORD")
+        .value_name("LOG|NAME=VALUE")
+        .required(true)
+        .num_args(1..)
+        .help(JUDGED)
 }
 
 /// A command with these arguments.
@@ -281,7 +331,8 @@ fn facts_command<'a>(alloc: Global) -> Result<Command<'a>, AllocError>
         rounds_argument(alloc),
         inputs_argument(alloc),
     ]?;
-    command_with(alloc, "facts", about, arguments)
+    let command = command_with(alloc, "facts", about, arguments)?;
+    Ok(command.after_help(FACTS_HELP))
 }
 
 /// The command `why`.
@@ -294,7 +345,8 @@ fn why_command<'a>(alloc: Global) -> Result<Command<'a>, AllocError>
         inputs_argument(alloc),
         rounds_option(alloc),
     ]?;
-    command_with(alloc, "why", about, arguments)
+    let command = command_with(alloc, "why", about, arguments)?;
+    Ok(command.after_help(WHY_HELP))
 }
 
 /// The arguments of `judge`.
@@ -304,8 +356,7 @@ fn judge_arguments<'a>(alloc: Global) -> Result<Vec<Arg<'a>>, AllocError>
 {
     let arguments = vec![in alloc;
         file_argument(alloc),
-        trace_argument(alloc),
-        inputs_argument(alloc),
+        words_argument(alloc),
         elements_option(alloc),
         flag(alloc, "names", "Prints the value of each name"),
     ]?;
@@ -316,8 +367,10 @@ fn judge_arguments<'a>(alloc: Global) -> Result<Vec<Arg<'a>>, AllocError>
 fn judge_command<'a>(alloc: Global) -> Result<Command<'a>, AllocError>
     ensures { IfOk result (IsCommand judge_shape) }
 {
-    let about = "Says whether a trace is one of a run of a program, and prints what that run shows";
-    command_with(alloc, "judge", about, judge_arguments(alloc)?)
+    let about =
+        "Says whether the events of logs are those of a run of a program, and prints what that run shows";
+    let command = command_with(alloc, "judge", about, judge_arguments(alloc)?)?;
+    Ok(command.after_help(JUDGE_HELP))
 }
 
 /// Puts a command behind these, unless it could not be made.
@@ -587,32 +640,74 @@ fn why_request<'a>(
     }))
 }
 
-/// What the words of `judge` ask for of this file and this trace, if they say on how many elements.
-fn judge_request<'a>(
+/// Whether a word gives an input.
+fn gives_input(word: &str) -> bool
+    ensures { result ≡ gives_input word.now }
+{
+    word.as_bytes().contains(&b'=')
+}
+
+/// The words among these that give inputs.
+fn inputs_among<'a>(alloc: Global, words: &[&'a str]) -> Result<Vec<&'a str>, AllocError>
+    ensures { IfOk result (λ v. v.items ≡ filter (λ w. gives_input w.now) words.now) }
+{
+    words
+        .iter()
+        .copied()
+        .filter(|word| gives_input(word))
+        .collect(alloc)
+}
+
+/// The words among these that name logs.
+fn logs_among<'a>(alloc: Global, words: &[&'a str]) -> Result<Vec<&'a str>, AllocError>
+    ensures { IfOk result (λ v. v.items ≡ filter (λ w. names_log w.now) words.now) }
+{
+    words
+        .iter()
+        .copied()
+        .filter(|word| !gives_input(word))
+        .collect(alloc)
+}
+
+/// Whether a judge takes these logs.
+fn are_logs(logs: &[&str]) -> bool
+    ensures { IsTrue result ↔ AreLogs (map (λ w. w.now) logs.now) }
+{
+    let streams = logs.iter().filter(|log| **log == "-").count();
+    !logs.is_empty() && logs.len() <= MAX_LOGS && streams <= 1
+}
+
+/// What these words of `judge` ask for of this file, if they name logs that a judge takes, and it is said on how many
+/// elements.
+fn judge_request_of<'a>(
     alloc: Global,
     file: &'a str,
-    trace: &'a str,
+    words: &[&'a str],
     matches: &ArgMatches<'a>,
 ) -> Result<Option<Request<'a>>, AllocError>
     requires file { HasFile (rows_of (found_of matches.now)) file.now }
-    requires trace { HasTrace (rows_of (found_of matches.now)) trace.now }
+    requires words { map (λ w. w.now) words.now ≡ judge_words (rows_of (found_of matches.now)) }
     ensures { IfOk result (IsAsked (codes "judge") (rows_of (found_of matches.now))) }
 {
     let Some(elements) = number_of(matches, "elements") else {
         return Ok(None);
     };
-    let inputs = inputs_of(alloc, matches)?;
+    let logs = logs_among(alloc, words)?;
+    if !are_logs(logs.as_slice()) {
+        return Ok(None);
+    }
+    let inputs = inputs_among(alloc, words)?;
     Ok(Some(Request::Judge {
         file,
-        trace,
+        logs,
         inputs,
         count: elements,
         names: has_flag(matches, "names"),
     }))
 }
 
-/// What the words of `judge` ask for of this file, if they name a trace and say what else it needs.
-fn judge_request_of<'a>(
+/// What the words of `judge` ask for of this file, if they name logs that a judge takes, and say on how many elements.
+fn judge_request<'a>(
     alloc: Global,
     file: &'a str,
     matches: &ArgMatches<'a>,
@@ -620,8 +715,8 @@ fn judge_request_of<'a>(
     requires { HasFile (rows_of (found_of matches.now)) file.now }
     ensures { IfOk result (IsAsked (codes "judge") (rows_of (found_of matches.now))) }
 {
-    match matches.get_str("TRACE") {
-        Some(trace) => judge_request(alloc, file, trace, matches),
+    match matches.get_strs("WORD") {
+        Some(words) => judge_request_of(alloc, file, words, matches),
         None => Ok(None),
     }
 }
@@ -642,7 +737,7 @@ fn request_of_file<'a>(
         "run" => run_request(alloc, file, matches),
         "facts" => facts_request(alloc, file, matches),
         "why" => why_request(alloc, file, matches),
-        "judge" => judge_request_of(alloc, file, matches),
+        "judge" => judge_request(alloc, file, matches),
         _ => Ok(None),
     }
 }
@@ -674,13 +769,31 @@ fn request_in<'a>(
     }
 }
 
+/// What is told of words that `clap` takes and that ask for nothing: those of `judge` alone may be such.
+const BAD_LOGS: &str = "error: judge takes from 1 to 64 logs, and standard input, which is '-', once
+
+Usage: idc judge [OPTIONS] <FILE> <LOG|NAME=VALUE>...
+
+For more information, try '--help'.
+";
+
+/// The refusal of words that `clap` takes and that ask for nothing.
+fn bad_logs(alloc: Global) -> Unasked
+    ensures { IsRefusal result }
+{
+    match String::from_str(alloc, BAD_LOGS) {
+        Ok(text) => Unasked::Refused(text),
+        Err(_) => Unasked::Memory,
+    }
+}
+
 /// What the words with these matches ask for.
 fn request_by<'a>(alloc: Global, matches: &ArgMatches<'a>) -> Result<Request<'a>, Unasked>
     ensures { Gives (subcommand_rows_of matches.now) result }
 {
     match request_in(alloc, matches) {
         Ok(Some(request)) => Ok(request),
-        Ok(None) => Err(Unasked::Refused(String::new(alloc))),
+        Ok(None) => Err(bad_logs(alloc)),
         Err(_) => Err(Unasked::Memory),
     }
 }

@@ -41,11 +41,11 @@ pub enum Request<'a> {
         rounds: u32,
         inputs: Vec<&'a str>,
     },
-    /// Judge whether what this other file has is the trace of a run of the file on these input words, on so many
+    /// Judge whether what these logs have, merged, is the trace of a run of the file on these input words, on so many
     /// elements, and print the report of that run, with what its names have, too, or not.
     Judge {
         file: &'a str,
-        trace: &'a str,
+        logs: Vec<&'a str>,
         inputs: Vec<&'a str>,
         count: u32,
         names: bool,

@@ -42,18 +42,18 @@ module _ {A : Type 0} (c : A → A → Ordering) (B C : A → A → Type 0) (t :
       (λ x l. among_permuted us xs x h.same (among_sorted us vs x moved (among_sorted vs ys x k.same l)))
 
 -- how a quiet run is printed
-pub record IsQuietly (g : Parts) (count : ℕ) (w : World) (text : List ℕ) (b : Bool) (bytes : List ℕ) : Type 0 where
+pub record IsQuietly (g : Parts) (w : World) (text : List ℕ) (b : Bool) (bytes : List ℕ) : Type 0 where
   pub names : List NameValue
   pub helds : List Held
   pub waits : List Ask
   pub still : IsQuiet w
   pub sorted : IsTrue b → IsSortedOf names (shown.names g w)
-  pub held : IsOrderOf HeldBefore helds (held_of g count w)
+  pub held : IsOrderOf HeldBefore helds (held_of g w)
   pub waiting : IsOrderOf WaitBefore waits (shown.waiting g w)
   pub is : bytes ≡ quiet_text text (shown.answer g w) (asked b names) helds waits
 
 module _ (g : Parts) (count steps : ℕ) (w : World) (text : List ℕ) (b : Bool) where
-  pub quietly : (status : ℕ) (bytes : List ℕ) → status ≡ 0 → Ends g count steps w text b status bytes → IsQuietly g count w text b bytes
+  pub quietly : (status : ℕ) (bytes : List ℕ) → status ≡ 0 → Ends g count steps w text b status bytes → IsQuietly g w text b bytes
   quietly _ _ e (quiet ns hs waits still sorted held waiting) =
       record { names = ns; helds = hs; waits = waits; still = still; sorted = sorted; held = held; waiting = waiting; is = refl }
   quietly _ _ e (fault f first) = absurd (omega (arith, e))
@@ -81,8 +81,8 @@ module _ (S : Source) (inputs : AreInputs S.checked S.inputs) (sound : Soundness
   sound_end : (r : RunOf S) → IsSound S r.graph r.schemas.number (end_of S r)
   sound_end r = sound S r.graph r.count r.positions inputs r.schemas
 
-  same_printed : (r q : RunOf S) (xs ys : List ℕ) → IsQuietly r.graph r.count (end_of S r) text b xs →
-      IsQuietly q.graph q.count (end_of S q) text b ys → xs ≡ ys
+  same_printed : (r q : RunOf S) (xs ys : List ℕ) → IsQuietly r.graph (end_of S r) text b xs →
+      IsQuietly q.graph (end_of S q) text b ys → xs ≡ ys
   same_printed r q xs ys h k = h.is ∙ same_text ∙ sym k.is
     where
       same : ShowTheSame S r q
@@ -95,8 +95,8 @@ module _ (S : Source) (inputs : AreInputs S.checked S.inputs) (sound : Soundness
 
       same_helds : h.helds ≡ k.helds
       same_helds = order_same _ _ _ helds_told h.helds k.helds _ _ h.held k.held
-          (AreApartBy-held S r.graph r.schemas.number r.count (end_of S r) (sound_end r))
-          (AreApartBy-held S q.graph q.schemas.number q.count (end_of S q) (sound_end q))
+          (AreApartBy-held S r.graph r.schemas.number (end_of S r) (sound_end r))
+          (AreApartBy-held S q.graph q.schemas.number (end_of S q) (sound_end q))
           (IsPermutation-append (map Array (shown.structures r.graph (end_of S r))) (map Array (shown.structures q.graph (end_of S q)))
           (map Cell (shown.cell_values r.graph (end_of S r))) (map Cell (shown.cell_values q.graph (end_of S q)))
           (IsPermutation-map Array _ _ same.structures) (IsPermutation-map Cell _ _ (IsPermutation-map shown.cell_value _ _ same.cells)))
@@ -110,7 +110,7 @@ module _ (S : Source) (inputs : AreInputs S.checked S.inputs) (sound : Soundness
           ≡ quiet_text text (shown.answer q.graph (end_of S q)) (asked b k.names) k.helds k.waits
       same_text = λ i. quiet_text text (same.answer i) (same_names i) (same_helds i) (same_waits i)
 
-  not_at_fault : (r q : RunOf S) (xs : List ℕ) (f : SourceFault) → IsQuietly r.graph r.count (end_of S r) text b xs
+  not_at_fault : (r q : RunOf S) (xs : List ℕ) (f : SourceFault) → IsQuietly r.graph (end_of S r) text b xs
       → IsFirstFault q.graph (end_of S q).elements f → ⊥
   not_at_fault r q xs f h first =
       let there = first_is_shown q.graph (end_of S q).elements f first in

@@ -19,8 +19,8 @@ use Rattle.id_elements.specs.Runs.{IsHeldBack}
 use Rattle.id_laws.specs.Determinate.{RunOf, end_of}
 use Rattle.id_laws.specs.Laws.{events, messages}
 use Rattle.id_laws.specs.Bounded.{Bounded, IsBounded}
-use Rattle.id_laws.proofs.RestLemmas.{messages_many}
-use Rattle.id_laws.proofs.StampsLemmas.{AreStamped, AreStamped-same, as_many, ended_late, events_few, same_order, stamped}
+use Rattle.id_laws.proofs.Bounding.RestLemmas.{messages_many}
+use Rattle.id_laws.proofs.Bounding.StampsLemmas.{AreStamped, AreStamped-same, as_many, ended_late, events_few, same_order, stamped}
 use Rattle.id_build.specs.Own.{schemas_of}
 use Rattle.id_engine.specs.Runs.{Ends}
 use Rattle.id_engine.specs.Runs.Ends.{fault, quiet, stopped}

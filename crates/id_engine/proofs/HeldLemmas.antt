@@ -11,7 +11,6 @@ use Rattle.id_value.specs.List.{Among, AllDiffer}
 use Rattle.id_source.specs.Sources.{Source}
 use Rattle.id_source.specs.Names.{AreWaiting}
 use Rattle.id_source.specs.Orders.{AskBefore, Rises}
-use Rattle.id_record.specs.declared.kept.Keeps.TheVariants as keeps
 use Rattle.id_core.specs.Machines.{World}
 use Rattle.id_core.specs.Observed as shown
 use Rattle.id_core.specs.Observed.{CellValue}
@@ -111,9 +110,9 @@ keys_of [] = refl
 keys_of (x ∷ xs) = ap (λ ks. (x.name, x.index) ∷ ks) (keys_of xs)
 
 -- what a sound run shows of structures and cells is apart
-pub AreApartBy-held : (S : Source) (g : Parts) (number : ℕ → ℕ → ℕ) (count : ℕ) (w : World) → IsSound S g number w
-    → AreApartBy OfOneThing (held_lines (record { graph = g; count = count; keeps = keeps.All; world = w }))
-AreApartBy-held S g number count w s = record {
+pub AreApartBy-held : (S : Source) (g : Parts) (number : ℕ → ℕ → ℕ) (w : World) → IsSound S g number w
+    → AreApartBy OfOneThing (held_lines (shown.structures g w) (shown.cell_values g w))
+AreApartBy-held S g number w s = record {
   differ = both_differ _ _ (arrays_differ ss differ_shapes) (cells_differ ps differ_cells)
       (λ h a b. not_both h ss ps a b);
   one = one;
@@ -141,10 +140,10 @@ AreApartBy-held S g number count w s = record {
     one (Cell x) (Array y) a b e = absurd e
 
 -- what a sound run's report says of structures and cells is so
-pub AreSomeHeld-sound : (S : Source) (g : Parts) (number : ℕ → ℕ → ℕ) (count : ℕ) (w : World) (hs : List Held) → IsSound S g number w
-    → IsOrderOf HeldBefore hs (held_lines (record { graph = g; count = count; keeps = keeps.All; world = w })) → Rises HeldBefore hs → AreSomeHeld S hs
-AreSomeHeld-sound S g number count w hs s sorted rise =
-    let all = held_lines (record { graph = g; count = count; keeps = keeps.All; world = w }) in
+pub AreSomeHeld-sound : (S : Source) (g : Parts) (number : ℕ → ℕ → ℕ) (w : World) (hs : List Held) → IsSound S g number w
+    → IsOrderOf HeldBefore hs (held_lines (shown.structures g w) (shown.cell_values g w)) → Rises HeldBefore hs → AreSomeHeld S hs
+AreSomeHeld-sound S g number w hs s sorted rise =
+    let all = held_lines (shown.structures g w) (shown.cell_values g w) in
     record {
       shapes = λ x h. s.structures x (the_shape x (shown.structures g w) (shown.cell_values g w) (among_sorted all hs (Array x) sorted.same h));
       puts = λ c h. put_there c (among_image shown.cell_value (shown.cells g w) c
@@ -160,10 +159,10 @@ AreSomeHeld-sound S g number count w hs s sorted rise =
     )
 
 -- and all, where the run is complete
-pub AreHeld-complete : (S : Source) (g : Parts) (count : ℕ) (w : World) (hs : List Held) → AreSomeHeld S hs → IsComplete S g w
-    → IsOrderOf HeldBefore hs (held_lines (record { graph = g; count = count; keeps = keeps.All; world = w })) → AreHeld S hs
-AreHeld-complete S g count w hs some c sorted =
-    let all = held_lines (record { graph = g; count = count; keeps = keeps.All; world = w }) in
+pub AreHeld-complete : (S : Source) (g : Parts) (w : World) (hs : List Held) → AreSomeHeld S hs → IsComplete S g w
+    → IsOrderOf HeldBefore hs (held_lines (shown.structures g w) (shown.cell_values g w)) → AreHeld S hs
+AreHeld-complete S g w hs some c sorted =
+    let all = held_lines (shown.structures g w) (shown.cell_values g w) in
     record {
       shapes = λ x h. among_permuted all hs (Array x) sorted.same (among_first _ _ _ (among_map Array (shown.structures g w) x (c.structures x h)));
       puts = λ x h. among_permuted all hs (Cell (shown.cell_value x)) sorted.same

@@ -16,7 +16,7 @@ use Rattle.id_core.specs.Steps.{State}
 use Rattle.id_core.specs.Machines.{World}
 use Rattle.id_core.specs.Observed.{events_of, fault_of, faults, faults_of, path_in, structure_in}
 use Rattle.id_runs.proofs.RecordsOfRuns.{Recorded, among_events, filter_map_has}
-use Rattle.id_laws.proofs.ValidCounts.{all_among}
+use Rattle.id_laws.proofs.Validity.ValidCounts.{all_among}
 use Rattle.id_elements.specs.Runs.{HasWent, MovesOn}
 
 went_of : (g : Parts) (p : Tag → Path) (m : Structure → Site) (x : Step) → fault_of g p m x ≡ None → x ≢ Stuck → x ≡ Went

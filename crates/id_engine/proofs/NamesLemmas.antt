@@ -12,7 +12,7 @@ use Rattle.id_source.specs.Facts.{site}
 use Rattle.id_core.specs.Machines.{World}
 use Rattle.id_core.specs.Observed as shown
 use Rattle.id_laws.specs.Laws.{IsSound, IsComplete}
-use Rattle.id_laws.proofs.ValidCounts.{all_among}
+use Rattle.id_laws.proofs.Validity.ValidCounts.{all_among}
 use Rattle.id_print.specs.Names.{IsSortedOf, AreApart}
 use Rattle.id_compile.proofs.InsideLemmas.{among_all}
 

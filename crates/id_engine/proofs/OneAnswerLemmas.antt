@@ -27,7 +27,7 @@ use Rattle.id_observe.proofs.FirstsLemmas.{first_is_shown}
 use Rattle.id_runs.specs.Legal.{IsSameBut}
 use Rattle.id_laws.specs.Determinate.{RunOf, end_of}
 use Rattle.id_laws.specs.Laws.{IsComplete, IsSound, QuietIsComplete, Soundness}
-use Rattle.id_laws.proofs.StampsLemmas.{none_left}
+use Rattle.id_laws.proofs.Bounding.StampsLemmas.{none_left}
 use Rattle.id_sink.specs.Told.{GoesOut, SinkView, Told}
 use Rattle.id_print.specs.declared.helds.Held.{Held}
 use Rattle.id_print.specs.declared.helds.Held.TheVariants.{Array, Cell}
@@ -62,13 +62,13 @@ record SaysIt (S : Source) (text : List ℕ) (b : Bool) (xs : List ℕ) : Type 0
   pub free : FaultFree S
   pub is : xs ≡ quiet_text text answer (asked b names) helds waits
 
-module _ (S : Source) (g : Parts) (number : ℕ → ℕ → ℕ) (count : ℕ) (w : World) (sound : IsSound S g number w) (done : IsComplete S g w)
+module _ (S : Source) (g : Parts) (number : ℕ → ℕ → ℕ) (w : World) (sound : IsSound S g number w) (done : IsComplete S g w)
     (text : List ℕ) (b : Bool) where
-  says_at : (flight : List Message) (xs : List ℕ) → IsQuietly g count (record { elements = w.elements; flight = flight }) text b xs → SaysIt S text b xs
+  says_at : (flight : List Message) (xs : List ℕ) → IsQuietly g (record { elements = w.elements; flight = flight }) text b xs → SaysIt S text b xs
   says_at flight xs q =
       let rise_names : IsTrue b → NamesRise q.names = λ yes. NamesRise-Rises q.names
       (Rises-sorted _ _ _ names_told q.names _ (q.sorted yes) (AreApart-sound S g number w sound)) in
-      let rise_helds : Rises HeldBefore q.helds = Rises-sorted _ _ _ helds_told q.helds _ q.held (AreApartBy-held S g number count w sound) in
+      let rise_helds : Rises HeldBefore q.helds = Rises-sorted _ _ _ helds_told q.helds _ q.held (AreApartBy-held S g number w sound) in
       let rise_waits : Rises WaitBefore q.waits = Rises-sorted _ _ _ asks_told q.waits _ q.waiting (AreApartBy-waiting S g number w sound) in
       record {
         answer = shown.answer g w;
@@ -77,7 +77,7 @@ module _ (S : Source) (g : Parts) (number : ℕ → ℕ → ℕ) (count : ℕ) (
         waits = q.waits;
         is_answer = done.answer;
         are_names = λ yes. AreNames-complete S g w q.names (AreSomeNames-sound S g number w q.names sound (q.sorted yes) (rise_names yes)) done (q.sorted yes);
-        are_held = AreHeld-complete S g count w q.helds (AreSomeHeld-sound S g number count w q.helds sound q.held rise_helds) done q.held;
+        are_held = AreHeld-complete S g w q.helds (AreSomeHeld-sound S g number w q.helds sound q.held rise_helds) done q.held;
         are_waiting = AreWaiting-complete S g w q.waits done q.waiting rise_waits;
         waits_rise = rise_waits;
         free = done.no_fault;
@@ -85,9 +85,9 @@ module _ (S : Source) (g : Parts) (number : ℕ → ℕ → ℕ) (count : ℕ) (
       }
 
   -- the elements alone show it
-  says_it : (v : World) → w.elements ≡ v.elements → (xs : List ℕ) → IsQuietly g count v text b xs → SaysIt S text b xs
+  says_it : (v : World) → w.elements ≡ v.elements → (xs : List ℕ) → IsQuietly g v text b xs → SaysIt S text b xs
   says_it v same xs q =
-      let K : List State → Type 0 = λ es. IsQuietly g count (record { elements = es; flight = v.flight }) text b xs in
+      let K : List State → Type 0 = λ es. IsQuietly g (record { elements = es; flight = v.flight }) text b xs in
       says_at v.flight xs (subst K (sym same) q)
 
 -- a run for which `engine` answers
@@ -113,12 +113,12 @@ module _ (sound : Soundness) (complete : QuietIsComplete) (text : List ℕ) (wor
       let S : Source = source h.ran.program h.ran.inputs in
       let r : RunOf S = its_run in
       let w : World = (h.ran.machine).world in
-      let q : IsQuietly r.graph r.count w text b h.ran.output = quietly r.graph r.count h.steps w text b status h.ran.output zero_is h.ran.ends in
+      let q : IsQuietly r.graph w text b h.ran.output = quietly r.graph r.count h.steps w text b status h.ran.output zero_is h.ran.ends in
       let still : IsQuiet (end_of S r) = record {
         empty = none_left its_end.flight (q.still).empty;
         went = subst (λ (es : List State). All (λ e. AllWent e.events) es) (sym its_end.elements) (q.still).went;
       } in
-      says_it S r.graph r.schemas.number r.count (end_of S r) (sound S r.graph r.count r.positions its_inputs r.schemas)
+      says_it S r.graph r.schemas.number (end_of S r) (sound S r.graph r.count r.positions its_inputs r.schemas)
       (complete S r.graph r.count r.positions its_inputs r.schemas still) text b w its_end.elements h.ran.output q
 
   fault_of : status ≡ 1 → (f : SourceFault) × Faulty (source h.ran.program h.ran.inputs) f

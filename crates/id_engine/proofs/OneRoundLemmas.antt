@@ -25,8 +25,8 @@ use Rattle.id_source.specs.Rounds.{Rounds}
 use Rattle.id_source.specs.Sources.{AreInputs, Source, main_params, source}
 use Rattle.id_source.proofs.InputsLemmas.{are-inputs}
 use Rattle.id_laws.specs.Ended.{AreAllFacts}
-use Rattle.id_laws.proofs.EndedLemmas.{ended_facts}
-use Rattle.id_laws.proofs.Wholes.{AreWhole, are_whole, wholes}
+use Rattle.id_laws.proofs.Bounding.EndedLemmas.{ended_facts}
+use Rattle.id_laws.proofs.Telling.Wholes.{AreWhole, are_whole, wholes}
 use Rattle.id_sink.specs.Texts.{ask_text, has_brace, point_text, point_value_text, shape_text}
 use Rattle.id_sink.specs.Told.{GoesOut, SinkView}
 use Rattle.id_sink.specs.declared.sink.PrintError.{PrintError}

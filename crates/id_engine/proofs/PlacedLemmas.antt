@@ -1,16 +1,13 @@
--- The facts and the instructions of a source stand at places of its program, and those lie in its text.
-use Rattle.std.proofs.Common.{◌≡◌, ℕ, Bool, zero, suc, ◌+◌, ◌-◌, ◌<◌, ◌≤◌, true, false, List, [], ◌∷◌, ◌++◌, All, length, map, inl, inr}
-use Rattle.std.proofs.Common.{Option, Some, None, refl, sym, ap, subst, ◌∙◌, arith}
-use Rattle.std.specs.Prelude.{get_or, slice_get, IfSome}
-use Rattle.std.proofs.lemmas.Bool.{cases_eq, cases_lt}
-use Rattle.std.proofs.lemmas.List.{get_or_past, length-append}
-use Rattle.std.proofs.Math.Seq.{get_or-append_seam}
+-- The instructions of a program's graph stand at places of the program, and those lie in its text.
+use Rattle.std.proofs.Common.{◌≡◌, ℕ, zero, suc, ◌+◌, ◌-◌, ◌<◌, ◌≤◌, true, false, List, [], ◌∷◌, ◌++◌, All, length, map, inl, inr}
+use Rattle.std.proofs.Common.{Some, refl, sym, ap, subst, ◌∙◌, arith}
+use Rattle.std.specs.Prelude.{slice_get}
+use Rattle.std.proofs.lemmas.Bool.{cases_eq}
 use Rattle.id_table.specs.Names.{first_names}
 use Rattle.id_table.specs.declared.row.Row.{Row}
-use Rattle.id_table.specs.Rows.{add, at, in_top, no_row, value_of}
+use Rattle.id_table.specs.Rows.{add, at, in_top, value_of}
 use Rattle.id_value.specs.declared.Kind.{Kind}
 use Rattle.std.proofs.lemmas.Option.{slice_get-get_or}
-use Rattle.id_value.proofs.AmongLemmas.{Among-from_at}
 use Rattle.id_table.specs.declared.row.Node.{Node}
 use Rattle.id_table.specs.declared.row.Node.TheVariants.{Head, Param, Literal, Name, Unary, Binary, Split, If, Enter, Arg, Call, Block, Binding, Def, Program}
 use Rattle.id_table.specs.declared.row.Node.TheVariants.{Start, LoopHead, Variable, Entries, Switches, Turn, NextUse, Next, Body, Reset, Loop}
@@ -30,26 +27,7 @@ use Rattle.id_instr.specs.declared.instr.Instr.{Instr}
 use Rattle.id_instr.specs.declared.instr.Op.{Op}
 use Rattle.id_instr.specs.declared.instr.Op.TheVariants.{Merge, Next as NextOp, Switch}
 use Rattle.id_instr.specs.declared.instr.PortKind.{PortKind}
-use Rattle.id_source.specs.declared.Path.{Path}
-use Rattle.id_source.specs.declared.Fact.{Fact}
-use Rattle.id_source.specs.declared.Fact.TheVariants.{On, Has}
-use Rattle.id_source.specs.declared.Fact.TheVariants as fact
-use Rattle.id_source.specs.declared.Put.{Put}
-use Rattle.id_source.specs.declared.Ask.{Ask}
-use Rattle.id_source.specs.declared.Site.{Site}
-use Rattle.id_source.specs.declared.SourceValue.{SourceValue}
-use Rattle.id_source.specs.declared.SourceValue.TheVariants.{Int, Bool as SourceBool, Name as SiteName}
-use Rattle.id_source.specs.declared.SourceFault.TheVariants.{Operator, SecondStore}
-use Rattle.id_source.specs.Facts.{outermost}
-use Rattle.id_value.specs.List.{Among}
-use Rattle.id_source.specs.declared.NameValue.{NameValue}
-use Rattle.id_source.specs.declared.SourceFault.{SourceFault}
-use Rattle.id_source.specs.Sources.{Source, main_body}
-use Rattle.id_source.specs.Rounds.{Answers, Holds, Faulty}
-use Rattle.id_source.specs.Names.{AreSomeNames}
-use Rattle.id_source.specs.Computed.{AreFacts}
 use Rattle.id_source.proofs.CheckedLemmas.{placed_of}
-use Rattle.id_source.proofs.PlacedLemmas.{IsPoint, IsSite, Placed, PlacedFault, PlacedValue, round_placed, holds_placed, fault_placed}
 use Rattle.id_pieces.specs.declared.arc.Form.{Form}
 use Rattle.id_pieces.specs.declared.arc.Piece.{Piece}
 use Rattle.id_desugar.specs.Regions.{carried, imports_of}
@@ -57,18 +35,7 @@ use Rattle.id_pieces.proofs.EndsLemmas.{not_last}
 use Rattle.id_pieces.specs.Rows.{Entry, block, for_each, loop_entries, made_of, node, piece, send_to}
 use Rattle.id_pieces.specs.Schemas.{Makes, Schemas}
 use Rattle.id_check.proofs.ProgramsLemmas.{table_of}
-use Rattle.id_print.specs.declared.within.Ending.{Ending}
-use Rattle.id_print.specs.declared.within.Ending.TheVariants.{Quiet, Stopped, Fault}
-use Rattle.id_print.specs.declared.run_reports.Report.{Report}
-use Rattle.id_print.specs.declared.helds.Held.{Held}
-use Rattle.id_print.specs.declared.helds.Held.TheVariants.{Array, Cell}
-use Rattle.id_print.specs.Names.{AreSomeHeld}
-use Rattle.id_sink.specs.Within.{PointWithin, SiteWithin, ValueWithin}
-use Rattle.id_print.specs.Within.{AnswerWithin, AsksWithin, FaultWithin, EndingWithin, HeldWithin, HeldsWithin}
-use Rattle.id_print.specs.Within.{NameWithin, NamesWithin, FactWithin, FactsWithin}
-use Rattle.id_print.specs.Within.{ReportWithin}
 use Rattle.id_compile.specs.Programs.{IsPlacedWithin}
-use Rattle.id_engine.specs.Reports.{SaysTruly, IsTrueOf}
 
 -- a piece of a list of a few, which have one place, has it
 one_place : (a : Piece) (k : ℕ) (f : Form) (e : ℕ) → slice_get (a ∷ []) k ≡ Some (piece f e) → e ≡ a.place
@@ -131,34 +98,7 @@ last_row P = record {
   node = Program;
 }
 
--- the last row of a table has the place of its last one
-last_place : (R xs : List Row) (r : Row) (n : ℕ) → R ≡ xs ++ r ∷ [] → n + 1 ≡ length R → (at R n).place ≡ r.place
-last_place R xs r n e l =
-    let long = length-append xs (r ∷ []) in
-    let same = ap length e in
-    let last : n ≡ length xs = omega arith in
-    ap (λ (ys : List Row). (at ys n).place) e ∙ ap (λ (k : ℕ). (at (xs ++ r ∷ []) k).place) last
-    ∙ ap (λ (y : Row). y.place) (get_or-append_seam xs r [] no_row)
-
 module _ {size : ℕ} {P : Checked} (h : IsPlacedWithin size P) where
-  point_within : (p : Path) (e : ℕ) → IsPoint P p e → PointWithin size p e
-  point_within p e k = record { path = λ j d l. h.within (get_or p.steps j d).place (k.path j d l); place = h.within e k.place }
-
-  site_within : (s : Site) → IsSite P s → SiteWithin size s
-  site_within s k = point_within s.path s.place k
-
-  value_within : (v : SourceValue) → PlacedValue P v → ValueWithin size v
-  value_within (Int n) k = tt
-  value_within (SourceBool b) k = tt
-  value_within (SiteName s) k = site_within s k
-
-  fact_within : (f : Fact) → Placed P f → FactWithin size f
-  fact_within (On p e) k = point_within p e k
-  fact_within (Has p e v) k = record { point = point_within p e k.0; value = value_within v k.1 }
-  fact_within (fact.Shape s) k = site_within s.name k
-  fact_within (fact.Put p) k = record { filled = record { name = site_within p.name k.0; value = value_within p.value k.1 }; store = site_within p.store k.2 }
-  fact_within (fact.Ask a) k = record { fetch = site_within a.fetch k.0; name = site_within a.name k.1 }
-
   thing_within : (n : ℕ) → n < length (rows P) → is_thing (node P n) ≡ true → place P n ≤ size
   thing_within n l t = h.within (place P n) (placed_of P n l t)
 
@@ -309,69 +249,6 @@ module _ {size : ℕ} {P : Checked} (h : IsPlacedWithin size P) where
       let x = (table_of P).next_in c.0 (block P n) c.1 c.2 s in
       marker_within n c.0 (block P n + 1 + c.1) (thing_within c.0 s.within (ap is_thing s.node)) c.4 (x.2).place
 
-  -- the `Span`, the end of the body and what a `for` has in the place of a predicate have the place of the loop, and the
-  -- use of an outer name that of its `next` statement
-  span_within : (n : ℕ) → n < length (rows P) → node P n ≡ Span → place P n ≤ size
-  span_within n l is =
-      let c = (table_of P).span_of_loop n l is in
-      let d = (table_of P).loop_is c.0 c.1 c.2 in
-      marker_within n c.0 ((c.2).last + 2) (loop_within c.0 c.1 c.2) (omega (arith, (d.last_is).ends, c.3)) ((d.last_is).span_beside).place
-
-  body_within : (n : ℕ) → n < length (rows P) → node P n ≡ Body → place P n ≤ size
-  body_within n l is =
-      let c = (table_of P).body_of n l is in
-      let d = (table_of P).loop_is c.0 (block P n) c.1 in
-      marker_within n c.0 d.body (loop_within c.0 (block P n) c.1) c.2 (d.place).body
-
-  test_within : (n f : ℕ) → n < length (rows P) → node P n ≡ Within f → place P n ≤ size
-  test_within n f l is =
-      let c = (table_of P).within_of n f l is in
-      let d = (table_of P).loop_is c.0 (block P n) c.1 in
-      marker_within n c.0 n (loop_within c.0 (block P n) c.1) refl ((d.place_carried).within c.2 n c.3)
-
-  use_within : (n x : ℕ) → n < length (rows P) → node P n ≡ NextUse x → place P n ≤ size
-  use_within n x l is =
-      let c = (table_of P).use_of n x l is in
-      let s = c.2 in
-      let i = (table_of P).next_in c.0 (block P n) c.1 x s in
-      marker_within n c.0 s.outer (thing_within c.0 s.within (ap is_thing s.node)) c.3 (i.2).outer_place
-
-  -- the last row has the place 0
-  program_within : (n : ℕ) → n < length (rows P) → node P n ≡ Program → place P n ≤ size
-  program_within n l is =
-      let none = last_place (rows P) (rows_before P) (last_row P) n P.tabled ((table_of P).ends_once n l is) in
-      omega (arith, none)
-
-  -- each row has a place that lies in the text
-  pub rows_within : (n : ℕ) → place P n ≤ size
-  rows_within n = elim (cases_lt n (length (rows P))) [
-    | inl l ↦ go l (node P n) refl
-    | inr past ↦ (let none : place P n ≡ 0 = ap (λ (r : Row). r.place) (get_or_past (rows P) n no_row past) in omega (arith, none))
-  ]
-    where
-      go : n < length (rows P) → (x : Node) → node P n ≡ x → place P n ≤ size
-      go l Head is = head_within n l is
-      go l (Split t) is = split_within n t l is
-      go l (Enter x) is = enter_within n x l is
-      go l (Arg e k v) is = arg_within n e k v l is
-      go l Program is = program_within n l is
-      go l (Bounds a b) is = bounds_within n a b l is
-      go l Start is = start_within n l is
-      go l (LoopHead s) is = loop_head_within n s l is
-      go l (Carried k) is = carried_within n k l is
-      go l Variable is = variable_within n l is
-      go l Entries is = entries_within n l is
-      go l (Within f) is = test_within n f l is
-      go l (Switches t) is = switches_within n t l is
-      go l Count is = count_within n l is
-      go l Turn is = turn_within n l is
-      go l (NextUse x) is = use_within n x l is
-      go l Body is = body_within n l is
-      go l (Reset v) is = reset_within n v l is
-      go l Span is = span_within n l is
-      go l (Address t i) is = address_within n t i l is
-      go l _ is = thing_within n l (ap is_thing is)
-
   -- the places of what a row makes
   made_within : (n k : ℕ) (f : Form) (e : ℕ) → Makes P n k f e → e ≤ size
   made_within n k f e m = go (node P n) refl m.at
@@ -433,58 +310,3 @@ module _ {size : ℕ} {P : Checked} (h : IsPlacedWithin size P) where
       let made = n.made x.row x.part x.form x.place x.makes in
       let same = one_there g.instrs k _ _ (subst (λ (j : ℕ). slice_get g.instrs j ≡ Some made.instr) x.is made.at) at in
       subst (λ (i : Instr). i.place ≤ size) same (subst (λ (q : ℕ). q ≤ size) (sym made.place) (made_within x.row x.part x.form x.place x.makes)))
-
-module _ {size : ℕ} (S : Source) (h : IsPlacedWithin size S.checked) where
-  fault_within : (f : SourceFault) → Faulty S f → FaultWithin size f
-  fault_within f k = go f (fault_placed S f k)
-    where
-      go : (f : SourceFault) → PlacedFault S.checked f → FaultWithin size f
-      go (Operator x s) k = site_within h s k
-      go (SecondStore s i a b) k = record { name = site_within h s k.0; first = site_within h a k.1; second = site_within h b k.2 }
-
-  name_within : (n : NameValue) → Holds S (Has n.path n.place n.value) → NameWithin size n
-  name_within n k =
-      let x = holds_placed S (Has n.path n.place n.value) k in
-      record { point = point_within h n.path n.place x.0; value = value_within h n.value x.1 }
-
-  -- a structure's line lies in the text, and so does that of a cell
-  held_within : (hs : List Held) → AreSomeHeld S hs → (x : Held) → Among x hs → HeldWithin size x
-  held_within hs s (Array x) k = fact_within h (fact.Shape x) (holds_placed S (fact.Shape x) (s.shapes x k))
-  held_within hs s (Cell c) k =
-      let put = s.puts c k in
-      let p : Put = record { name = c.name; index = c.index; value = c.value; store = put.0 } in
-      (fact_within h (fact.Put p) (holds_placed S (fact.Put p) put.1)).filled
-
-  helds_within : (hs : List Held) → AreSomeHeld S hs → HeldsWithin size hs
-  helds_within hs s = λ k d within. held_within hs s _ (Among-from_at _ hs k (slice_get-get_or hs k d within))
-
-  answer_within : (o : Option SourceValue) → IfSome o (Answers S) → AnswerWithin size o
-  answer_within None k = tt
-  answer_within (Some v) k = value_within h v (holds_placed S (Has outermost (place S.checked (main_body S.checked)) v) k).1
-
-  asks_within : (ws : List Ask) → ((a : Ask) → Among a ws → Holds S (fact.Ask a)) → AsksWithin size ws
-  asks_within ws s = λ k d within. (let a = get_or ws k d in
-      fact_within h (fact.Ask a) (holds_placed S (fact.Ask a) (s a (Among-from_at _ ws k (slice_get-get_or ws k d within)))))
-
-  -- the names of a source lie in its text
-  pub names_within : (ns : List NameValue) → AreSomeNames S ns → NamesWithin size ns
-  names_within ns s = λ k d within. (let x = s.only _ (Among-from_at _ ns k (slice_get-get_or ns k d within)) in name_within _ x.holds)
-
-  -- the facts of a round lie in the text
-  pub facts_within : (n : ℕ) (fs : List Fact) → AreFacts S n fs → FactsWithin size fs
-  facts_within n fs s = λ k d within. fact_within h _ (round_placed S n _ (s.only _ (Among-from_at _ fs k (slice_get-get_or fs k d within))))
-
-  ending_within : (b : Bool) (r : Report) (e : Ending) → SaysTruly S b r e → EndingWithin size e
-  ending_within b r Quiet t = tt
-  ending_within b r Stopped t = tt
-  ending_within b r (Fault f) t = fault_within f t
-
-  -- what a true report says lies in the text
-  pub report_within : (b : Bool) (r : Report) → IsTrueOf S b r → ReportWithin size r
-  report_within b r t = record {
-    ending = ending_within b r r.ending t.says;
-    answer = answer_within r.answer (t.some).answer;
-    names = names_within r.names (t.some).names;
-    structures = helds_within r.structures (t.some).structures;
-    waiting = asks_within r.waiting (t.some).asks;
-  }

@@ -12,7 +12,7 @@ use Rattle.id_core.specs.Steps.{State}
 use Rattle.id_laws.specs.Bounded.{IsAtEnd, RestIsTheEnd, something_on}
 use Rattle.id_laws.specs.Determinate.{RunOf, end_of}
 use Rattle.id_laws.specs.Laws.{IsComplete, QuietIsComplete}
-use Rattle.id_laws.proofs.StampsLemmas.{none_left}
+use Rattle.id_laws.proofs.Bounding.StampsLemmas.{none_left}
 use Rattle.id_sink.specs.Told.{SinkView}
 use Rattle.id_sink.specs.declared.sink.PrintError.{PrintError}
 use Rattle.id_print.specs.Texts.{facts_text}
@@ -62,7 +62,7 @@ module _ (rest : RestIsTheEnd) (complete : QuietIsComplete) (text : List ℕ) (w
       let at = (h.run).runs ((h.run).order).0 ((h.run).order).1 in
       let r : RunOf S = record { graph = h.graph; schemas = schemas_of h.own; count = count; positions = at.positions } in
       let end = at.end in
-      let q : IsQuietly h.graph count (h.machine).world text b h.output = quietly h.graph count steps (h.machine).world text b 0 h.output refl h.ends in
+      let q : IsQuietly h.graph (h.machine).world text b h.output = quietly h.graph count steps (h.machine).world text b 0 h.output refl h.ends in
       let still : IsQuiet (end_of S r) = record {
         empty = none_left end.flight (q.still).empty;
         went = subst (λ (es : List State). All (λ e. AllWent e.events) es) (sym end.elements) (q.still).went;

@@ -16,8 +16,8 @@ use Rattle.id_laws.specs.Laws.{NeverStuck, Soundness, QuietIsComplete, IsSound, 
 use Rattle.id_value.specs.List.{Among}
 use Rattle.id_core.specs.Steps.{State}
 use Rattle.id_value.proofs.AmongLemmas.{Among-from_at}
-use Rattle.id_print.specs.declared.within.Ending.{Ending}
-use Rattle.id_print.specs.declared.within.Ending.TheVariants.{Quiet, Stopped, Fault}
+use Rattle.id_print.specs.declared.ending.Ending.{Ending}
+use Rattle.id_print.specs.declared.ending.Ending.TheVariants.{Quiet, Stopped, Fault}
 use Rattle.id_print.specs.declared.run_reports.Report.{Report}
 use Rattle.id_observe.proofs.FirstsLemmas.{first_is_shown}
 use Rattle.id_print.specs.Endings.{EndsSo}
@@ -48,7 +48,7 @@ true_in S g count w b r Quiet fails completes some from rise ends =
     record {
       answer = subst Q (sym from.answer_is) done.answer;
       names = λ asked. AreNames-complete S g w r.names some.names done (from.sorted asked);
-      structures = AreHeld-complete S g count w r.structures some.structures done from.held;
+      structures = AreHeld-complete S g w r.structures some.structures done from.held;
       waiting = AreWaiting-complete S g w r.waiting done from.waits rise;
       none = done.no_fault;
     }
@@ -103,7 +103,7 @@ says_some : (S : Source) (g : Parts) (number : ℕ → ℕ → ℕ) (count : ℕ
 says_some S g number count w b r ok h = record {
   answer = if_some S r.answer (λ v k. ok.answer v (sym h.answer_is ∙ k));
   names = some_names S g number count w b r ok h;
-  structures = AreSomeHeld-sound S g number count w r.structures ok h.held (h.held_rise (AreApartBy-held S g number count w ok));
+  structures = AreSomeHeld-sound S g number w r.structures ok h.held (h.held_rise (AreApartBy-held S g number w ok));
   asks = λ a k. ok.waiting a (among_sorted (shown.waiting g w) r.waiting a (h.waits).same k);
 }
 

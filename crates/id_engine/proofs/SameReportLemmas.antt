@@ -1,5 +1,5 @@
 -- Lemmas on specs/JudgedAlike.antt: a machine that is sound has one report, and a run that ends in it is printed so.
-use Rattle.std.proofs.Common.{◌≡◌, ◌≢◌, ℕ, Bool, true, false, List, [], refl, sym, ap, ◌∙◌, subst}
+use Rattle.std.proofs.Common.{◌≡◌, ℕ, Bool, true, false, List, [], refl, sym, ap, ◌∙◌}
 use Rattle.std.specs.Prelude.{IsTrue}
 use Rattle.std.proofs.lemmas.List.Sorted.{IsPermutation-refl}
 use Rattle.id_instr.specs.Graph.{Parts}
@@ -14,14 +14,14 @@ use Rattle.id_core.specs.Observed as shown
 use Rattle.id_observe.proofs.FirstsLemmas.{first_is_shown}
 use Rattle.id_laws.specs.Laws.{IsSound}
 use Rattle.id_print.specs.Endings.{EndsSo}
-use Rattle.id_print.specs.Names.{HeldBefore, IsOrderOf, IsSortedOf, WaitBefore, held_lines}
+use Rattle.id_print.specs.Names.{HeldBefore, IsOrderOf, IsSortedOf, WaitBefore}
 use Rattle.id_print.specs.Reports.{asked, ending_text, report_text}
 use Rattle.id_print.specs.RunReports.{IsReportFrom}
 use Rattle.id_print.specs.Texts.{quiet_text, stopped_text}
 use Rattle.id_print.specs.declared.helds.Held.{Held}
 use Rattle.id_print.specs.declared.run_reports.Report.{Report}
-use Rattle.id_print.specs.declared.within.Ending.{Ending}
-use Rattle.id_print.specs.declared.within.Ending.TheVariants.{Quiet, Stopped, Fault}
+use Rattle.id_print.specs.declared.ending.Ending.{Ending}
+use Rattle.id_print.specs.declared.ending.Ending.TheVariants.{Quiet, Stopped, Fault}
 use Rattle.id_print.proofs.NamesLemmas.{asks_told, helds_told, names_told}
 use Rattle.id_engine.specs.Judged.{status_of}
 use Rattle.id_engine.specs.Runs.{Ends, held_of}
@@ -63,9 +63,9 @@ module _ (S : Source) (g : Parts) (number : ℕ → ℕ → ℕ) (count : ℕ) (
         by true is = one_names r.names ns (from.sorted is) (h is)
         by false is = refl
 
-    held_as : (hs : List Held) → IsOrderOf HeldBefore hs (held_of g count w) → r.structures ≡ hs
-    held_as hs h = order_same _ _ _ helds_told r.structures hs _ _ from.held h (AreApartBy-held S g number count w ok)
-        (AreApartBy-held S g number count w ok) (IsPermutation-refl (held_lines its))
+    held_as : (hs : List Held) → IsOrderOf HeldBefore hs (held_of g w) → r.structures ≡ hs
+    held_as hs h = order_same _ _ _ helds_told r.structures hs _ _ from.held h (AreApartBy-held S g number w ok)
+        (AreApartBy-held S g number w ok) (IsPermutation-refl (held_of g w))
 
     waits_as : (ws : List Ask) → IsOrderOf WaitBefore ws (shown.waiting g w) → r.waiting ≡ ws
     waits_as ws h = order_same _ _ _ asks_told r.waiting ws _ _ from.waits h (AreApartBy-waiting S g number w ok)

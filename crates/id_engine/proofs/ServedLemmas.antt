@@ -1,5 +1,5 @@
 -- Requests, and how a refused one is served (specs/Asked.antt, specs/Served.antt).
-use Rattle.std.proofs.Common.{◌≡◌, ◌≢◌, ℕ, List, [], Option, None, Some, Result, refl, sym, ap, subst, ◌∙◌}
+use Rattle.std.proofs.Common.{◌≡◌, ◌≢◌, ℕ, List, [], ◌∷◌, length, map, get_or, arith, Option, None, Some, Result, refl, sym, ap, subst, ◌∙◌}
 use Rattle.id_sink.specs.Told.{SinkView}
 use Rattle.id_args.specs.declared.request.Request.{Request}
 use Rattle.id_compile.specs.declared.error.EngineError.{EngineError}
@@ -14,12 +14,13 @@ use Rattle.id_sink.specs.declared.source.SourceFault.{SourceFault}
 use Rattle.id_sink.specs.Reading.{IsToldText, IsUnread}
 use Rattle.id_log.specs.declared.log.LogFault.{LogFault}
 use Rattle.id_log.specs.Logs.{Ahead, Hears, MayBreak}
+use Rattle.id_merge.specs.Merging.{logs_ahead, merged_ahead}
 use Rattle.id_args.specs.declared.request.Request.TheVariants as asks
 use Rattle.id_engine.specs.Asked.{IsToJudge}
 use Rattle.id_engine.proofs.HearLemmas.{hears_any, hears_map}
 use Rattle.id_engine.specs.Commands.{ShowsAll, ShowsFront}
 use Rattle.id_compile.specs.Refusals.{compiler_refusal, IsDetailInside, IsInsideOf, IsPrintedLine, IsToldRefusal, IsWord, Tells, plain, row_of, source_cause}
-use Rattle.id_engine.specs.Served.{command_of, log_fault, trace_of, words_of, IsRefusedRequest, IsRun, IsRunFront, IsTaken, Serves, done, refused, Drives, DrivesBy, DrivesWith, broken, heard}
+use Rattle.id_engine.specs.Served.{command_of, log_fault, logs_of, words_of, IsRefusedRequest, IsRun, IsRunFront, IsTaken, Serves, done, refused, Drives, DrivesBy, DrivesWith, broken, heard}
 use Rattle.id_engine.specs.Served.Drives.{served, unread}
 use Rattle.id_engine.specs.Served.Serves.{cut}
 
@@ -87,15 +88,15 @@ DrivesBy-broken text a r out out' err err' fault y x n h from is status silent p
 
 -- ---- a log
 
--- a request that names a log asks to judge it
-pub asks_to_judge : (r : Request) (name : List ℕ) → Some name ≡ trace_of r → IsToJudge r
+-- a request that names logs asks to judge them
+pub asks_to_judge : (r : Request) (name : List (List ℕ)) → Some name ≡ logs_of r → IsToJudge r
 asks_to_judge (asks.Check file) name is = absurd cc
 asks_to_judge (asks.Graph file) name is = absurd cc
 asks_to_judge (asks.Draw file) name is = absurd cc
 asks_to_judge (asks.Run file inputs count trace steps order names) name is = absurd cc
 asks_to_judge (asks.Facts file rounds inputs) name is = absurd cc
 asks_to_judge (asks.Why file rounds inputs) name is = absurd cc
-asks_to_judge (asks.Judge file trace inputs count names) name is = tt
+asks_to_judge (asks.Judge file logs inputs count names) name is = tt
 
 -- a failed write is told of all that a log may have
 pub hears_cut : (a : Option Ahead) (P : List ℕ → Type 0) (e : EngineError) → (e ≡ Write → Hears a P) → Hears a (λ bytes. e ≡ Write → P bytes)
@@ -111,19 +112,37 @@ hears_cut a P TooManyFacts h = hears_any a _ (λ bytes w. absurd cc)
 hears_cut a P Memory h = hears_any a _ (λ bytes w. absurd cc)
 hears_cut a P Write h = hears_map a P _ (λ bytes p w. p) (h refl)
 
--- what is so of the log that a request names
+-- what is so of the logs that a request names
 pub Drives-by : (told : Option (Result (List ℕ) SourceFault)) (logs : List ℕ → Option Ahead) (r : Request) (text : List ℕ) (out out' err err' : SinkView)
-    (n : ℕ) (name : List ℕ) → Some name ≡ trace_of r → IsToldText told text → DrivesBy text (logs name) r out out' err err' n
+    (n : ℕ) (name : List (List ℕ)) → Some name ≡ logs_of r → IsToldText told text → DrivesBy text (logs_ahead logs name) r out out' err err' n
     → Drives told logs r out out' err err' n
 Drives-by told logs r text out out' err err' n name is text_is by =
-    served text text_is (subst (λ (file : Option (List ℕ)). DrivesWith logs file text r out out' err err' n) is by)
+    served text text_is (subst (λ (file : Option (List (List ℕ))). DrivesWith logs file text r out out' err err' n) is by)
 
 -- and where it names none
 pub Drives-served : (told : Option (Result (List ℕ) SourceFault)) (logs : List ℕ → Option Ahead) (r : Request) (text : List ℕ)
-    (out out' err err' : SinkView) (n : ℕ) → None ≡ trace_of r → IsToldText told text → Serves text [] r out out' err err' n
+    (out out' err err' : SinkView) (n : ℕ) → None ≡ logs_of r → IsToldText told text → Serves text [] r out out' err err' n
     → Drives told logs r out out' err err' n
 Drives-served told logs r text out out' err err' n is text_is serves =
-    served text text_is (subst (λ (file : Option (List ℕ)). DrivesWith logs file text r out out' err err' n) is serves)
+    served text text_is (subst (λ (file : Option (List (List ℕ))). DrivesWith logs file text r out out' err err' n) is serves)
+
+-- one log has ahead what it has
+pub logs_ahead-one : {X : Type 0} (f : X → List ℕ) (told : List ℕ → Option Ahead) (names : List X) (d : X) → length names ≡ 1
+    → told (f (get_or names 0 d)) ≡ logs_ahead told (map f names)
+logs_ahead-one f told [] d one = absurd cc
+logs_ahead-one f told (n ∷ []) d one = refl
+logs_ahead-one f told (n ∷ m ∷ names) d one = absurd (omega (arith, one))
+
+-- and several what they come to
+pub logs_ahead-several : {X : Type 0} (f : X → List ℕ) (told : List ℕ → Option Ahead) (names : List X) → (length names ≡ 1 → ⊥)
+    → merged_ahead None (map (λ n. told (f n)) names) ≡ logs_ahead told (map f names)
+logs_ahead-several f told [] several = refl
+logs_ahead-several f told (n ∷ []) several = absurd (several refl)
+logs_ahead-several {X = X} f told (n ∷ m ∷ names) several = ap (λ os. merged_ahead None (told (f n) ∷ told (f m) ∷ os)) (each names)
+  where
+    each : (ns : List X) → map (λ n. told (f n)) ns ≡ map told (map f ns)
+    each [] = refl
+    each (n ∷ ns) = ap (λ os. told (f n) ∷ os) (each ns)
 
 -- a log is judged, and what comes of that is printed
 pub DrivesBy-heard : (text : List ℕ) (a : Option Ahead) (r : Request) (out out' err : SinkView) (n : ℕ)

@@ -3,8 +3,8 @@ use Rattle.std.proofs.Common.{◌≡◌, ◌≢◌, ◌≤◌, ℕ, Bool, true, 
 use Rattle.std.proofs.Common.{Result, Ok, Err, IfOk, IfErr, OnOk, codes, refl, sym, subst}
 use Rattle.id_check.specs.declared.checked.Checked.{Checked}
 use Rattle.id_sink.specs.declared.sink.PrintError.{PrintError}
-use Rattle.id_print.specs.declared.within.Ending.{Ending}
-use Rattle.id_print.specs.declared.within.Ending.TheVariants.{Quiet, Stopped, Fault}
+use Rattle.id_print.specs.declared.ending.Ending.{Ending}
+use Rattle.id_print.specs.declared.ending.Ending.TheVariants.{Quiet, Stopped, Fault}
 use Rattle.id_print.specs.declared.run_reports.Report.{Report}
 use Rattle.id_sink.specs.Told.{SinkView, Prints}
 use Rattle.id_print.specs.Reports.{asked, ending_text, report_text}

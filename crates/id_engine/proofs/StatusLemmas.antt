@@ -19,7 +19,7 @@ use Rattle.id_runs.specs.Legal.{IsSameBut}
 use Rattle.id_laws.specs.Determinate.{RunOf, end_of}
 use Rattle.id_laws.specs.Laws.{IsComplete, IsSound, QuietIsComplete, Soundness}
 use Rattle.id_laws.specs.Bounded.{Bounded, messages_at_once}
-use Rattle.id_laws.proofs.StampsLemmas.{none_left}
+use Rattle.id_laws.proofs.Bounding.StampsLemmas.{none_left}
 use Rattle.id_build.specs.Own.{schemas_of}
 use Rattle.id_engine.specs.Runs.{Ends}
 use Rattle.id_engine.specs.Runs.Ends.{fault, quiet, stopped}

@@ -30,7 +30,7 @@ IsComputed (asks.Draw file) = ⊥
 IsComputed (asks.Run file inputs count trace steps order names) = Unit {0}
 IsComputed (asks.Facts file rounds inputs) = Unit {0}
 IsComputed (asks.Why file rounds inputs) = Unit {0}
-IsComputed (asks.Judge file trace inputs count names) = Unit {0}
+IsComputed (asks.Judge file logs inputs count names) = Unit {0}
 
 -- the request asks for a run
 abbrev pub IsToRun : Request → Type 0
@@ -40,7 +40,7 @@ IsToRun (asks.Draw file) = ⊥
 IsToRun (asks.Run file inputs count trace steps order names) = Unit {0}
 IsToRun (asks.Facts file rounds inputs) = ⊥
 IsToRun (asks.Why file rounds inputs) = ⊥
-IsToRun (asks.Judge file trace inputs count names) = ⊥
+IsToRun (asks.Judge file logs inputs count names) = ⊥
 
 -- the request asks for a run, or to judge the trace of one
 abbrev pub IsOfRun : Request → Type 0
@@ -50,7 +50,7 @@ IsOfRun (asks.Draw file) = ⊥
 IsOfRun (asks.Run file inputs count trace steps order names) = Unit {0}
 IsOfRun (asks.Facts file rounds inputs) = ⊥
 IsOfRun (asks.Why file rounds inputs) = ⊥
-IsOfRun (asks.Judge file trace inputs count names) = Unit {0}
+IsOfRun (asks.Judge file logs inputs count names) = Unit {0}
 
 -- the request asks to judge a log
 abbrev pub IsToJudge : Request → Type 0
@@ -60,4 +60,4 @@ IsToJudge (asks.Draw file) = ⊥
 IsToJudge (asks.Run file inputs count trace steps order names) = ⊥
 IsToJudge (asks.Facts file rounds inputs) = ⊥
 IsToJudge (asks.Why file rounds inputs) = ⊥
-IsToJudge (asks.Judge file trace inputs count names) = Unit {0}
+IsToJudge (asks.Judge file logs inputs count names) = Unit {0}

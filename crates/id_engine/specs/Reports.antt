@@ -10,17 +10,15 @@ use Rattle.id_source.specs.declared.Fact.TheVariants as fact
 use Rattle.id_source.specs.Rounds.{Answers, Holds, IsAnswer, Faulty, FaultFree}
 use Rattle.id_source.specs.Names.{AreNames, AreSomeNames, AreWaiting}
 use Rattle.id_build.specs.Own.{IsOwn}
-use Rattle.id_pieces.specs.Rows.{size}
 use Rattle.id_instr.specs.Graph.{Parts}
 use Rattle.id_core.specs.Events.{EventView}
 use Rattle.id_core.specs.Machines.{World, MachineView}
-use Rattle.id_print.specs.declared.within.Ending.{Ending}
-use Rattle.id_print.specs.declared.within.Ending.TheVariants.{Quiet, Stopped, Fault}
+use Rattle.id_print.specs.declared.ending.Ending.{Ending}
+use Rattle.id_print.specs.declared.ending.Ending.TheVariants.{Quiet, Stopped, Fault}
 use Rattle.id_print.specs.declared.run_reports.Report.{Report}
 use Rattle.id_sink.specs.declared.sink.PrintError.{PrintError}
 use Rattle.id_sink.specs.Told.{SinkView, Prints}
 use Rattle.id_print.specs.RunReports.{IsReportFrom}
-use Rattle.id_print.specs.Within.{ReportWithin}
 use Rattle.id_print.specs.Reports.{report_text}
 use Rattle.id_trace.specs.Traces.{trace_text}
 use Rattle.id_print.specs.Names.{AreHeld, AreSomeHeld}
@@ -113,10 +111,6 @@ pub data RunsSo (P : Checked) (vs : List Constant) (text : List ℕ) (count : �
       RunsSo P vs text count t steps order b old new result
   unallowed : (e : EngineError) → IsUnallowed count steps e → new ≡ old →
       RunsSo P vs text count t steps order b old new (Err e)
-
--- the places of each report of this machine are at most so many bytes in
-abbrev pub AreReportsWithin : MachineView → Bool → ℕ → Type 0
-AreReportsWithin m b size = (r : Report) → IsReportFrom m b r → ReportWithin size r
 
 -- a report of the machine is printed, or memory was refused before the first byte
 pub data PrintsMachine (m : MachineView) (text : List ℕ) (t b : Bool) (old new : SinkView) :

@@ -14,7 +14,7 @@ use Rattle.id_record.specs.declared.kept.Keeps.TheVariants as keeps
 use Rattle.id_core.specs.Events.{EventView}
 use Rattle.id_core.specs.Firsts.{AreMergedOf, IsFirstFault}
 use Rattle.id_core.specs.Machines.{MachineView, World, IsQuiet}
-use Rattle.id_core.specs.Observed.{answer, faults, names, waiting}
+use Rattle.id_core.specs.Observed.{answer, cell_values, faults, names, structures, waiting}
 use Rattle.id_elements.specs.Runs.{IsByPositions, IsHeldBack, IsRun, MovesOn}
 use Rattle.id_sink.specs.declared.sink.PrintError.{PrintError}
 use Rattle.id_sink.specs.Told.{SinkView, Prints}
@@ -26,9 +26,9 @@ use Rattle.id_trace.specs.Traces.{trace_text}
 use Rattle.id_compile.specs.Programs.{IsProgramOf}
 use Rattle.id_engine.specs.Commands.{Run, Shows}
 
--- the lines about structures and cells that a machine of so many elements shows
-abbrev pub held_of : Parts → ℕ → World → List Held
-held_of g count w = held_lines (record { graph = g; count = count; keeps = keeps.All; world = w })
+-- the lines about structures and cells that a machine shows
+abbrev pub held_of : Parts → World → List Held
+held_of g w = held_lines (structures g w) (cell_values g w)
 
 -- as much as is kept of the events of a run whose trace or names are asked for, or neither
 abbrev pub keeps_for : Bool → Bool → Keeps
@@ -45,7 +45,7 @@ pub data Ends (g : Parts) (count steps : ℕ) (w : World) (text : List ℕ) (b :
     → Type 0 where
   -- with status 0 the machine is quiet
   quiet : (ns : List NameValue) (hs : List Held) (waits : List Ask) → IsQuiet w
-      → (IsTrue b → IsSortedOf ns (names g w)) → IsOrderOf HeldBefore hs (held_of g count w)
+      → (IsTrue b → IsSortedOf ns (names g w)) → IsOrderOf HeldBefore hs (held_of g w)
       → IsOrderOf WaitBefore waits (waiting g w) →
       Ends g count steps w text b 0 (quiet_text text (answer g w) (asked b ns) hs waits)
   -- with status 1 it has shown a fault: the first of all its events, by stamp and then by element
@@ -53,7 +53,7 @@ pub data Ends (g : Parts) (count steps : ℕ) (w : World) (text : List ℕ) (b :
   -- with status 3 it has shown no fault, and messages are left, all of them held back
   stopped : (ns : List NameValue) (hs : List Held) → faults g w ≡ [] → w.flight ≢ []
       → All (IsHeldBack count steps w) w.flight → (IsTrue b → IsSortedOf ns (names g w))
-      → IsOrderOf HeldBefore hs (held_of g count w) →
+      → IsOrderOf HeldBefore hs (held_of g w) →
       Ends g count steps w text b 3 (stopped_text text (answer g w) (asked b ns) hs)
 
 -- a run of the text's program on the inputs that the words give, on so many elements, each of which handles at most so

@@ -17,6 +17,7 @@ use Rattle.id_sink.specs.Reading.{IsToldText, IsUnread}
 use Rattle.id_log.specs.declared.log.LogFault.{LogFault}
 use Rattle.id_log.specs.declared.log.LogFault.TheVariants as lost
 use Rattle.id_log.specs.Logs.{Ahead, Hears, MayBreak}
+use Rattle.id_merge.specs.Merging.{logs_ahead}
 use Rattle.id_compile.specs.Programs.{HasProgram}
 use Rattle.id_engine.specs.Commands.{Command, Check, List_graph, Draw_graph, Facts, Judge, Run, ShowsAll}
 use Rattle.id_engine.specs.Commands.{ShowsFront, Why}
@@ -33,17 +34,17 @@ file_of (asks.Draw file) = file.now
 file_of (asks.Run file inputs count trace steps order names) = file.now
 file_of (asks.Facts file rounds inputs) = file.now
 file_of (asks.Why file rounds inputs) = file.now
-file_of (asks.Judge file trace inputs count names) = file.now
+file_of (asks.Judge file logs inputs count names) = file.now
 
--- the log that a request asks to judge
-abbrev pub trace_of : Request → Option (List ℕ)
-trace_of (asks.Check file) = None
-trace_of (asks.Graph file) = None
-trace_of (asks.Draw file) = None
-trace_of (asks.Run file inputs count trace steps order names) = None
-trace_of (asks.Facts file rounds inputs) = None
-trace_of (asks.Why file rounds inputs) = None
-trace_of (asks.Judge file trace inputs count names) = Some trace.now
+-- the logs that a request asks to judge
+abbrev pub logs_of : Request → Option (List (List ℕ))
+logs_of (asks.Check file) = None
+logs_of (asks.Graph file) = None
+logs_of (asks.Draw file) = None
+logs_of (asks.Run file inputs count trace steps order names) = None
+logs_of (asks.Facts file rounds inputs) = None
+logs_of (asks.Why file rounds inputs) = None
+logs_of (asks.Judge file logs inputs count names) = Some (map (λ w. w.now) logs.items)
 
 -- the words of a request's inputs
 abbrev pub words_of : Request → List (List ℕ)
@@ -53,7 +54,7 @@ words_of (asks.Draw file) = []
 words_of (asks.Run file inputs count trace steps order names) = map (λ w. w.now) inputs.items
 words_of (asks.Facts file rounds inputs) = map (λ w. w.now) inputs.items
 words_of (asks.Why file rounds inputs) = map (λ w. w.now) inputs.items
-words_of (asks.Judge file trace inputs count names) = map (λ w. w.now) inputs.items
+words_of (asks.Judge file logs inputs count names) = map (λ w. w.now) inputs.items
 
 -- what a request asks for, with the bytes of its trace where it has one
 abbrev pub command_of : List ℕ → Request → Command
@@ -64,7 +65,7 @@ command_of bytes (asks.Run file inputs count trace steps order names) =
     Run names trace (map (λ w. w.now) inputs.items)
 command_of bytes (asks.Facts file rounds inputs) = Facts rounds (map (λ w. w.now) inputs.items)
 command_of bytes (asks.Why file rounds inputs) = Why rounds (map (λ w. w.now) inputs.items)
-command_of bytes (asks.Judge file trace inputs count names) = Judge names (map (λ w. w.now) inputs.items) count bytes
+command_of bytes (asks.Judge file logs inputs count names) = Judge names (map (λ w. w.now) inputs.items) count bytes
 
 -- a request on a text is taken: the text has a program, the words give inputs, and all numbers are within their limits
 abbrev pub IsTaken : List ℕ → Request → Type 0
@@ -75,7 +76,7 @@ IsTaken text (asks.Run file inputs count trace steps order names) =
     IsTakenRun text (map (λ w. w.now) inputs.items) count steps
 IsTaken text (asks.Facts file rounds inputs) = AreTakenFacts text (map (λ w. w.now) inputs.items) rounds
 IsTaken text (asks.Why file rounds inputs) = AreTakenReasons text (map (λ w. w.now) inputs.items) rounds
-IsTaken text (asks.Judge file trace inputs count names) = IsTakenRun text (map (λ w. w.now) inputs.items) count 1
+IsTaken text (asks.Judge file logs inputs count names) = IsTakenRun text (map (λ w. w.now) inputs.items) count 1
 
 -- a request to run the text is run
 abbrev pub IsRun : List ℕ → Request → SinkView → SinkView → ℕ → Type 0
@@ -86,7 +87,7 @@ IsRun text (asks.Run file inputs count trace steps order names) out out' status 
     Ran text (map (λ w. w.now) inputs.items) count trace steps order names out out' status
 IsRun text (asks.Facts file rounds inputs) out out' status = Unit {0}
 IsRun text (asks.Why file rounds inputs) out out' status = Unit {0}
-IsRun text (asks.Judge file trace inputs count names) out out' status = Unit {0}
+IsRun text (asks.Judge file logs inputs count names) out out' status = Unit {0}
 
 -- and of a run that was cut short by a failed write, a front is out
 abbrev pub IsRunFront : List ℕ → Request → SinkView → SinkView → Type 0
@@ -97,7 +98,7 @@ IsRunFront text (asks.Run file inputs count trace steps order names) out out' =
     RanFront text (map (λ w. w.now) inputs.items) count trace steps order names out out'
 IsRunFront text (asks.Facts file rounds inputs) out out' = Unit {0}
 IsRunFront text (asks.Why file rounds inputs) out out' = Unit {0}
-IsRunFront text (asks.Judge file trace inputs count names) out out' = Unit {0}
+IsRunFront text (asks.Judge file logs inputs count names) out out' = Unit {0}
 
 -- why a request on a text is refused
 abbrev pub IsRefusedRequest : List ℕ → Request → EngineError → Type 0
@@ -110,7 +111,7 @@ IsRefusedRequest text (asks.Facts file rounds inputs) e = AreRefusedFacts text (
 -- as its round would be
 IsRefusedRequest text (asks.Why file rounds inputs) e = AreRefusedFacts text (map (λ w. w.now) inputs.items) rounds e
 -- as a run of one step on as many elements would be
-IsRefusedRequest text (asks.Judge file trace inputs count names) e =
+IsRefusedRequest text (asks.Judge file logs inputs count names) e =
     IsRefusedRun text (map (λ w. w.now) inputs.items) count 1 e
 
 -- the request is served: what it asks for is printed whole, or one line says why not
@@ -141,18 +142,19 @@ pub data DrivesBy (text : List ℕ) (a : Option Ahead) (r : Request) (out out' e
       → IsPrintedLine [] (plain (source_cause (log_fault fault))) err err' →
       DrivesBy text a r out out' err err' (row_of (source_cause (log_fault fault))).2
 
--- the same of the log that a request asks to judge; of another request no log is read
-abbrev pub DrivesWith : (List ℕ → Option Ahead) → Option (List ℕ) → List ℕ → Request → SinkView → SinkView → SinkView
+-- the same of the logs that a request asks to judge, merged; of another request no log is read
+abbrev pub DrivesWith : (List ℕ → Option Ahead) → Option (List (List ℕ)) → List ℕ → Request → SinkView → SinkView → SinkView
     → SinkView → ℕ → Type 0
 DrivesWith told None text r out out' err err' status = Serves text [] r out out' err err' status
-DrivesWith told (Some name) text r out out' err err' status = DrivesBy text (told name) r out out' err err' status
+DrivesWith told (Some names) text r out out' err err' status =
+    DrivesBy text (logs_ahead told names) r out out' err err' status
 
--- a request is done with what is told of its files: the text is served, with the log where it asks to judge one; or the
--- fault of the text is refused
+-- a request is done with what is told of its files: the text is served, with the logs where it asks to judge some; or
+-- the fault of the text is refused
 pub data Drives (told : Option (Result (List ℕ) SourceFault)) (told_log : List ℕ → Option Ahead) (r : Request)
     (out out' err err' : SinkView) : ℕ → Type 0 where
   served : {status : ℕ} (text : List ℕ) → IsToldText told text
-      → DrivesWith told_log (trace_of r) text r out out' err err' status
+      → DrivesWith told_log (logs_of r) text r out out' err err' status
       → Drives told told_log r out out' err err' status
   unread : (fault : SourceFault) → IsUnread told fault → out' ≡ out
       → IsPrintedLine [] (plain (source_cause fault)) err err' →

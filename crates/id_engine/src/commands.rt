@@ -4,7 +4,6 @@ ghost use Rattle.std.specs.Prelude.{◌≡◌, ◌≢◌, ◌≤◌, length, map
 ghost use Rattle.id_build.specs.Own.{IsOwn};
 ghost use Rattle.id_source.specs.Computed.{AreFacts};
 ghost use Rattle.id_source.specs.Sources.{AreInputs, source};
-ghost use Rattle.id_print.specs.Within.{FactsWithin};
 ghost use Rattle.id_facts.specs.Listed.{facts_in};
 ghost use Rattle.id_sink.specs.Told.{Prints};
 ghost use Rattle.id_print.specs.Texts.{facts_text};
@@ -190,7 +189,6 @@ struct Found {
 
 /// Writes the facts that were found, a line for each. Takes no memory.
 fn print_found<W: Sink>(found: Found, text: &str, out: &mut W) -> Result<(), PrintError>
-    requires within { FactsWithin (length text.now) (facts_found found) }
     requires short { length text.now ≤ 1048576 }
     ensures { Prints (W.told out.old) (W.told out.new) (facts_text text.now (facts_found found)) result }
 {
@@ -204,7 +202,6 @@ fn print_found<W: Sink>(found: Found, text: &str, out: &mut W) -> Result<(), Pri
 fn facts_of(alloc: Global, text: &str, inputs: &[&str], round: u32) -> Result<Found, EngineError>
     ensures facts { IfOk result
         (λ f. AreFactsOf text.now (map (λ w. w.now) inputs.now) round (facts_found f)) }
-    ensures within { IfOk result (λ f. FactsWithin (length text.now) (facts_found f)) }
     ensures short { OnOk result (length text.now ≤ 1048576) }
     ensures taken { OnOk result (AreTakenFacts text.now (map (λ w. w.now) inputs.now) round) }
     ensures refused { IfErr result (AreRefusedFacts text.now (map (λ w. w.now) inputs.now) round) }

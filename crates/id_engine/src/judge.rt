@@ -5,19 +5,17 @@ ghost use Rattle.std.specs.Prelude.{[], Err, IfErr, IfOk, OnOk, ◌++◌};
 ghost use Rattle.id_build.specs.Own.{IsOwn};
 ghost use Rattle.id_source.specs.Sources.{AreInputs};
 ghost use Rattle.id_print.specs.Reports.{report_text};
-ghost use Rattle.id_print.specs.Within.{ReportWithin};
 ghost use Rattle.id_sink.specs.Told.{Prints};
 ghost use Rattle.id_log.specs.Logs.{Hears};
 ghost use Rattle.id_judge.specs.Judging.{HasRead, IsReady, JudgesOn};
 ghost use Rattle.id_judge.specs.Lines.{IsLineVerdict};
-ghost use Rattle.id_compile.specs.Programs.{IsPlacedWithin};
 ghost use Rattle.id_compile.specs.Refusals.{IsInsideOf, IsRefusedRun, IsTakenRun};
 ghost use Rattle.id_engine.specs.Commands.{ShowsAll, ShowsFront};
 ghost use Rattle.id_engine.specs.Commands as command;
 ghost use Rattle.id_engine.specs.Judged.{cause_text, legal_text, other_text};
 ghost use Rattle.id_engine.specs.Judgements.{IsPrintedSo, PrintsJudged, PrintsLegal};
 ghost use Rattle.id_engine.specs.Listening.{IsInsideFor, IsUnheard, IsUnjudged, Listens, refused_so};
-ghost use Rattle.id_engine.specs.Reports.{AreAllowed, AreReportsWithin, IsUnallowed};
+ghost use Rattle.id_engine.specs.Reports.{AreAllowed, IsUnallowed};
 ghost use Rattle.id_engine.specs.Runs.{keeps_for};
 
 use crate::run::{keeps_for, status_of};
@@ -95,7 +93,6 @@ fn write_legal<W: Sink>(
     out: &mut W,
 ) -> Result<(), PrintError>
     requires fits { length text.now ≤ 1048576 }
-    requires inside { ReportWithin (length text.now) report.now }
     ensures { Prints (W.told out.old) (W.told out.new) (legal_text events ++ report_text text.now names report.now)
         result }
 {
@@ -115,7 +112,6 @@ fn print_shown<W: Sink>(
 ) -> Result<u8, EngineError>
     requires kept { machine.now.keeps ≡ keeps_for false names }
     requires fits { length text.now ≤ 1048576 }
-    requires inside { AreReportsWithin machine.now names (length text.now) }
     ensures { PrintsLegal machine.now events text.now names (W.told out.old) (W.told out.new) result }
 {
     match run_report(alloc, machine, names) {
@@ -140,7 +136,6 @@ fn print_machine<W: Sink>(
 ) -> Result<u8, EngineError>
     requires kept { machine.keeps ≡ keeps_for false names }
     requires fits { length text.now ≤ 1048576 }
-    requires inside { AreReportsWithin machine names (length text.now) }
     ensures { PrintsLegal machine.entry events text.now names (W.told out.old) (W.told out.new) result }
 {
     let mut machine = machine;
@@ -237,7 +232,6 @@ fn judge_prepared<L: Log, W: Sink>(
     out: &mut W,
 ) -> Result<u8, Unjudged>
     requires inputs { AreInputs prepared.now.compiled.checked prepared.now.inputs.values }
-    requires within { IsPlacedWithin (length text.now) prepared.now.compiled.checked }
     requires short { length text.now ≤ 1048576 }
     ensures { Listens prepared.now.compiled.checked prepared.now.inputs.values text.now (L.ahead log.old) count names
         (W.told out.old) (W.told out.new) result }
@@ -265,7 +259,6 @@ fn judge_once<L: Log, W: Sink>(
     out: &mut W,
 ) -> Result<u8, Unjudged>
     requires inputs { AreInputs prepared.compiled.checked prepared.inputs.values }
-    requires within { IsPlacedWithin (length text.now) prepared.compiled.checked }
     requires short { length text.now ≤ 1048576 }
     ensures { Listens prepared.compiled.checked prepared.inputs.values text.now (L.ahead log.old) count names
         (W.told out.old) (W.told out.new) result }

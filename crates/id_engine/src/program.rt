@@ -1,10 +1,11 @@
 //! The whole program over any source of texts, any logs and any sinks.
 
-ghost use Rattle.std.specs.Prelude.{◌≡◌, [], map, option_map, IfErr, IfOk, List, ℕ, Option, Result};
+ghost use Rattle.std.specs.Prelude.{◌≡◌, [], map, option_map, IfErr, IfOk, List, None, ℕ, Option, Result};
 ghost use Rattle.id_engine.specs.Asked.{IsComputed, IsOfRun, IsToJudge, IsToRun, PrintsAsked};
 ghost use Rattle.id_compile.specs.Refusals.{IsInsideOf, IsPrintedLine, IsToldRefusal, plain, row_of};
-ghost use Rattle.id_engine.specs.Served.{Answers, Drives, DrivesBy, HasHelped, Serves, file_of, log_fault, trace_of};
+ghost use Rattle.id_engine.specs.Served.{Answers, Drives, DrivesBy, HasHelped, Serves, file_of, log_fault, logs_of};
 ghost use Rattle.id_engine.specs.Served.{words_of};
+ghost use Rattle.id_merge.specs.Merging.{logs_ahead, merged_ahead};
 ghost use Rattle.id_sink.specs.Reading.{IsToldText};
 ghost use Rattle.id_sink.specs.declared.source.SourceFault.{SourceFault};
 
@@ -17,6 +18,7 @@ use id_compile::{Cause, EngineError, Source, of_engine_error, of_source_fault, p
 use id_core::{Gate, Keeps, Open};
 use id_elements::Settings;
 use id_log::{Log, LogFault, Logs};
+use id_merge::open_merged;
 use id_print::{Sink, put};
 use id_sink::SourceFault;
 use std::alloc::Global;
@@ -232,12 +234,12 @@ fn file_of<'a>(request: &Request<'a>) -> &'a str
     }
 }
 
-/// The log that a request asks to judge.
-fn trace_of<'a>(request: &Request<'a>) -> Option<&'a str>
-    ensures { option_map (λ name. name.now) result ≡ trace_of request.now }
+/// The logs that a request asks to judge.
+fn logs_of<'a>(request: &'a Request<'a>) -> Option<&'a [&'a str]>
+    ensures { option_map (λ names. map (λ name. name.now) names.now) result ≡ logs_of request.now }
 {
     match request {
-        Request::Judge { trace, .. } => Some(*trace),
+        Request::Judge { logs, .. } => Some(logs.as_slice()),
         Request::Check { .. }
         | Request::Graph { .. }
         | Request::Draw { .. }
@@ -285,7 +287,74 @@ fn judge_asked<L: Log, O: Sink, E: Sink>(
     }
 }
 
-/// Serves a request with its text, and with the log that it asks to judge, where it asks for that.
+/// Judges the log of this name as a request asks for, and answers the status.
+fn judge_named<T: Logs, O: Sink, E: Sink>(
+    alloc: Global,
+    request: &Request<'_>,
+    text: &str,
+    name: &str,
+    logs: &mut T,
+    out: &mut O,
+    err: &mut E,
+) -> u8
+    requires { IsToJudge request.now }
+    ensures { DrivesBy text.now (T.told logs.old name.now) request.now (O.told out.old) (O.told out.new)
+        (E.told err.old) (E.told err.new) result }
+{
+    match logs.open(alloc, name) {
+        Ok(log) => {
+            let mut log = log;
+            judge_asked(alloc, request, text, &mut log, out, err)
+        }
+        Err(fault) => refuse_plainly(of_source_fault(log_fault(fault)), err),
+    }
+}
+
+/// Judges the logs of these names, merged, as a request asks for, and answers the status.
+fn judge_merged<T: Logs, O: Sink, E: Sink>(
+    alloc: Global,
+    request: &Request<'_>,
+    text: &str,
+    names: &[&str],
+    logs: &mut T,
+    out: &mut O,
+    err: &mut E,
+) -> u8
+    requires { IsToJudge request.now }
+    ensures { DrivesBy text.now (merged_ahead None (map (λ name. T.told logs.old name.now) names.now)) request.now
+        (O.told out.old) (O.told out.new) (E.told err.old) (E.told err.new) result }
+{
+    match open_merged(alloc, logs, names) {
+        Ok(log) => {
+            let mut log = log;
+            judge_asked(alloc, request, text, &mut log, out, err)
+        }
+        Err(fault) => refuse_plainly(of_source_fault(log_fault(fault)), err),
+    }
+}
+
+/// Judges the logs of these names as a request asks for, and answers the status.
+fn judge_logs<T: Logs, O: Sink, E: Sink>(
+    alloc: Global,
+    request: &Request<'_>,
+    text: &str,
+    names: &[&str],
+    logs: &mut T,
+    out: &mut O,
+    err: &mut E,
+) -> u8
+    requires { IsToJudge request.now }
+    ensures { DrivesBy text.now (logs_ahead (T.told logs.old) (map (λ name. name.now) names.now)) request.now
+        (O.told out.old) (O.told out.new) (E.told err.old) (E.told err.new) result }
+{
+    if names.len() == 1 {
+        judge_named(alloc, request, text, names[0], logs, out, err)
+    } else {
+        judge_merged(alloc, request, text, names, logs, out, err)
+    }
+}
+
+/// Serves a request with its text, and with the logs that it asks to judge, where it asks for that.
 fn serve_text<R: Threads + Wait + Sync, T: Logs, O: Sink, E: Sink>(
     rt: &R,
     alloc: Global,
@@ -299,14 +368,8 @@ fn serve_text<R: Threads + Wait + Sync, T: Logs, O: Sink, E: Sink>(
         → Drives told (T.told logs.old) request.now (O.told out.old) (O.told out.new) (E.told err.old)
         (E.told err.new) result }
 {
-    match trace_of(request) {
-        Some(name) => match logs.open(alloc, name) {
-            Ok(log) => {
-                let mut log = log;
-                judge_asked(alloc, request, text, &mut log, out, err)
-            }
-            Err(fault) => refuse_plainly(of_source_fault(log_fault(fault)), err),
-        },
+    match logs_of(request) {
+        Some(names) => judge_logs(alloc, request, text, names, logs, out, err),
         None => serve(rt, alloc, request, text, &[], &Open, out, err),
     }
 }

@@ -9,7 +9,6 @@ ghost use Rattle.id_print.specs.Reports.{report_text};
 ghost use Rattle.id_sink.specs.Told.{Prints};
 ghost use Rattle.id_trace.specs.Traces.{trace_text};
 ghost use Rattle.id_print.specs.RunReports.{IsReportFrom};
-ghost use Rattle.id_print.specs.Within.{ReportWithin};
 ghost use Rattle.id_elements.specs.Runs.{IsByPositions, IsRun, MovesOn};
 ghost use Rattle.id_engine.specs.Alike.{PrintedAlike};
 ghost use Rattle.id_engine.specs.JudgedAlike.{JudgedAlike};
@@ -18,10 +17,9 @@ ghost use Rattle.id_engine.specs.OneAnswer.{OneAnswer};
 ghost use Rattle.id_engine.specs.OneProgram.{OneProgram};
 ghost use Rattle.id_engine.specs.Commands.{ShowsAll, ShowsFront};
 ghost use Rattle.id_engine.specs.Commands as command;
-ghost use Rattle.id_compile.specs.Programs.{IsPlacedWithin};
 ghost use Rattle.id_compile.specs.Refusals.{IsInsideOf, IsRefusedRun, IsTakenRun};
 ghost use Rattle.id_engine.specs.Reports.{AreAllowed, IsUnallowed};
-ghost use Rattle.id_engine.specs.Reports.{AreReportsWithin, PrintsEvents, PrintsMachine, PrintsRun, RunsSo, status_of};
+ghost use Rattle.id_engine.specs.Reports.{PrintsEvents, PrintsMachine, PrintsRun, RunsSo, status_of};
 ghost use Rattle.id_engine.specs.Runs.{IsTraceOf, Ran, RanFront, keeps_for};
 
 use id_compile::{EngineError, Prepared, prepare};
@@ -89,7 +87,6 @@ fn write_run<W: Sink>(
     out: &mut W,
 ) -> Result<(), PrintError>
     requires fits { length text.now ≤ 1048576 }
-    requires inside { ReportWithin (length text.now) report.now }
     ensures { Prints (W.told out.old) (W.told out.new)
         (trace_text events.now ++ report_text text.now names report.now) result }
 {
@@ -106,7 +103,6 @@ fn print_events<W: Sink>(
     out: &mut W,
 ) -> Result<u8, EngineError>
     requires fits { length text.now ≤ 1048576 }
-    requires inside { ReportWithin (length text.now) report.now }
     ensures { PrintsEvents text.now names events.entry report.now (W.told out.old) (W.told out.new) result }
 {
     match write_run(&events, report, text, names, out) {
@@ -128,7 +124,6 @@ fn print_run<W: Sink>(
 ) -> Result<u8, EngineError>
     requires kept { IsTrue trace → run.now.keeps ≡ keeps.All }
     requires fits { length text.now ≤ 1048576 }
-    requires inside { ReportWithin (length text.now) report.now }
     ensures { PrintsRun text.now trace names run.now.world report.now (W.told out.old) (W.told out.new) result }
 {
     match trace_of(alloc, run, trace) {
@@ -150,7 +145,6 @@ fn print_ended<W: Sink>(
     requires graph { run.old.graph ≡ graph.now }
     requires kept { run.old.keeps ≡ keeps_for trace names }
     requires fits { length text.now ≤ 1048576 }
-    requires inside { AreReportsWithin run.old names (length text.now) }
     ensures { PrintsMachine run.old text.now trace names (W.told out.old) (W.told out.new) result }
 {
     match report_of(alloc, run, graph, names) {
@@ -176,7 +170,6 @@ fn print_once<W: Sink>(
     requires graph { run.graph ≡ graph.now }
     requires kept { run.keeps ≡ keeps_for trace names }
     requires fits { length text.now ≤ 1048576 }
-    requires inside { AreReportsWithin run names (length text.now) }
     ensures { PrintsMachine run.entry text.now trace names (W.told out.old) (W.told out.new) result }
 {
     let mut run = run;
@@ -236,7 +229,6 @@ fn run_prepared<R: Threads + Wait + Sync, G: Gate + Sync, W: Sink>(
     out: &mut W,
 ) -> Result<u8, EngineError>
     requires inputs { AreInputs prepared.now.compiled.checked prepared.now.inputs.values }
-    requires within { IsPlacedWithin (length text.now) prepared.now.compiled.checked }
     requires short { length text.now ≤ 1048576 }
     ensures { RunsSo prepared.now.compiled.checked prepared.now.inputs.values text.now settings.elements trace
         settings.steps settings.order names (W.told out.old) (W.told out.new) result }
@@ -274,7 +266,6 @@ fn run_once<R: Threads + Wait + Sync, G: Gate + Sync, W: Sink>(
     out: &mut W,
 ) -> Result<u8, EngineError>
     requires inputs { AreInputs prepared.compiled.checked prepared.inputs.values }
-    requires within { IsPlacedWithin (length text.now) prepared.compiled.checked }
     requires short { length text.now ≤ 1048576 }
     ensures { RunsSo prepared.compiled.checked prepared.inputs.values text.now settings.elements trace settings.steps
         settings.order names (W.told out.old) (W.told out.new) result }

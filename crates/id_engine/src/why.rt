@@ -3,7 +3,7 @@
 ghost use Rattle.std.specs.Prelude.{◌≡◌, ◌≢◌, ◌≤◌, length, map, IfOk, IfErr, OnOk};
 ghost use Rattle.id_source.specs.Sources.{AreInputs, source};
 ghost use Rattle.id_sink.specs.Told.{Prints};
-ghost use Rattle.id_print.specs.Reasons.{ArePlaced, reasons_text};
+ghost use Rattle.id_print.specs.Reasons.{reasons_text};
 ghost use Rattle.id_why.specs.Rounds.{AreReasons};
 ghost use Rattle.id_engine.specs.Commands.{ShowsAll, ShowsFront, Why};
 ghost use Rattle.id_engine.specs.Reasoned.{AreReasonsOf, AreTakenReasons};
@@ -55,7 +55,6 @@ fn print_reasoned<W: Sink>(
     text: &str,
     out: &mut W,
 ) -> Result<(), PrintError>
-    requires within { ArePlaced (length text.now) reasoned.prepared.compiled.checked }
     requires short { length text.now ≤ 1048576 }
     ensures { Prints (W.told out.old) (W.told out.new) (reasons_text (record {
       text = text.now;
@@ -78,7 +77,6 @@ fn reasons_of(
 ) -> Result<Reasoned, EngineError>
     ensures reasons { IfOk result (λ r. AreReasonsOf text.now (map (λ w. w.now) inputs.now) round
         r.prepared.compiled.checked r.reasons) }
-    ensures within { IfOk result (λ r. ArePlaced (length text.now) r.prepared.compiled.checked) }
     ensures short { OnOk result (length text.now ≤ 1048576) }
     ensures taken { OnOk result (AreTakenReasons text.now (map (λ w. w.now) inputs.now) round) }
     ensures refused { IfErr result (AreRefusedFacts text.now (map (λ w. w.now) inputs.now) round) }

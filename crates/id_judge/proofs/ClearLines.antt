@@ -5,9 +5,9 @@ use Rattle.id_instr.specs.Graph.{Parts}
 use Rattle.id_pieces.specs.Schemas.{Schemas}
 use Rattle.id_runs.proofs.OneMessage.{at_most_one}
 use Rattle.id_runs.proofs.Runs.{reached}
-use Rattle.id_laws.proofs.Known.{known}
-use Rattle.id_laws.proofs.SoundRuns.{alone}
-use Rattle.id_laws.proofs.Wholes.{are_whole}
+use Rattle.id_laws.proofs.Rows.Known.{known}
+use Rattle.id_laws.proofs.Soundness.SoundRuns.{alone}
+use Rattle.id_laws.proofs.Telling.Wholes.{are_whole}
 use Rattle.id_judge.specs.Lines.{AreClear}
 use Rattle.id_judge.proofs.FewLemmas.{are_clear}
 

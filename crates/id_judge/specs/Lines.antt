@@ -96,8 +96,9 @@ pub record GoesNoFurther (g : Parts) (vs : List Constant) (count : ℕ) (text : 
   pub longest : (es : List EventView) → IsLegalList g vs count es → Begins text (trace_text es) → length es ≤ k
   pub no_trace : (es : List EventView) → IsLegalList g vs count es → text ≡ trace_text es → ⊥
 
--- the text begins with k lines that are the trace of a legal list, and something stands behind them: no event with its
--- first line can come next, for this cause. Where lines are clear, no legal list goes further, and no other cause is so
+-- the text is the lines of k events, a legal list, which lead somewhere, and a rest, with whose first line no event can
+-- come next there, for this cause; where lines are clear, no legal list has more of the text's lines, and no other cause
+-- is so
 pub record IsFirstLine (g : Parts) (vs : List Constant) (count : ℕ) (text : List ℕ) (k : ℕ) (cause : Cause)
     : Type 0 where
   pub events : List EventView

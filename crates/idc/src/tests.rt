@@ -1,7 +1,6 @@
 use id_args::read_words;
 use id_engine::{
-    Device, Log, LogFault, Logs, ReadFault, Request, Source, SourceFault, Stream, drive,
-    drive_asked, settle,
+    Device, Log, LogFault, Logs, Request, Source, SourceFault, Stream, drive, drive_asked, settle,
 };
 use id_sink::{Sink, SinkFault, put};
 use std::alloc::{AllocError, Global};
@@ -65,19 +64,11 @@ impl Source for OneText<'_> {
 
     ghost told = { λ _ _. None };
 
-    ghost told_bytes = { λ _ _. None };
-
     fn read(&mut self, alloc: Global, name: &str) -> Result<String, SourceFault> {
         if name != "text.id" {
             return Err(SourceFault::File);
         }
         String::from_str(alloc, self.text).map_err(|_| SourceFault::Memory)
-    }
-
-    fn read_bytes(&mut self, alloc: Global, name: &str) -> Result<Vec<u8>, ReadFault> {
-        let _ = alloc;
-        let _ = name;
-        Err(ReadFault::File)
     }
 }
 
@@ -501,6 +492,15 @@ fn judges_a_trace(rt: HostRuntime) -> Result<(), Fail> {
     )?;
     let unread = got.err.as_slice() == "refused 4 File\n".as_bytes();
     assert!(&rt; unread && got.out.is_empty() && got.status == 5);
+    // the same line of two logs, one behind the other
+    let got = print(
+        &rt,
+        "def main(): int = 7;",
+        "judge|text.id|trace|trace",
+        1_000_000,
+    )?;
+    let twice = got.out.as_slice() == "event 2: no such message is in flight\n".as_bytes();
+    assert!(&rt; twice && got.err.is_empty() && got.status == 6);
     let got = print(&rt, "def main(): int = 7;", "judge|text.id|trace", 10)?;
     assert!(&rt; is_cut(&got));
     Ok(())

@@ -1,7 +1,6 @@
 use Rattle.std.proofs.Common.{◌≤◌, length, map}
 use Rattle.id_source.specs.Computed.{AreFacts}
 use Rattle.id_source.specs.Sources.{Source, source}
-use Rattle.id_print.specs.Within.{FactsWithin}
 use Rattle.id_engine.specs.Commands.{AreFactsOf}
 use Rattle.id_compile.specs.Programs.{HasInputs}
 use Rattle.id_compile.specs.Refusals.{AreRefusedFacts, AreTakenFacts}
@@ -9,14 +8,12 @@ use Rattle.id_compile.specs.Refusals.AreRefusedFacts.{by_source}
 use Rattle.id_engine.specs.Reports.{AreRefusedRounds}
 use Rattle.id_compile.proofs.AnsweredLemmas.{if_err, if_ok, on_ok, on_ok_both}
 use Rattle.id_engine.proofs.AnsweredLemmas.{late_rounds, refused_rounds}
-use Rattle.id_engine.proofs.PlacedLemmas.{facts_within}
 use Rattle.id_engine.specs.Found.{facts_found}
 use Rattle.id_engine.proofs.commands.facts_of.Goals as goal
 
 pub returns-in-Err : goal.returns-in-Err
 returns-in-Err c = record {
   facts = tt;
-  within = tt;
   short = tt;
   taken = tt;
   refused = by_source c.in-Err.ensures.refused;
@@ -39,11 +36,6 @@ returns-in-Ok c = record {
         are = h;
       })
       c.facts_once.ensures.facts);
-  within = (let p = c.in-Ok.prepared in
-      let n = c.args.round in
-      let S : Source = source p.compiled.checked p.inputs.values in
-      if_ok c.facts_once.result (λ v. AreFacts S n (facts_found v)) (λ v. FactsWithin (length c.args.text.now) (facts_found v))
-      (λ v h. facts_within S c.in-Ok.ensures.within n (facts_found v) h) c.facts_once.ensures.facts);
   short = on_ok c.facts_once.result (length c.args.text.now ≤ 1048576) c.in-Ok.ensures.short;
   taken = (let p = c.in-Ok.prepared in
       let n = c.args.round in

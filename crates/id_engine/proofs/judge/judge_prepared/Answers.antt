@@ -1,8 +1,6 @@
 use Rattle.std.proofs.Common.{refl}
-use Rattle.id_source.specs.Sources.{Source, source}
 use Rattle.id_engine.proofs.HearLemmas.{hears_map, hears_some}
-use Rattle.id_engine.proofs.JudgedLemmas.{IsTrueOf-judged, JudgesSo-legal, JudgesSo-other, Listens-from, Listens-unheard, kept_so}
-use Rattle.id_engine.proofs.PlacedLemmas.{report_within}
+use Rattle.id_engine.proofs.JudgedLemmas.{JudgesSo-legal, JudgesSo-other, Listens-from, Listens-unheard, kept_so}
 use Rattle.id_engine.proofs.judge.judge_prepared.Goals as goal
 
 pub print_machine-requires-clause-kept : goal.print_machine-requires-clause-kept
@@ -10,15 +8,6 @@ print_machine-requires-clause-kept g c =
     let p = c.args.prepared.now in
     let h = hears_some _ _ (rw c.in-Ok-Legal.field-0-is at c.in-Ok-Legal.ensures.verdict) in
     kept_so p.compiled.graph p.inputs.values c.args.count h.0 _ c.in-Ok-Legal.machine c.in-Ok-Legal.events h.1
-
-pub print_machine-requires-clause-inside : goal.print_machine-requires-clause-inside
-print_machine-requires-clause-inside g c =
-    let p = c.args.prepared.now in
-    let S : Source = source p.compiled.checked p.inputs.values in
-    let h = hears_some _ _ (rw c.in-Ok-Legal.field-0-is at c.in-Ok-Legal.ensures.verdict) in
-    λ r from. report_within S c.requires.within c.args.names r
-    (IsTrueOf-judged p.compiled.checked p.inputs.values c.args.text.now h.0 c.args.count c.args.names p.compiled.graph c.requires.inputs
-    c.in-Ok-Legal.ensures.own _ c.in-Ok-Legal.machine c.in-Ok-Legal.events r c.sound.ensures c.complete.ensures c.legal_lists.ensures h.1 from)
 
 pub returns-in-Ok-Legal : goal.returns-in-Ok-Legal
 returns-in-Ok-Legal g c =

@@ -7,9 +7,6 @@ use Rattle.id_engine.proofs.judge.print_shown.Goals as goal
 pub run_report-requires : goal.run_report-requires
 run_report-requires g c = λ asked is. keeps_names false c.args.names asked (sym c.requires.kept ∙ is)
 
-pub write_legal-written-requires-clause-inside : goal.write_legal-written-requires-clause-inside
-write_legal-written-requires-clause-inside g c = c.requires.inside _ c.in-Ok.ensures
-
 pub returns-in-Ok : goal.returns-in-Ok
 returns-in-Ok g c = reported _ c.in-Ok.ensures
     (IsOutput-from c.args.text.now c.args.names c.in-Ok.report _ _ c.args.events c.status_of.result c.write_legal-written.result

@@ -1,6 +1,5 @@
-use Rattle.std.proofs.Common.{refl, sym, ap, subst, ◌∙◌}
+use Rattle.std.proofs.Common.{refl, sym, ap, ◌∙◌}
 use Rattle.id_core.specs.Machines.{MachineView}
-use Rattle.id_print.specs.RunReports.{IsReportFrom}
 use Rattle.id_engine.proofs.KeepsLemmas.{keeps_names, keeps_trace}
 use Rattle.id_engine.proofs.PrintedLemmas.{PrintsMachine-memory, PrintsMachine-reported}
 use Rattle.id_engine.proofs.run.print_ended.Goals as goal
@@ -14,10 +13,6 @@ report_of-requires-clause-kept g c = λ asked is. keeps_names c.args.trace c.arg
 pub print_run-status-requires-clause-kept : goal.print_run-status-requires-clause-kept
 print_run-status-requires-clause-kept g c =
     λ asked. ap (λ (m : MachineView). m.keeps) c.report_of.ensures.same ∙ (c.requires.kept ∙ keeps_trace c.args.trace c.args.names asked)
-
-pub print_run-status-requires-clause-inside : goal.print_run-status-requires-clause-inside
-print_run-status-requires-clause-inside g c =
-    c.requires.inside _ (subst (λ (m : MachineView). IsReportFrom m c.args.names c.in-Ok.report) c.report_of.ensures.same c.in-Ok.ensures.report)
 
 pub returns-in-Ok : goal.returns-in-Ok
 returns-in-Ok g c = PrintsMachine-reported _ _ _ _ _ _ _ _ _ c.report_of.ensures.same c.in-Ok.ensures.report c.print_run-status.ensures

@@ -1,23 +1,10 @@
 use Rattle.std.proofs.Common.{refl}
-use Rattle.id_source.specs.Sources.{Source, source}
-use Rattle.id_build.specs.Own.{schemas_of}
 use Rattle.id_engine.specs.Reports.{unallowed}
-use Rattle.id_engine.proofs.PlacedLemmas.{report_within}
 use Rattle.id_engine.proofs.PrintedLemmas.{RunsSo-machine}
-use Rattle.id_engine.proofs.RunLemmas.{IsTrueOf-run}
 use Rattle.id_engine.proofs.run.run_prepared.Goals as goal
 
 pub returns-in-Err : goal.returns-in-Err
 returns-in-Err g c = unallowed c.in-Err.error c.in-Err.ensures.refused refl
-
-pub print_once-requires-clause-inside : goal.print_once-requires-clause-inside
-print_once-requires-clause-inside g c =
-    let p = c.args.prepared.now in
-    let S : Source = source p.compiled.checked p.inputs.values in
-    let e = c.in-Ok.ensures in
-    λ r from. report_within S c.requires.within c.args.names r
-    (IsTrueOf-run S p.compiled.graph c.args.settings.elements c.args.settings.steps c.requires.inputs (schemas_of e.own) c.in-Ok.run' c.args.names r c.sound.ensures
-    c.complete.ensures e.run from)
 
 pub returns-in-Ok : goal.returns-in-Ok
 returns-in-Ok g c =

@@ -1,5 +1,5 @@
 -- A quiet run has shown all but what things have at finitely many paths, so its source's facts are finitely many.
-use Rattle.id_laws.proofs.Ending.{at_end}
+use Rattle.id_laws.proofs.Bounding.Ending.{at_end}
 use Rattle.id_engine.proofs.QuietRoundLemmas.{LastRound-laws}
 use Rattle.id_engine.proofs.status.last_round.Goals as goal
 

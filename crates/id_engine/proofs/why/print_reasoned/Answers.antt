@@ -5,9 +5,6 @@ use Rattle.id_sink.specs.Told.{Prints}
 use Rattle.id_print.specs.Reasons.{reasons_text}
 use Rattle.id_engine.proofs.why.print_reasoned.Goals as goal
 
-pub write_reasons-done-requires : goal.write_reasons-done-requires
-write_reasons-done-requires g c = record { fits = c.requires.short; inside = rw c.checked.ensures c.requires.within }
-
 pub returns : goal.returns
 returns g c =
     let r = c.args.reasoned.reasons in

@@ -1,24 +1,20 @@
 -- What is found is of the text's program, on the inputs that the words give.
-use Rattle.std.proofs.Common.{◌≤◌, length, map, subst, sym}
+use Rattle.std.proofs.Common.{◌≤◌, length, map}
 use Rattle.id_source.specs.Sources.{Source, source}
-use Rattle.id_print.specs.Reasons.{ArePlaced}
 use Rattle.id_why.specs.Rounds.{AreReasons}
-use Rattle.id_compile.specs.declared.prepared.Prepared.{Prepared}
 use Rattle.id_compile.specs.Programs.{HasInputs}
 use Rattle.id_compile.specs.Refusals.{AreRefusedFacts}
 use Rattle.id_compile.specs.Refusals.AreRefusedFacts.{by_source}
-use Rattle.id_engine.specs.Reasoned.{AreReasonsOf, AreTakenReasons}
+use Rattle.id_engine.specs.Reasoned.{AreReasonsOf}
 use Rattle.id_engine.specs.Reports.{AreRefusedRounds}
 use Rattle.id_compile.proofs.AnsweredLemmas.{if_err, if_ok, on_ok}
 use Rattle.id_engine.proofs.AnsweredLemmas.{late_rounds, refused_rounds}
-use Rattle.id_engine.proofs.PlacedLemmas.{rows_within}
 use Rattle.id_engine.proofs.ReasonedLemmas.{if_ok_same, taken_reasons}
 use Rattle.id_engine.proofs.why.reasons_of.Goals as goal
 
 pub returns-in-Err : goal.returns-in-Err
 returns-in-Err c = record {
   reasons = tt;
-  within = tt;
   short = tt;
   taken = tt;
   refused = by_source c.in-Err.ensures.refused;
@@ -50,9 +46,6 @@ returns-in-Ok c =
             are = h;
           })
           c.reasons_once.ensures.reasons);
-      within = if_ok_same c.reasons_once.result p (λ r q. ArePlaced (length text) q.compiled.checked) c.reasons_once.ensures.same
-          (if_ok c.reasons_once.result (λ r. AreReasons S n r.reasons) (λ r. ArePlaced (length text) p.compiled.checked)
-          (λ r h. rows_within c.in-Ok.ensures.within) c.reasons_once.ensures.reasons);
       short = on_ok c.reasons_once.result (length text ≤ 1048576) c.in-Ok.ensures.short;
       taken = taken_reasons text ws n has c.reasons_once.result c.reasons_once.ensures.few;
       refused = if_err c.reasons_once.result (AreRefusedRounds S n) (AreRefusedFacts text ws n) (λ e h. refused_rounds text ws n has e h)

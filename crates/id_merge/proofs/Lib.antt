@@ -1,0 +1,4 @@
+mod LinesLemmas
+mod KnownLemmas
+mod MergingLemmas
+mod GivenLemmas
