@@ -2,7 +2,7 @@
 use Rattle.std.proofs.Common.{◌≡◌, ℕ, inl, inr, Some, None, List, [], ◌∷◌, ◌++◌, length, refl, sym, ap, ◌∙◌, arith}
 use Rattle.id_text.specs.declared.token.Token.{Token}
 use Rattle.id_text.specs.declared.token.TokenKind.{TokenKind}
-use Rattle.id_text.specs.declared.token.TokenKind.TheVariants.{Key, Name, Sign}
+use Rattle.id_text.specs.declared.token.TokenKind.TheVariants.{Key, Name, Sign, End}
 use Rattle.id_text.specs.declared.token.Symbol.TheVariants.{LeftParen, RightParen, Comma, Colon, Becomes}
 use Rattle.id_value.specs.declared.Kind.{Kind}
 use Rattle.id_value.specs.declared.Kind.TheVariants as kind
@@ -21,6 +21,11 @@ use Rattle.id_grammar.specs.Readers.{LacksName, Types, Untypes, Declares, Undecl
 use Rattle.id_grammar.specs.Readers.{Beheads}
 use Rattle.id_grammar.proofs.RunLemmas.{run-none, run-kind, run-chosen, run-left_out, run-done, run-part, run-inside}
 use Rattle.id_grammar.proofs.ReaderLemmas.{EndsBy-at, At, At-opens, At-name, Fails-name, Leads-done, first_of, no_word}
+
+-- what names a kind is no end
+pub kind_named-begins : {k : TokenKind} {x : Kind} → kind_named k ≡ Some x → k ≡ End → ⊥
+kind_named-begins {k = End} q e = cc
+kind_named-begins {k = _} q e = cc
 
 -- behind its first word a kind is there, where no second word comes
 settled : (f : Kind → Rest) (k : Kind) (vs : List Token) → (k ≡ kind.Array → first_kind vs ≡ Key Array → ⊥) → (h d c : ℕ) (K : List Frame) →
@@ -134,7 +139,7 @@ listed-none (p ∷ ps) = ap (λ b. more (param p.name p.kind p.place) b) (listed
 
 -- what is behind what is behind
 pub IsBehind-more : {ts us vs ws : List Token} {t : Token} → IsBehind us ts → us ≡ t ∷ ws → IsBehind vs ws → IsBehind vs ts
-IsBehind-more p e q = let l = ap length e in record { ends = q.ends; shorter = omega (arith, p.shorter, q.shorter, l) }
+IsBehind-more p e q = let l = ap length e in record { shorter = omega (arith, p.shorter, q.shorter, l) }
 
 -- no parameter comes
 pub Leads-none : {ts us : List Token} {t : Token} → ts ≡ t ∷ us → t.kind ≡ Sign RightParen → Leads ts Parameters 0 us none 0

@@ -46,6 +46,11 @@ EndsBy-at x e q = subst (λ r. EndsBy r x) (sym e) q
 pub first_of : {ts us : List Token} {t : Token} {k : TokenKind} → ts ≡ t ∷ us → first_kind ts ≡ k → t.kind ≡ k
 first_of e q = ap first_kind (sym e) ∙ q
 
+-- no word is the end
+pub kind_of-not_end : (w : Word) → kind_of w ≡ End → ⊥
+kind_of-not_end (the.Key k) q = cc
+kind_of-not_end (the.Sign s) q = cc
+
 -- Single tokens.
 module _ {ts us : List Token} {t : Token} (e : ts ≡ t ∷ us) where
   pub Takes-word : (w : Word) → t.kind ≡ kind_of w → Takes (word w) ts us
@@ -292,11 +297,11 @@ first-none l (t ∷ vs) q = q
 
 -- what was read behind what was read
 pub IsRead-then : {ts us vs : List Token} {d m n : ℕ} → IsRead ts us d m → IsRead us vs d n → IsRead ts vs d n
-IsRead-then p q = record { behind = record { ends = q.behind.ends; shorter = omega (arith, p.behind.shorter, q.behind.shorter) }; some = q.some; fits = q.fits }
+IsRead-then p q = record { behind = record { shorter = omega (arith, p.behind.shorter, q.behind.shorter) }; some = q.some; fits = q.fits }
 
 -- the same, behind a name
 pub IsRead-behind : {ts us vs : List Token} {d h : ℕ} → IsBehind us ts → IsRead us vs d h → IsRead ts vs d h
-IsRead-behind b q = record { behind = record { ends = q.behind.ends; shorter = omega (arith, b.shorter, q.behind.shorter) }; some = q.some; fits = q.fits }
+IsRead-behind b q = record { behind = record { shorter = omega (arith, b.shorter, q.behind.shorter) }; some = q.some; fits = q.fits }
 
 -- what holds of an answer holds of the one that it is
 some_is : {A : Type 0} (P : A → Type 0) {x y : A} → Some x ≡ Some y → P x → P y
@@ -459,6 +464,15 @@ module _ {l o : Level} {d : ℕ} {ts us : List Token} {a : Tree} {m : ℕ} (p : 
 pub operator-at : (o w : Level) (k : TokenKind) (x : Level × BinaryOp) → operator_within o w k ≡ Some x → operator_of x.0 k ≡ Some x.1
 operator-at o w k x q = (operator_of-from_within o w k x q).0
 
+-- no operator is the end
+pub operator-begins : (l : Level) {k : TokenKind} {o : BinaryOp} → operator_of l k ≡ Some o → k ≡ End → ⊥
+operator-begins level.Or {k = End} q e = cc
+operator-begins level.And {k = End} q e = cc
+operator-begins level.Comparison {k = End} q e = cc
+operator-begins level.Sum {k = End} q e = cc
+operator-begins level.Product {k = End} q e = cc
+operator-begins l {k = _} q e = cc
+
 -- an operator that takes too much nesting
 pub Right-deep : {ts : List Token} → EndsOnce ts → (l : Level) (o : BinaryOp) → operator_of l (first_kind ts) ≡ Some o →
     (d : ℕ) (a : Tree) (m : ℕ) (x : TreeError) →
@@ -612,14 +626,13 @@ Begin-def (t ∷ us) ds q =
     sym (run-opens 200 t us Definition r 0 (Outer ds ∷ []) o (omega arith))
 
 -- no definition yet
-pub Amasses-none : (ts : List Token) → EndsOnce ts → Amasses ts ts []
-Amasses-none ts w = record { ends = w; comes = refl }
+pub Amasses-none : (ts : List Token) → Amasses ts ts []
+Amasses-none ts = record { comes = refl }
 
 module _ {ts us : List Token} {ds : List Definition_} (g : Amasses ts us ds) where
   -- one definition more
-  pub Amasses-add : {vs : List Token} (d : Definition_) → first_kind us ≡ Key Def → EndsOnce vs → Defines us vs (def_tree d) → Amasses ts vs (ds ++ d ∷ [])
-  Amasses-add {vs = vs} d q w p = record {
-    ends = w;
+  pub Amasses-add : {vs : List Token} (d : Definition_) → first_kind us ≡ Key Def → Defines us vs (def_tree d) → Amasses ts vs (ds ++ d ∷ [])
+  Amasses-add {vs = vs} d q p = record {
     comes =
         g.comes ∙ Begin-def us (def_trees ds) q ∙ p.1.comes (Outer (def_trees ds) ∷ []) ∙ run-outer 200 vs (def_tree d) p.0 (def_trees ds)
         ∙ ap (λ es. run 200 vs (Begin es)) (sym (def_trees-append ds d));
@@ -630,14 +643,14 @@ module _ {ts us : List Token} {ds : List Definition_} (g : Amasses ts us ds) whe
   Amasses-fails {x = x} q f = EndsBy-at x (g.comes ∙ Begin-def us (def_trees ds) q) (f.fails (Outer (def_trees ds) ∷ []))
 
   -- neither a definition comes nor the end
-  pub Amasses-stops : (x : TreeError) → (first_kind us ≡ Key Def → ⊥) → (first_kind us ≡ End → ⊥) → x ≡ Unexpected (first_start us) →
+  pub Amasses-stops : (x : TreeError) → EndsOnce us → (first_kind us ≡ Key Def → ⊥) → (first_kind us ≡ End → ⊥) → x ≡ Unexpected (first_start us) →
       EndsBy (run 200 ts (Begin [])) x
-  Amasses-stops x q f j = EndsBy-at x g.comes (rw j (run-early us (Begin (def_trees ds)) g.ends (λ t i.
+  Amasses-stops x w q f j = EndsBy-at x g.comes (rw j (run-early us (Begin (def_trees ds)) w (λ t i.
       let n : wants t Definition 0 (Outer (def_trees ds) ∷ []) ≡ None = wants-none t (first_kind us) (def_trees ds) i q in
       rw (n, ends-none t.kind (ahead (def_trees ds) none) (λ k. f (sym i ∙ k))) refl)))
 
   -- the end comes
-  pub Amasses-accepts : first_kind us ≡ End → run 200 ts (Begin []) ≡ Accepted (defs_tree ds)
-  Amasses-accepts q = g.comes ∙ run-last us (Begin (def_trees ds)) (ahead (def_trees ds) none) g.ends q (λ t i.
+  pub Amasses-accepts : EndsOnce us → first_kind us ≡ End → run 200 ts (Begin []) ≡ Accepted (defs_tree ds)
+  Amasses-accepts w q = g.comes ∙ run-last us (Begin (def_trees ds)) (ahead (def_trees ds) none) w q (λ t i.
       let n : wants t Definition 0 (Outer (def_trees ds) ∷ []) ≡ None = wants-none t End (def_trees ds) i (λ j. cc) in
       rw (n, ends-end t.kind (ahead (def_trees ds) none) i) refl) ∙ ap Accepted (ahead-none ds)

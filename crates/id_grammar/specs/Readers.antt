@@ -2,7 +2,6 @@
 use Rattle.std.specs.Prelude.{◌≡◌, ◌+◌, ◌<◌, ◌≤◌, ◌⊎◌, ℕ, Bool, true, false, cond, nat_le}
 use Rattle.std.specs.Prelude.{Option, Some, None}
 use Rattle.std.specs.Prelude.{List, [], ◌∷◌, length, max}
-use Rattle.id_text.specs.Tokens.{EndsOnce}
 use Rattle.id_text.specs.declared.token.Token.{Token}
 use Rattle.id_text.specs.declared.token.TokenKind.{TokenKind}
 use Rattle.id_text.specs.declared.token.TokenKind.TheVariants.{Name, Number, Key, Sign, End}
@@ -53,9 +52,8 @@ truth_in (Key True) = Some true
 truth_in (Key False) = Some false
 truth_in _ = None
 
--- a shorter list that ends as it must
+-- the one list is shorter than the other
 pub record IsBehind (rest tokens : List Token) : Type 0 where
-  pub ends : EndsOnce rest
   pub shorter : length rest < length tokens
 
 -- a part of this height fits into that many expressions, and these tokens are left
@@ -345,7 +343,6 @@ pub record Misranges (ts : List Token) (d : ℕ) (y : TreeError) : Type 0 where
 
 -- statements with values of at most this height fit into that many expressions, and these tokens are left
 pub record IsGathered (tokens rest : List Token) (depth height : ℕ) : Type 0 where
-  pub ends : EndsOnce rest
   pub shorter : length rest ≤ length tokens
   pub fits : depth + height ≤ 200
 
@@ -405,5 +402,4 @@ def_trees (d ∷ ds) = def_tree d ∷ def_trees ds
 
 -- the run takes definitions
 pub record Amasses (ts us : List Token) (ds : List Def) : Type 0 where
-  pub ends : EndsOnce us
   pub comes : run 200 ts (Begin []) ≡ run 200 us (Begin (def_trees ds))

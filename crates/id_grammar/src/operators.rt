@@ -1,7 +1,6 @@
 //! The operator that a token is, and the levels of operators round it.
 
 ghost use Rattle.std.specs.Prelude.{◌≡◌, ◌↔◌, IsTrue};
-ghost use Rattle.id_text.specs.Tokens.{EndsOnce};
 ghost use Rattle.id_grammar.specs.Readers.{
   first_kind,
   may_deny,
@@ -15,20 +14,9 @@ ghost use Rattle.id_grammar.specs.Readers.{
 };
 
 use crate::phrase::Level;
-use crate::tokens::{begins_with, begins_with_sign};
+use crate::tokens::Tokens;
 use id_text::{Keyword, Symbol, Token, TokenKind};
 use id_value::{Arithmetic, BinaryOp, Comparison, Logic};
-
-/// Whether the tokens begin with `not`, where an operand of this level may.
-pub fn denies(tokens: &[Token], level: Level) -> bool
-    requires { EndsOnce tokens.now }
-    ensures { IsTrue result ↔ (may_deny level × (first_kind tokens.now ≡ TokenKind.Key Keyword.Not)) }
-{
-    match level {
-        Level::Or | Level::And => begins_with(tokens, Keyword::Not),
-        Level::Comparison | Level::Sum | Level::Product => false,
-    }
-}
 
 /// The innermost level that is open behind the first operand, by whether that is denied.
 pub fn open_first(denied: bool) -> Level
@@ -49,12 +37,32 @@ pub fn open_behind(level: Level) -> Level
     }
 }
 
-/// Whether the tokens begin with a bracket, behind which the arguments of a call or the index of a fetch stand.
-pub fn begins_with_bracket(tokens: &[Token]) -> bool
-    requires { EndsOnce tokens.now }
-    ensures { IsTrue result ↔ IsBracket (first_kind tokens.now) }
-{
-    begins_with_sign(tokens, Symbol::LeftParen) || begins_with_sign(tokens, Symbol::LeftBracket)
+impl<'t> Tokens<'t> {
+    /// Whether the tokens begin with `not`, where an operand of this level may.
+    pub fn denies(self, level: Level) -> bool
+        ensures { IsTrue result ↔
+            (may_deny level × (first_kind self.entry.list.now ≡ TokenKind.Key Keyword.Not)) }
+    {
+        match level {
+            Level::Or | Level::And => self.begins_with(Keyword::Not),
+            Level::Comparison | Level::Sum | Level::Product => false,
+        }
+    }
+
+    /// Whether the tokens begin with a bracket, behind which the arguments of a call or the index of a fetch stand.
+    pub fn begins_with_bracket(self) -> bool
+        ensures { IsTrue result ↔ IsBracket (first_kind self.entry.list.now) }
+    {
+        self.begins_with_sign(Symbol::LeftParen) || self.begins_with_sign(Symbol::LeftBracket)
+    }
+
+    /// The operator that the tokens begin with, and its level, where that is not tighter than the inner
+    /// level and not looser than the outer one.
+    pub fn operator_within(self, inner: Level, outer: Level) -> Option<(Level, BinaryOp)>
+        ensures { result ≡ operator_within inner outer (first_kind self.entry.list.now) }
+    {
+        kept_within(operator_in(self.first()), inner, outer)
+    }
 }
 
 /// How tight a level is.
@@ -68,15 +76,6 @@ fn rank(level: Level) -> usize
         Level::Sum => 3,
         Level::Product => 4,
     }
-}
-
-/// The operator that the tokens begin with, and its level, where that is not tighter than the inner
-/// level and not looser than the outer one.
-pub fn operator_within(tokens: &[Token], inner: Level, outer: Level) -> Option<(Level, BinaryOp)>
-    requires { EndsOnce tokens.now }
-    ensures { result ≡ operator_within inner outer (first_kind tokens.now) }
-{
-    kept_within(operator_in(&tokens[0]), inner, outer)
 }
 
 /// The operator with its level, if there is one, where that is not tighter than the inner level and

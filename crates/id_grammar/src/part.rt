@@ -8,8 +8,9 @@ ghost use Rattle.id_grammar.specs.Tree.{tree_of, stmt_tree, none};
 ghost use Rattle.id_grammar.specs.Tree as tree;
 ghost use Rattle.id_grammar.specs.Readers.{onto, passed};
 
+use crate::tokens::Tokens;
 use crate::tree::{Block, Call, Expr, For, Loop, Pair, Stmt, TreeError, Triple};
-use id_text::{Identifier, Token};
+use id_text::Identifier;
 use id_value::{BinaryOp, Constant, UnaryOp};
 use std::alloc::Global;
 
@@ -336,12 +337,12 @@ pub fn fetch(alloc: Global, target: Part, index: Part, place: u32) -> Result<Par
 
 /// The part, if it was made, with the tokens behind it.
 #[inline(always)]
-pub fn with_rest(
+pub fn with_rest<'t>(
     whole: Result<Part, TreeError>,
-    rest: &[Token],
-) -> Result<(Part, &[Token]), TreeError>
+    rest: Tokens<'t>,
+) -> Result<(Part, Tokens<'t>), TreeError>
     ensures { MatchResult result
-        (λ x. (whole ≡ Ok x.0) × (x.1.now ≡ rest.now))
+        (λ x. (whole ≡ Ok x.0) × (x.1 ≡ rest.entry))
         (λ e. whole ≡ Err e) }
 {
     let whole = found!(whole);

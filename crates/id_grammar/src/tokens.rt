@@ -1,8 +1,10 @@
 //! One token at a time, at the front of a list that ends in `End`.
 
-ghost use Rattle.std.specs.Prelude.{◌≡◌, ◌≢◌, ◌∷◌, ◌<◌, ◌≤◌, ◌↔◌, IsTrue, IfOk};
+ghost use Rattle.std.specs.Prelude.{◌≡◌, ◌≢◌, List, ◌∷◌, ◌↔◌, IsTrue, IfOk};
 ghost use Rattle.std.specs.Prelude.{IfErr, MatchResult};
 ghost use Rattle.id_text.specs.Tokens.{EndsOnce};
+ghost use Rattle.id_text.specs.declared.token.Token.{Token};
+ghost use Rattle.id_grammar.specs.Ends.{EndsOnce-prop};
 ghost use Rattle.id_grammar.specs.Readers.{
   first_kind,
   first_start,
@@ -17,7 +19,7 @@ ghost use Rattle.id_grammar.specs.Readers.{
 };
 ghost use Rattle.id_grammar.specs.Grammar.{word, kind_of};
 
-use crate::tree::{MAX_NESTING, TreeError};
+use crate::tree::TreeError;
 use id_text::{Identifier, Keyword, Symbol, Token, TokenKind};
 use std::alloc::Global;
 
@@ -28,13 +30,114 @@ pub enum Word {
     Sign(Symbol),
 }
 
-/// The first token and those behind it.
-pub fn split(tokens: &[Token]) -> (&Token, &[Token])
-    requires { EndsOnce tokens.now }
-    ensures whole { tokens.now ≡ result.0.now ∷ result.1.now }
-    ensures ends { result.0.now.kind ≢ TokenKind.End → EndsOnce result.1.now }
-{
-    (&tokens[0], &tokens[1..])
+/// Tokens from one on: `End` is the last, and no other is `End`.
+#[derive(Clone, Copy)]
+pub struct Tokens<'t> {
+    pub list: &'t [Token],
+    pub ghost ends: { EndsOnce list.now } by { EndsOnce-prop list.now },
+}
+
+impl<'t> Tokens<'t> {
+    /// The first token.
+    pub fn first(self) -> &'t Token
+        ensures kind { result.now.kind ≡ first_kind self.entry.list.now }
+        ensures start { result.now.start ≡ first_start self.entry.list.now }
+    {
+        &self.list[0]
+    }
+
+    /// The first token and those behind it. Behind `End` comes `End` again.
+    pub fn split(self) -> (&'t Token, Tokens<'t>)
+        ensures head { (us : List Token) × (self.entry.list.now ≡ result.0.now ∷ us) }
+        ensures kind { first_kind self.entry.list.now ≡ result.0.now.kind }
+        ensures whole { result.0.now.kind ≢ TokenKind.End
+            → self.entry.list.now ≡ result.0.now ∷ result.1.list.now }
+    {
+        let first = &self.list[0];
+        match &first.kind {
+            TokenKind::End => (first, self),
+            _ => (
+                first,
+                Tokens {
+                    list: &self.list[1..],
+                },
+            ),
+        }
+    }
+
+    /// Whether the tokens begin with this word.
+    pub fn begins_with(self, wanted: Keyword) -> bool
+        ensures { IsTrue result ↔ (first_kind self.entry.list.now ≡ TokenKind.Key wanted) }
+    {
+        is_key(self.first(), wanted)
+    }
+
+    /// Whether the tokens begin with this sign.
+    pub fn begins_with_sign(self, wanted: Symbol) -> bool
+        ensures { IsTrue result ↔ (first_kind self.entry.list.now ≡ TokenKind.Sign wanted) }
+    {
+        is_sign(self.first(), wanted)
+    }
+
+    /// The refusal of the first token, since no program goes on with it.
+    pub fn unexpected(self) -> TreeError
+        ensures { result ≡ TreeError.Unexpected (first_start self.entry.list.now) }
+    {
+        TreeError::Unexpected {
+            at: self.first().start as usize,
+        }
+    }
+
+    /// The refusal of the first token, since it makes too much nesting.
+    pub fn too_deep(self) -> TreeError
+        ensures { result ≡ TreeError.TooDeep (first_start self.entry.list.now) }
+    {
+        TreeError::TooDeep {
+            at: self.first().start as usize,
+        }
+    }
+
+    /// The refusal of the first token where an expression is wanted, but has no room.
+    pub fn no_room(self) -> TreeError
+        ensures { result ≡ no_room_at (begins_expression (first_kind self.entry.list.now))
+            (first_start self.entry.list.now) }
+    {
+        if begins_expression(self.first()) {
+            self.too_deep()
+        } else {
+            self.unexpected()
+        }
+    }
+
+    /// The tokens behind this word or sign.
+    pub fn expect_word(self, wanted: Word) -> Result<Tokens<'t>, TreeError>
+        ensures behind { IfOk result (λ rest. IsBehind rest.list.now self.entry.list.now) }
+        ensures ok { IfOk result (λ rest. Takes (word wanted) self.entry.list.now rest.list.now) }
+        ensures err { IfErr result (Misses (word wanted) self.entry.list.now) }
+    {
+        let (first, rest) = self.split();
+        if is_word(first, wanted) {
+            Ok(rest)
+        } else {
+            Err(self.unexpected())
+        }
+    }
+
+    /// The name that the tokens begin with, its place, and the tokens behind it.
+    pub fn expect_name(self, alloc: Global) -> Result<(Identifier, u32, Tokens<'t>), TreeError>
+        ensures behind { IfOk result (λ x. IsBehind x.2.list.now self.entry.list.now) }
+        ensures ok { IfOk result (λ x. BeginsWithName self.entry.list.now x.0 x.1 x.2.list.now) }
+        ensures err { IfErr result (LacksName self.entry.list.now) }
+    {
+        let (first, rest) = self.split();
+        match &first.kind {
+            TokenKind::Name(name) => Ok((name.copy(alloc)?, first.start, rest)),
+            TokenKind::Number(_) => Err(self.unexpected()),
+            TokenKind::Key(_) => Err(self.unexpected()),
+            TokenKind::Sign(_) => Err(self.unexpected()),
+            TokenKind::End => Err(self.unexpected()),
+        }
+    }
 }
 
 /// Whether the token is this sign.
@@ -73,22 +176,6 @@ pub fn is_word(token: &Token, wanted: Word) -> bool
     }
 }
 
-/// Whether the tokens begin with this word.
-pub fn begins_with(tokens: &[Token], wanted: Keyword) -> bool
-    requires { EndsOnce tokens.now }
-    ensures { IsTrue result ↔ (first_kind tokens.now ≡ TokenKind.Key wanted) }
-{
-    is_key(&tokens[0], wanted)
-}
-
-/// Whether the tokens begin with this sign.
-pub fn begins_with_sign(tokens: &[Token], wanted: Symbol) -> bool
-    requires { EndsOnce tokens.now }
-    ensures { IsTrue result ↔ (first_kind tokens.now ≡ TokenKind.Sign wanted) }
-{
-    is_sign(&tokens[0], wanted)
-}
-
 /// The truth value that the token is.
 pub fn truth_of(token: &Token) -> Option<bool>
     ensures { result ≡ truth_in token.now.kind }
@@ -97,16 +184,6 @@ pub fn truth_of(token: &Token) -> Option<bool>
         TokenKind::Key(Keyword::True) => Some(true),
         TokenKind::Key(Keyword::False) => Some(false),
         _ => None,
-    }
-}
-
-/// The refusal of the first token, since no program goes on with it.
-pub fn unexpected(tokens: &[Token]) -> TreeError
-    requires { EndsOnce tokens.now }
-    ensures { result ≡ TreeError.Unexpected (first_start tokens.now) }
-{
-    TreeError::Unexpected {
-        at: tokens[0].start as usize,
     }
 }
 
@@ -129,51 +206,6 @@ pub fn begins_expression(token: &Token) -> bool
     }
 }
 
-/// The refusal of the first token where an expression is wanted, but has no room.
-pub fn no_room(tokens: &[Token]) -> TreeError
-    requires { EndsOnce tokens.now }
-    ensures { result ≡ no_room_at (begins_expression (first_kind tokens.now)) (first_start tokens.now) }
-{
-    let at = tokens[0].start as usize;
-    if begins_expression(&tokens[0]) {
-        TreeError::TooDeep { at }
-    } else {
-        TreeError::Unexpected { at }
-    }
-}
-
-/// The first token and those behind it, unless it makes this nesting and that is too much.
-pub fn enter(tokens: &[Token], nesting: usize) -> Result<(&Token, &[Token]), TreeError>
-    requires { EndsOnce tokens.now }
-    ensures whole { IfOk result (λ x. tokens.now ≡ x.0.now ∷ x.1.now) }
-    ensures ends { IfOk result (λ x. x.0.now.kind ≢ TokenKind.End → EndsOnce x.1.now) }
-    ensures fits { IfOk result (λ _. nesting ≤ MAX_NESTING) }
-    ensures deep { IfErr result (λ _. MAX_NESTING < nesting) }
-    ensures err { IfErr result (λ e. e ≡ TreeError.TooDeep (first_start tokens.now)) }
-{
-    if nesting > MAX_NESTING {
-        return Err(TreeError::TooDeep {
-            at: tokens[0].start as usize,
-        });
-    }
-    Ok(split(tokens))
-}
-
-/// The tokens behind this word or sign.
-pub fn expect_word(tokens: &[Token], wanted: Word) -> Result<&[Token], TreeError>
-    requires { EndsOnce tokens.now }
-    ensures behind { IfOk result (λ rest. IsBehind rest.now tokens.now) }
-    ensures ok { IfOk result (λ rest. Takes (word wanted) tokens.now rest.now) }
-    ensures err { IfErr result (Misses (word wanted) tokens.now) }
-{
-    let (first, rest) = split(tokens);
-    if is_word(first, wanted) {
-        Ok(rest)
-    } else {
-        Err(unexpected(tokens))
-    }
-}
-
 /// The same name, in memory of its own.
 #[inline(always)]
 pub fn copied(alloc: Global, name: &Identifier) -> Result<Identifier, TreeError>
@@ -181,24 +213,4 @@ pub fn copied(alloc: Global, name: &Identifier) -> Result<Identifier, TreeError>
 {
     let copy = name.copy(alloc)?;
     Ok(copy)
-}
-
-/// The name that the tokens begin with, its place, and the tokens behind it.
-pub fn expect_name(
-    alloc: Global,
-    tokens: &[Token],
-) -> Result<(Identifier, u32, &[Token]), TreeError>
-    requires { EndsOnce tokens.now }
-    ensures behind { IfOk result (λ x. IsBehind x.2.now tokens.now) }
-    ensures ok { IfOk result (λ x. BeginsWithName tokens.now x.0 x.1 x.2.now) }
-    ensures err { IfErr result (LacksName tokens.now) }
-{
-    let (first, rest) = split(tokens);
-    match &first.kind {
-        TokenKind::Name(name) => Ok((name.copy(alloc)?, first.start, rest)),
-        TokenKind::Number(_) => Err(unexpected(tokens)),
-        TokenKind::Key(_) => Err(unexpected(tokens)),
-        TokenKind::Sign(_) => Err(unexpected(tokens)),
-        TokenKind::End => Err(unexpected(tokens)),
-    }
 }

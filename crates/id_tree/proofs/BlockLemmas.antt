@@ -117,7 +117,7 @@ onto-append (r ∷ ss) s a = ap (λ b. more (stmt_tree r) b) (onto-append ss s a
 
 -- one statement more was read
 pub IsGathered-add : {ts us vs : List Token} {d h k : ℕ} → IsGathered ts us d h → IsRead us vs d k → IsGathered ts vs d (max h k)
-IsGathered-add p q = record { ends = q.behind.ends; shorter = omega (arith, p.shorter, q.behind.shorter); fits = omega (arith, p.fits, q.fits) }
+IsGathered-add p q = record { shorter = omega (arith, p.shorter, q.behind.shorter); fits = omega (arith, p.fits, q.fits) }
 
 -- no statement yet
 pub Gathers-none : (ts : List Token) (o : Scope) (d : ℕ) → Gathers ts o d ts [] 0

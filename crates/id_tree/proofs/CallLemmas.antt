@@ -35,7 +35,7 @@ module _ {ts us : List Token} {t : Token} (e : ts ≡ t ∷ us) (d : ℕ) (w : d
 -- what was read behind the name was read from it on
 pub IsRead-named : {ts us vs : List Token} {t : Token} {d h : ℕ} → ts ≡ t ∷ us → (0 < h) × IsGathered us vs d h → IsRead ts vs d h
 IsRead-named e q = let l = ap length e in record {
-  behind = record { ends = q.1.ends; shorter = omega (arith, q.1.shorter, l) };
+  behind = record { shorter = omega (arith, q.1.shorter, l) };
   some = q.0;
   fits = q.1.fits;
 }
@@ -187,16 +187,16 @@ module _ {ts us : List Token} {d h : ℕ} {es : List Expr} (g : Hands ts d us es
   }
 
 -- what was read in front of the closing bracket
-pub IsGathered-passed : {ts us ws : List Token} {t : Token} {d h : ℕ} → IsRead ts us d h → us ≡ t ∷ ws → EndsOnce ws → IsGathered ts ws d h
-IsGathered-passed p e w = let l = ap length e in record { ends = w; shorter = omega (arith, p.behind.shorter, l); fits = p.fits }
+pub IsGathered-passed : {ts us ws : List Token} {t : Token} {d h : ℕ} → IsRead ts us d h → us ≡ t ∷ ws → IsGathered ts ws d h
+IsGathered-passed p e = let l = ap length e in record { shorter = omega (arith, p.behind.shorter, l); fits = p.fits }
 
-pub IsGathered-unpassed : {ts us : List Token} {t : Token} (d : ℕ) → d ≤ 200 → ts ≡ t ∷ us → EndsOnce us → IsGathered ts us d 0
-IsGathered-unpassed d w e q = let l = ap length e in record { ends = q; shorter = omega (arith, l); fits = omega arith }
+pub IsGathered-unpassed : {ts us : List Token} {t : Token} (d : ℕ) → d ≤ 200 → ts ≡ t ∷ us → IsGathered ts us d 0
+IsGathered-unpassed d w e = let l = ap length e in record { shorter = omega (arith, l); fits = omega arith }
 
 -- one argument more was read
 pub IsRead-add : {ts us ws vs : List Token} {t : Token} {d h k : ℕ} → IsRead ts us d h → us ≡ t ∷ ws → IsRead ws vs d k → IsRead ts vs d (max h k)
 IsRead-add p e q = let l = ap length e in record {
-  behind = record { ends = q.behind.ends; shorter = omega (arith, p.behind.shorter, q.behind.shorter, l) };
+  behind = record { shorter = omega (arith, p.behind.shorter, q.behind.shorter, l) };
   some = omega (arith, p.some);
   fits = omega (arith, p.fits, q.fits);
 }

@@ -1,6 +1,6 @@
 //! The program, its definitions and their headings, around the parser of expressions (docs/LANGUAGE.md, "Grammar").
 //!
-//! A reader takes the tokens from its part on, and gives the part back with the tokens behind it.
+//! Each function takes the tokens from its part on, and gives the part back with the tokens behind it.
 
 ghost use Rattle.std.specs.Prelude.{◌≡◌, [], ◌∷◌, ◌++◌, IfOk, IfErr, MatchResult};
 ghost use Rattle.id_text.specs.Tokens.{EndsOnce, Rises};
@@ -17,11 +17,8 @@ ghost use Rattle.id_grammar.specs.Readers.{Declares, Undeclares, Heads};
 ghost use Rattle.id_grammar.specs.Readers.{Beheads};
 
 use crate::heads::{expect_end, expect_kind};
-use crate::parser::parse_enclosed;
-use id_grammar::{
-    Def, Param, Part, Program, TreeError, Word, begins_with, begins_with_sign, expect_name,
-    expect_word, fitted, is_sign, split, unexpected,
-};
+use crate::reader::Reader;
+use id_grammar::{Def, Param, Part, Program, Tokens, TreeError, Word, fitted, is_sign};
 use id_text::{Identifier, Keyword, Sequence, Symbol, Token};
 use id_value::Kind;
 use std::alloc::Global;
@@ -43,18 +40,17 @@ pub fn parse(alloc: Global, tokens: &[Token]) -> Result<Program, TreeError>
 
     ensures refused { IfErr result (RefusedBy tokens.now) }
 {
-    parse_program(alloc, tokens)
+    parse_program(alloc, Tokens { list: tokens })
 }
 
 /// `program = { def }`, and then the end
-fn parse_program(alloc: Global, tokens: &[Token]) -> Result<Program, TreeError>
-    requires { EndsOnce tokens.now }
-    ensures ok { IfOk result (λ p. run 200 tokens.now (Begin []) ≡ Accepted (program_tree p)) }
-    ensures err { IfErr result (EndsBy (run 200 tokens.now (Begin []))) }
+fn parse_program(alloc: Global, tokens: Tokens<'_>) -> Result<Program, TreeError>
+    ensures ok { IfOk result (λ p. run 200 tokens.entry.list.now (Begin []) ≡ Accepted (program_tree p)) }
+    ensures err { IfErr result (EndsBy (run 200 tokens.entry.list.now (Begin []))) }
 {
     let mut defs = Vec::new(alloc);
     let mut rest = tokens;
-    'defs: while begins_with(rest, Keyword::Def) {
+    'defs: while rest.begins_with(Keyword::Def) {
         let (def, behind) = found!(parse_def(alloc, rest));
         defs.push(def)?;
         rest = behind;
@@ -66,17 +62,20 @@ fn parse_program(alloc: Global, tokens: &[Token]) -> Result<Program, TreeError>
 }
 
 /// `def = "def" NAME "(" [ param { "," param } ] ")" ":" kind "=" expr ";"`
-fn parse_def(alloc: Global, tokens: &[Token]) -> Result<(Def, &[Token]), TreeError>
-    requires ends { EndsOnce tokens.now }
-    requires begins { first_kind tokens.now ≡ Key Keyword.Def }
+fn parse_def(alloc: Global, tokens: Tokens<'_>) -> Result<(Def, Tokens<'_>), TreeError>
+    requires begins { first_kind tokens.list.now ≡ Key Keyword.Def }
     ensures { MatchResult result
-        (λ x. IsBehind x.1.now tokens.now × Defines tokens.now x.1.now (def_tree x.0))
-        (Fails tokens.now Definition 0) }
+        (λ x. IsBehind x.1.list.now tokens.entry.list.now × Defines tokens.entry.list.now x.1.list.now (def_tree x.0))
+        (Fails tokens.entry.list.now Definition 0) }
 {
-    let (_, named) = split(tokens);
-    let (name, place, headed) = found!(expect_name(alloc, named));
+    let (_, named) = tokens.split();
+    let (name, place, headed) = found!(named.expect_name(alloc));
     let (params, kind, begun) = found!(parse_heading(alloc, headed));
-    let (body, rest) = found!(parse_enclosed(alloc, begun, Word::Sign(Symbol::Semicolon), 0));
+    let reader = Reader {
+        tokens: begun,
+        depth: 0,
+    };
+    let (body, rest) = found!(reader.parse_enclosed(alloc, Word::Sign(Symbol::Semicolon)));
     Ok((definition(name, place, params, kind, body), rest))
 }
 
@@ -96,27 +95,28 @@ fn definition(name: Identifier, place: u32, params: Vec<Param>, kind: Kind, body
 }
 
 /// `"(" [ param { "," param } ] ")" ":" kind "="`
-fn parse_heading(alloc: Global, tokens: &[Token]) -> Result<(Vec<Param>, Kind, &[Token]), TreeError>
-    requires { EndsOnce tokens.now }
+fn parse_heading(
+    alloc: Global,
+    tokens: Tokens<'_>,
+) -> Result<(Vec<Param>, Kind, Tokens<'_>), TreeError>
     ensures { MatchResult result
-        (λ x. IsBehind x.2.now tokens.now
-        × Heads tokens.now x.2.now (params_tree x.0.items) x.1)
-        (Beheads tokens.now) }
+        (λ x. IsBehind x.2.list.now tokens.entry.list.now
+        × Heads tokens.entry.list.now x.2.list.now (params_tree x.0.items) x.1)
+        (Beheads tokens.entry.list.now) }
 {
-    let opened = found!(expect_word(tokens, Word::Sign(Symbol::LeftParen)));
+    let opened = found!(tokens.expect_word(Word::Sign(Symbol::LeftParen)));
     let (params, closed) = found!(parse_params(alloc, opened));
     let (kind, headed) = found!(expect_kind(closed));
-    let rest = found!(expect_word(headed, Word::Sign(Symbol::Becomes)));
+    let rest = found!(headed.expect_word(Word::Sign(Symbol::Becomes)));
     Ok((params, kind, rest))
 }
 
 /// `[ param { "," param } ] ")"`
-fn parse_params(alloc: Global, tokens: &[Token]) -> Result<(Vec<Param>, &[Token]), TreeError>
-    requires { EndsOnce tokens.now }
+fn parse_params(alloc: Global, tokens: Tokens<'_>) -> Result<(Vec<Param>, Tokens<'_>), TreeError>
     ensures { MatchResult result
-        (λ x. IsBehind x.1.now tokens.now
-        × Leads tokens.now Parameters 0 x.1.now (params_tree x.0.items) 0)
-        (Fails tokens.now Parameters 0) }
+        (λ x. IsBehind x.1.list.now tokens.entry.list.now
+        × Leads tokens.entry.list.now Parameters 0 x.1.list.now (params_tree x.0.items) 0)
+        (Fails tokens.entry.list.now Parameters 0) }
 {
     let mut params = Vec::with_capacity(alloc, 2)?;
     let rest = found!(add_params(alloc, &mut params, tokens));
@@ -130,29 +130,28 @@ fn parse_params(alloc: Global, tokens: &[Token]) -> Result<(Vec<Param>, &[Token]
 fn add_params<'a>(
     alloc: Global,
     params: &mut Vec<Param>,
-    tokens: &'a [Token],
-) -> Result<&'a [Token], TreeError>
-    requires ends { EndsOnce tokens.now }
+    tokens: Tokens<'a>,
+) -> Result<Tokens<'a>, TreeError>
     requires none { params.old.items ≡ [] }
     ensures { MatchResult result
-        (λ rest. IsBehind rest.now tokens.now
-        × Leads tokens.now Parameters 0 rest.now (params_tree params.new.items) 0)
-        (Fails tokens.now Parameters 0) }
+        (λ rest. IsBehind rest.list.now tokens.entry.list.now
+        × Leads tokens.entry.list.now Parameters 0 rest.list.now (params_tree params.new.items) 0)
+        (Fails tokens.entry.list.now Parameters 0) }
 {
-    let (first, closed) = split(tokens);
+    let (first, closed) = tokens.split();
     if is_sign(first, Symbol::RightParen) {
         return Ok(closed);
     }
     let mut rest = found!(add_param(alloc, params, tokens));
-    'params: while begins_with_sign(rest, Symbol::Comma) {
-        let (_, named) = split(rest);
+    'params: while rest.begins_with_sign(Symbol::Comma) {
+        let (_, named) = rest.split();
         rest = found!(add_param(alloc, params, named));
     }
-    let (last, closed) = split(rest);
+    let (last, closed) = rest.split();
     if is_sign(last, Symbol::RightParen) {
         Ok(closed)
     } else {
-        Err(unexpected(rest))
+        Err(rest.unexpected())
     }
 }
 
@@ -162,15 +161,14 @@ fn add_params<'a>(
 fn add_param<'a>(
     alloc: Global,
     params: &mut Vec<Param>,
-    tokens: &'a [Token],
-) -> Result<&'a [Token], TreeError>
-    requires { EndsOnce tokens.now }
+    tokens: Tokens<'a>,
+) -> Result<Tokens<'a>, TreeError>
     ensures { MatchResult result
-        (λ rest. IsBehind rest.now tokens.now × ((p : Param)
-        × (params.new.items ≡ params.old.items ++ p ∷ []) × Declares tokens.now rest.now p))
-        (Undeclares tokens.now) }
+        (λ rest. IsBehind rest.list.now tokens.entry.list.now × ((p : Param)
+        × (params.new.items ≡ params.old.items ++ p ∷ []) × Declares tokens.entry.list.now rest.list.now p))
+        (Undeclares tokens.entry.list.now) }
 {
-    let (name, place, typed) = found!(expect_name(alloc, tokens));
+    let (name, place, typed) = found!(tokens.expect_name(alloc));
     let (kind, rest) = found!(expect_kind(typed));
     params.push(Param { name, kind, place })?;
     Ok(rest)

@@ -15,36 +15,36 @@ params-init c =
 
 pub params-preserved : goal.params-preserved
 params-preserved c =
-    let comma : first_kind c.params.rest.now ≡ Sign Comma = search rules in
+    let comma : first_kind c.params.rest.list.now ≡ Sign Comma = search rules in
     let more = c.in-Ok-add_param.ensures.1 in (
-      IsBehind-more c.params.invariant.0 c.split-in-params.ensures.whole c.in-Ok-add_param.ensures.0,
-      rw more.1 (Counts-add more.0 c.params.invariant.1 c.split-in-params.ensures.whole comma more.2),
+      IsBehind-more c.params.invariant.0 (c.split-in-params.ensures.whole (λ q. cc)) c.in-Ok-add_param.ensures.0,
+      rw more.1 (Counts-add more.0 c.params.invariant.1 (c.split-in-params.ensures.whole (λ q. cc)) comma more.2),
     )
 
 pub returns-then-is_sign : goal.returns-then-is_sign
 returns-then-is_sign c =
     let is : c.split.result.0.now.kind ≡ Sign RightParen = search rules in
-    (IsBehind-token c.split.ensures.whole (c.split.ensures.ends (λ q. cc)), rw c.requires.none (Leads-none c.split.ensures.whole is))
+    (IsBehind-token (c.split.ensures.whole (λ q. cc)), rw c.requires.none (Leads-none (c.split.ensures.whole (λ q. cc)) is))
 
 pub returns-in-Err : goal.returns-in-Err
 returns-in-Err c =
     let is_not : c.split.result.0.now.kind ≡ Sign RightParen → ⊥ = search rules in
-    Fails-first (λ q. is_not (first_of c.split.ensures.whole q)) c.in-Err.ensures
+    Fails-first (λ q. is_not (first_of c.split.ensures.head.1 q)) c.in-Err.ensures
 
 pub returns-in-Err-add_param : goal.returns-in-Err-add_param
 returns-in-Err-add_param c =
-    let comma : first_kind c.params.rest.now ≡ Sign Comma = search rules in
-    Fails-next c.params.invariant.1 c.split-in-params.ensures.whole comma c.in-Err-add_param.ensures
+    let comma : first_kind c.params.rest.list.now ≡ Sign Comma = search rules in
+    Fails-next c.params.invariant.1 (c.split-in-params.ensures.whole (λ q. cc)) comma c.in-Err-add_param.ensures
 
 pub returns-then-is_sign-2 : goal.returns-then-is_sign-2
 returns-then-is_sign-2 c =
     let is : c.split-2.result.0.now.kind ≡ Sign RightParen = search rules in (
-      IsBehind-then c.params.invariant.0 (IsBehind-token c.split-2.ensures.whole (c.split-2.ensures.ends (λ q. cc))),
-      Leads-listed c.params.invariant.1 c.split-2.ensures.whole is,
+      IsBehind-then c.params.invariant.0 (IsBehind-token (c.split-2.ensures.whole (λ q. cc))),
+      Leads-listed c.params.invariant.1 (c.split-2.ensures.whole (λ q. cc)) is,
     )
 
 pub returns-else-is_sign-2 : goal.returns-else-is_sign-2
 returns-else-is_sign-2 c =
     let is_not : c.split-2.result.0.now.kind ≡ Sign RightParen → ⊥ = search rules in
-    let no_comma : first_kind c.params.rest.now ≡ Sign Comma → ⊥ = search rules in
-    Fails-listed c.params.invariant.1 c.split-2.ensures.whole c.unexpected.result c.unexpected.ensures no_comma is_not
+    let no_comma : first_kind c.params.rest.list.now ≡ Sign Comma → ⊥ = search rules in
+    Fails-listed c.params.invariant.1 c.split-2.ensures.head.1 c.unexpected.result c.unexpected.ensures no_comma is_not
