@@ -1,17 +1,15 @@
 -- How many loops are round a row: one more than round the `Start` of the innermost.
-use Rattle.std.proofs.Common.{◌≡◌, ◌⊎◌, inl, inr, ◌+◌, ◌-◌, ◌<◌, ◌≤◌, ℕ, zero, suc, List, [], ◌∷◌, ◌++◌, length}
+use Rattle.std.proofs.Common.{◌≡◌, ◌⊎◌, inl, inr, ◌+◌, ◌<◌, ◌≤◌, ℕ, zero, suc, List, [], ◌∷◌, ◌++◌, length}
 use Rattle.std.proofs.Common.{get_or, refl, ap, sym, ◌∙◌, subst, arith}
 use Rattle.std.proofs.lemmas.Bool.{cases_lt}
-use Rattle.std.proofs.lemmas.List.{get_or_append_left, get_or_push, length_push}
-use Rattle.id_grammar.specs.Tree.{Tree}
+use Rattle.std.proofs.lemmas.List.{get_or_append_left, get_or_past, get_or_push, length_push}
 use Rattle.id_table.specs.declared.row.Row.{Row}
 use Rattle.id_table.specs.declared.row.Node.{Node}
-use Rattle.id_table.specs.declared.row.Node.TheVariants.{LoopHead}
-use Rattle.id_table.specs.Names.{first_names}
-use Rattle.id_table.specs.Rows.{Parts, add, at, in_top, no_row, rows_of}
+use Rattle.id_table.specs.declared.row.Node.TheVariants.{Head, LoopHead}
+use Rattle.id_table.specs.Rows.{at, no_row}
 use Rattle.id_table.specs.Loops.{depth, loops_from}
-use Rattle.id_table.specs.Turns.{IsTable}
-use Rattle.id_check.specs.Depths.{AreDepths, AreInBlocks}
+use Rattle.id_table.specs.Tables.{AreInBlocks}
+use Rattle.id_check.specs.Depths.{AreDepths}
 
 -- where a block's head is below two bounds, as many loops are counted up to either
 loops_more : (R : List Row) → AreInBlocks R → (h j k : ℕ) → h < length R → h < j → h < k → loops_from R j (at R h).node ≡ loops_from R k (at R h).node
@@ -45,12 +43,11 @@ loops_low R a h (suc k) less = by (at R h).node refl (λ t b. loops_low R a t k 
         omega arith
     by _ e r = omega arith
 
-pub depth_low : (R : List Row) (i : ℕ) → AreInBlocks R → i < length R → depth R i ≤ i
+depth_low : (R : List Row) (i : ℕ) → AreInBlocks R → i < length R → depth R i ≤ i
 depth_low R i a less = let d = a.head i less in let e = loops_low R a (at R i).block (length R) (omega arith) in omega arith
 
--- the depth of a row of a loop's block
-pub depth_loop : (R : List Row) (i s : ℕ) → AreInBlocks R → i < length R → (at R (at R i).block).node ≡ LoopHead s → (s < i) × (depth R i ≡ suc (depth R s))
-depth_loop R i s a less e = by (length R) refl
+depth_loop_in : (R : List Row) (i s : ℕ) → AreInBlocks R → i < length R → (at R (at R i).block).node ≡ LoopHead s → (s < i) × (depth R i ≡ suc (depth R s))
+depth_loop_in R i s a less e = by (length R) refl
   where
     low : (at R i).block ≤ i
     low = a.head i less
@@ -70,6 +67,22 @@ depth_loop R i s a less e = by (length R) refl
               ∙ ap (λ n. suc n) (loops_more R a (at R s).block k (length R) (omega arith) (omega arith) (omega arith))),
         )
 
+-- the depth of what stands in a loop's block, which is a row, and the depth of the loop's `Start`
+pub depth_loop : (R : List Row) (i s : ℕ) → AreInBlocks R → (at R (at R i).block).node ≡ LoopHead s
+    → (s < i) × (depth R i ≡ suc (depth R s)) × (depth R s ≤ s)
+depth_loop R i s a e = by (cases_lt i (length R))
+  where
+    by : (i < length R) ⊎ (length R ≤ i) → (s < i) × (depth R i ≡ suc (depth R s)) × (depth R s ≤ s)
+    by (inl less) = let w = depth_loop_in R i s a less e in (w.0, w.1, depth_low R s a (omega (arith, less, w.0)))
+    by (inr past) = absurd (first (cases_lt 0 (length R)))
+      where
+        outside : (at R 0).node ≡ LoopHead s
+        outside = ap (λ b. (at R b).node) (sym (ap (λ (r : Row). r.block) (get_or_past R i no_row past))) ∙ e
+
+        first : (0 < length R) ⊎ (length R ≤ 0) → ⊥
+        first (inl some) = let low = a.start 0 s some outside in absurd (omega (arith, low))
+        first (inr none) = let d : Head ≡ LoopHead s = sym (ap (λ (r : Row). r.node) (get_or_past R 0 no_row none)) ∙ outside in cc
+
 -- a row of any other block is in none
 loops_none : (R : List Row) (k : ℕ) (n : Node) → ((s : ℕ) → n ≡ LoopHead s → ⊥) → loops_from R k n ≡ 0
 loops_none R zero (LoopHead s) h = refl
@@ -79,36 +92,6 @@ loops_none R (suc k) _ h = refl
 
 pub depth_none : (R : List Row) (i : ℕ) → ((s : ℕ) → (at R (at R i).block).node ≡ LoopHead s → ⊥) → depth R i ≡ 0
 depth_none R i h = loops_none R (length R) (at R (at R i).block).node h
-
--- ---- blocks
-
-start_is : (s t : ℕ) → LoopHead s ≡ LoopHead t → s ≡ t
-start_is s t e = cc
-
--- each row of a table stands behind the head of its block
-pub AreInBlocks-table : (t : Tree) → IsTable (rows_of t) → AreInBlocks (rows_of t)
-AreInBlocks-table t table = record {
-  head = λ i less. by i less (cases_lt (i + 1) (length (rows_of t)));
-  start = λ h s less e.
-      let c = table.has_loop h s less e in
-      let l = table.loop_is c.0 h c.1 in
-      let is : s ≡ h - 1 = start_is s (h - 1) (sym e ∙ (l.before_test).head) in
-      let low = l.begins in
-      omega arith;
-}
-  where
-    T : Parts
-    T = add (in_top 0) (record { rows = []; names = first_names }) t
-
-    last : (r : Row) (i : ℕ) → length T.rows ≡ i → (at (T.rows ++ r ∷ []) i).block ≡ r.block
-    last r i e = ap (λ (q : Row). q.block) (get_or_push T.rows r no_row i e)
-
-    by : (i : ℕ) → i < length (rows_of t) → (i + 1 < length (rows_of t)) ⊎ (length (rows_of t) ≤ i + 1) → (at (rows_of t) i).block ≤ i
-    by i less (inl c) = (table.block i c).0
-    by i less (inr c) =
-        let long : length (rows_of t) ≡ length T.rows + 1 = length_push T.rows _ in
-        let zero_block : (at (rows_of t) i).block ≡ 0 = last _ i (omega arith) in
-        omega arith
 
 -- ---- the column
 

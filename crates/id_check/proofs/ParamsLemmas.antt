@@ -4,10 +4,11 @@ use Rattle.std.proofs.Common.{◌∷◌, ◌++◌, Option, Some, None, length, r
 use Rattle.std.specs.Prelude.{◌&&◌, nat_eq, nat_lt, if◌then◌else◌}
 use Rattle.std.proofs.lemmas.Bool.{false≢true, ltb-true, lt-ltb, eqb-true, cases_lt}
 use Rattle.std.proofs.lemmas.Bool.Decides.{Decides-eqb}
+use Rattle.std.proofs.lemmas.List.{get_or_past}
 use Rattle.id_table.specs.declared.row.Row.{Row}
 use Rattle.id_table.specs.declared.row.Node.{Node}
-use Rattle.id_table.specs.declared.row.Node.TheVariants.{Def}
-use Rattle.id_table.specs.Rows.{at}
+use Rattle.id_table.specs.declared.row.Node.TheVariants.{Def, Head}
+use Rattle.id_table.specs.Rows.{at, no_row}
 use Rattle.id_table.specs.Tables.{is_param}
 use Rattle.id_table.specs.Turns.{IsDefOf, IsTable, params_at}
 use Rattle.id_table.proofs.BlocksLemmas.{Among-from_params_at, Among-params_at, param_at, param_index, params_at-run, run}
@@ -20,15 +21,30 @@ use Rattle.id_check.specs.Params.{is_param_of}
 pub head_low : (R : List Row) → IsTable R → (h n : ℕ) → IsDefOf R n h → h + 1 < length R
 head_low R t h n d = let p = (t.params n h d).before in omega (arith, p, d.within)
 
+-- a row that is no head is one of the rows
+pub in_rows : (R : List Row) (i : ℕ) → ((at R i).node ≡ Head → ⊥) → i < length R
+in_rows R i other = elim (cases_lt i (length R)) [
+  | inl w ↦ w
+  | inr w ↦ absurd (other (ap (λ (r : Row). r.node) (get_or_past R i no_row w)))
+]
+
 -- the head of a definition that a row has as its binder is that of the definition
-pub callee_def : (R : List Row) (o : Option ℕ) → ((b : ℕ) → o ≡ Some b → b < length R) → (h : ℕ) → callee R o ≡ Some h → (n : ℕ) × IsDefOf R n h
-callee_def R None f h e = let d : None ≡ Some h = e in cc
-callee_def R (Some b) f h e = of (at R b).node refl e
+pub callee_def : (R : List Row) (o : Option ℕ) (h : ℕ) → callee R o ≡ Some h → (n : ℕ) × IsDefOf R n h
+callee_def R None h e = let d : None ≡ Some h = e in cc
+callee_def R (Some b) h e = of (at R b).node refl e
   where
     of : (n : Node) → (at R b).node ≡ n → head_in n ≡ Some h → (n : ℕ) × IsDefOf R n h
     of (Def x g k y) s q =
-        let z : g ≡ h = same g q in
-        (b, record { name = x; result = k; body = y; within = f b refl; node = s ∙ ap (λ m. Def x m k y) z })
+        let z : g ≡ h = same g q in (
+          b,
+          record {
+            name = x;
+            result = k;
+            body = y;
+            within = in_rows R b (λ e. let d : Head ≡ Def x g k y = sym e ∙ s in cc);
+            node = s ∙ ap (λ m. Def x m k y) z;
+          },
+        )
       where
         same : (g : ℕ) → Some g ≡ Some h → g ≡ h
         same g q = cc

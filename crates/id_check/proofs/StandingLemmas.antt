@@ -2,6 +2,8 @@
 use Rattle.std.proofs.Common.{◌≡◌, inl, inr, ◌+◌, ◌<◌, ◌≤◌, ℕ, zero, suc, Bool as Truth, true, false, List, [], ◌∷◌}
 use Rattle.std.proofs.Common.{◌++◌, Option, Some, None, length, refl, ap, sym, ◌∙◌, subst, arith}
 use Rattle.std.specs.Prelude.{◌&&◌, not, nat_eq, nat_lt, if◌then◌else◌}
+use mathlib.Core.HLevel.{⊥_prop}
+use Rattle.std.proofs.Math.Logic.{∥∥₁_elim}
 use Rattle.id_value.specs.List.{Among}
 use Rattle.id_value.proofs.AmongLemmas.{Among-either, Among-one}
 use Rattle.id_value.specs.declared.Kind.{Kind}
@@ -356,8 +358,8 @@ causes_standing R β κ c f a = elim (Among-either c (duplicates R (length R)) (
 
 -- ---- the first cause
 
-pub IsRefusedFor-first : (R : List Row) (c : CheckCause) → IsTable R → HasFirst R c → IsRefusedFor R c
-IsRefusedFor-first R NoMain f h = absurd (causes_standing R h.binders h.kinds NoMain f h.first.among)
+pub IsRefusedFor-first : (R : List Row) (c : CheckCause) → ∥ IsTable R ∥₁ → HasFirst R c → IsRefusedFor R c
+IsRefusedFor-first R NoMain t h = absurd (∥∥₁_elim t ⊥_prop (λ f. causes_standing R h.binders h.kinds NoMain f h.first.among))
 IsRefusedFor-first R (MainKind e) f h = h
 IsRefusedFor-first R (Duplicate e d) f h = h
 IsRefusedFor-first R (Unknown e) f h = h

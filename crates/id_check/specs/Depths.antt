@@ -1,15 +1,9 @@
 -- How many loops are round the rows, for use inside.
-use Rattle.std.specs.Prelude.{◌≡◌, ◌<◌, ◌≤◌, ℕ, suc, List, length, get_or}
+use Rattle.std.specs.Prelude.{◌≡◌, ◌<◌, ℕ, suc, List, length, get_or}
 use Rattle.id_table.specs.declared.row.Row.{Row}
 use Rattle.id_table.specs.declared.row.Node.{Node}
 use Rattle.id_table.specs.declared.row.Node.TheVariants.{LoopHead}
 use Rattle.id_table.specs.Loops.{depth}
-use Rattle.id_table.specs.Rows.{at}
-
--- a block's head stands before its other rows, and a loop's `Start` before its head
-pub record AreInBlocks (R : List Row) : Type 0 where
-  pub head : (i : ℕ) → i < length R → (at R i).block ≤ i
-  pub start : (h s : ℕ) → h < length R → (at R h).node ≡ LoopHead s → s < h
 
 -- the depths are those of the first n rows
 pub record AreDepths (R : List Row) (n : ℕ) (ds : List ℕ) : Type 0 where

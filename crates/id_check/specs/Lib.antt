@@ -8,4 +8,5 @@ pub mod Counts
 pub mod Depths
 pub mod Judged
 pub mod Params
+pub mod Typed
 pub mod Wants

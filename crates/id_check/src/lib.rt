@@ -15,6 +15,7 @@ mod numbers;
 mod params;
 mod program;
 mod tabled;
+mod typed;
 mod wants;
 
 pub use checked::Checked;

@@ -1,14 +1,14 @@
 //! How many loops are round each row, and how many arguments each call has: both are found in one pass over the rows,
 //! since each pass over them costs.
 
-ghost use Rattle.std.specs.Prelude.{◌≡◌, ◌<◌, ◌+◌, length, IfOk, OnOk, Some};
+ghost use Rattle.std.specs.Prelude.{◌≡◌, ◌+◌, length, IfOk, OnOk, Some};
 ghost use Rattle.std.specs.Option.{option_or};
+ghost use Rattle.id_table.specs.Lent.{list_of};
 ghost use Rattle.id_table.specs.Loops.{depth};
-ghost use Rattle.id_table.specs.Tables.{IsFormed};
 ghost use Rattle.id_check.specs.Counts.{AreCounts};
-ghost use Rattle.id_check.specs.Depths.{AreDepths, AreInBlocks};
+ghost use Rattle.id_check.specs.Depths.{AreDepths};
 
-use id_table::{Node, Row};
+use id_table::{Node, Rows};
 use std::alloc::{AllocError, Global};
 
 /// The most loops that a row may be in, and the most arguments that are counted. No text comes near it.
@@ -25,11 +25,9 @@ pub struct Numbers {
 
 /// How many loops each row is in, and how many arguments each call has.
 #[inline(never)]
-pub fn find_numbers(alloc: Global, rows: &[Row]) -> Result<Numbers, AllocError>
-    requires blocks { AreInBlocks rows.now }
-    requires formed { IsFormed rows.now }
-    ensures depths { IfOk result (λ n. AreDepths rows.now (length rows.now) n.depths.items) }
-    ensures counts { IfOk result (λ n. AreCounts rows.now (length rows.now) n.counts.items) }
+pub fn find_numbers(alloc: Global, rows: &Rows<'_>) -> Result<Numbers, AllocError>
+    ensures depths { IfOk result (λ n. AreDepths (list_of rows.now) (length (list_of rows.now)) n.depths.items) }
+    ensures counts { IfOk result (λ n. AreCounts (list_of rows.now) (length (list_of rows.now)) n.counts.items) }
 {
     let mut counts = vec![in alloc; None; rows.len()]?;
     let mut depths = Vec::with_capacity(alloc, rows.len())?;
@@ -46,26 +44,22 @@ pub fn find_numbers(alloc: Global, rows: &[Row]) -> Result<Numbers, AllocError>
 
 /// How many loops the row is in, where the depths of the rows before it are known: one more than the `Start` of the
 /// innermost one is, if there is one. Takes no memory.
-fn depth_of(rows: &[Row], depths: &[u32], i: usize) -> usize
-    requires blocks { AreInBlocks rows.now }
-    requires row { i < length rows.now }
-    requires depths { AreDepths rows.now i depths.now }
-    ensures { result ≡ depth rows.now i }
+fn depth_of(rows: &Rows<'_>, depths: &[u32], i: usize) -> usize
+    requires { AreDepths (list_of rows.now) i depths.now }
+    ensures { result ≡ depth (list_of rows.now) i }
 {
-    match rows[rows[i].block as usize].node {
+    match rows.at(rows.at(i).block as usize).node {
         Node::LoopHead { start } => depths[start] as usize + 1,
         _ => 0,
     }
 }
 
 /// Notes the number of a row's arguments, if it is a call. Takes no memory.
-fn count_call(rows: &[Row], counts: &mut Vec<Option<u32>>, i: usize) -> Result<(), AllocError>
-    requires formed { IsFormed rows.now }
-    requires row { i < length rows.now }
-    requires counts { AreCounts rows.now i counts.old.items }
-    ensures { OnOk result (AreCounts rows.now (i + 1) counts.new.items) }
+fn count_call(rows: &Rows<'_>, counts: &mut Vec<Option<u32>>, i: usize) -> Result<(), AllocError>
+    requires { AreCounts (list_of rows.now) i counts.old.items }
+    ensures { OnOk result (AreCounts (list_of rows.now) (i + 1) counts.new.items) }
 {
-    if let Node::Call { enter, count } = rows[i].node {
+    if let Node::Call { enter, count } = rows.at(i).node {
         if count > MOST {
             return Err(AllocError);
         }

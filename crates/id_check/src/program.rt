@@ -1,19 +1,18 @@
 //! The check of a program: its table, the binders and kinds of its rows, and the first cause to refuse it.
 
-ghost use Rattle.std.specs.Prelude.{◌≡◌, ◌<◌, ℕ, get_or, length, IfOk, IfErr, IfNone, IfSome, None, Some};
-ghost use Rattle.id_grammar.specs.Tree.{program_tree};
+ghost use Rattle.std.specs.Prelude.{◌≡◌, get_or, length, IfOk, IfErr, IfNone, IfSome, None, Some};
+ghost use Rattle.id_grammar.specs.Tree.{Tree, program_tree};
 ghost use Rattle.id_tree.specs.Distinct.{Distinct};
+ghost use Rattle.id_table.specs.Lent.{list_of};
 ghost use Rattle.id_table.specs.Rows.{parts_of, rows_of};
-ghost use Rattle.id_table.specs.Tables.{IsFormed};
-ghost use Rattle.id_table.specs.Turns.{IsTable};
-ghost use Rattle.id_scope.specs.Causes.{HasNoMain, IsInside, IsMain, IsRefusedFor, causes, causes_below, duplicates};
+ghost use Rattle.id_table.specs.Trees.{IsProgramTree};
+ghost use Rattle.id_scope.specs.Causes.{HasNoMain, IsInside, IsMain, IsRefusedFor, causes, causes_below};
 ghost use Rattle.id_scope.specs.Causes as cause;
 ghost use Rattle.id_check.specs.Counts.{AreCounts};
-ghost use Rattle.id_check.specs.Depths.{AreDepths, AreInBlocks};
+ghost use Rattle.id_check.specs.Depths.{AreDepths};
 ghost use Rattle.id_scope.specs.Firsts.{IsFirstOf, Notes};
 ghost use Rattle.id_check.specs.Judged.{IsJudged};
 ghost use Rattle.id_scope.specs.Kinds.{AreKinds};
-ghost use Rattle.id_scope.specs.Names.{AreNames};
 ghost use Rattle.id_check.specs.Noted.{tree_in};
 ghost use Rattle.id_scope.specs.Scopes.{AreBinders};
 
@@ -21,9 +20,9 @@ use crate::checked::Checked;
 use crate::literals::see_literals;
 use crate::numbers::{Numbers, find_numbers};
 use crate::tabled::Tabled;
-use crate::wants::note_rows;
+use crate::typed::Typed;
 use id_scope::{CheckCause, CheckError, Found, find_binders, find_kinds};
-use id_table::{Node, Row, Table, table_of};
+use id_table::{Node, Row, Rows, Table, table_of};
 use id_tree::{Kind, Program};
 use once_cell::race::{Note, OnceBox};
 use std::alloc::{AllocError, Global};
@@ -78,7 +77,7 @@ pub fn check_table(alloc: Global, tabled: Tabled) -> Result<Checked, CheckCause>
     ensures refused { IfErr result (IsRefusedFor (rows_of (tree_in tabled.tree.known))) }
     ensures inside { IfErr result (IsInside (tree_in tabled.tree.known)) }
 {
-    match judge(alloc, &tabled.table) {
+    match judge_rows(alloc, &tabled.table) {
         Ok((main, columns)) => Ok(with_columns(tabled, main, columns)),
         Err(cause) => Err(cause),
     }
@@ -108,7 +107,7 @@ fn judge_tree(alloc: Global, program: &Program) -> Result<(Table, usize, Columns
     ensures refused { IfErr result (IsRefusedFor (rows_of (program_tree program.now))) }
 {
     match table_of(alloc, program) {
-        Ok(table) => match judge(alloc, &table) {
+        Ok(table) => match judge_rows(alloc, &table) {
             Ok((main, columns)) => Ok((table, main, columns)),
             Err(cause) => Err(cause),
         },
@@ -116,36 +115,45 @@ fn judge_tree(alloc: Global, program: &Program) -> Result<(Table, usize, Columns
     }
 }
 
-/// The row of `main` in a table, and what else is found in its rows; or the first cause to refuse the program.
-fn judge(alloc: Global, table: &Table) -> Result<(usize, Columns), CheckCause>
-    requires table { IsTable table.now.rows.items }
-    requires blocks { AreInBlocks table.now.rows.items }
+/// The row of `main` in a table of a program's tree, and what else is found there; or the first cause to refuse the
+/// program.
+fn judge_rows(alloc: Global, table: &Table) -> Result<(usize, Columns), CheckCause>
+    requires { (t : Tree) × IsProgramTree t × (table.now.rows.items ≡ rows_of t) }
     ensures judged { IfOk result (λ f. IsJudged table.now.rows.items f.0 f.1) }
     ensures refused { IfErr result (IsRefusedFor table.now.rows.items) }
 {
-    let rows = table.rows.as_slice();
-    match find_columns(alloc, rows, table.names.as_slice().len()) {
+    match Rows::new(table) {
+        Ok(rows) => judge(alloc, &rows),
+        Err(_) => Err(CheckCause::Memory),
+    }
+}
+
+/// The row of `main`, and what else is found in the rows of a program; or the first cause to refuse the program.
+fn judge(alloc: Global, rows: &Rows<'_>) -> Result<(usize, Columns), CheckCause>
+    ensures judged { IfOk result (λ f. IsJudged (list_of rows.now) f.0 f.1) }
+    ensures refused { IfErr result (IsRefusedFor (list_of rows.now)) }
+{
+    match find_columns(alloc, rows) {
         Ok(columns) => settle(rows, columns),
         Err(_) => Err(CheckCause::Memory),
     }
 }
 
 /// The row of `main`, with these columns; or why the program is refused in whose rows they are found. Takes no memory.
-fn settle(rows: &[Row], columns: Columns) -> Result<(usize, Columns), CheckCause>
-    requires table { IsTable rows.now }
-    requires bound { AreBinders rows.now (λ i. get_or columns.binders.items i None) }
-    requires kinded { AreKinds rows.now
+fn settle(rows: &Rows<'_>, columns: Columns) -> Result<(usize, Columns), CheckCause>
+    requires bound { AreBinders (list_of rows.now) (λ i. get_or columns.binders.items i None) }
+    requires kinded { AreKinds (list_of rows.now)
         (λ i. get_or columns.binders.items i None) (λ i. get_or columns.kinds.items i None) }
-    requires deep { AreDepths rows.now (length rows.now) columns.depths.items }
-    requires first { IsFirstOf columns.first (causes rows.now
+    requires deep { AreDepths (list_of rows.now) (length (list_of rows.now)) columns.depths.items }
+    requires first { IsFirstOf columns.first (causes (list_of rows.now)
         (λ i. get_or columns.binders.items i None) (λ i. get_or columns.kinds.items i None)) }
-    ensures judged { IfOk result (λ f. IsJudged rows.now f.0 f.1) }
-    ensures refused { IfErr result (IsRefusedFor rows.now) }
+    ensures judged { IfOk result (λ f. IsJudged (list_of rows.now) f.0 f.1) }
+    ensures refused { IfErr result (IsRefusedFor (list_of rows.now)) }
 {
     if let Some(cause) = columns.first {
         return Err(cause);
     }
-    match find_main(rows) {
+    match find_main(rows.table.rows.as_slice()) {
         Some(main) => Ok((main, columns)),
         None => Err(CheckCause::NoMain),
     }
@@ -174,77 +182,42 @@ fn with_columns(tabled: Tabled, main: usize, columns: Columns) -> Checked
     }
 }
 
-/// What is found in these rows, where the numbers of names are below `count`. Each of the passes is kept apart from the
-/// others by `inline(never)`: in one function of all of them the values of a loop are kept in memory.
-fn find_columns(alloc: Global, rows: &[Row], count: usize) -> Result<Columns, AllocError>
-    requires table { IsTable rows.now }
-    requires formed { IsFormed rows.now }
-    requires names { AreNames rows.now count }
-    requires blocks { AreInBlocks rows.now }
-    ensures bound { IfOk result (λ c. AreBinders rows.now (λ i. get_or c.binders.items i None)) }
-    ensures kinded { IfOk result (λ c.
-        AreKinds rows.now (λ i. get_or c.binders.items i None) (λ i. get_or c.kinds.items i None)) }
-    ensures deep { IfOk result (λ c. AreDepths rows.now (length rows.now) c.depths.items) }
-    ensures first { IfOk result (λ c. IsFirstOf c.first
-        (causes rows.now (λ i. get_or c.binders.items i None) (λ i. get_or c.kinds.items i None))) }
+/// What is found in the rows of a program. Each of the passes is kept apart from the others by `inline(never)`: in one
+/// function of all of them the values of a loop are kept in memory.
+fn find_columns(alloc: Global, rows: &Rows<'_>) -> Result<Columns, AllocError>
+    ensures bound { IfOk result (λ c. AreBinders (list_of rows.now) (λ i. get_or c.binders.items i None)) }
+    ensures kinded { IfOk result (λ c. AreKinds (list_of rows.now)
+        (λ i. get_or c.binders.items i None) (λ i. get_or c.kinds.items i None)) }
+    ensures deep { IfOk result (λ c. AreDepths (list_of rows.now) (length (list_of rows.now)) c.depths.items) }
+    ensures first { IfOk result (λ c. IsFirstOf c.first (causes (list_of rows.now)
+        (λ i. get_or c.binders.items i None) (λ i. get_or c.kinds.items i None))) }
 {
-    let found = find_binders(alloc, rows, count)?;
-    let kinds = find_kinds(alloc, rows, found.binders.as_slice())?;
-    with_numbers(alloc, rows, found, kinds)
-}
-
-/// What is found in these rows, whose binders and kinds are these: the numbers are found, and the first cause.
-fn with_numbers(
-    alloc: Global,
-    rows: &[Row],
-    found: Found,
-    kinds: Vec<Option<Kind>>,
-) -> Result<Columns, AllocError>
-    requires table { IsTable rows.now }
-    requires formed { IsFormed rows.now }
-    requires blocks { AreInBlocks rows.now }
-    requires binders { length found.binders.items ≡ length rows.now }
-    requires within { (i b : ℕ) → i < length rows.now
-        → get_or found.binders.items i None ≡ Some b → b < length rows.now }
-    requires bound { AreBinders rows.now (λ i. get_or found.binders.items i None) }
-    requires first { IsFirstOf found.first (duplicates rows.now (length rows.now)) }
-    requires kinds { length kinds.items ≡ length rows.now }
-    requires kinded { AreKinds rows.now (λ i. get_or found.binders.items i None) (λ i. get_or kinds.items i None) }
-    ensures bound { IfOk result (λ c. AreBinders rows.now (λ i. get_or c.binders.items i None)) }
-    ensures kinded { IfOk result (λ c.
-        AreKinds rows.now (λ i. get_or c.binders.items i None) (λ i. get_or c.kinds.items i None)) }
-    ensures deep { IfOk result (λ c. AreDepths rows.now (length rows.now) c.depths.items) }
-    ensures first { IfOk result (λ c. IsFirstOf c.first
-        (causes rows.now (λ i. get_or c.binders.items i None) (λ i. get_or c.kinds.items i None))) }
-{
+    let items = rows.table.rows.as_slice();
+    let found = find_binders(alloc, items, rows.table.names.as_slice().len())?;
+    let kinds = find_kinds(alloc, items, found.binders.as_slice())?;
     let numbers = find_numbers(alloc, rows)?;
     Ok(with_first(rows, found, kinds, numbers))
 }
 
-/// What is found in these rows, whose binders, kinds and numbers are these: the first cause is noted. Takes no memory.
-fn with_first(rows: &[Row], found: Found, kinds: Vec<Option<Kind>>, numbers: Numbers) -> Columns
-    requires table { IsTable rows.now }
-    requires formed { IsFormed rows.now }
-    requires binders { length found.binders.items ≡ length rows.now }
-    requires within { (i b : ℕ) → i < length rows.now
-        → get_or found.binders.items i None ≡ Some b → b < length rows.now }
-    requires kinds { length kinds.items ≡ length rows.now }
-    requires counts { AreCounts rows.now (length rows.now) numbers.counts.items }
+/// What is found in the rows of a program, whose binders, kinds and numbers are these: the first cause is noted. Takes
+/// no memory.
+fn with_first(rows: &Rows<'_>, found: Found, kinds: Vec<Option<Kind>>, numbers: Numbers) -> Columns
+    requires counts { AreCounts (list_of rows.now) (length (list_of rows.now)) numbers.counts.items }
     ensures bound { result.binders ≡ found.binders }
     ensures kinded { result.kinds ≡ kinds }
     ensures deep { result.depths ≡ numbers.depths }
-    ensures first { Notes found.first (causes_below rows.now
-        (λ i. get_or found.binders.items i None) (λ i. get_or kinds.items i None) (length rows.now)) result.first }
+    ensures first { Notes found.first (causes_below (list_of rows.now) (λ i. get_or found.binders.items i None)
+        (λ i. get_or kinds.items i None) (length (list_of rows.now))) result.first }
 {
     let Found { binders, mut first } = found;
     let Numbers { depths, counts } = numbers;
-    note_rows(
-        &mut first,
+    let typed = Typed {
         rows,
-        binders.as_slice(),
-        kinds.as_slice(),
-        counts.as_slice(),
-    );
+        binders: binders.as_slice(),
+        kinds: kinds.as_slice(),
+        counts: counts.as_slice(),
+    };
+    typed.note_rows(&mut first);
     Columns {
         binders,
         kinds,

@@ -1,7 +1,9 @@
 -- The rows of a program's tree are a table.
 use Rattle.std.proofs.Common.{◌≡◌, inl, inr, ◌+◌, ◌-◌, ◌<◌, ◌≤◌, ℕ, suc, Bool, true, false}
 use Rattle.std.proofs.Common.{List, [], length, refl, sym, ap, ◌∙◌, subst, arith}
+use Rattle.std.proofs.Common.{◌⊎◌, ◌∷◌, ◌++◌}
 use Rattle.std.proofs.lemmas.Bool.{cases_lt, false≢true}
+use Rattle.std.proofs.lemmas.List.{get_or_push, length_push}
 use Rattle.id_value.specs.declared.Kind.{Kind}
 use Rattle.id_grammar.specs.Tree.{Tree}
 use Rattle.id_table.specs.declared.row.Row.{Row}
@@ -12,8 +14,8 @@ use Rattle.id_table.specs.declared.row.Node.TheVariants.{LoopHead, Variable, Ent
 use Rattle.id_table.specs.declared.row.Node.TheVariants.{Body, Reset, Loop, Address, Store, Bounds, Carried, Within}
 use Rattle.id_table.specs.declared.row.Node.TheVariants.{Count, Index, Span}
 use Rattle.id_table.specs.Names.{first_names}
-use Rattle.id_table.specs.Rows.{Parts, add, arm_at, at, in_top, rows_of, size, top}
-use Rattle.id_table.specs.Tables.{Formed, HasNear, HasOperand, HasPart, IsFormed, IsNested, begins_block, can_be_on}
+use Rattle.id_table.specs.Rows.{Parts, add, arm_at, at, in_top, no_row, rows_of, size, top}
+use Rattle.id_table.specs.Tables.{AreInBlocks, Formed, HasNear, HasOperand, HasPart, IsFormed, IsNested, begins_block, can_be_on}
 use Rattle.id_table.specs.Tables.{has_statements, is_address, is_carried, is_in_loop, is_loop, is_next, is_statement}
 use Rattle.id_table.specs.Tables.{is_store, is_arg, is_block, is_call, is_def, is_enter, is_expression, is_head, is_if}
 use Rattle.id_table.specs.Tables.{is_split, is_switches, is_top, is_variable, is_within}
@@ -508,3 +510,33 @@ IsTable-rows_of t d =
     let r = row_for T.rows (in_top 0) 0 0 Program in
     let rows = Are-add F (in_top 0) start d (Has-push F T.rows r (Has-itself F)) in
     IsTable-ends F (size T) (record { size = push-size T.rows r; rows = λ i l. rows i (omega arith) l; last = at-push F T.rows r (Has-itself F) })
+
+-- ---- blocks
+
+start_is : (s t : ℕ) → LoopHead s ≡ LoopHead t → s ≡ t
+start_is s t e = cc
+
+-- each row of a table stands behind the head of its block
+pub AreInBlocks-table : (t : Tree) → IsTable (rows_of t) → AreInBlocks (rows_of t)
+AreInBlocks-table t table = record {
+  head = λ i less. by i less (cases_lt (i + 1) (length (rows_of t)));
+  start = λ h s less e.
+      let c = table.has_loop h s less e in
+      let l = table.loop_is c.0 h c.1 in
+      let is : s ≡ h - 1 = start_is s (h - 1) (sym e ∙ (l.before_test).head) in
+      let low = l.begins in
+      omega arith;
+}
+  where
+    T : Parts
+    T = add (in_top 0) (record { rows = []; names = first_names }) t
+
+    last : (r : Row) (i : ℕ) → length T.rows ≡ i → (at (T.rows ++ r ∷ []) i).block ≡ r.block
+    last r i e = ap (λ (q : Row). q.block) (get_or_push T.rows r no_row i e)
+
+    by : (i : ℕ) → i < length (rows_of t) → (i + 1 < length (rows_of t)) ⊎ (length (rows_of t) ≤ i + 1) → (at (rows_of t) i).block ≤ i
+    by i less (inl c) = (table.block i c).0
+    by i less (inr c) =
+        let long : length (rows_of t) ≡ length T.rows + 1 = length_push T.rows _ in
+        let zero_block : (at (rows_of t) i).block ≡ 0 = last _ i (omega arith) in
+        omega arith

@@ -1,6 +1,7 @@
 -- What public clauses cite.
 pub mod Names
 pub mod Rows
+pub mod Lent
 pub mod Tables
 pub mod Regions
 pub mod Calls

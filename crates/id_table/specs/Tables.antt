@@ -61,6 +61,11 @@ pub record Formed (i : ℕ) (r : Row) : Type 0 where
 pub record IsFormed (R : List Row) : Type 0 where
   pub each : (i : ℕ) → i < length R → Formed i (at R i)
 
+-- a block's head stands before its other rows, and a loop's `Start` before its head
+pub record AreInBlocks (R : List Row) : Type 0 where
+  pub head : (i : ℕ) → i < length R → (at R i).block ≤ i
+  pub start : (h s : ℕ) → h < length R → (at R h).node ≡ LoopHead s → s < h
+
 -- a row within the interval of a later one has its own interval within it
 pub record IsNested (R : List Row) : Type 0 where
   pub each : (i j : ℕ) → i < j → j < length R → (at R j).first ≤ i → (at R j).first ≤ (at R i).first

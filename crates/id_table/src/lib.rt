@@ -1,7 +1,8 @@
 //! The table of the parts of a program, made once from its tree: its rows, its names, and what is so of the table of
 //! each tree.
 //!
-//! Keeps: each part stands before its row, within the row's interval; the intervals nest.
+//! Keeps: each part stands before its row, within the row's interval; the intervals nest; the rows of a `Rows` are
+//! those of a program's tree.
 //! Errors: want of memory, as which a number of more than 32 bits is told too. After one the rows and the names of a
 //! `Maker` are of no use.
 //! Read first: `Node` (which forms have which rows), `specs/Rows.antt`, then `specs/Turns.antt`; `specs/Making.antt`,
@@ -36,6 +37,7 @@ mod names;
 mod node;
 mod room;
 mod row;
+mod rows;
 mod spelled;
 mod walk;
 
@@ -45,5 +47,6 @@ pub use node::{
 };
 pub use room::{about_names, about_rows};
 pub use row::{Node, Region, Row, Stand, Table};
+pub use rows::Rows;
 pub use spelled::Spelled;
 pub use walk::table_of;

@@ -1,5 +1,6 @@
-use Rattle.std.proofs.Common.{◌≡◌, ◌+◌, length, sym, ap, subst, arith, rules}
+use Rattle.std.proofs.Common.{◌≡◌, ◌+◌, ◌∙◌, None, replicate, length, sym, ap, subst, arith, rules}
 use Rattle.std.proofs.lemmas.Result.{IfOk-from_err}
+use Rattle.id_table.specs.Lent.{list_of}
 use Rattle.id_check.specs.Counts.{AreCounts}
 use Rattle.id_check.specs.Depths.{AreDepths}
 use Rattle.id_check.proofs.CountsLemmas.{counts_none}
@@ -9,15 +10,16 @@ use Rattle.id_check.proofs.numbers.find_numbers.Goals as goal
 pub loop-i-init : goal.loop-i-init
 loop-i-init c = record {
   depths = record { long = ap length c.in_ok-depths.ensures.items; each = λ i less. absurd (omega arith) };
-  counts = counts_none c.args.rows.now c.in_ok-counts.counts.items (c.in_ok-counts.ensures.items_if_clones_equal (λ y h. search rules));
+  counts = counts_none (list_of c.args.rows.now) c.in_ok-counts.counts.items (c.in_ok-counts.ensures.items_if_clones_equal (λ y h. search rules)
+      ∙ ap (λ n. replicate n None) c.len.ensures);
 }
 
-pub depth_of-depth-requires-clause-depths : goal.depth_of-depth-requires-clause-depths
-depth_of-depth-requires-clause-depths c = subst (AreDepths c.args.rows.now c.loop-i.i) (sym c.as_slice.ensures.value) c.loop-i.invariant.depths
+pub depth_of-depth-requires : goal.depth_of-depth-requires
+depth_of-depth-requires c = subst (AreDepths (list_of c.args.rows.now) c.loop-i.i) (sym c.as_slice.ensures.value) c.loop-i.invariant.depths
 
 pub loop-i-preserved : goal.loop-i-preserved
 loop-i-preserved c =
-    let R = c.args.rows.now in
+    let R = (list_of c.args.rows.now) in
     let i = c.loop-i.i in
     record {
       depths =
@@ -28,13 +30,13 @@ loop-i-preserved c =
 
 pub returns-clause-depths : goal.returns-clause-depths
 returns-clause-depths c =
-    let end : c.loop-i.i ≡ length c.args.rows.now = omega (arith, c.loop-i.auto.i-end, c.loop-i-test.false) in
-    subst (λ n. AreDepths c.args.rows.now n c.loop-i.depths.items) end c.loop-i.invariant.depths
+    let end : c.loop-i.i ≡ length (list_of c.args.rows.now) = omega (arith, c.loop-i.auto.i-end, c.loop-i-test.false) in
+    subst (λ n. AreDepths (list_of c.args.rows.now) n c.loop-i.depths.items) end c.loop-i.invariant.depths
 
 pub returns-clause-counts : goal.returns-clause-counts
 returns-clause-counts c =
-    let end : c.loop-i.i ≡ length c.args.rows.now = omega (arith, c.loop-i.auto.i-end, c.loop-i-test.false) in
-    subst (λ n. AreCounts c.args.rows.now n c.loop-i.counts.items) end c.loop-i.invariant.counts
+    let end : c.loop-i.i ≡ length (list_of c.args.rows.now) = omega (arith, c.loop-i.auto.i-end, c.loop-i-test.false) in
+    subst (λ n. AreCounts (list_of c.args.rows.now) n c.loop-i.counts.items) end c.loop-i.invariant.counts
 
 pub returns-in_err-counts-clause-depths : goal.returns-in_err-counts-clause-depths
 returns-in_err-counts-clause-depths c = IfOk-from_err _ _ c.from_residual.ensures.0
@@ -60,14 +62,5 @@ returns-in_err-push-clause-depths c = IfOk-from_err _ _ c.from_residual-in_err-p
 pub returns-in_err-push-clause-counts : goal.returns-in_err-push-clause-counts
 returns-in_err-push-clause-counts c = IfOk-from_err _ _ c.from_residual-in_err-push.ensures.0
 
-pub count_call-requires-clause-formed : goal.count_call-requires-clause-formed
-count_call-requires-clause-formed c = c.requires.formed
-
-pub count_call-requires-clause-counts : goal.count_call-requires-clause-counts
-count_call-requires-clause-counts c = c.loop-i.invariant.counts
-
-pub count_call-requires-clause-row : goal.count_call-requires-clause-row
-count_call-requires-clause-row c = c.loop-i-test.true
-
-pub depth_of-depth-requires-clause-row : goal.depth_of-depth-requires-clause-row
-depth_of-depth-requires-clause-row c = c.loop-i-test.true
+pub count_call-requires : goal.count_call-requires
+count_call-requires c = c.loop-i.invariant.counts

@@ -1,5 +1,6 @@
 use Rattle.std.proofs.Common.{ℕ, get_or, subst}
 use Rattle.std.specs.Prelude.{None}
+use Rattle.id_table.specs.Lent.{list_of}
 use Rattle.id_scope.specs.Causes.{causes}
 use Rattle.id_scope.specs.Firsts.{IsFirstOf}
 use Rattle.id_check.proofs.StandingLemmas.{IsRefusedFor-first}
@@ -7,10 +8,10 @@ use Rattle.id_check.proofs.program.settle.Goals as goal
 
 pub returns-in-Some-clause-refused : goal.returns-in-Some-clause-refused
 returns-in-Some-clause-refused c =
-    let R = c.args.rows.now in
+    let R = list_of c.args.rows.now in
     let β : ℕ → _ = λ i. get_or c.args.columns.binders.items i None in
     let κ : ℕ → _ = λ i. get_or c.args.columns.kinds.items i None in
-    IsRefusedFor-first R c.in-Some.cause c.requires.table (record {
+    IsRefusedFor-first R c.in-Some.cause c.args.rows.now.tabled (record {
       binders = β;
       are_binders = c.requires.bound;
       kinds = κ;
