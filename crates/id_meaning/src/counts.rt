@@ -9,9 +9,10 @@ ghost use Rattle.id_meaning.specs.Effects.{begin_at, begin_by, counted, counted_
 ghost use Rattle.id_meaning.specs.Effects.{counting_by, counting_of, goes_on, index_at, index_woken};
 
 use crate::given::seen;
-use crate::loops::{Iteration, iteration_of};
+use crate::loops::Iteration;
+use crate::rules::Rules;
 use id_check::Checked;
-use id_facts::{Cells, RowFact, RowValue, Trail, Wait, add_has, add_ons, next_of};
+use id_facts::{RowFact, RowValue, Trail, Wait, add_has, add_ons, next_of};
 use id_source::{Links, awaited, block_of, distance, lower_at, node_of, upper_at};
 use id_table::Node;
 use std::alloc::{AllocError, Global};
@@ -29,130 +30,125 @@ pub struct Counting {
     pub first: bool,
 }
 
-/// Adds the facts that come by the bounds of the loop at the row at the path, where it is On and this fact is followed.
-pub fn add_begin(
-    alloc: Global,
-    found: &mut Vec<RowFact>,
-    checked: &Checked,
-    links: &Links,
-    cells: &Cells,
-    followed: RowFact,
-    path: Trail,
-    row: usize,
-) -> Result<(), AllocError>
-    ensures { OnOk result (found.new.items ≡ found.old.items
-        ++ begin_at checked.now links.now cells.now followed path row) }
-{
-    match (cells.find(path, row), node_of(checked, row)) {
-        (
-            Some(spot),
-            Node::Loop {
-                head,
-                switches,
-                last,
-            },
-        ) => {
-            let counting = Counting {
-                path: Trail::Below { spot, number: 0 },
-                index: switches as usize + 3,
-                switches: switches as usize,
-                last: last as usize,
-                first: true,
-            };
-            let head = head as usize;
-            add_bounded(
-                alloc, found, checked, links, cells, followed, path, head, counting,
-            )
+impl Rules<'_> {
+    /// Adds the facts that come by the bounds of the loop at the row at the path, where it is On and this fact is
+    /// followed.
+    pub fn add_begin(
+        &self,
+        alloc: Global,
+        found: &mut Vec<RowFact>,
+        followed: RowFact,
+        path: Trail,
+        row: usize,
+    ) -> Result<(), AllocError>
+        ensures { OnOk result (found.new.items ≡ found.old.items
+            ++ begin_at self.now.checked.now self.now.links.now self.now.cells.now followed path row) }
+    {
+        match (self.cells.find(path, row), node_of(self.checked, row)) {
+            (
+                Some(spot),
+                Node::Loop {
+                    head,
+                    switches,
+                    last,
+                },
+            ) => {
+                let counting = Counting {
+                    path: Trail::Below { spot, number: 0 },
+                    index: switches as usize + 3,
+                    switches: switches as usize,
+                    last: last as usize,
+                    first: true,
+                };
+                let head = head as usize;
+                self.add_bounded(alloc, found, followed, path, head, counting)
+            }
+            _ => Ok(()),
         }
-        _ => Ok(()),
     }
-}
 
-/// Adds the facts that come by the bounds of the loop with this head at the path, where it may begin.
-fn add_bounded(
-    alloc: Global,
-    found: &mut Vec<RowFact>,
-    checked: &Checked,
-    links: &Links,
-    cells: &Cells,
-    followed: RowFact,
-    path: Trail,
-    head: usize,
-    counting: Counting,
-) -> Result<(), AllocError>
-    ensures { OnOk result (found.new.items ≡ found.old.items
-        ++ counted links.now counting (seen cells.now followed path (lower_at (rows checked.now) head))
-        (seen cells.now followed path (upper_at (rows checked.now) head))) }
-{
-    let rows = checked.table.rows.as_slice();
-    let lowers = seen(alloc, cells, followed, path, lower_at(rows, head))?;
-    let uppers = seen(alloc, cells, followed, path, upper_at(rows, head))?;
-    add_counted(found, links, counting, lowers.as_slice(), uppers.as_slice())
-}
+    /// Adds the facts that come by the bounds of the loop with this head at the path, where it may begin.
+    fn add_bounded(
+        &self,
+        alloc: Global,
+        found: &mut Vec<RowFact>,
+        followed: RowFact,
+        path: Trail,
+        head: usize,
+        counting: Counting,
+    ) -> Result<(), AllocError>
+        ensures { OnOk result (found.new.items ≡ found.old.items
+            ++ counted self.now.links.now counting
+            (seen self.now.cells.now followed path (lower_at (rows self.now.checked.now) head))
+            (seen self.now.cells.now followed path (upper_at (rows self.now.checked.now) head))) }
+    {
+        let rows = self.checked.table.rows.as_slice();
+        let lowers = seen(alloc, self.cells, followed, path, lower_at(rows, head))?;
+        let uppers = seen(alloc, self.cells, followed, path, upper_at(rows, head))?;
+        add_counted(
+            found,
+            self.links,
+            counting,
+            lowers.as_slice(),
+            uppers.as_slice(),
+        )
+    }
 
-/// Adds the facts that come where the row Has the value at the path, if it is an index.
-pub fn add_index(
-    alloc: Global,
-    found: &mut Vec<RowFact>,
-    checked: &Checked,
-    links: &Links,
-    cells: &Cells,
-    path: Trail,
-    row: usize,
-    value: RowValue,
-) -> Result<(), AllocError>
-    ensures { OnOk result (found.new.items ≡ found.old.items
-        ++ index_at checked.now links.now cells.now path row value) }
-{
-    match node_of(checked, row) {
-        Node::Index { .. } => {
-            let followed = RowFact::Has { path, row, value };
-            let upper = awaited(checked, row);
-            let outside = cells.out_of(path, distance(checked, row, upper));
-            let uppers = seen(alloc, cells, followed, outside, upper)?;
-            let counting = counting_of(checked, cells, path, row);
-            add_counted_on(found, links, counting, &[value], uppers.as_slice())
+    /// Adds the facts that come where the row Has the value at the path, if it is an index.
+    pub fn add_index(
+        &self,
+        alloc: Global,
+        found: &mut Vec<RowFact>,
+        path: Trail,
+        row: usize,
+        value: RowValue,
+    ) -> Result<(), AllocError>
+        ensures { OnOk result (found.new.items ≡ found.old.items
+            ++ index_at self.now.checked.now self.now.links.now self.now.cells.now path row value) }
+    {
+        match node_of(self.checked, row) {
+            Node::Index { .. } => {
+                let followed = RowFact::Has { path, row, value };
+                let upper = awaited(self.checked, row);
+                let outside = self.cells.out_of(path, distance(self.checked, row, upper));
+                let uppers = seen(alloc, self.cells, followed, outside, upper)?;
+                let counting = self.counting_of(path, row);
+                add_counted_on(found, self.links, counting, &[value], uppers.as_slice())
+            }
+            _ => Ok(()),
         }
-        _ => Ok(()),
     }
-}
 
-/// Adds the facts that come where what this waits for has the value, by the fact that is followed, if it is an index at
-/// a row of this node.
-pub fn add_index_woken(
-    alloc: Global,
-    found: &mut Vec<RowFact>,
-    checked: &Checked,
-    links: &Links,
-    cells: &Cells,
-    followed: RowFact,
-    wait: Wait,
-    value: RowValue,
-    node: Node,
-) -> Result<(), AllocError>
-    ensures { OnOk result (found.new.items ≡ found.old.items
-        ++ index_woken checked.now links.now cells.now followed wait value node) }
-{
-    match node {
-        Node::Index { .. } if wait.user == wait.row => {
-            let values = cells.values(alloc, followed, wait.path, wait.row)?;
-            let counting = counting_of(checked, cells, wait.path, wait.row);
-            add_counted_on(found, links, counting, values.as_slice(), &[value])
+    /// Adds the facts that come where what this waits for has the value, by the fact that is followed, if it is an
+    /// index at a row of this node.
+    pub fn add_index_woken(
+        &self,
+        alloc: Global,
+        found: &mut Vec<RowFact>,
+        followed: RowFact,
+        wait: Wait,
+        value: RowValue,
+        node: Node,
+    ) -> Result<(), AllocError>
+        ensures { OnOk result (found.new.items ≡ found.old.items
+            ++ index_woken self.now.checked.now self.now.links.now self.now.cells.now followed wait value node) }
+    {
+        match node {
+            Node::Index { .. } if wait.user == wait.row => {
+                let values = self.cells.values(alloc, followed, wait.path, wait.row)?;
+                let counting = self.counting_of(wait.path, wait.row);
+                add_counted_on(found, self.links, counting, values.as_slice(), &[value])
+            }
+            _ => Ok(()),
         }
-        _ => Ok(()),
     }
-}
 
-/// Where the loop of the index at the row may go on behind the iteration that the path ends in.
-fn counting_of(checked: &Checked, cells: &Cells, path: Trail, row: usize) -> Option<Counting>
-    ensures { result ≡ counting_of checked.now cells.now path row }
-{
-    counting_by(
-        checked,
-        row,
-        iteration_of(checked, cells, path),
-        next_of(path),
-    )
+    /// Where the loop of the index at the row may go on behind the iteration that the path ends in.
+    fn counting_of(&self, path: Trail, row: usize) -> Option<Counting>
+        ensures { result ≡ counting_of self.now.checked.now self.now.cells.now path row }
+    {
+        counting_by(self.checked, row, self.iteration_of(path), next_of(path))
+    }
 }
 
 /// Where it may go on behind this iteration, whose next one is at this path.

@@ -6,246 +6,216 @@ ghost use Rattle.id_facts.specs.Cells.{named};
 ghost use Rattle.id_meaning.specs.Effects.{all_woken, effects, exit_at, exit_by, gain, gains, is_end, is_row, reached};
 ghost use Rattle.id_meaning.specs.Effects.{turned};
 
-use crate::calls::{add_call, add_pass, body_called};
-use crate::counts::{add_begin, add_index};
-use crate::given::add_given;
-use crate::loops::{add_loop, add_start, add_woken};
+use crate::calls::body_called;
+use crate::rules::Rules;
 use crate::structures::{add_asked, add_put};
 use id_check::Checked;
-use id_facts::{Cells, Point, Queues, RowFact, RowValue, Trail, Wait, add_has, add_ons, queue_of};
-use id_source::{Links, node_of};
+use id_facts::{Point, RowFact, RowValue, Trail, Wait, add_has, add_ons, queue_of};
+use id_source::node_of;
 use id_table::Node;
 use std::alloc::{AllocError, Global};
 
-/// Adds the facts that follow from this one, with others that the cells have, where this waits.
-pub fn add_effects(
-    alloc: Global,
-    found: &mut Vec<RowFact>,
-    checked: &Checked,
-    links: &Links,
-    waits: &Queues,
-    cells: &Cells,
-    fact: RowFact,
-) -> Result<(), AllocError>
-    ensures { OnOk result (found.new.items ≡ found.old.items
-        ++ effects checked.now links.now waits.now cells.now fact) }
-{
-    match fact {
-        RowFact::On { path, row } => {
-            add_from_turned(alloc, found, checked, links, cells, path, row)
+impl Rules<'_> {
+    /// Adds the facts that follow from this one, with others that the cells have, where this waits.
+    pub fn add_effects(
+        &self,
+        alloc: Global,
+        found: &mut Vec<RowFact>,
+        fact: RowFact,
+    ) -> Result<(), AllocError>
+        ensures { OnOk result (found.new.items ≡ found.old.items
+            ++ effects self.now.checked.now self.now.links.now self.now.waits.now self.now.cells.now fact) }
+    {
+        match fact {
+            RowFact::On { path, row } => { self.add_from_turned(alloc, found, path, row) }
+            RowFact::Has { path, row, value } => {
+                self.add_from_value(alloc, found, path, row, value)
+            }
+            RowFact::Shape { name, .. } => self.add_from_shape(alloc, found, name),
+            RowFact::Put {
+                name,
+                index,
+                value,
+                ..
+            } => add_put(alloc, found, self.cells, name, index, value),
+            RowFact::Ask {
+                path,
+                row,
+                name,
+                index,
+            } => add_asked(alloc, found, self.cells, path, row, name, index),
         }
-        RowFact::Has { path, row, value } => {
-            add_from_value(alloc, found, checked, links, waits, cells, path, row, value)
-        }
-        RowFact::Shape { name, .. } => add_from_shape(alloc, found, checked, links, cells, name),
-        RowFact::Put {
-            name,
-            index,
-            value,
-            ..
-        } => add_put(alloc, found, cells, name, index, value),
-        RowFact::Ask {
-            path,
-            row,
-            name,
-            index,
-        } => add_asked(alloc, found, cells, path, row, name, index),
     }
-}
 
-/// Adds the facts that follow from this, that the row is On at the path.
-fn add_from_turned(
-    alloc: Global,
-    found: &mut Vec<RowFact>,
-    checked: &Checked,
-    links: &Links,
-    cells: &Cells,
-    path: Trail,
-    row: usize,
-) -> Result<(), AllocError>
-    ensures { OnOk result (found.new.items ≡ found.old.items
-        ++ turned checked.now links.now cells.now path row) }
-{
-    let fact = RowFact::On { path, row };
-    add_ons(found, path, links.turns.of(row))?;
-    add_given(alloc, found, checked, cells, fact, path, row)?;
-    add_call(alloc, found, checked, links, cells, fact, path, row)?;
-    add_start(alloc, found, checked, links, cells, fact, path, row)?;
-    add_begin(alloc, found, checked, links, cells, fact, path, row)
-}
-
-/// Adds the facts that follow from this, that the row Has the value at the path.
-fn add_from_value(
-    alloc: Global,
-    found: &mut Vec<RowFact>,
-    checked: &Checked,
-    links: &Links,
-    waits: &Queues,
-    cells: &Cells,
-    path: Trail,
-    row: usize,
-    value: RowValue,
-) -> Result<(), AllocError>
-    ensures { OnOk result (found.new.items ≡ found.old.items
-        ++ effects checked.now links.now waits.now cells.now (Has path row value)) }
-{
-    add_gains(
-        alloc,
-        found,
-        checked,
-        links,
-        cells,
-        path,
-        row,
-        value,
-        links.reads.of(row),
-    )?;
-    add_all_woken(
-        alloc,
-        found,
-        checked,
-        links,
-        cells,
-        path,
-        row,
-        value,
-        waits.of(queue_of(path, row)),
-    )?;
-    add_exit(found, checked, cells, path, row, value)?;
-    add_index(alloc, found, checked, links, cells, path, row, value)
-}
-
-/// Adds the facts that come where the structure, which has new bounds, is a value.
-fn add_from_shape(
-    alloc: Global,
-    found: &mut Vec<RowFact>,
-    checked: &Checked,
-    links: &Links,
-    cells: &Cells,
-    name: usize,
-) -> Result<(), AllocError>
-    ensures { OnOk result (found.new.items ≡ found.old.items
-        ++ reached checked.now links.now cells.now name (named cells.now name)) }
-{
-    let points = cells.named(alloc, name)?;
-    add_reached(alloc, found, checked, links, cells, name, points.as_slice())
-}
-
-/// Adds the facts that come where the row Has the value, at these rows, which read it.
-fn add_gains(
-    alloc: Global,
-    found: &mut Vec<RowFact>,
-    checked: &Checked,
-    links: &Links,
-    cells: &Cells,
-    path: Trail,
-    row: usize,
-    value: RowValue,
-    rows: &[usize],
-) -> Result<(), AllocError>
-    ensures { OnOk result (found.new.items ≡ found.old.items
-        ++ gains checked.now links.now cells.now path row value rows.now) }
-{
-    for reader in rows {
-        add_gain(
-            alloc, found, checked, links, cells, path, row, value, *reader,
-        )?;
+    /// Adds the facts that follow from this, that the row is On at the path.
+    fn add_from_turned(
+        &self,
+        alloc: Global,
+        found: &mut Vec<RowFact>,
+        path: Trail,
+        row: usize,
+    ) -> Result<(), AllocError>
+        ensures { OnOk result (found.new.items ≡ found.old.items
+            ++ turned self.now.checked.now self.now.links.now self.now.cells.now path row) }
+    {
+        let fact = RowFact::On { path, row };
+        add_ons(found, path, self.links.turns.of(row))?;
+        self.add_given(alloc, found, fact, path, row)?;
+        self.add_call(alloc, found, fact, path, row)?;
+        self.add_start(alloc, found, fact, path, row)?;
+        self.add_begin(alloc, found, fact, path, row)
     }
-    Ok(())
-}
 
-/// Adds the facts that come where the row Has the value, at a row that reads it, and at the calls whose argument and
-/// the loops whose predicate, `next` or bound this is.
-fn add_gain(
-    alloc: Global,
-    found: &mut Vec<RowFact>,
-    checked: &Checked,
-    links: &Links,
-    cells: &Cells,
-    path: Trail,
-    row: usize,
-    value: RowValue,
-    reader: usize,
-) -> Result<(), AllocError>
-    ensures { OnOk result (found.new.items ≡ found.old.items
-        ++ gain checked.now links.now cells.now path row value reader) }
-{
-    let followed = RowFact::Has { path, row, value };
-    add_given(alloc, found, checked, cells, followed, path, reader)?;
-    let node = node_of(checked, reader);
-    add_pass(found, checked, links, cells, path, row, value, node)?;
-    add_loop(found, checked, links, cells, path, row, value, reader)?;
-    add_begin(alloc, found, checked, links, cells, followed, path, reader)
-}
-
-/// Adds the facts that come where the structure, which has new bounds, is a value.
-fn add_reached(
-    alloc: Global,
-    found: &mut Vec<RowFact>,
-    checked: &Checked,
-    links: &Links,
-    cells: &Cells,
-    name: usize,
-    points: &[Point],
-) -> Result<(), AllocError>
-    ensures { OnOk result (found.new.items ≡ found.old.items
-        ++ reached checked.now links.now cells.now name points.now) }
-{
-    for point in points {
-        add_gains(
+    /// Adds the facts that follow from this, that the row Has the value at the path.
+    fn add_from_value(
+        &self,
+        alloc: Global,
+        found: &mut Vec<RowFact>,
+        path: Trail,
+        row: usize,
+        value: RowValue,
+    ) -> Result<(), AllocError>
+        ensures { OnOk result (found.new.items ≡ found.old.items
+            ++ effects self.now.checked.now self.now.links.now self.now.waits.now self.now.cells.now
+            (Has path row value)) }
+    {
+        self.add_gains(alloc, found, path, row, value, self.links.reads.of(row))?;
+        self.add_all_woken(
             alloc,
             found,
-            checked,
-            links,
-            cells,
-            point.path,
-            point.row,
-            RowValue::Name(name),
-            links.reads.of(point.row),
+            path,
+            row,
+            value,
+            self.waits.of(queue_of(path, row)),
         )?;
+        self.add_exit(found, path, row, value)?;
+        self.add_index(alloc, found, path, row, value)
     }
-    Ok(())
-}
 
-/// Adds the facts that come where the binder has the value that these wait for.
-fn add_all_woken(
-    alloc: Global,
-    found: &mut Vec<RowFact>,
-    checked: &Checked,
-    links: &Links,
-    cells: &Cells,
-    path: Trail,
-    row: usize,
-    value: RowValue,
-    waits: &[Wait],
-) -> Result<(), AllocError>
-    ensures { OnOk result (found.new.items ≡ found.old.items
-        ++ all_woken checked.now links.now cells.now path row value waits.now) }
-{
-    for wait in waits {
-        add_woken(alloc, found, checked, links, cells, path, row, value, *wait)?;
+    /// Adds the facts that come where the structure, which has new bounds, is a value.
+    fn add_from_shape(
+        &self,
+        alloc: Global,
+        found: &mut Vec<RowFact>,
+        name: usize,
+    ) -> Result<(), AllocError>
+        ensures { OnOk result (found.new.items ≡ found.old.items
+            ++ reached self.now.checked.now self.now.links.now self.now.cells.now name
+            (named self.now.cells.now name)) }
+    {
+        let points = self.cells.named(alloc, name)?;
+        self.add_reached(alloc, found, name, points.as_slice())
     }
-    Ok(())
-}
 
-/// Adds the fact that comes by the call or the loop that the path begins with, where the row is its callee's body or
-/// its last expression.
-fn add_exit(
-    found: &mut Vec<RowFact>,
-    checked: &Checked,
-    cells: &Cells,
-    path: Trail,
-    row: usize,
-    value: RowValue,
-) -> Result<(), AllocError>
-    ensures { OnOk result (found.new.items ≡ found.old.items
-        ++ exit_at checked.now cells.now path row value) }
-{
-    match path {
-        Trail::Below { spot, number } => {
-            add_exit_by(found, checked, number, row, value, cells.fact(spot))
+    /// Adds the facts that come where the row Has the value, at these rows, which read it.
+    fn add_gains(
+        &self,
+        alloc: Global,
+        found: &mut Vec<RowFact>,
+        path: Trail,
+        row: usize,
+        value: RowValue,
+        rows: &[usize],
+    ) -> Result<(), AllocError>
+        ensures { OnOk result (found.new.items ≡ found.old.items
+            ++ gains self.now.checked.now self.now.links.now self.now.cells.now path row value rows.now) }
+    {
+        for reader in rows {
+            self.add_gain(alloc, found, path, row, value, *reader)?;
         }
-        Trail::Outermost => Ok(()),
+        Ok(())
+    }
+
+    /// Adds the facts that come where the row Has the value, at a row that reads it, and at the calls whose argument
+    /// and the loops whose predicate, `next` or bound this is.
+    fn add_gain(
+        &self,
+        alloc: Global,
+        found: &mut Vec<RowFact>,
+        path: Trail,
+        row: usize,
+        value: RowValue,
+        reader: usize,
+    ) -> Result<(), AllocError>
+        ensures { OnOk result (found.new.items ≡ found.old.items
+            ++ gain self.now.checked.now self.now.links.now self.now.cells.now path row value reader) }
+    {
+        let followed = RowFact::Has { path, row, value };
+        self.add_given(alloc, found, followed, path, reader)?;
+        let node = node_of(self.checked, reader);
+        self.add_pass(found, path, row, value, node)?;
+        self.add_loop(found, path, row, value, reader)?;
+        self.add_begin(alloc, found, followed, path, reader)
+    }
+
+    /// Adds the facts that come where the structure, which has new bounds, is a value.
+    fn add_reached(
+        &self,
+        alloc: Global,
+        found: &mut Vec<RowFact>,
+        name: usize,
+        points: &[Point],
+    ) -> Result<(), AllocError>
+        ensures { OnOk result (found.new.items ≡ found.old.items
+            ++ reached self.now.checked.now self.now.links.now self.now.cells.now name points.now) }
+    {
+        for point in points {
+            self.add_gains(
+                alloc,
+                found,
+                point.path,
+                point.row,
+                RowValue::Name(name),
+                self.links.reads.of(point.row),
+            )?;
+        }
+        Ok(())
+    }
+
+    /// Adds the facts that come where the binder has the value that these wait for.
+    fn add_all_woken(
+        &self,
+        alloc: Global,
+        found: &mut Vec<RowFact>,
+        path: Trail,
+        row: usize,
+        value: RowValue,
+        waits: &[Wait],
+    ) -> Result<(), AllocError>
+        ensures { OnOk result (found.new.items ≡ found.old.items
+            ++ all_woken self.now.checked.now self.now.links.now self.now.cells.now path row value waits.now) }
+    {
+        for wait in waits {
+            self.add_woken(alloc, found, path, row, value, *wait)?;
+        }
+        Ok(())
+    }
+
+    /// Adds the fact that comes by the call or the loop that the path begins with, where the row is its callee's body
+    /// or its last expression.
+    fn add_exit(
+        &self,
+        found: &mut Vec<RowFact>,
+        path: Trail,
+        row: usize,
+        value: RowValue,
+    ) -> Result<(), AllocError>
+        ensures { OnOk result (found.new.items ≡ found.old.items
+            ++ exit_at self.now.checked.now self.now.cells.now path row value) }
+    {
+        match path {
+            Trail::Below { spot, number } => {
+                add_exit_by(
+                    found,
+                    self.checked,
+                    number,
+                    row,
+                    value,
+                    self.cells.fact(spot),
+                )
+            }
+            Trail::Outermost => Ok(()),
+        }
     }
 }
 

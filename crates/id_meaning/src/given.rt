@@ -6,138 +6,153 @@ ghost use Rattle.id_facts.specs.Firsts.{haves};
 ghost use Rattle.id_source.specs.Links.{arm_of};
 
 use crate::operators::{add_binary_at, add_unary_at};
+use crate::rules::Rules;
 use crate::structures::{add_array_at, add_fetch_at, add_store};
-use id_check::Checked;
 use id_facts::{Cells, RowFact, RowValue, Trail, add_has, add_values, row_value};
 use id_source::{beyond, far, node_of};
 use id_table::Node;
 use std::alloc::{AllocError, Global};
 
-/// Adds the facts that come at the row at the path, where this fact is followed.
-pub fn add_given(
-    alloc: Global,
-    found: &mut Vec<RowFact>,
-    checked: &Checked,
-    cells: &Cells,
-    followed: RowFact,
-    path: Trail,
-    row: usize,
-) -> Result<(), AllocError>
-    ensures { OnOk result (found.new.items ≡ found.old.items
-        ++ given checked.now cells.now followed path row) }
-{
-    match node_of(checked, row) {
-        Node::Binding { value, .. } => {
-            add_seen(alloc, found, cells, followed, path, row, path, Some(value))
-        }
-        node => {
-            add_found(
-                alloc,
-                found,
-                checked,
-                cells,
-                followed,
-                path,
-                row,
-                node,
-                cells.find(path, row),
-            )
+impl Rules<'_> {
+    /// Adds the facts that come at the row at the path, where this fact is followed.
+    pub fn add_given(
+        &self,
+        alloc: Global,
+        found: &mut Vec<RowFact>,
+        followed: RowFact,
+        path: Trail,
+        row: usize,
+    ) -> Result<(), AllocError>
+        ensures { OnOk result (found.new.items ≡ found.old.items
+            ++ given self.now.checked.now self.now.cells.now followed path row) }
+    {
+        match node_of(self.checked, row) {
+            Node::Binding { value, .. } => {
+                add_seen(
+                    alloc,
+                    found,
+                    self.cells,
+                    followed,
+                    path,
+                    row,
+                    path,
+                    Some(value),
+                )
+            }
+            node => {
+                self.add_found(
+                    alloc,
+                    found,
+                    followed,
+                    path,
+                    row,
+                    node,
+                    self.cells.find(path, row),
+                )
+            }
         }
     }
-}
 
-/// Adds the facts that come at the row of this node at the path, if it is On, by the fact of this number.
-fn add_found(
-    alloc: Global,
-    found: &mut Vec<RowFact>,
-    checked: &Checked,
-    cells: &Cells,
-    followed: RowFact,
-    path: Trail,
-    row: usize,
-    node: Node,
-    spot: Option<usize>,
-) -> Result<(), AllocError>
-    ensures { OnOk result (found.new.items ≡ found.old.items
-        ++ from_found checked.now cells.now followed path row node spot) }
-{
-    match spot {
-        Some(spot) => {
-            add_from_on(
-                alloc, found, checked, cells, followed, path, row, spot, node,
-            )
+    /// Adds the facts that come at the row of this node at the path, if it is On, by the fact of this number.
+    fn add_found(
+        &self,
+        alloc: Global,
+        found: &mut Vec<RowFact>,
+        followed: RowFact,
+        path: Trail,
+        row: usize,
+        node: Node,
+        spot: Option<usize>,
+    ) -> Result<(), AllocError>
+        ensures { OnOk result (found.new.items ≡ found.old.items
+            ++ from_found self.now.checked.now self.now.cells.now followed path row node spot) }
+    {
+        match spot {
+            Some(spot) => { self.add_from_on(alloc, found, followed, path, row, spot, node) }
+            None => Ok(()),
         }
-        None => Ok(()),
     }
-}
 
-/// Adds the facts that come at the row of this node at the path, which is On by the fact of number `spot`.
-fn add_from_on(
-    alloc: Global,
-    found: &mut Vec<RowFact>,
-    checked: &Checked,
-    cells: &Cells,
-    followed: RowFact,
-    path: Trail,
-    row: usize,
-    spot: usize,
-    node: Node,
-) -> Result<(), AllocError>
-    ensures { OnOk result (found.new.items ≡ found.old.items
-        ++ from_on checked.now cells.now followed path row spot node) }
-{
-    match node {
-        Node::Literal { value } => add_has(found, path, row, row_value(value)),
-        Node::Name { .. } => {
-            let outer = cells.out_of(path, far(checked, row, node));
-            let there = beyond(checked, row, node);
-            add_seen(alloc, found, cells, followed, path, row, outer, there)
+    /// Adds the facts that come at the row of this node at the path, which is On by the fact of number `spot`.
+    fn add_from_on(
+        &self,
+        alloc: Global,
+        found: &mut Vec<RowFact>,
+        followed: RowFact,
+        path: Trail,
+        row: usize,
+        spot: usize,
+        node: Node,
+    ) -> Result<(), AllocError>
+        ensures { OnOk result (found.new.items ≡ found.old.items
+            ++ from_on self.now.checked.now self.now.cells.now followed path row spot node) }
+    {
+        match node {
+            Node::Literal { value } => add_has(found, path, row, row_value(value)),
+            Node::Name { .. } => {
+                let outer = self.cells.out_of(path, far(self.checked, row, node));
+                let there = beyond(self.checked, row, node);
+                add_seen(alloc, found, self.cells, followed, path, row, outer, there)
+            }
+            Node::Unary { op, operand } => {
+                add_unary_at(alloc, found, self.cells, followed, path, row, op, operand)
+            }
+            Node::Binary { op, left, right } => {
+                add_binary_at(
+                    alloc, found, self.cells, followed, path, row, op, left, right,
+                )
+            }
+            Node::If {
+                then,
+                otherwise,
+                ..
+            } => {
+                add_if(
+                    alloc,
+                    found,
+                    self.cells,
+                    followed,
+                    path,
+                    row,
+                    then as usize,
+                    otherwise as usize,
+                    beyond(self.checked, row, node),
+                )
+            }
+            Node::Block { body } => {
+                add_seen(
+                    alloc,
+                    found,
+                    self.cells,
+                    followed,
+                    path,
+                    row,
+                    path,
+                    Some(body),
+                )
+            }
+            Node::Array { low, high, .. } => {
+                add_array_at(
+                    alloc, found, self.cells, followed, path, row, spot, low, high,
+                )
+            }
+            Node::Fetch { target, index } => {
+                add_fetch_at(alloc, found, self.cells, followed, path, row, target, index)
+            }
+            Node::Store { address, value } => {
+                add_store(
+                    alloc,
+                    found,
+                    self.cells,
+                    followed,
+                    path,
+                    row,
+                    node_of(self.checked, address),
+                    value,
+                )
+            }
+            _ => Ok(()),
         }
-        Node::Unary { op, operand } => {
-            add_unary_at(alloc, found, cells, followed, path, row, op, operand)
-        }
-        Node::Binary { op, left, right } => {
-            add_binary_at(alloc, found, cells, followed, path, row, op, left, right)
-        }
-        Node::If {
-            then,
-            otherwise,
-            ..
-        } => {
-            add_if(
-                alloc,
-                found,
-                cells,
-                followed,
-                path,
-                row,
-                then as usize,
-                otherwise as usize,
-                beyond(checked, row, node),
-            )
-        }
-        Node::Block { body } => {
-            add_seen(alloc, found, cells, followed, path, row, path, Some(body))
-        }
-        Node::Array { low, high, .. } => {
-            add_array_at(alloc, found, cells, followed, path, row, spot, low, high)
-        }
-        Node::Fetch { target, index } => {
-            add_fetch_at(alloc, found, cells, followed, path, row, target, index)
-        }
-        Node::Store { address, value } => {
-            add_store(
-                alloc,
-                found,
-                cells,
-                followed,
-                path,
-                row,
-                node_of(checked, address),
-                value,
-            )
-        }
-        _ => Ok(()),
     }
 }
 

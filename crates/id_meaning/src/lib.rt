@@ -15,6 +15,7 @@ mod given;
 mod loops;
 mod operators;
 mod round;
+mod rules;
 mod run;
 mod structures;
 

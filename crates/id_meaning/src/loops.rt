@@ -9,9 +9,9 @@ ghost use Rattle.id_meaning.specs.Effects.{start_at, switches_by, turn_by, woken
 ghost use Rattle.id_meaning.specs.Effects.{woken_by};
 ghost use Rattle.id_source.specs.Links.{test_of_loop};
 
-use crate::counts::add_index_woken;
 use crate::effects::is_row;
 use crate::given::add_seen;
+use crate::rules::Rules;
 use id_check::Checked;
 use id_facts::{
     Cells, RowFact, RowValue, Trail, Wait, add_has, add_on, add_ons, next_of, same_trail,
@@ -29,132 +29,177 @@ pub struct Iteration {
     pub last: usize,
 }
 
+impl Rules<'_> {
+    /// Adds the facts that come by the loop at the row at the path, where it is On and this fact is followed.
+    pub fn add_start(
+        &self,
+        alloc: Global,
+        found: &mut Vec<RowFact>,
+        followed: RowFact,
+        path: Trail,
+        row: usize,
+    ) -> Result<(), AllocError>
+        ensures { OnOk result (found.new.items ≡ found.old.items
+            ++ start_at self.now.checked.now self.now.links.now self.now.cells.now followed path row) }
+    {
+        match (self.cells.find(path, row), node_of(self.checked, row)) {
+            (Some(spot), Node::Loop { head, switches, .. }) => {
+                let first = Trail::Below { spot, number: 0 };
+                let test = test_of(self.checked, node_of(self.checked, switches as usize));
+                add_on(found, first, test)?;
+                self.add_firsts(
+                    alloc,
+                    found,
+                    followed,
+                    path,
+                    row,
+                    first,
+                    head as usize,
+                    self.links.args.of(head as usize),
+                )
+            }
+            _ => Ok(()),
+        }
+    }
+
+    /// Adds the facts that variables of the loop with this head Have their first values, whose `next`s are at these
+    /// rows.
+    fn add_firsts(
+        &self,
+        alloc: Global,
+        found: &mut Vec<RowFact>,
+        followed: RowFact,
+        path: Trail,
+        row: usize,
+        first: Trail,
+        head: usize,
+        nexts: &[usize],
+    ) -> Result<(), AllocError>
+        ensures { OnOk result (found.new.items ≡ found.old.items
+            ++ firsts self.now.checked.now self.now.cells.now followed path row first head nexts.now) }
+    {
+        for next in nexts {
+            self.add_first(alloc, found, followed, path, row, first, head, *next)?;
+        }
+        Ok(())
+    }
+
+    /// Adds the facts that the variable of the loop with this head Has its first values, whose `next` is at this row.
+    fn add_first(
+        &self,
+        alloc: Global,
+        found: &mut Vec<RowFact>,
+        followed: RowFact,
+        path: Trail,
+        row: usize,
+        first: Trail,
+        head: usize,
+        next: usize,
+    ) -> Result<(), AllocError>
+        ensures { OnOk result (found.new.items ≡ found.old.items
+            ++ first_of self.now.checked.now self.now.cells.now followed path row first head next
+            (at (rows self.now.checked.now) next).node) }
+    {
+        match node_of(self.checked, next) {
+            Node::Next { outer, .. } if block_of(self.checked, next) == head => {
+                let binder = binder_of(self.checked, outer as usize);
+                let outside = self.cells.out_of(path, distance(self.checked, row, binder));
+                add_seen(
+                    alloc, found, self.cells, followed, first, next, outside, binder,
+                )
+            }
+            _ => Ok(()),
+        }
+    }
+
+    /// Adds the facts that come where the row Has the value at the path, if this waits for it.
+    pub fn add_woken(
+        &self,
+        alloc: Global,
+        found: &mut Vec<RowFact>,
+        path: Trail,
+        row: usize,
+        value: RowValue,
+        wait: Wait,
+    ) -> Result<(), AllocError>
+        ensures { OnOk result (found.new.items ≡ found.old.items
+            ++ woken self.now.checked.now self.now.links.now self.now.cells.now path row value wait) }
+    {
+        if self.is_awaited(path, row, wait) {
+            let node = node_of(self.checked, wait.row);
+            add_woken_by(
+                found,
+                self.checked,
+                wait,
+                value,
+                self.cells.find(wait.path, wait.row),
+                node,
+                node_of(self.checked, wait.user),
+            )?;
+            let followed = RowFact::Has { path, row, value };
+            self.add_index_woken(alloc, found, followed, wait, value, node)
+        } else {
+            Ok(())
+        }
+    }
+
+    /// Whether this waits for the row at the path.
+    fn is_awaited(&self, path: Trail, row: usize, wait: Wait) -> bool
+        ensures { result ≡ is_awaited self.now.checked.now self.now.cells.now path row wait }
+    {
+        match awaited(self.checked, wait.user) {
+            Some(there) => {
+                let far = distance(self.checked, wait.row, Some(there));
+                there == row && same_trail(self.cells.out_of(wait.path, far), path)
+            }
+            None => false,
+        }
+    }
+
+    /// The iteration that the path ends in, if it ends in one.
+    pub fn iteration_of(&self, path: Trail) -> Option<Iteration>
+        ensures { result ≡ iteration_of self.now.checked.now self.now.cells.now path }
+    {
+        match path {
+            Trail::Below { spot, .. } => iteration_in(self.checked, self.cells.fact(spot)),
+            Trail::Outermost => None,
+        }
+    }
+
+    /// Adds the facts that come where the row Has the value at the path, by the row `reader`, if that is the switches
+    /// or a `next` of the iteration that the path ends in.
+    pub fn add_loop(
+        &self,
+        found: &mut Vec<RowFact>,
+        path: Trail,
+        row: usize,
+        value: RowValue,
+        reader: usize,
+    ) -> Result<(), AllocError>
+        ensures { OnOk result (found.new.items ≡ found.old.items
+            ++ loop_by self.now.checked.now self.now.links.now self.now.cells.now path row value reader
+            (at (rows self.now.checked.now) reader).node) }
+    {
+        match node_of(self.checked, reader) {
+            Node::Switches { test }
+                if is_row(test_of(self.checked, Node::Switches { test }), row) => {
+                let iteration = self.iteration_of(path);
+                add_switches(found, self.links, path, iteration, reader, test, value)
+            }
+            Node::Next { value: read, .. } if read as usize == row => {
+                let iteration = self.iteration_of(path);
+                add_next(found, self.checked, path, iteration, reader, value)
+            }
+            _ => Ok(()),
+        }
+    }
+}
+
 /// The predicate that a row of this node follows, if it is the switches of a loop that has one.
 fn test_of(checked: &Checked, node: Node) -> Option<usize>
     ensures { result ≡ test_of_loop (rows checked.now) node }
 {
     test_of_loop(checked.table.rows.as_slice(), node)
-}
-
-/// Adds the facts that come by the loop at the row at the path, where it is On and this fact is followed.
-pub fn add_start(
-    alloc: Global,
-    found: &mut Vec<RowFact>,
-    checked: &Checked,
-    links: &Links,
-    cells: &Cells,
-    followed: RowFact,
-    path: Trail,
-    row: usize,
-) -> Result<(), AllocError>
-    ensures { OnOk result (found.new.items ≡ found.old.items
-        ++ start_at checked.now links.now cells.now followed path row) }
-{
-    match (cells.find(path, row), node_of(checked, row)) {
-        (Some(spot), Node::Loop { head, switches, .. }) => {
-            let first = Trail::Below { spot, number: 0 };
-            let test = test_of(checked, node_of(checked, switches as usize));
-            add_on(found, first, test)?;
-            add_firsts(
-                alloc,
-                found,
-                checked,
-                cells,
-                followed,
-                path,
-                row,
-                first,
-                head as usize,
-                links.args.of(head as usize),
-            )
-        }
-        _ => Ok(()),
-    }
-}
-
-/// Adds the facts that variables of the loop with this head Have their first values, whose `next`s are at these rows.
-fn add_firsts(
-    alloc: Global,
-    found: &mut Vec<RowFact>,
-    checked: &Checked,
-    cells: &Cells,
-    followed: RowFact,
-    path: Trail,
-    row: usize,
-    first: Trail,
-    head: usize,
-    nexts: &[usize],
-) -> Result<(), AllocError>
-    ensures { OnOk result (found.new.items ≡ found.old.items
-        ++ firsts checked.now cells.now followed path row first head nexts.now) }
-{
-    for next in nexts {
-        add_first(
-            alloc, found, checked, cells, followed, path, row, first, head, *next,
-        )?;
-    }
-    Ok(())
-}
-
-/// Adds the facts that the variable of the loop with this head Has its first values, whose `next` is at this row.
-fn add_first(
-    alloc: Global,
-    found: &mut Vec<RowFact>,
-    checked: &Checked,
-    cells: &Cells,
-    followed: RowFact,
-    path: Trail,
-    row: usize,
-    first: Trail,
-    head: usize,
-    next: usize,
-) -> Result<(), AllocError>
-    ensures { OnOk result (found.new.items ≡ found.old.items
-        ++ first_of checked.now cells.now followed path row first head next (at (rows checked.now) next).node) }
-{
-    match node_of(checked, next) {
-        Node::Next { outer, .. } if block_of(checked, next) == head => {
-            let binder = binder_of(checked, outer as usize);
-            let outside = cells.out_of(path, distance(checked, row, binder));
-            add_seen(alloc, found, cells, followed, first, next, outside, binder)
-        }
-        _ => Ok(()),
-    }
-}
-
-/// Adds the facts that come where the row Has the value at the path, if this waits for it.
-pub fn add_woken(
-    alloc: Global,
-    found: &mut Vec<RowFact>,
-    checked: &Checked,
-    links: &Links,
-    cells: &Cells,
-    path: Trail,
-    row: usize,
-    value: RowValue,
-    wait: Wait,
-) -> Result<(), AllocError>
-    ensures { OnOk result (found.new.items ≡ found.old.items
-        ++ woken checked.now links.now cells.now path row value wait) }
-{
-    if is_awaited(checked, cells, path, row, wait) {
-        let node = node_of(checked, wait.row);
-        add_woken_by(
-            found,
-            checked,
-            wait,
-            value,
-            cells.find(wait.path, wait.row),
-            node,
-            node_of(checked, wait.user),
-        )?;
-        let followed = RowFact::Has { path, row, value };
-        add_index_woken(
-            alloc, found, checked, links, cells, followed, wait, value, node,
-        )
-    } else {
-        Ok(())
-    }
 }
 
 /// Adds the fact that comes where a name or a loop of this node, which may be On by the fact of this number, gets the
@@ -184,29 +229,6 @@ fn add_woken_by(
     }
 }
 
-/// Whether this waits for the row at the path.
-fn is_awaited(checked: &Checked, cells: &Cells, path: Trail, row: usize, wait: Wait) -> bool
-    ensures { result ≡ is_awaited checked.now cells.now path row wait }
-{
-    match awaited(checked, wait.user) {
-        Some(there) => {
-            let far = distance(checked, wait.row, Some(there));
-            there == row && same_trail(cells.out_of(wait.path, far), path)
-        }
-        None => false,
-    }
-}
-
-/// The iteration that the path ends in, if it ends in one.
-pub fn iteration_of(checked: &Checked, cells: &Cells, path: Trail) -> Option<Iteration>
-    ensures { result ≡ iteration_of checked.now cells.now path }
-{
-    match path {
-        Trail::Below { spot, .. } => iteration_in(checked, cells.fact(spot)),
-        Trail::Outermost => None,
-    }
-}
-
 /// The iteration of the loop that is On by the fact.
 fn iteration_in(checked: &Checked, fact: RowFact) -> Option<Iteration>
     ensures { result ≡ iteration_in checked.now fact }
@@ -232,34 +254,6 @@ fn iteration_by(node: Node) -> Option<Iteration>
             last: last as usize,
         }),
         _ => None,
-    }
-}
-
-/// Adds the facts that come where the row Has the value at the path, by the row `reader`, if that is the switches or a
-/// `next` of the iteration that the path ends in.
-pub fn add_loop(
-    found: &mut Vec<RowFact>,
-    checked: &Checked,
-    links: &Links,
-    cells: &Cells,
-    path: Trail,
-    row: usize,
-    value: RowValue,
-    reader: usize,
-) -> Result<(), AllocError>
-    ensures { OnOk result (found.new.items ≡ found.old.items
-        ++ loop_by checked.now links.now cells.now path row value reader (at (rows checked.now) reader).node) }
-{
-    match node_of(checked, reader) {
-        Node::Switches { test } if is_row(test_of(checked, Node::Switches { test }), row) => {
-            let iteration = iteration_of(checked, cells, path);
-            add_switches(found, links, path, iteration, reader, test, value)
-        }
-        Node::Next { value: read, .. } if read as usize == row => {
-            let iteration = iteration_of(checked, cells, path);
-            add_next(found, checked, path, iteration, reader, value)
-        }
-        _ => Ok(()),
     }
 }
 

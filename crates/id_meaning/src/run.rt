@@ -10,8 +10,8 @@ ghost use Rattle.id_facts.specs.Listed.{IsRound};
 ghost use Rattle.id_meaning.specs.Following.{Goes};
 ghost use Rattle.id_meaning.specs.Following.{AreFirst, FollowsNews, IsFewRound, IsFresh, IsStop};
 
-use crate::effects::add_effects;
 use crate::round::{MAX_FACTS, RoundsError};
+use crate::rules::Rules;
 use id_check::Checked;
 use id_facts::{Cells, Facts, QUEUES, Queues, RowFact, first_facts, wait_all};
 use id_source::{Links, link};
@@ -148,58 +148,45 @@ fn learn_next(
     let news = &facts.as_slice()[done..];
     followed.cells.add_all(news)?;
     wait_all(&mut followed.waits, checked, links, &followed.cells, news)?;
-    learn_behind(
-        alloc,
-        facts,
+    let rules = Rules {
         checked,
         links,
-        &followed.waits,
-        &followed.cells,
-        done,
-    )
+        waits: &followed.waits,
+        cells: &followed.cells,
+    };
+    learn_behind(alloc, facts, &rules, done)
 }
 
 /// Learns what follows from the facts of the cells behind the first `done`, until there are more than `MAX_FACTS`.
 fn learn_behind(
     alloc: Global,
     facts: &mut Facts,
-    checked: &Checked,
-    links: &Links,
-    waits: &Queues,
-    cells: &Cells,
+    rules: &Rules<'_>,
     done: usize,
 ) -> Result<(), AllocError>
-    requires { done ≤ length (items cells.now) }
+    requires { done ≤ length (items rules.now.cells.now) }
     ensures { OnOk result
-        (Goes checked.now links.now waits.now cells.now (drop done (items cells.now)) facts.old facts.new) }
+        (Goes rules.now.checked.now rules.now.links.now rules.now.waits.now rules.now.cells.now
+        (drop done (items rules.now.cells.now)) facts.old facts.new) }
 {
-    learn_effects(
-        alloc,
-        facts,
-        checked,
-        links,
-        waits,
-        cells,
-        &cells.items.as_slice()[done..],
-    )
+    learn_effects(alloc, facts, rules, &rules.cells.items.as_slice()[done..])
 }
 
 /// Learns what follows from these facts, with others that the cells have, until there are more than `MAX_FACTS`.
 fn learn_effects(
     alloc: Global,
     facts: &mut Facts,
-    checked: &Checked,
-    links: &Links,
-    waits: &Queues,
-    cells: &Cells,
+    rules: &Rules<'_>,
     news: &[RowFact],
 ) -> Result<(), AllocError>
-    ensures { OnOk result (Goes checked.now links.now waits.now cells.now news.now facts.old facts.new) }
+    ensures { OnOk result
+        (Goes rules.now.checked.now rules.now.links.now rules.now.waits.now rules.now.cells.now
+        news.now facts.old facts.new) }
 {
     let mut found = Vec::new(alloc);
     for fact in news {
         found.clear();
-        add_effects(alloc, &mut found, checked, links, waits, cells, *fact)?;
+        rules.add_effects(alloc, &mut found, *fact)?;
         facts.learn_all(found.as_slice())?;
         if facts.len() > MAX_FACTS {
             return Ok(());

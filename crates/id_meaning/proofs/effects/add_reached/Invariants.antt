@@ -1,9 +1,0 @@
--- The facts so far, and those of the rest.
-use Rattle.std.proofs.Common.{◌≡◌, ◌++◌, drop}
-use Rattle.id_meaning.specs.Effects.{reached}
-use Rattle.id_meaning.proofs.effects.add_reached.Given as goal
-
-abbrev pub invariant-loop-point : goal.invariant-loop-point
-invariant-loop-point l =
-    l.found.items ++ reached l.checked l.links l.cells l.name (drop l.point-index l.points) ≡ l.initial.found.items ++
-    reached l.checked l.links l.cells l.name l.points

@@ -1,9 +1,0 @@
--- The facts so far, and those of the rest.
-use Rattle.std.proofs.Common.{◌≡◌, ◌++◌, drop}
-use Rattle.id_meaning.specs.Effects.{firsts}
-use Rattle.id_meaning.proofs.loops.add_firsts.Given as goal
-
-abbrev pub invariant-loop-next : goal.invariant-loop-next
-invariant-loop-next l =
-    l.found.items ++ firsts l.checked l.cells l.followed l.path l.row l.first l.head (drop l.next-index l.nexts) ≡ l.initial.found.items ++
-    firsts l.checked l.cells l.followed l.path l.row l.first l.head l.nexts
