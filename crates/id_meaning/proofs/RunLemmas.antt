@@ -19,19 +19,20 @@ use Rattle.id_source.specs.declared.links.Links.{Links}
 use Rattle.id_facts.specs.declared.queues.Queues.{Queues}
 use Rattle.id_meaning.specs.declared.round.RoundsError.{RoundsError}
 use Rattle.id_meaning.specs.declared.round.RoundsError.TheVariants.{BadRounds, TooManyFacts, Memory}
-use Rattle.id_meaning.specs.declared.run.Followed.{Followed}
+use Rattle.id_meaning.specs.Read.{AreRead, Read}
 use Rattle.id_source.specs.Sources.{Source}
 use Rattle.id_source.specs.Rounds.{Every, Rounds}
 use Rattle.id_source.specs.Computed.{HasMoreFacts}
 use Rattle.id_source.specs.Links.{AreArgs, AreReads, AreTurns}
 use Rattle.id_facts.specs.Cells.{AddsFacts, AreChained, items}
-use Rattle.id_facts.specs.RowFacts.{all_learnt, fact_at, path_of, row_of}
+use Rattle.id_facts.specs.RowFacts.{AreBefore, all_learnt, fact_at, path_of, row_of}
 use Rattle.id_meaning.specs.Effects.{all_effects}
 use Rattle.id_facts.specs.Firsts.{first_facts}
 use Rattle.id_facts.specs.Listed.{IsRound, fact_of, path_at, value_at}
+use Rattle.id_facts.specs.Queues.{width}
 use Rattle.id_facts.specs.Waits.{AreWaits, Waits}
 use Rattle.id_meaning.specs.Following.{Goes}
-use Rattle.id_meaning.specs.Following.{AreFirst, FollowsNews, IsFewRound, IsFresh, IsStop, news_behind}
+use Rattle.id_meaning.specs.Following.{AreFirst, FollowsNews, IsFewRound, IsFresh, IsStop, StartsWith, news_behind}
 use Rattle.id_meaning.proofs.AllFollowLemmas.{all-follow}
 use Rattle.id_meaning.proofs.KnownLemmas.{among-inside}
 use Rattle.id_meaning.proofs.GivenLemmas.{all-effects-only}
@@ -93,16 +94,15 @@ behind-all : (d : ℕ) (fs ns : List RowFact) → ns ≡ take (length fs - d) (d
 behind-all d fs ns e = let l = length-drop d fs in e ∙ take_all (length fs - d) (drop d fs) (omega arith)
 
 -- the facts are those of round r, and those followed are those of the one before, from which all that follows is there
-pub record Front (S : Source) (l : Links) (r : ℕ) (a : Followed) (fs : List RowFact) : Type 0 where
+pub record Front (S : Source) (r : ℕ) (a : Read) (fs : List RowFact) : Type 0 where
   pub before : ℕ
   pub next : suc before ≡ r
   pub news : List RowFact
   pub parts : fs ≡ items a.cells ++ news
-  pub chained : AreChained a.cells
+  pub program : a.checked ≡ S.checked
   pub old : IsRound S before (items a.cells)
   pub now : IsRound S r fs
   pub all : (x : RowFact) → Arises S (items a.cells) x → Among x fs
-  pub waits : AreWaits S.checked l (items a.cells) a.waits
   pub few : length fs ≤ 1000000
 
 -- after the first round, the facts are those that follow from none
@@ -110,8 +110,8 @@ module _ (S : Source) (fs : List RowFact) where
   pub first-more : fs ≡ all_learnt [] (first_facts S.checked S.inputs) → 1000000 < length fs → HasMoreFacts S 1 1000000
   first-more whole m = more-facts S 1 1 1000000 fs (part S 1 fs (first-round S fs whole)) (omega arith) m
 
-  pub first-front : (l : Links) (a : Followed) → IsFresh a → AreFirst S.checked S.inputs fs → Front S l 1 a fs
-  first-front l a fresh f =
+  pub first-front : (a : Read) → IsFresh S.checked a → AreFirst S.checked S.inputs fs → Front S 1 a fs
+  first-front a fresh f =
       let z = fresh.none in
       let n = none-round S in
       let start = learns-so [] fs (first_facts S.checked S.inputs) f.facts in
@@ -123,25 +123,20 @@ module _ (S : Source) (fs : List RowFact) where
         next = refl;
         news = fs;
         parts = ap (λ y. y ++ fs) (sym z);
-        chained = fresh.chained;
+        program = fresh.program;
         old = subst R (sym z) n;
         now = first-round S fs f.facts;
         all = λ x h. arisen x (let F : List RowFact → Type 0 = λ y. Arises S y x in subst F z h);
-        waits =
-            record {
-              wide = fresh.wide;
-              all = λ g p m u on h. absurd (let F : List RowFact → Type 0 = λ y. Among g y in let b : ⊥ = subst F z on in b);
-            };
         few = f.few;
       }
 
 -- where what follows from the news is learnt
-module _ (S : Source) (l : Links) (r : ℕ) (a : Followed) (fs : List RowFact) (f : Front S l r a fs) where
+module _ (S : Source) (r : ℕ) (a : Read) (fs : List RowFact) (f : Front S r a fs) where
   news-are : news_behind a fs ≡ f.news
   news-are = ap (λ y. drop (length (items a.cells)) y) f.parts ∙ drop-append_seam (items a.cells) f.news
 
-  pub front-within : length (items a.cells) ≤ length fs
-  front-within = let h = ap length f.parts in let k = length-append (items a.cells) f.news in omega arith
+  pub front-starts : StartsWith (items a.cells) fs
+  front-starts = f.parts ∙ ap (λ y. items a.cells ++ y) (sym news-are)
 
   pub front-round : (n : ℕ) → r ≡ n → IsFewRound S n fs
   front-round n e = let N : ℕ → Type 0 = λ k. IsRound S k fs in record { round = subst N e f.now; few = f.few }
@@ -159,73 +154,79 @@ module _ (S : Source) (l : Links) (r : ℕ) (a : Followed) (fs : List RowFact) (
       let N : ℕ → Type 0 = λ k. IsRound S k fs in
       record { round = subst N q (still S (n - suc f.before) f.before fs (subst R same f.old) (subst N (sym j) f.now)); few = f.few }
 
-  module _ (turns : AreTurns (rows S.checked) l.turns) (reads : AreReads S.checked l.reads) (args : AreArgs S.checked l.args)
-      (small : r < 18446744073709551615) (b : Followed) (ds : List RowFact) (g : FollowsNews S.checked l a b fs ds) where
+  module _ (small : r < 18446744073709551615) (b : Read) (ds : List RowFact) (g : FollowsNews a b fs ds) where
     items-are : items b.cells ≡ fs
-    items-are = g.adds.items ∙ ap (λ y. items a.cells ++ y) news-are ∙ sym f.parts
+    items-are = g.follows.facts
 
-    chained : AreChained b.cells
-    chained = g.adds.chained f.chained
+    program : b.checked ≡ S.checked
+    program = g.follows.program ∙ f.program
 
     now : IsRound S r (items b.cells)
     now = let R : List RowFact → Type 0 = λ y. IsRound S r y in subst R (sym items-are) f.now
 
-    waiting : AreWaits S.checked l (items b.cells) b.waits
-    waiting =
-        let ns = news_behind a fs in
-        let F : List RowFact → Type 0 = λ y. Waits S.checked l y a.waits b.waits ns in
-        let G : List RowFact → Type 0 = λ y. AreWaits S.checked l y b.waits in
-        subst G (sym g.adds.items)
-        (AreWaits-more S.checked l (items a.cells) ns a.waits b.waits f.old.found.before
-        (λ g h. among-inside (items a.cells) f.old.found.before g h) f.waits (subst F g.adds.items g.waits))
+    turns : AreTurns (rows S.checked) b.links.turns
+    turns = let F : Checked → Type 0 = λ P. AreTurns (rows P) b.links.turns in subst F program g.kept.turns
+
+    reads : AreReads S.checked b.links.reads
+    reads = let F : Checked → Type 0 = λ P. AreReads P b.links.reads in subst F program g.kept.reads
+
+    args : AreArgs S.checked b.links.args
+    args = let F : Checked → Type 0 = λ P. AreArgs P b.links.args in subst F program g.kept.args
+
+    waiting : AreWaits S.checked b.links (items b.cells) b.waits
+    waiting = let F : Checked → Type 0 = λ P. AreWaits P b.links (items b.cells) b.waits in subst F program g.kept.waits
 
     abbrev effects : List RowFact → List RowFact
-    effects gs = all_effects S.checked l b.waits b.cells gs
+    effects gs = all_effects S.checked b.links b.waits b.cells gs
 
-    front-parts : f.news ≡ g.goes.front ++ g.goes.rest
-    front-parts = sym (ap (λ y. news_behind a y) items-are ∙ news-are) ∙ g.goes.parts
+    goes : Goes S.checked b.links b.waits b.cells (news_behind a (items b.cells)) fs ds
+    goes = let F : Checked → Type 0 = λ P. Goes P b.links b.waits b.cells (news_behind a (items b.cells)) fs ds in subst F program g.goes
 
-    is-there : (x : RowFact) → Among x g.goes.front → Among x (items b.cells)
+    front-parts : f.news ≡ goes.front ++ goes.rest
+    front-parts = sym (ap (λ y. news_behind a y) items-are ∙ news-are) ∙ goes.parts
+
+    is-there : (x : RowFact) → Among x goes.front → Among x (items b.cells)
     is-there x h =
         let F : List RowFact → Type 0 = λ y. Among x y in
         subst F (sym (items-are ∙ f.parts))
-        (Among-right x (items a.cells) f.news (subst F (sym front-parts) (Among-left x g.goes.front g.goes.rest h)))
+        (Among-right x (items a.cells) f.news (subst F (sym front-parts) (Among-left x goes.front goes.rest h)))
 
-    rises : (x : RowFact) → Among x (effects g.goes.front) → Arises S fs x
+    rises : (x : RowFact) → Among x (effects goes.front) → Arises S fs x
     rises x h =
-        let y = all-effects-only S l b.waits b.cells chained turns now.found g.goes.front is-there x h in
+        let y = all-effects-only S b.links b.waits b.cells g.kept.chained turns now.found goes.front is-there x h in
         let F : List RowFact → Type 0 = λ z. Arises S z x in
         let a : Arises S (items b.cells) x = record { premises = y.premises; rule = y.rule; known = y.known } in
         subst F items-are a
 
-    learns : Learns fs ds (effects g.goes.front)
-    learns = learns-so fs ds (effects g.goes.front) g.goes.facts
+    learns : Learns fs ds (effects goes.front)
+    learns = learns-so fs ds (effects goes.front) goes.facts
 
     pub front-more : (m : ℕ) → r < m → 1000000 < length ds → HasMoreFacts S m 1000000
-    front-more m k h = more-facts S (suc r) m 1000000 ds (learnt-part S r fs ds (effects g.goes.front) f.now rises learns) (omega arith) h
+    front-more m k h = more-facts S (suc r) m 1000000 ds (learnt-part S r fs ds (effects goes.front) f.now rises learns) (omega arith) h
 
     -- where all news have been followed, all that follows is there
-    module _ (done-all : g.goes.rest ≡ []) where
-      all-news : f.news ≡ g.goes.front
-      all-news = front-parts ∙ ap (λ y. g.goes.front ++ y) done-all ∙ append-nil g.goes.front
+    module _ (done-all : goes.rest ≡ []) where
+      all-news : f.news ≡ goes.front
+      all-news = front-parts ∙ ap (λ y. goes.front ++ y) done-all ∙ append-nil goes.front
 
       arisen : (x : RowFact) → Arises S (items b.cells) x → Among x ds
       arisen x h = elim (arises-old-or-new S (items a.cells) (items b.cells) f.news (items-are ∙ f.parts) f.old.found.before now.found.apart x h) [
-        | inl o ↦ learnt-kept S r fs ds (effects g.goes.front) f.now rises learns x (f.all x o)
+        | inl o ↦ learnt-kept S r fs ds (effects goes.front) f.now rises learns x (f.all x o)
         | inr o ↦
             let F : List RowFact → Type 0 = λ y. Among o.0 y in
             let few = few-numbers S r (items b.cells) now small in
-            let e = all-follow S l b.waits b.cells chained now.found turns reads args waiting few h.rule h.known o.0 o.1 g.goes.front (subst F all-news o.2) in
-            learnt-has S r fs ds (effects g.goes.front) f.now rises learns x e
+            let e =
+            all-follow S b.links b.waits b.cells g.kept.chained now.found turns reads args waiting few h.rule h.known o.0 o.1 goes.front (subst F all-news o.2) in
+            learnt-has S r fs ds (effects goes.front) f.now rises learns x e
       ]
 
       round-next : IsRound S (suc r) ds
       round-next =
           let F : RowFact → List RowFact → Type 0 = λ x y. Arises S y x in
-          learnt-round S r fs ds (effects g.goes.front) f.now rises learns (λ x a. arisen x (subst (F x) (sym items-are) a))
+          learnt-round S r fs ds (effects goes.front) f.now rises learns (λ x a. arisen x (subst (F x) (sym items-are) a))
 
-    pub front-next : (m : ℕ) → m ≡ suc r → length ds ≤ 1000000 → Front S l m b ds
-    front-next m q few = elim g.goes.done [
+    pub front-next : (m : ℕ) → m ≡ suc r → length ds ≤ 1000000 → Front S m b ds
+    front-next m q few = elim goes.done [
       | inl z ↦
           let N : ℕ → Type 0 = λ y. IsRound S y ds in
           record {
@@ -233,11 +234,10 @@ module _ (S : Source) (l : Links) (r : ℕ) (a : Followed) (fs : List RowFact) (
             next = sym q;
             news = learns.news;
             parts = learns.grows ∙ ap (λ y. y ++ learns.news) (sym items-are);
-            chained = chained;
+            program = program;
             old = now;
             now = subst N (sym q) (round-next z);
             all = arisen z;
-            waits = waiting;
             few = few;
           }
       | inr z ↦ absurd (omega arith)
@@ -272,13 +272,49 @@ goes-behind P l W c d xs fs ds e g =
     let F : List RowFact → Type 0 = λ y. Goes P l W c y fs ds in
     subst F (behind-all d xs _ refl ∙ ap (λ y. drop d y) e) g
 
--- the news have been added and followed
-pub follows-news : (P : Checked) (l : Links) (a b : Followed) (d : ℕ) (fs xs ds : List RowFact) → d ≡ length (items a.cells) → xs ≡ fs
-    → AddsFacts a.cells b.cells (take (length xs - d) (drop d xs)) → Waits P l (items b.cells) a.waits b.waits (take (length xs - d) (drop d xs))
-    → Goes P l b.waits b.cells (drop d (items b.cells)) fs ds → FollowsNews P l a b fs ds
-follows-news P l a b d fs xs ds k e h w g =
-    let n : take (length xs - d) (drop d xs) ≡ news_behind a fs = behind-all d xs _ refl ∙ ap (λ y. drop d y) e ∙ ap (λ y. drop y fs) k in
-    let F : List RowFact → Type 0 = λ y. AddsFacts a.cells b.cells y in
-    let W : List RowFact → Type 0 = λ y. Waits P l (items b.cells) a.waits b.waits y in
-    let G : List RowFact → Type 0 = λ y. Goes P l b.waits b.cells y fs ds in
-    record { adds = subst F n h; waits = subst W n w; goes = subst G (ap (λ y. drop y (items b.cells)) k) g }
+-- where none have been followed, all is kept
+pub read-none : (P : Checked) (l : Links) (c : Cells) (W : Queues) → AreTurns (rows P) l.turns → AreReads P l.reads → AreArgs P l.args
+    → AreChained c → items c ≡ [] → width W ≡ 65536 → AreRead (record { checked = P; links = l; waits = W; cells = c })
+read-none P l c W turns reads args chained z wide = record {
+  turns = turns;
+  reads = reads;
+  args = args;
+  before = (let F : List RowFact → Type 0 = λ y. AreBefore y in subst F (sym z) (λ i h. absurd (omega arith)));
+  chained = chained;
+  waits = record {
+    wide = wide;
+    all = λ g p m u on h. absurd (let F : List RowFact → Type 0 = λ y. Among g y in let b : ⊥ = subst F z on in b);
+  };
+}
+
+-- where the news are added, and what waits by them, all is kept
+pub read-more : (P : Checked) (l : Links) (c e : Cells) (V W : Queues) (d : ℕ) (fs xs : List RowFact)
+    → AreRead (record { checked = P; links = l; waits = V; cells = c }) → StartsWith (items c) fs → AreBefore fs → d ≡ length (items c) → xs ≡ fs
+    → AddsFacts c e (take (length xs - d) (drop d xs)) → Waits P l (items e) V W (take (length xs - d) (drop d xs))
+    → AreRead (record { checked = P; links = l; waits = W; cells = e })
+read-more P l c e V W d fs xs a front before k same h w =
+    let ns = drop (length (items c)) fs in
+    let n : take (length xs - d) (drop d xs) ≡ ns = behind-all d xs _ refl ∙ ap (λ y. drop d y) same ∙ ap (λ y. drop y fs) k in
+    let I : items e ≡ items c ++ ns = h.items ∙ ap (λ y. items c ++ y) n in
+    let B : List RowFact → Type 0 = λ y. AreBefore y in
+    let F : List RowFact → Type 0 = λ y. Waits P l (items e) V W y in
+    let G : List RowFact → Type 0 = λ y. Waits P l y V W ns in
+    let H : List RowFact → Type 0 = λ y. AreWaits P l y W in
+    record {
+      turns = a.turns;
+      reads = a.reads;
+      args = a.args;
+      before = subst B (front ∙ sym I) before;
+      chained = h.chained a.chained;
+      waits =
+          subst H (sym I)
+          (AreWaits-more P l (items c) ns V W a.before (λ g h. among-inside (items c) a.before g h) a.waits (subst G I (subst F n w)));
+    }
+
+-- and the facts are all of them
+pub read-facts : (c e : Cells) (d : ℕ) (fs xs : List RowFact) → StartsWith (items c) fs → d ≡ length (items c) → xs ≡ fs
+    → AddsFacts c e (take (length xs - d) (drop d xs)) → items e ≡ fs
+read-facts c e d fs xs front k same h =
+    let n : take (length xs - d) (drop d xs) ≡ drop (length (items c)) fs =
+    behind-all d xs _ refl ∙ ap (λ y. drop d y) same ∙ ap (λ y. drop y fs) k in
+    h.items ∙ ap (λ y. items c ++ y) n ∙ sym front

@@ -4,21 +4,24 @@ use Rattle.id_value.specs.declared.Constant.{Constant}
 use Rattle.id_check.specs.declared.checked.Checked.{Checked}
 use Rattle.id_facts.specs.declared.facts.RowFact.{RowFact}
 use Rattle.id_source.specs.declared.links.Links.{Links}
+use Rattle.id_meaning.specs.Read.{AreRead, Read}
 use Rattle.id_meaning.specs.declared.round.RoundsError.{RoundsError}
+use Rattle.id_meaning.specs.declared.rules.Rules.{Rules}
 use Rattle.id_meaning.specs.declared.round.RoundsError.TheVariants.{BadRounds, TooManyFacts, Memory}
-use Rattle.id_meaning.specs.declared.run.Followed.{Followed}
 use Rattle.id_source.specs.Sources.{Source}
 use Rattle.id_source.specs.Computed.{HasMoreFacts}
-use Rattle.id_facts.specs.Cells.{AddsFacts, AreChained, items}
+use Rattle.id_facts.specs.Cells.{items}
 use Rattle.id_facts.specs.RowFacts.{all_learnt}
 use Rattle.id_facts.specs.Firsts.{first_facts}
 use Rattle.id_facts.specs.Listed.{IsRound}
-use Rattle.id_facts.specs.Waits.{Waits}
-use Rattle.id_facts.specs.Queues.{width}
 use Rattle.std.specs.Prelude.{◌⊎◌, ◌<◌, ◌++◌}
 use Rattle.id_facts.specs.declared.cells.Cells.{Cells}
 use Rattle.id_facts.specs.declared.queues.Queues.{Queues}
 use Rattle.id_meaning.specs.Effects.{all_effects}
+
+-- what rules read
+abbrev pub read_of : Rules → Read
+read_of r = record { checked = r.checked.now; links = r.links.now; waits = r.waits.now; cells = r.cells.now }
 
 -- what follows from the front of these facts has been learnt: from all of them, or more than 1,000,000
 pub record Goes (P : Checked) (l : Links) (W : Queues) (c : Cells) (gs fs ds : List RowFact) : Type 0 where
@@ -33,21 +36,29 @@ pub record AreFirst (P : Checked) (is : List Constant) (fs : List RowFact) : Typ
   pub facts : fs ≡ all_learnt [] (first_facts P is)
   pub few : length fs ≤ 1000000
 
--- none has been followed
-pub record IsFresh (a : Followed) : Type 0 where
+-- the program, and none has been followed
+pub record IsFresh (P : Checked) (a : Read) : Type 0 where
+  pub program : a.checked ≡ P
   pub none : items a.cells ≡ []
-  pub chained : AreChained a.cells
-  pub wide : width a.waits ≡ 65536
+
+-- the facts begin with these
+abbrev pub StartsWith : List RowFact → List RowFact → Type 0
+StartsWith es fs = fs ≡ es ++ drop (length es) fs
+
+-- the program is the old one, and the facts are these
+pub record Follows (a : Read) (fs : List RowFact) (b : Read) : Type 0 where
+  pub program : b.checked ≡ a.checked
+  pub facts : items b.cells ≡ fs
 
 -- those of the facts that have not been followed
-abbrev pub news_behind : Followed → List RowFact → List RowFact
+abbrev pub news_behind : Read → List RowFact → List RowFact
 news_behind a fs = drop (length (items a.cells)) fs
 
--- the news among the facts are added to those that have been followed, with what waits, and what follows is learnt
-pub record FollowsNews (P : Checked) (l : Links) (a b : Followed) (fs ds : List RowFact) : Type 0 where
-  pub adds : AddsFacts a.cells b.cells (news_behind a fs)
-  pub waits : Waits P l (items b.cells) a.waits b.waits (news_behind a fs)
-  pub goes : Goes P l b.waits b.cells (news_behind a (items b.cells)) fs ds
+-- all of the facts are followed, those that had been and the news, and what follows from the news is learnt
+pub record FollowsNews (a b : Read) (fs ds : List RowFact) : Type 0 where
+  pub follows : Follows a fs b
+  pub kept : AreRead b
+  pub goes : Goes b.checked b.links b.waits b.cells (news_behind a (items b.cells)) fs ds
 
 -- the facts are those of round n, 1,000,000 at most
 pub record IsFewRound (S : Source) (n : ℕ) (fs : List RowFact) : Type 0 where

@@ -2,4 +2,5 @@
 pub mod Given
 pub mod Effects
 -- For use inside.
+pub mod Read
 pub mod Following

@@ -11,6 +11,7 @@
 mod calls;
 mod counts;
 mod effects;
+mod followed;
 mod given;
 mod loops;
 mod operators;

@@ -1,41 +1,21 @@
 //! What the rows of a program have after n rounds (docs/MEANING.md, "Rounds").
 
 ghost use Rattle.std.specs.Prelude.{◌≡◌, ◌≤◌, ◌<◌, [], drop, length, IfErr, IfOk, OnOk};
-ghost use Rattle.id_check.specs.Programs.{rows};
 ghost use Rattle.id_source.specs.Sources.{source};
 ghost use Rattle.id_source.specs.Computed.{HasMoreFacts};
-ghost use Rattle.id_source.specs.Links.{AreArgs, AreReads, AreTurns};
 ghost use Rattle.id_facts.specs.Cells.{items};
+ghost use Rattle.id_facts.specs.RowFacts.{AreBefore};
 ghost use Rattle.id_facts.specs.Listed.{IsRound};
 ghost use Rattle.id_meaning.specs.Following.{Goes};
-ghost use Rattle.id_meaning.specs.Following.{AreFirst, FollowsNews, IsFewRound, IsFresh, IsStop};
+ghost use Rattle.id_meaning.specs.Following.{AreFirst, FollowsNews, IsFewRound, IsStop, StartsWith};
 
+use crate::followed::Followed;
 use crate::round::{MAX_FACTS, RoundsError};
 use crate::rules::Rules;
 use id_check::Checked;
-use id_facts::{Cells, Facts, QUEUES, Queues, RowFact, first_facts, wait_all};
-use id_source::{Links, link};
+use id_facts::{Facts, RowFact, first_facts};
 use id_value::Constant;
 use std::alloc::{AllocError, Global};
-
-/// The facts from which all has been followed, and what waits where they turn rows On.
-#[derive(Drop)]
-struct Followed {
-    cells: Cells,
-    waits: Queues,
-}
-
-impl Followed {
-    /// No facts, and nothing that waits.
-    fn new(alloc: Global) -> Result<Followed, AllocError>
-        ensures { IfOk result IsFresh }
-    {
-        Ok(Followed {
-            cells: Cells::new(alloc)?,
-            waits: Queues::new(alloc, QUEUES)?,
-        })
-    }
-}
 
 /// The facts of round n of the program with these inputs, unless some round up to it has more than `MAX_FACTS`: then
 /// no more are looked for. Each round looks only at what the news of the one before lead to.
@@ -74,38 +54,15 @@ fn learn(
     ensures facts { OnOk result (IsFewRound (source checked.now inputs.now) n facts.new) }
     ensures stop { IfErr result (IsStop (source checked.now inputs.now) n) }
 {
-    let links = link(alloc, checked)?;
-    let mut followed = Followed::new(alloc)?;
-    learn_rounds(alloc, facts, checked, inputs, &links, &mut followed, n)
-}
-
-/// Learns the facts of round n, where there are none so far and none has been followed.
-fn learn_rounds(
-    alloc: Global,
-    facts: &mut Facts,
-    checked: &Checked,
-    inputs: &[Constant],
-    links: &Links,
-    followed: &mut Followed,
-    n: u32,
-) -> Result<(), RoundsError>
-    requires none { facts.old ≡ [] }
-    requires some { 0 < n }
-    requires fresh { IsFresh followed.old }
-    requires turns { AreTurns (rows checked.now) links.now.turns }
-    requires reads { AreReads checked.now links.now.reads }
-    requires args { AreArgs checked.now links.now.args }
-    ensures facts { OnOk result (IsFewRound (source checked.now inputs.now) n facts.new) }
-    ensures stop { IfErr result (IsStop (source checked.now inputs.now) n) }
-{
     if let Err(error) = learn_first(alloc, facts, checked, inputs) {
         return Err(error);
     }
+    let mut followed = Followed::new(alloc, checked)?;
     for _round in 1..n {
-        if followed.cells.items.len() == facts.len() {
+        if followed.len() == facts.len() {
             return Ok(());
         }
-        learn_next(alloc, facts, checked, links, followed)?;
+        followed = learn_next(alloc, facts, followed)?;
         if facts.len() > MAX_FACTS {
             return Err(RoundsError::TooManyFacts);
         }
@@ -134,27 +91,19 @@ fn learn_first(
 
 /// Adds the news among the facts to those that have been followed, and learns what follows from them, until there are
 /// more than `MAX_FACTS`.
-fn learn_next(
+fn learn_next<'a>(
     alloc: Global,
     facts: &mut Facts,
-    checked: &Checked,
-    links: &Links,
-    followed: &mut Followed,
-) -> Result<(), AllocError>
-    requires { length (items followed.old.cells) ≤ length facts.old }
-    ensures { OnOk result (FollowsNews checked.now links.now followed.old followed.new facts.old facts.new) }
+    followed: Followed<'a>,
+) -> Result<Followed<'a>, AllocError>
+    requires front { StartsWith (items followed.cells) facts.old }
+    requires before { AreBefore facts.old }
+    ensures { IfOk result (λ b. FollowsNews followed.entry b facts.old facts.new) }
 {
-    let done = followed.cells.items.len();
-    let news = &facts.as_slice()[done..];
-    followed.cells.add_all(news)?;
-    wait_all(&mut followed.waits, checked, links, &followed.cells, news)?;
-    let rules = Rules {
-        checked,
-        links,
-        waits: &followed.waits,
-        cells: &followed.cells,
-    };
-    learn_behind(alloc, facts, &rules, done)
+    let done = followed.len();
+    let followed = followed.with(facts)?;
+    learn_behind(alloc, facts, &followed.rules(), done)?;
+    Ok(followed)
 }
 
 /// Learns what follows from the facts of the cells behind the first `done`, until there are more than `MAX_FACTS`.
