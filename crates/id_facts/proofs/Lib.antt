@@ -10,3 +10,6 @@ pub mod QueuesLemmas
 pub mod WaitsLemmas
 pub mod OrdersLemmas
 pub mod PathsLemmas
+pub mod DepthsLemmas
+pub mod CompareLemmas
+pub mod ShownLemmas

@@ -5,3 +5,4 @@ pub mod Cells
 pub mod Queues
 pub mod Waits
 pub mod Listed
+pub mod Depths

@@ -3,16 +3,19 @@
 //! Keeps: each fact of a `Facts` is found in its chain, behind all that it speaks of.
 //! Errors: want of memory alone; then no fact is lost, and what was there stays.
 //! Read first: `specs/RowFacts.antt`, then `Facts`; `specs/Firsts.antt`, then `first_facts`; `specs/Cells.antt` and
-//! `specs/Waits.antt`, then `Cells` and `wait_all`; `specs/Listed.antt`, then `list`.
+//! `specs/Waits.antt`, then `Cells` and `wait_all`; `specs/Listed.antt` and `specs/Depths.antt`, then `sorted`.
 //! Not here: which facts follow from them, and those of a round (`id_meaning`).
 #![tactic(auto)]
 
 mod cells;
+mod compare;
 mod facts;
 mod firsts;
 mod found;
 mod listing;
+mod order;
 mod queues;
+mod tree;
 mod waits;
 
 pub use cells::{Bounds, Cells, Point, QUEUES, next_of, queue_of};
@@ -23,5 +26,7 @@ pub use facts::{
 pub use firsts::first_facts;
 pub use found::{add_has, add_on, add_ons, add_values, row_value};
 pub use listing::list;
+pub use order::sorted;
 pub use queues::{Queues, Wait};
+pub use tree::{Tree, last_step, place_of};
 pub use waits::wait_all;

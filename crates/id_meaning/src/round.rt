@@ -52,7 +52,7 @@ pub fn rounds(
         return Err(RoundsError::BadRounds);
     }
     let facts = facts_of_round(alloc, checked, inputs.values.as_slice(), n)?;
-    let all = list(alloc, checked, &facts)?;
+    let all = list(alloc, checked, facts)?;
     Ok(all)
 }
 

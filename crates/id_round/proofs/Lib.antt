@@ -1,4 +1,1 @@
-pub mod DepthsLemmas
-pub mod CompareLemmas
-pub mod ShownLemmas
 pub mod WrittenLemmas

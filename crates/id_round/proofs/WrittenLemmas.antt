@@ -13,8 +13,8 @@ use Rattle.id_facts.specs.declared.facts.Trail.TheVariants.{Outermost, Below}
 use Rattle.id_facts.specs.RowFacts.{AreBefore, fact_at, path_of}
 use Rattle.id_facts.specs.Listed.{steps_in_all}
 use Rattle.id_facts.proofs.PathsLemmas.{all_steps, steps-suc}
-use Rattle.id_round.specs.Depths.{depth_at, depth_in, last_step, outside}
-use Rattle.id_round.proofs.DepthsLemmas.{depth-small, depth-steps, depth-suc}
+use Rattle.id_facts.specs.Depths.{depth_at, depth_in, last_step, outside}
+use Rattle.id_facts.proofs.DepthsLemmas.{depth-small, depth-steps, depth-suc}
 
 depth-none : (fs : List RowFact) (j : ℕ) → depth_in fs j Outermost ≡ 0
 depth-none fs zero = refl

@@ -3,9 +3,8 @@
 ghost use Rattle.std.specs.Prelude.{◌≡◌, ◌≤◌, ◌<◌, drop, length, IfOk};
 ghost use Rattle.id_facts.specs.Listed.{path_at};
 
-use crate::tree::{Tree, last_step};
 use id_check::Checked;
-use id_facts::{Facts, Trail};
+use id_facts::{Facts, Trail, Tree, last_step};
 use id_source::PathStep;
 use std::alloc::{AllocError, Global};
 use std::marker::Model;

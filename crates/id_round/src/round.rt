@@ -5,10 +5,9 @@ ghost use Rattle.id_source.specs.Sources.{source};
 ghost use Rattle.id_source.specs.Computed.{AreFacts, HasMoreFacts};
 ghost use Rattle.id_facts.specs.Listed.{facts_in};
 
-use crate::order::sorted;
 use crate::paths::Paths;
 use id_check::Checked;
-use id_facts::RowFact;
+use id_facts::{RowFact, sorted};
 use id_meaning::{MAX_ROUNDS, RoundsError, facts_of_round};
 use id_source::Inputs;
 use std::alloc::Global;

@@ -6,6 +6,9 @@ use Rattle.id_facts.specs.Listed.{IsRound}
 use Rattle.id_meaning.proofs.ListedLemmas.{AreFacts-from_rows, shown-count}
 use Rattle.id_meaning.proofs.round.rounds.Goals as goal
 
+pub list-requires : goal.list-requires
+list-requires c = c.in_ok-facts.ensures.facts.found.before
+
 pub returns-clause-facts : goal.returns-clause-facts
 returns-clause-facts c =
     let P = c.args.checked.now in

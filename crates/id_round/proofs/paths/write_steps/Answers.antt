@@ -1,6 +1,6 @@
 -- One step more, before those that are written.
 use Rattle.std.proofs.Common.{◌≡◌, ◌<◌, ◌-◌, ◌+◌, length, refl, ap, arith}
-use Rattle.id_round.specs.Depths.{depth_at}
+use Rattle.id_facts.specs.Depths.{depth_at}
 use Rattle.id_round.proofs.WrittenLemmas.{depth-out, written-more, written-none}
 use Rattle.id_round.proofs.paths.write_steps.Goals as goal
 

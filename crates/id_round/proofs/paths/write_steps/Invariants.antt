@@ -1,6 +1,6 @@
 -- The steps of the path that is left stand before those that are written.
 use Rattle.std.proofs.Common.{length}
-use Rattle.id_round.specs.Depths.{depth_at}
+use Rattle.id_facts.specs.Depths.{depth_at}
 use Rattle.id_round.proofs.WrittenLemmas.{AreWritten}
 use Rattle.id_round.proofs.paths.write_steps.Given as goal
 

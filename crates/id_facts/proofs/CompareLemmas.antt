@@ -16,8 +16,8 @@ use Rattle.id_facts.proofs.FactsLemmas.{fact-before}
 use Rattle.id_facts.proofs.OneLemmas.{trail-true}
 use Rattle.id_facts.specs.Listed.{steps_in_all}
 use Rattle.id_facts.proofs.PathsLemmas.{all_steps, step-smaller, steps-suc}
-use Rattle.id_round.specs.Depths.{compared, depth_at, last_step, outside}
-use Rattle.id_round.proofs.DepthsLemmas.{depth-steps, depth-suc}
+use Rattle.id_facts.specs.Depths.{compared, depth_at, last_step, outside}
+use Rattle.id_facts.proofs.DepthsLemmas.{depth-steps, depth-suc}
 
 -- ---- comparisons in turn
 

@@ -1,9 +1,9 @@
 -- The depth of one fact more.
 use Rattle.std.proofs.Common.{◌+◌, refl, ap, ◌∙◌}
 use Rattle.id_facts.specs.RowFacts.{path_of}
-use Rattle.id_round.specs.Depths.{depth_by}
-use Rattle.id_round.proofs.DepthsLemmas.{depths-more}
-use Rattle.id_round.proofs.tree.find_depths.Goals as goal
+use Rattle.id_facts.specs.Depths.{depth_by}
+use Rattle.id_facts.proofs.DepthsLemmas.{depths-more}
+use Rattle.id_facts.proofs.tree.find_depths.Goals as goal
 
 pub loop-number-preserved : goal.loop-number-preserved
 loop-number-preserved c =

@@ -1,8 +1,8 @@
 -- The two that are left are one.
 use Rattle.std.proofs.Common.{◌≡◌, rules, true, sym, ◌∙◌}
 use Rattle.id_facts.specs.RowFacts.{same_trail}
-use Rattle.id_round.proofs.CompareLemmas.{compared-first, compared-one}
-use Rattle.id_round.proofs.compare.compare_paths.Goals as goal
+use Rattle.id_facts.proofs.CompareLemmas.{compared-first, compared-one}
+use Rattle.id_facts.proofs.compare.compare_paths.Goals as goal
 
 pub returns : goal.returns
 returns c =

@@ -1,9 +1,9 @@
 -- The deeper path goes out by a step, and of two that are as deep both.
 use Rattle.std.proofs.Common.{Less, Greater, ap, ◌∙◌, arith}
 use Rattle.id_facts.specs.Listed.{steps_in_all}
-use Rattle.id_round.specs.Depths.{compared, outside}
-use Rattle.id_round.proofs.CompareLemmas.{step-both, step-first, step-second}
-use Rattle.id_round.proofs.compare.outwards.Goals as goal
+use Rattle.id_facts.specs.Depths.{compared, outside}
+use Rattle.id_facts.proofs.CompareLemmas.{step-both, step-first, step-second}
+use Rattle.id_facts.proofs.compare.outwards.Goals as goal
 
 pub returns-then-deep-there-clause-same : goal.returns-then-deep-there-clause-same
 returns-then-deep-there-clause-same c =

@@ -3,10 +3,10 @@
 ghost use Rattle.std.specs.Prelude.{◌≡◌, ◌≤◌, ◌<◌, length, get_or, IfOk};
 ghost use Rattle.id_facts.specs.RowFacts.{AreBefore};
 ghost use Rattle.id_check.specs.Programs.{place};
-ghost use Rattle.id_round.specs.Depths.{AreDepths, depth_by, last_step};
+ghost use Rattle.id_facts.specs.Depths.{AreDepths, depth_by, last_step};
 
+use crate::facts::{Facts, RowFact, Trail, path_of, row_of};
 use id_check::Checked;
-use id_facts::{Facts, RowFact, Trail, path_of, row_of};
 use id_source::PathStep;
 use std::alloc::{AllocError, Global};
 use std::marker::Model;
@@ -21,7 +21,7 @@ pub struct Tree {
 impl Model for Tree {
     ghost use Rattle.std.specs.Prelude.{List};
     ghost use Rattle.id_facts.specs.declared.facts.RowFact.{RowFact};
-    ghost use Rattle.id_round.specs.Depths.{IsTree};
+    ghost use Rattle.id_facts.specs.Depths.{IsTree};
 
     ghost Value = { List RowFact };
 
@@ -33,7 +33,7 @@ impl Model for Tree {
 impl Tree {
     ghost use Rattle.std.specs.Prelude.{◌≡◌, IfOk};
     ghost use Rattle.id_facts.specs.RowFacts.{AreBefore, fact_at};
-    ghost use Rattle.id_round.specs.Depths.{depth_at, outside};
+    ghost use Rattle.id_facts.specs.Depths.{depth_at, outside};
 
     /// These facts.
     pub fn new(alloc: Global, facts: Facts) -> Result<Tree, AllocError>
@@ -42,6 +42,13 @@ impl Tree {
     {
         let depths = find_depths(alloc, &facts)?;
         Ok(Tree { facts, depths })
+    }
+
+    /// The facts, without their depths.
+    pub fn facts(&self) -> &Facts
+        ensures { result.now ≡ self.now }
+    {
+        &self.facts
     }
 
     /// The facts, in the order in which they came.

@@ -11,7 +11,7 @@ use Rattle.id_facts.specs.declared.facts.Trail.TheVariants.{Outermost, Below}
 use Rattle.id_facts.specs.RowFacts.{AreBefore, fact_at, path_of, row_of}
 use Rattle.id_facts.proofs.FactsLemmas.{Inside, fact-before}
 use Rattle.id_facts.specs.Listed.{step_at, steps_in_all, steps_of}
-use Rattle.id_round.specs.Depths.{AreDepths, IsTree, depth_at, depth_by, depth_in}
+use Rattle.id_facts.specs.Depths.{AreDepths, IsTree, depth_at, depth_by, depth_in}
 
 -- it has no more steps than its spot says
 fits : (i : ℕ) (p : Trail) → Inside i p → steps_in_all p ≤ i

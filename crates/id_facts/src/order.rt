@@ -4,9 +4,9 @@ ghost use Rattle.std.specs.Prelude.{◌≡◌, IfOk};
 ghost use Rattle.id_facts.specs.Listed.{AreShown, facts_in};
 
 use crate::compare::compare;
+use crate::facts::RowFact;
 use crate::tree::Tree;
 use id_check::Checked;
-use id_facts::RowFact;
 use std::alloc::{AllocError, Global};
 
 /// The facts in the order of the facts of the source that they are.

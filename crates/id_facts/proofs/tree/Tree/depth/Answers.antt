@@ -1,6 +1,6 @@
 -- The depths of the facts give that of any path.
-use Rattle.id_round.proofs.DepthsLemmas.{depth-known}
-use Rattle.id_round.proofs.tree.Tree.depth.Goals as goal
+use Rattle.id_facts.proofs.DepthsLemmas.{depth-known}
+use Rattle.id_facts.proofs.tree.Tree.depth.Goals as goal
 
 pub returns-clause-is : goal.returns-clause-is
 returns-clause-is c =

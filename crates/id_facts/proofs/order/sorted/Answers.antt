@@ -6,8 +6,8 @@ use Rattle.std.proofs.lemmas.List.Sorted.{ranks_by}
 use Rattle.id_facts.specs.declared.facts.RowFact.{RowFact}
 use Rattle.id_facts.specs.Listed.{fact_cmp, fact_of}
 use Rattle.id_facts.proofs.OrdersLemmas.{fact_total}
-use Rattle.id_round.proofs.ShownLemmas.{row_lt, shown-sorted}
-use Rattle.id_round.proofs.order.sorted.Goals as goal
+use Rattle.id_facts.proofs.ShownLemmas.{row_lt, shown-sorted}
+use Rattle.id_facts.proofs.order.sorted.Goals as goal
 
 pub returns : goal.returns
 returns c =

@@ -8,11 +8,11 @@ ghost use Rattle.id_facts.specs.Listed.{steps_in_all, value_cmp};
 ghost use Rattle.id_facts.specs.RowFacts.{same_trail};
 ghost use Rattle.std.specs.Ordering.{int_cmp, ordering_then};
 ghost use Rattle.id_check.specs.Programs.{place};
-ghost use Rattle.id_round.specs.Depths.{compared, last_step};
+ghost use Rattle.id_facts.specs.Depths.{compared, last_step};
 
+use crate::facts::{RowFact, RowValue, Trail, path_of, row_of, same_trail};
 use crate::tree::{Tree, last_step, place_of};
 use id_check::Checked;
-use id_facts::{RowFact, RowValue, Trail, path_of, row_of, same_trail};
 use std::cmp::Ordering;
 
 /// How two facts compare: by their kinds, then as facts of one kind.

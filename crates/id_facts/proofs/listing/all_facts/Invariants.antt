@@ -1,7 +1,0 @@
--- The facts so far, and those that are left.
-use Rattle.std.proofs.Common.{◌≡◌, ◌++◌, drop}
-use Rattle.id_facts.specs.Listed.{facts_in}
-use Rattle.id_facts.proofs.listing.all_facts.Given as goal
-
-abbrev pub invariant-loop-fact : goal.invariant-loop-fact
-invariant-loop-fact l = l.all.items ++ facts_in l.checked l.facts (drop l.fact-index l.facts) ≡ facts_in l.checked l.facts l.facts
