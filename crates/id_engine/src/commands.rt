@@ -18,9 +18,8 @@ ghost use Rattle.id_engine.specs.Reports.{AreRefusedRounds};
 
 use id_compile::{Compiled, EngineError, Prepared, accept, compile, prepare};
 use id_graph::{draw, list};
-use id_meaning::RoundsError;
+use id_meaning::{Round, RoundsError, find_round};
 use id_print::{PrintError, Sink, put, write_round};
-use id_round::{Round, find_round};
 use std::alloc::Global;
 
 /// Writes `ok` where the text is accepted, and answers the status, 0.

@@ -25,7 +25,7 @@ pub use facts::{
 };
 pub use firsts::first_facts;
 pub use found::{add_has, add_on, add_ons, add_values, row_value};
-pub use listing::list;
+pub use listing::facts_in;
 pub use order::sorted;
 pub use queues::{Queues, Wait};
 pub use tree::{Tree, last_step, place_of};

@@ -3,39 +3,27 @@
 ghost use Rattle.std.specs.Prelude.{◌≡◌, IfOk};
 ghost use Rattle.id_check.specs.Programs.{place};
 ghost use Rattle.id_facts.specs.declared.facts.RowFact.TheVariants.{Ask as RowAsk, Has as RowHas, Put as RowPut};
-ghost use Rattle.id_facts.specs.Listed.{AreShown, fact_of, facts_in, name_at, path_at, site_at, step_at, value_at};
-ghost use Rattle.id_facts.specs.RowFacts.{AreBefore};
+ghost use Rattle.id_facts.specs.Listed.{fact_of, facts_in, name_at, path_at, site_at, step_at, value_at};
 
 use crate::facts::{Facts, RowFact, RowValue, Trail, path_of, row_of};
-use crate::order::sorted;
-use crate::tree::{Tree, place_of};
+use crate::tree::place_of;
 use id_check::Checked;
 use id_source::{Ask, Fact, Path, PathStep, Put, Shape, Site, SourceValue};
 use id_value::Sequence;
 use std::alloc::{AllocError, Global};
 
-/// The facts of the source that these are, in order. Takes memory for each fact and for each step of its path.
-pub fn list(alloc: Global, checked: &Checked, facts: Facts) -> Result<Vec<Fact>, AllocError>
-    requires { AreBefore facts }
-    ensures { IfOk result (λ v. AreShown checked.now facts v.items) }
-{
-    let tree = Tree::new(alloc, facts)?;
-    let rows = sorted(alloc, checked, &tree)?;
-    facts_in(alloc, checked, tree.facts(), rows.as_slice())
-}
-
-/// The facts of the source that those of these rows are.
-fn facts_in(
+/// The facts of the source that these are, of all of them. Takes memory for each fact and for each step of its path.
+pub fn facts_in(
     alloc: Global,
     checked: &Checked,
     facts: &Facts,
-    rows: &[RowFact],
+    these: &[RowFact],
 ) -> Result<Vec<Fact>, AllocError>
-    ensures { IfOk result (λ v. v.items ≡ facts_in checked.now facts.now rows.now) }
+    ensures { IfOk result (λ v. v.items ≡ facts_in checked.now facts.now these.now) }
 {
     let mut all = Vec::new(alloc);
-    for row in rows {
-        let one = fact_of(alloc, checked, facts, *row)?;
+    for fact in these {
+        let one = fact_of(alloc, checked, facts, *fact)?;
         all.push(one)?;
     }
     Ok(all)

@@ -34,6 +34,7 @@ use Rattle.id_facts.specs.Firsts.{first_facts, input_fact, input_facts, row_valu
 use Rattle.id_facts.specs.Listed.{AreFound, BeginsOn, IsArrayOn, IsOfThing, IsPart, IsRound, NamesArray, NamesArrays, fact_of, name_at, path_at}
 use Rattle.id_facts.specs.Listed.{site_at, value_at}
 use Rattle.id_meaning.specs.Following.{Goes}
+use Rattle.id_meaning.specs.Read.{Read}
 use Rattle.id_facts.proofs.FactsLemmas.{among-at, index-of}
 use Rattle.id_meaning.proofs.CompleteLemmas.{complete}
 use Rattle.id_meaning.proofs.KnownLemmas.{among-inside}
@@ -449,10 +450,13 @@ module _ (P : Checked) (l : Links) (W : Queues) (c : Cells) (gs fs : List RowFac
       subst J (sym q) (b ∙ ap (λ x. all_learnt ds x) h ∙ ap (λ x. all_learnt x ys) g ∙ sym (all_learnt-append fs xs ys)
       ∙ ap (λ x. all_learnt fs x) (sym (one-more i f d k e)))
 
-  pub gone-full : (i : ℕ) (ds : List RowFact) → Gone i ds → 1000000 < length ds → Goes P l W c gs fs ds
+  abbrev read : Read
+  read = record { checked = P; links = l; waits = W; cells = c }
+
+  pub gone-full : (i : ℕ) (ds : List RowFact) → Gone i ds → 1000000 < length ds → Goes read gs fs ds
   gone-full i ds g k = record { front = take i gs; rest = drop i gs; parts = sym (take-append-drop i gs); facts = g; done = inr k }
 
-  pub gone-all : (i : ℕ) (ds : List RowFact) → Gone i ds → length gs ≤ i → Goes P l W c gs fs ds
+  pub gone-all : (i : ℕ) (ds : List RowFact) → Gone i ds → length gs ≤ i → Goes read gs fs ds
   gone-all i ds g k = record { front = take i gs; rest = drop i gs; parts = sym (take-append-drop i gs); facts = g; done = inl (drop-all gs i k) }
     where
       drop-all : (xs : List RowFact) (i : ℕ) → length xs ≤ i → drop i xs ≡ []

@@ -18,3 +18,4 @@ pub mod LearnLemmas
 pub mod ListedLemmas
 pub mod RunLemmas
 pub mod RefusedLemmas
+pub mod WrittenLemmas

@@ -179,54 +179,57 @@ module _ (S : Source) (r : ℕ) (a : Read) (fs : List RowFact) (f : Front S r a 
     abbrev effects : List RowFact → List RowFact
     effects gs = all_effects S.checked b.links b.waits b.cells gs
 
-    goes : Goes S.checked b.links b.waits b.cells (news_behind a (items b.cells)) fs ds
-    goes = let F : Checked → Type 0 = λ P. Goes P b.links b.waits b.cells (news_behind a (items b.cells)) fs ds in subst F program g.goes
+    learned : ds ≡ all_learnt fs (effects g.goes.front)
+    learned =
+        let F : Checked → Type 0 = λ P. ds ≡ all_learnt fs (all_effects P b.links b.waits b.cells g.goes.front) in
+        subst F program g.goes.facts
 
-    front-parts : f.news ≡ goes.front ++ goes.rest
-    front-parts = sym (ap (λ y. news_behind a y) items-are ∙ news-are) ∙ goes.parts
+    front-parts : f.news ≡ g.goes.front ++ g.goes.rest
+    front-parts = sym (ap (λ y. news_behind a y) items-are ∙ news-are) ∙ g.goes.parts
 
-    is-there : (x : RowFact) → Among x goes.front → Among x (items b.cells)
+    is-there : (x : RowFact) → Among x g.goes.front → Among x (items b.cells)
     is-there x h =
         let F : List RowFact → Type 0 = λ y. Among x y in
         subst F (sym (items-are ∙ f.parts))
-        (Among-right x (items a.cells) f.news (subst F (sym front-parts) (Among-left x goes.front goes.rest h)))
+        (Among-right x (items a.cells) f.news (subst F (sym front-parts) (Among-left x g.goes.front g.goes.rest h)))
 
-    rises : (x : RowFact) → Among x (effects goes.front) → Arises S fs x
+    rises : (x : RowFact) → Among x (effects g.goes.front) → Arises S fs x
     rises x h =
-        let y = all-effects-only S b.links b.waits b.cells g.kept.chained turns now.found goes.front is-there x h in
+        let y = all-effects-only S b.links b.waits b.cells g.kept.chained turns now.found g.goes.front is-there x h in
         let F : List RowFact → Type 0 = λ z. Arises S z x in
         let a : Arises S (items b.cells) x = record { premises = y.premises; rule = y.rule; known = y.known } in
         subst F items-are a
 
-    learns : Learns fs ds (effects goes.front)
-    learns = learns-so fs ds (effects goes.front) goes.facts
+    learns : Learns fs ds (effects g.goes.front)
+    learns = learns-so fs ds (effects g.goes.front) learned
 
     pub front-more : (m : ℕ) → r < m → 1000000 < length ds → HasMoreFacts S m 1000000
-    front-more m k h = more-facts S (suc r) m 1000000 ds (learnt-part S r fs ds (effects goes.front) f.now rises learns) (omega arith) h
+    front-more m k h = more-facts S (suc r) m 1000000 ds (learnt-part S r fs ds (effects g.goes.front) f.now rises learns) (omega arith) h
 
     -- where all news have been followed, all that follows is there
-    module _ (done-all : goes.rest ≡ []) where
-      all-news : f.news ≡ goes.front
-      all-news = front-parts ∙ ap (λ y. goes.front ++ y) done-all ∙ append-nil goes.front
+    module _ (done-all : g.goes.rest ≡ []) where
+      all-news : f.news ≡ g.goes.front
+      all-news = front-parts ∙ ap (λ y. g.goes.front ++ y) done-all ∙ append-nil g.goes.front
 
       arisen : (x : RowFact) → Arises S (items b.cells) x → Among x ds
       arisen x h = elim (arises-old-or-new S (items a.cells) (items b.cells) f.news (items-are ∙ f.parts) f.old.found.before now.found.apart x h) [
-        | inl o ↦ learnt-kept S r fs ds (effects goes.front) f.now rises learns x (f.all x o)
+        | inl o ↦ learnt-kept S r fs ds (effects g.goes.front) f.now rises learns x (f.all x o)
         | inr o ↦
             let F : List RowFact → Type 0 = λ y. Among o.0 y in
             let few = few-numbers S r (items b.cells) now small in
             let e =
-            all-follow S b.links b.waits b.cells g.kept.chained now.found turns reads args waiting few h.rule h.known o.0 o.1 goes.front (subst F all-news o.2) in
-            learnt-has S r fs ds (effects goes.front) f.now rises learns x e
+            all-follow S b.links b.waits b.cells g.kept.chained now.found turns reads args waiting few h.rule h.known
+            o.0 o.1 g.goes.front (subst F all-news o.2) in
+            learnt-has S r fs ds (effects g.goes.front) f.now rises learns x e
       ]
 
       round-next : IsRound S (suc r) ds
       round-next =
           let F : RowFact → List RowFact → Type 0 = λ x y. Arises S y x in
-          learnt-round S r fs ds (effects goes.front) f.now rises learns (λ x a. arisen x (subst (F x) (sym items-are) a))
+          learnt-round S r fs ds (effects g.goes.front) f.now rises learns (λ x a. arisen x (subst (F x) (sym items-are) a))
 
     pub front-next : (m : ℕ) → m ≡ suc r → length ds ≤ 1000000 → Front S m b ds
-    front-next m q few = elim goes.done [
+    front-next m q few = elim g.goes.done [
       | inl z ↦
           let N : ℕ → Type 0 = λ y. IsRound S y ds in
           record {
@@ -266,15 +269,15 @@ pub stop-many : (S : Source) (n : ℕ) (e : RoundsError) → IsStop S n e → e 
 stop-many S n e h is = let F : RoundsError → Type 0 = λ y. IsStop S n y in subst F is h
 
 -- what follows from the facts of the cells behind the first d
-pub goes-behind : (P : Checked) (l : Links) (W : Queues) (c : Cells) (d : ℕ) (xs fs ds : List RowFact) → xs ≡ items c
-    → Goes P l W c (take (length xs - d) (drop d xs)) fs ds → Goes P l W c (drop d (items c)) fs ds
-goes-behind P l W c d xs fs ds e g =
-    let F : List RowFact → Type 0 = λ y. Goes P l W c y fs ds in
+pub goes-behind : (r : Read) (d : ℕ) (xs fs ds : List RowFact) → xs ≡ items r.cells
+    → Goes r (take (length xs - d) (drop d xs)) fs ds → Goes r (drop d (items r.cells)) fs ds
+goes-behind r d xs fs ds e g =
+    let F : List RowFact → Type 0 = λ y. Goes r y fs ds in
     subst F (behind-all d xs _ refl ∙ ap (λ y. drop d y) e) g
 
 -- where none have been followed, all is kept
-pub read-none : (P : Checked) (l : Links) (c : Cells) (W : Queues) → AreTurns (rows P) l.turns → AreReads P l.reads → AreArgs P l.args
-    → AreChained c → items c ≡ [] → width W ≡ 65536 → AreRead (record { checked = P; links = l; waits = W; cells = c })
+pub read-none : (P : Checked) (l : Links) (c : Cells) (W : Queues) → AreTurns (rows P) l.turns → AreReads P l.reads
+    → AreArgs P l.args → AreChained c → items c ≡ [] → width W ≡ 65536 → AreRead (record { checked = P; links = l; waits = W; cells = c })
 read-none P l c W turns reads args chained z wide = record {
   turns = turns;
   reads = reads;
@@ -289,12 +292,14 @@ read-none P l c W turns reads args chained z wide = record {
 
 -- where the news are added, and what waits by them, all is kept
 pub read-more : (P : Checked) (l : Links) (c e : Cells) (V W : Queues) (d : ℕ) (fs xs : List RowFact)
-    → AreRead (record { checked = P; links = l; waits = V; cells = c }) → StartsWith (items c) fs → AreBefore fs → d ≡ length (items c) → xs ≡ fs
+    → AreRead (record { checked = P; links = l; waits = V; cells = c }) → StartsWith (items c) fs → AreBefore fs
+    → d ≡ length (items c) → xs ≡ fs
     → AddsFacts c e (take (length xs - d) (drop d xs)) → Waits P l (items e) V W (take (length xs - d) (drop d xs))
     → AreRead (record { checked = P; links = l; waits = W; cells = e })
 read-more P l c e V W d fs xs a front before k same h w =
     let ns = drop (length (items c)) fs in
-    let n : take (length xs - d) (drop d xs) ≡ ns = behind-all d xs _ refl ∙ ap (λ y. drop d y) same ∙ ap (λ y. drop y fs) k in
+    let n : take (length xs - d) (drop d xs) ≡ ns =
+    behind-all d xs _ refl ∙ ap (λ y. drop d y) same ∙ ap (λ y. drop y fs) k in
     let I : items e ≡ items c ++ ns = h.items ∙ ap (λ y. items c ++ y) n in
     let B : List RowFact → Type 0 = λ y. AreBefore y in
     let F : List RowFact → Type 0 = λ y. Waits P l (items e) V W y in
@@ -308,7 +313,8 @@ read-more P l c e V W d fs xs a front before k same h w =
       chained = h.chained a.chained;
       waits =
           subst H (sym I)
-          (AreWaits-more P l (items c) ns V W a.before (λ g h. among-inside (items c) a.before g h) a.waits (subst G I (subst F n w)));
+          (AreWaits-more P l (items c) ns V W a.before (λ g h. among-inside (items c) a.before g h) a.waits
+          (subst G I (subst F n w)));
     }
 
 -- and the facts are all of them

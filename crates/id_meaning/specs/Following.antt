@@ -3,7 +3,6 @@ use Rattle.std.specs.Prelude.{◌≡◌, ◌≤◌, ℕ, List, [], length, drop}
 use Rattle.id_value.specs.declared.Constant.{Constant}
 use Rattle.id_check.specs.declared.checked.Checked.{Checked}
 use Rattle.id_facts.specs.declared.facts.RowFact.{RowFact}
-use Rattle.id_source.specs.declared.links.Links.{Links}
 use Rattle.id_meaning.specs.Read.{AreRead, Read}
 use Rattle.id_meaning.specs.declared.round.RoundsError.{RoundsError}
 use Rattle.id_meaning.specs.declared.rules.Rules.{Rules}
@@ -15,8 +14,6 @@ use Rattle.id_facts.specs.RowFacts.{all_learnt}
 use Rattle.id_facts.specs.Firsts.{first_facts}
 use Rattle.id_facts.specs.Listed.{IsRound}
 use Rattle.std.specs.Prelude.{◌⊎◌, ◌<◌, ◌++◌}
-use Rattle.id_facts.specs.declared.cells.Cells.{Cells}
-use Rattle.id_facts.specs.declared.queues.Queues.{Queues}
 use Rattle.id_meaning.specs.Effects.{all_effects}
 
 -- what rules read
@@ -24,11 +21,11 @@ abbrev pub read_of : Rules → Read
 read_of r = record { checked = r.checked.now; links = r.links.now; waits = r.waits.now; cells = r.cells.now }
 
 -- what follows from the front of these facts has been learnt: from all of them, or more than 1,000,000
-pub record Goes (P : Checked) (l : Links) (W : Queues) (c : Cells) (gs fs ds : List RowFact) : Type 0 where
+pub record Goes (r : Read) (gs fs ds : List RowFact) : Type 0 where
   pub front : List RowFact
   pub rest : List RowFact
   pub parts : gs ≡ front ++ rest
-  pub facts : ds ≡ all_learnt fs (all_effects P l W c front)
+  pub facts : ds ≡ all_learnt fs (all_effects r.checked r.links r.waits r.cells front)
   pub done : (rest ≡ []) ⊎ (1000000 < length ds)
 
 -- the facts are those that follow from none, 1,000,000 at most
@@ -58,7 +55,7 @@ news_behind a fs = drop (length (items a.cells)) fs
 pub record FollowsNews (a b : Read) (fs ds : List RowFact) : Type 0 where
   pub follows : Follows a fs b
   pub kept : AreRead b
-  pub goes : Goes b.checked b.links b.waits b.cells (news_behind a (items b.cells)) fs ds
+  pub goes : Goes b (news_behind a (items b.cells)) fs ds
 
 -- the facts are those of round n, 1,000,000 at most
 pub record IsFewRound (S : Source) (n : ℕ) (fs : List RowFact) : Type 0 where

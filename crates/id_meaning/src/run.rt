@@ -6,8 +6,7 @@ ghost use Rattle.id_source.specs.Computed.{HasMoreFacts};
 ghost use Rattle.id_facts.specs.Cells.{items};
 ghost use Rattle.id_facts.specs.RowFacts.{AreBefore};
 ghost use Rattle.id_facts.specs.Listed.{IsRound};
-ghost use Rattle.id_meaning.specs.Following.{Goes};
-ghost use Rattle.id_meaning.specs.Following.{AreFirst, FollowsNews, IsFewRound, IsStop, StartsWith};
+ghost use Rattle.id_meaning.specs.Following.{AreFirst, FollowsNews, Goes, IsFewRound, IsStop, StartsWith, read_of};
 
 use crate::followed::Followed;
 use crate::round::{MAX_FACTS, RoundsError};
@@ -115,8 +114,7 @@ fn learn_behind(
 ) -> Result<(), AllocError>
     requires { done ≤ length (items rules.now.cells.now) }
     ensures { OnOk result
-        (Goes rules.now.checked.now rules.now.links.now rules.now.waits.now rules.now.cells.now
-        (drop done (items rules.now.cells.now)) facts.old facts.new) }
+        (Goes (read_of rules.now) (drop done (items rules.now.cells.now)) facts.old facts.new) }
 {
     learn_effects(alloc, facts, rules, &rules.cells.items.as_slice()[done..])
 }
@@ -128,9 +126,7 @@ fn learn_effects(
     rules: &Rules<'_>,
     news: &[RowFact],
 ) -> Result<(), AllocError>
-    ensures { OnOk result
-        (Goes rules.now.checked.now rules.now.links.now rules.now.waits.now rules.now.cells.now
-        news.now facts.old facts.new) }
+    ensures { OnOk result (Goes (read_of rules.now) news.now facts.old facts.new) }
 {
     let mut found = Vec::new(alloc);
     for fact in news {

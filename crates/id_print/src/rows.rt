@@ -10,8 +10,8 @@ ghost use Rattle.id_print.specs.Texts.{fact_text, facts_text};
 ghost use Rattle.id_print.specs.Pens.{fact_in, name_in, path_in, place_in, site_in, value_in};
 
 use id_check::Checked;
-use id_facts::{RowFact, RowValue, Trail, path_of, row_of};
-use id_round::{Round, Tree, place_of, write_steps};
+use id_facts::{RowFact, RowValue, Trail, Tree, path_of, place_of, row_of};
+use id_meaning::{Round, write_steps};
 use id_sink::{
     Cursor, PrintError, Sink, put, put_at, put_bounds, put_index, put_int, put_steps, truth_bytes,
 };

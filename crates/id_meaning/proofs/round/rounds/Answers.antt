@@ -1,23 +1,28 @@
--- The facts are those of round n, and the list is that of these.
-use Rattle.std.proofs.Common.{List, subst, arith}
-use Rattle.id_value.specs.declared.Constant.{Constant}
+-- The list has the facts of the round, in its order.
+use Rattle.std.proofs.Common.{◌≡◌, ◌∙◌, List, length, ap, arith, subst, sym}
+use Rattle.id_source.specs.declared.Fact.{Fact}
+use Rattle.id_source.specs.Computed.{AreFacts}
 use Rattle.id_source.specs.Sources.{source}
-use Rattle.id_facts.specs.Listed.{IsRound}
-use Rattle.id_meaning.proofs.ListedLemmas.{AreFacts-from_rows, shown-count}
+use Rattle.id_facts.specs.Listed.{facts_in}
 use Rattle.id_meaning.proofs.round.rounds.Goals as goal
-
-pub list-requires : goal.list-requires
-list-requires c = c.in_ok-facts.ensures.facts.found.before
 
 pub returns-clause-facts : goal.returns-clause-facts
 returns-clause-facts c =
     let P = c.args.checked.now in
-    let R : List Constant → Type 0 = λ vs. IsRound (source P vs) c.args.n c.in_ok-facts.facts in
-    AreFacts-from_rows (source P c.args.inputs.now.values) c.args.n c.in_ok-facts.facts c.in_ok-all.all.items
-    (subst R c.as_slice.ensures c.in_ok-facts.ensures.facts) c.in_ok-all.ensures
+    let r = c.in-Ok.round in
+    let same : c.in_ok-all.all.items ≡ facts_in P r.paths r.rows.items =
+    c.in_ok-all.ensures ∙ ap (λ fs. facts_in P fs c.as_slice.result.now) (c.facts-facts.ensures ∙ c.tree.ensures)
+    ∙ ap (λ gs. facts_in P r.paths gs) c.as_slice.ensures.value in
+    let F : List Fact → Type 0 = λ fs. AreFacts (source P c.args.inputs.now.values) c.args.n fs in
+    subst F (sym same) c.in-Ok.ensures.facts
 
 pub returns-clause-few_facts : goal.returns-clause-few_facts
 returns-clause-few_facts c =
-    let few = c.in_ok-facts.ensures.few in
-    let same = shown-count c.args.checked.now c.in_ok-facts.facts c.in_ok-all.all.items c.in_ok-all.ensures in
-    omega (arith, few, same)
+    let P = c.args.checked.now in
+    let r = c.in-Ok.round in
+    let same : c.in_ok-all.all.items ≡ facts_in P r.paths r.rows.items =
+    c.in_ok-all.ensures ∙ ap (λ fs. facts_in P fs c.as_slice.result.now) (c.facts-facts.ensures ∙ c.tree.ensures)
+    ∙ ap (λ gs. facts_in P r.paths gs) c.as_slice.ensures.value in
+    let as_many = ap length same in
+    let few = c.in-Ok.ensures.few_facts in
+    omega (arith, as_many, few)

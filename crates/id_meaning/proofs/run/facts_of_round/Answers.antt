@@ -30,10 +30,12 @@ pub returns-in-Err-clause-few : goal.returns-in-Err-clause-few
 returns-in-Err-clause-few c = tt
 
 pub returns-in-Err-clause-asked : goal.returns-in-Err-clause-asked
-returns-in-Err-clause-asked c = stop-asked (source c.args.checked.now c.args.inputs.now) c.args.n c.in-Err.error c.in-Err.ensures.stop
+returns-in-Err-clause-asked c = stop-asked (source c.args.checked.now c.args.inputs.now) c.args.n c.in-Err.error
+    c.in-Err.ensures.stop
 
 pub returns-in-Err-clause-too_many : goal.returns-in-Err-clause-too_many
-returns-in-Err-clause-too_many c = stop-many (source c.args.checked.now c.args.inputs.now) c.args.n c.in-Err.error c.in-Err.ensures.stop
+returns-in-Err-clause-too_many c = stop-many (source c.args.checked.now c.args.inputs.now) c.args.n c.in-Err.error
+    c.in-Err.ensures.stop
 
 pub returns-clause-facts : goal.returns-clause-facts
 returns-clause-facts c = c.in_default.ensures.facts.round

@@ -10,8 +10,8 @@ returns c =
     let b = c.in_ok-followed.followed in
     let fs = c.args.facts.now in
     let ds = c.learn_behind.new.facts in
-    let F : Read → Type 0 = λ r. Goes r.checked r.links r.waits r.cells (drop c.len-done.result (items r.cells)) fs ds in
-    let G : ℕ → Type 0 = λ d. Goes b.checked b.links b.waits b.cells (drop d (items b.cells)) fs ds in
+    let F : Read → Type 0 = λ r. Goes r (drop c.len-done.result (items r.cells)) fs ds in
+    let G : ℕ → Type 0 = λ d. Goes b (drop d (items b.cells)) fs ds in
     record {
       follows = c.in_ok-followed.ensures;
       kept = c.rules.ensures.kept;

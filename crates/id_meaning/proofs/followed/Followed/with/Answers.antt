@@ -10,8 +10,10 @@ pub invariant_of-result : goal.invariant_of-result
 invariant_of-result c =
     let a = c.self.inside in
     let F : Read → Type 0 = λ r. StartsWith (items r.cells) c.args.facts.now in
-    read-more a.checked.now a.links a.cells c.add_all.new.self a.waits c.wait_all.new.waits c.len.result c.args.facts.now c.as_slice.result.now
-    c.self.invariant (subst F (sym c.self.view_is) c.requires.front) c.requires.before (omega (arith, c.len.ensures, a.cells.items.ok.0)) c.as_slice.ensures
+    read-more a.checked.now a.links a.cells c.add_all.new.self a.waits c.wait_all.new.waits c.len.result
+    c.args.facts.now c.as_slice.result.now
+    c.self.invariant (subst F (sym c.self.view_is) c.requires.front) c.requires.before (omega (arith, c.len.ensures,
+    a.cells.items.ok.0)) c.as_slice.ensures
     c.in_ok-add_all.ensures c.in_ok-wait_all.ensures
 
 pub returns : goal.returns
@@ -21,6 +23,7 @@ returns c =
     record {
       program = ap (λ r. r.checked) c.self.view_is;
       facts =
-          read-facts a.cells c.add_all.new.self c.len.result c.args.facts.now c.as_slice.result.now (subst F (sym c.self.view_is) c.requires.front)
+          read-facts a.cells c.add_all.new.self c.len.result c.args.facts.now c.as_slice.result.now (subst F (sym
+          c.self.view_is) c.requires.front)
           (omega (arith, c.len.ensures, a.cells.items.ok.0)) c.as_slice.ensures c.in_ok-add_all.ensures;
     }

@@ -21,7 +21,8 @@ returns-in-Put c =
     let found = c.add_put.new.found.items in
     let F : RowFact → Type 0 =
     λ f. OnOk c.add_put.result
-    (found ≡ c.args.found.now.items ++ effects c.args.self.now.checked.now c.args.self.now.links.now c.args.self.now.waits.now c.args.self.now.cells.now f) in
+    (found ≡ c.args.found.now.items ++ effects c.args.self.now.checked.now c.args.self.now.links.now
+    c.args.self.now.waits.now c.args.self.now.cells.now f) in
     subst F (sym c.in-Put.is) (rw (to_z-of_z w64 c.in-Put.index fits) at c.add_put.ensures)
 
 pub returns-in-Ask : goal.returns-in-Ask
@@ -30,5 +31,6 @@ returns-in-Ask c =
     let found = c.add_asked.new.found.items in
     let F : RowFact → Type 0 =
     λ f. OnOk c.add_asked.result
-    (found ≡ c.args.found.now.items ++ effects c.args.self.now.checked.now c.args.self.now.links.now c.args.self.now.waits.now c.args.self.now.cells.now f) in
+    (found ≡ c.args.found.now.items ++ effects c.args.self.now.checked.now c.args.self.now.links.now
+    c.args.self.now.waits.now c.args.self.now.cells.now f) in
     subst F (sym c.in-Ask.is) (rw (to_z-of_z w64 c.in-Ask.index fits) at c.add_asked.ensures)

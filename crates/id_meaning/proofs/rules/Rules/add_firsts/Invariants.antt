@@ -5,5 +5,6 @@ use Rattle.id_meaning.proofs.rules.Rules.add_firsts.Given as goal
 
 abbrev pub invariant-loop-next : goal.invariant-loop-next
 invariant-loop-next l =
-    l.found.items ++ firsts l.self.checked.now l.self.cells.now l.followed l.path l.row l.first l.head (drop l.next-index l.nexts) ≡ l.initial.found.items ++
+    l.found.items ++ firsts l.self.checked.now l.self.cells.now l.followed l.path l.row l.first l.head (drop
+    l.next-index l.nexts) ≡ l.initial.found.items ++
     firsts l.self.checked.now l.self.cells.now l.followed l.path l.row l.first l.head l.nexts

@@ -8,7 +8,8 @@ pub returns-in_err-add_gains : goal.returns-in_err-add_gains
 returns-in_err-add_gains c = on_ok _ c.from_residual.result c.from_residual.ensures.0
 
 pub returns-in_err-add_all_woken : goal.returns-in_err-add_all_woken
-returns-in_err-add_all_woken c = on_ok _ c.from_residual-in_err-add_all_woken.result c.from_residual-in_err-add_all_woken.ensures.0
+returns-in_err-add_all_woken c = on_ok _ c.from_residual-in_err-add_all_woken.result
+    c.from_residual-in_err-add_all_woken.ensures.0
 
 pub returns-in_err-add_exit : goal.returns-in_err-add_exit
 returns-in_err-add_exit c = on_ok _ c.from_residual-in_err-add_exit.result c.from_residual-in_err-add_exit.ensures.0

@@ -5,7 +5,7 @@ use Rattle.id_facts.specs.declared.facts.RowFact.{RowFact}
 use Rattle.id_source.specs.Sources.{source}
 use Rattle.id_facts.specs.Listed.{AreShown, IsRound, facts_in}
 use Rattle.id_meaning.proofs.ListedLemmas.{AreFacts-from_rows, shown-count}
-use Rattle.id_round.proofs.round.find_round.Goals as goal
+use Rattle.id_meaning.proofs.round.find_round.Goals as goal
 
 pub new-requires : goal.new-requires
 new-requires c = c.in_ok-facts.ensures.facts.found.before

@@ -1,8 +1,8 @@
 -- One step more, before those that are written.
 use Rattle.std.proofs.Common.{◌≡◌, ◌<◌, ◌-◌, ◌+◌, length, refl, ap, arith}
 use Rattle.id_facts.specs.Depths.{depth_at}
-use Rattle.id_round.proofs.WrittenLemmas.{depth-out, written-more, written-none}
-use Rattle.id_round.proofs.paths.write_steps.Goals as goal
+use Rattle.id_meaning.proofs.WrittenLemmas.{depth-out, written-more, written-none}
+use Rattle.id_meaning.proofs.paths.write_steps.Goals as goal
 
 pub loop-rest-init : goal.loop-rest-init
 loop-rest-init c =
