@@ -7,11 +7,13 @@
 //! Not here: elements (`id_element`), records (`id_record`), what they show (`id_observe`): their names are handed on.
 #![tactic(auto)]
 
+mod counts;
 mod entering;
 mod machine;
 
+pub use counts::{Count, MAX_ELEMENTS};
 pub use entering::takes_inputs;
 pub use id_element::{Element, Gate, Handling, Open, TakeError, fits};
 pub use id_observe::{CellValue, Holdings, Merged, Observed, merge_records, observe_records};
 pub use id_record::{Event, Events, Fault, Keeps, Outputs, Step};
-pub use machine::{MAX_ELEMENTS, Machine, MachineError, fresh_elements, start_flight};
+pub use machine::{Machine, MachineError, fresh_elements, start_flight};

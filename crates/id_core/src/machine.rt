@@ -12,6 +12,7 @@ ghost use Rattle.id_core.specs.Machines.{AllKeep, AreElements, TakesInputs};
 ghost use Rattle.id_core.specs.Machines.{input_messages, start_message, start_messages};
 ghost use Rattle.id_observe.specs.Observed.{main_tag};
 
+use crate::counts::Count;
 use id_element::{Element, Gate, Handling, TakeError};
 use id_flight::Queue;
 use id_instr::Port;
@@ -27,9 +28,6 @@ use id_valid::Valid;
 use id_value::Constant;
 use std::alloc::{AllocError, AllocFailed, Global};
 use std::marker::Model;
-
-/// The most elements that a machine may have.
-pub const MAX_ELEMENTS: u32 = 64;
 
 /// Why there is no machine.
 #[derive(Clone, Copy)]
@@ -153,9 +151,29 @@ impl<'a> Machine<'a> {
         }) }
         ensures refused { (result ≡ Err BadElements) ↔ ((count ≡ 0) ⊎ (64 < count)) }
     {
-        if count == 0 || count > MAX_ELEMENTS {
+        let Some(count) = Count::new(count) else {
             return Err(MachineError::BadElements);
-        }
+        };
+        let machine = Machine::begin(alloc, graph, inputs, count, keeps)?;
+        Ok(machine)
+    }
+
+    /// The same, of so many as a machine may have.
+    pub fn begin(
+        alloc: Global,
+        graph: &'a Valid,
+        inputs: &Inputs,
+        count: Count,
+        keeps: Keeps,
+    ) -> Result<Machine<'a>, AllocError>
+        requires { TakesInputs graph.now inputs.now.values }
+        ensures { IfOk result (λ m. m ≡ record {
+          graph = graph.now;
+          count = count.number;
+          keeps = keeps;
+          world = start graph.now inputs.now.values count.number;
+        }) }
+    {
         let elements = fresh_elements(alloc, graph, count, keeps)?;
         let flight = start_flight(alloc, graph, inputs)?;
         Ok(Machine {
@@ -287,6 +305,15 @@ impl<'a> Machine<'a> {
         first_fault(alloc, self.graph, self.elements())
     }
 
+    /// How many elements there are. Takes no memory.
+    pub fn count(&self) -> Count
+        ensures { result.number ≡ self.now.count }
+    {
+        Count {
+            number: self.elements.len() as u32,
+        }
+    }
+
     /// How much each element keeps of its events. Takes no memory.
     pub fn keeps(&self) -> Keeps
         ensures { result ≡ self.now.keeps }
@@ -299,6 +326,7 @@ impl<'a> Machine<'a> {
         ensures elements { AreElements self.now.graph self.now.count result.now }
         ensures world { world_of result.now self.now.world.flight ≡ self.now.world }
         ensures kept { AllKeep self.now.keeps result.now }
+        ensures len { length result.now ≡ self.now.count }
         // So `merge_records` takes them, where they keep all.
         ensures rise { IsStrictlyIncreasing (map (λ e. e.number) result.now) }
     {
@@ -326,19 +354,17 @@ fn give_back(elements: &mut [Element<'_>], alloc: Global)
 pub fn fresh_elements<'a>(
     alloc: Global,
     graph: &'a Valid,
-    count: u32,
+    count: Count,
     keeps: Keeps,
 ) -> Result<Vec<Element<'a>>, AllocError>
-    requires at_least_one { 0 < count }
-    requires at_most_64 { count ≤ 64 }
-    ensures len { IfOk result (λ es. length es.items ≡ count) }
-    ensures elements { IfOk result (λ es. AreElements graph.now count es.items) }
+    ensures len { IfOk result (λ es. length es.items ≡ count.number) }
+    ensures elements { IfOk result (λ es. AreElements graph.now count.number es.items) }
     ensures kept { IfOk result (λ es. AllKeep keeps es.items) }
-    ensures states { IfOk result (λ es. map (λ e. e.state) es.items ≡ replicate count fresh) }
+    ensures states { IfOk result (λ es. map (λ e. e.state) es.items ≡ replicate count.number fresh) }
 {
-    let mut elements = Vec::with_capacity(alloc, count as usize)?;
-    for number in 0..count {
-        elements.push_reserved(Element::keeping(alloc, number, count, graph, keeps));
+    let mut elements = Vec::with_capacity(alloc, count.number as usize)?;
+    for number in 0..count.number {
+        elements.push_reserved(Element::keeping(alloc, number, count.number, graph, keeps));
     }
     Ok(elements)
 }

@@ -9,7 +9,7 @@ use Rattle.id_core.proofs.machine.fresh_elements.Goals as goal
 pub loop-number-preserved : goal.loop-number-preserved
 loop-number-preserved c =
     let items = c.loop-number.elements.items in
-    let made : IsElement c.args.graph.now c.args.count (length items) c.keeping.result = record {
+    let made : IsElement c.args.graph.now c.args.count.number (length items) c.keeping.result = record {
       number = ap (λ v. v.number) c.keeping.ensures ∙ sym c.loop-number.invariant.0;
       count_is = ap (λ v. v.count) c.keeping.ensures;
       graph = ap (λ v. v.graph) c.keeping.ensures;
@@ -17,7 +17,7 @@ loop-number-preserved c =
       rw (c.push_reserved.ensures.items, length_push items c.keeping.result, c.loop-number.invariant.0),
       omega arith,
       omega arith,
-      rw c.push_reserved.ensures.items (AreElements-push c.args.graph.now c.args.count items c.keeping.result c.loop-number.invariant.3 made),
+      rw c.push_reserved.ensures.items (AreElements-push c.args.graph.now c.args.count.number items c.keeping.result c.loop-number.invariant.3 made),
       rw c.push_reserved.ensures.items (All-push (λ e. e.keeps ≡ c.args.keeps) items c.keeping.result c.loop-number.invariant.4 (ap (λ v. v.keeps) c.keeping.ensures)),
       rw (
         c.push_reserved.ensures.items,

@@ -8,7 +8,7 @@ abbrev pub invariant-loop-number : goal.invariant-loop-number
 invariant-loop-number l =
     (length l.elements.items ≡ l.number)
     × (vec_len l.elements ≡ l.number)
-    × (l.count ≤ vec_capacity l.elements)
-    × AreElements l.graph l.count l.elements.items
+    × (l.count.number ≤ vec_capacity l.elements)
+    × AreElements l.graph l.count.number l.elements.items
     × AllKeep l.keeps l.elements.items
     × (map (λ e. e.state) l.elements.items ≡ replicate l.number fresh)
