@@ -1,7 +1,6 @@
 -- A run in the order that a seed gives (specs/Runs.antt).
 use Rattle.std.proofs.Common.{◌≡◌, ℕ, ◌+◌, ◌-◌, ◌*◌, ◌<◌, ◌≤◌, List, [], ◌∷◌, ◌++◌, All, length, replicate, refl, sym, ap, subst, ◌∙◌, arith, length-append, get_or}
 use Rattle.std.specs.List.{flat_map, sum_by}
-use Rattle.std.proofs.lemmas.List.{length-replicate}
 use Rattle.std.proofs.lemmas.List.Elements.{All-replicate}
 use Rattle.std.proofs.lemmas.List.Folds.{sum_by-replicate}
 use Rattle.std.proofs.lemmas.List.Sums.{sum_by-le, sum_by-set}
@@ -15,8 +14,8 @@ use Rattle.id_core.specs.Steps.{State, event_of, fresh, outputs_of, state_after}
 use Rattle.id_core.specs.Machines.{World, MachineView, delivered, start, start_messages, taken_from}
 use Rattle.id_core.specs.Machines as machines
 use Rattle.id_runs.specs.Accounts.{IsAccounted, sent_of, taken_of}
-use Rattle.id_elements.specs.Runs.{AreHeldBefore, HasCount, HasWent, IsByPositions, IsDelivered, IsFree, StopAtFaults}
-use Rattle.id_elements.proofs.FinishLemmas.{IsFree-within, before_removed, counts_on, delivered-free, goes_on, held_on, stop_where_went, within_on}
+use Rattle.id_elements.specs.Runs.{AreHeldBefore, HasWent, IsByPositions, IsDelivered, IsFree, StopAtFaults}
+use Rattle.id_elements.proofs.FinishLemmas.{IsFree-within, after_is, as_many, before_removed, goes_on, held_of, held_on, stop_where_went, within_on}
 
 -- ---- how many messages were handled
 
@@ -24,22 +23,16 @@ use Rattle.id_elements.proofs.FinishLemmas.{IsFree-within, before_removed, count
 abbrev pub handled : World → ℕ
 handled w = sum_by (λ (s : State). length s.events) w.elements
 
-pub handled_few : (count steps : ℕ) (m : MachineView) → m.count ≡ count → HasCount m → All (λ (s : State). length s.events ≤ steps) m.world.elements
-    → handled m.world ≤ count * steps
-handled_few count steps m same has few =
-    subst (λ (n : ℕ). handled m.world ≤ n * steps) (has.2 ∙ same)
-    (sum_by-le (λ (s : State). length s.events) steps m.world.elements few)
+pub handled_few : (steps : ℕ) (w : World) → All (λ (s : State). length s.events ≤ steps) w.elements → handled w ≤ length w.elements * steps
+handled_few steps w few = sum_by-le (λ (s : State). length s.events) steps w.elements few
 
-module _ (steps count k : ℕ) (old new : MachineView) (same : old.count ≡ count) (f : IsFree count steps old.world k)
+module _ (steps k : ℕ) (old new : MachineView) (f : IsFree old.count steps old.world k)
     (is : new ≡ record old { world = delivered old.graph old.count old.world k }) where
   abbrev number : ℕ
-  number = route_of f.message.payload count
+  number = route_of f.message.payload old.count
 
   abbrev next : State
   next = state_after old.graph number f.state f.message
-
-  world_is : new.world ≡ taken_from old.graph k old.world f.message number f.state
-  world_is = ap (λ (m : MachineView). m.world) is ∙ (ap (λ (c : ℕ). delivered old.graph c old.world k) same ∙ delivered-free old.graph count steps old.world k f)
 
   -- one more by each delivery
   pub handled_more : handled new.world ≡ handled old.world + 1
@@ -48,31 +41,34 @@ module _ (steps count k : ℕ) (old new : MachineView) (same : old.count ≡ cou
       let at : get_or old.world.elements number f.state ≡ f.state = get_or_from_slice_get old.world.elements number f.state f.state f.element in
       let s = sum_by-set (λ (x : State). length x.events) old.world.elements number next f.state here in
       let long = length-append f.state.events (event_of old.graph number f.state f.message ∷ []) in
-      let e = ap handled world_is in
+      let e = ap handled (after_is steps k old new f is) in
       let b = ap (λ (x : State). length x.events) at in
       omega (arith, s, long, e, b)
 
   -- so there is less left that they may handle
-  pub fewer_left : HasCount old → All (λ (s : State). length s.events ≤ steps) old.world.elements
-      → count * steps - handled new.world < count * steps - handled old.world
-  fewer_left has few = less (count * steps) (handled old.world) (handled new.world) handled_more
-      (handled_few count steps new (ap (λ (m : MachineView). m.count) is ∙ same) (counts_on steps count k old new same f is has)
-      (goes_on steps count k old new same f is few).few)
+  pub fewer_left : All (λ (s : State). length s.events ≤ steps) old.world.elements
+      → length new.world.elements * steps - handled new.world < length old.world.elements * steps - handled old.world
+  fewer_left few =
+      let many = as_many steps k old new f is in
+      let most = handled_few steps new.world (goes_on steps k old new f is few).few in
+      subst (λ (n : ℕ). n * steps - handled new.world < length old.world.elements * steps - handled old.world) (sym many)
+      (less (length old.world.elements * steps) (handled old.world) (handled new.world) handled_more
+      (subst (λ (n : ℕ). handled new.world ≤ n * steps) many most))
     where
       less : (n a b : ℕ) → b ≡ a + 1 → b ≤ n → n - b < n - a
       less n a b more most = omega (arith, more, most)
 
   -- ---- what is held back before a position that is not behind the delivered one
 
-  pub held_upto : (from : ℕ) → from ≤ k → AreHeldBefore count steps old.world from → AreHeldBefore count steps new.world from
-  held_upto from le held = subst (λ (w : World). AreHeldBefore count steps w from) (sym world_is) on
+  pub held_upto : (from : ℕ) → from ≤ k → AreHeldBefore old.count steps old.world from → AreHeldBefore new.count steps new.world from
+  held_upto from le held = held_of steps k old new f is from on
     where
-      on : AreHeldBefore count steps (taken_from old.graph k old.world f.message number f.state) from
-      on j m lt at = held_on old.graph count steps old.world k f m
-          (held j m lt (sym (before_removed old.world.flight (outputs_of old.graph number f.state f.message) k j (omega (arith, lt, le)) (IsFree-within count steps old.world k f)) ∙ at))
+      on : AreHeldBefore old.count steps (taken_from old.graph k old.world f.message number f.state) from
+      on j m lt at = held_on old.graph old.count steps old.world k f m
+          (held j m lt (sym (before_removed old.world.flight (outputs_of old.graph number f.state f.message) k j (omega (arith, lt, le)) (IsFree-within old.count steps old.world k f)) ∙ at))
 
   pub within_upto : (from : ℕ) → from ≤ k → from ≤ length new.world.flight
-  within_upto from le = let w = within_on steps count k old new same f is in omega (arith, w, le)
+  within_upto from le = let w = within_on steps k old new f is in omega (arith, w, le)
 
 -- ---- where it has come to
 
@@ -99,12 +95,6 @@ delivered_more a b c k d same_graph same_count is = record {
 
 module _ (g : Parts) (vs : List Constant) (count : ℕ) (keeps : Keeps) (m : MachineView)
     (is : m ≡ record { graph = g; count = count; keeps = keeps; world = start g vs count }) where
-  pub start_counts : 0 < count → count ≤ 64 → HasCount m
-  start_counts some few =
-      let c : m.count ≡ count = ap (λ (x : MachineView). x.count) is in
-      let l : length m.world.elements ≡ count = ap (λ (x : MachineView). length x.world.elements) is ∙ length-replicate count fresh in
-      (omega (arith, some, c), omega (arith, few, c), l ∙ sym c)
-
   pub start_few : (steps : ℕ) → All (λ (s : State). length s.events ≤ steps) m.world.elements
   start_few steps = subst (λ (x : MachineView). All (λ (s : State). length s.events ≤ steps) x.world.elements) (sym is)
       (All-replicate (λ (s : State). length s.events ≤ steps) count fresh (omega arith))

@@ -18,7 +18,7 @@ use Rattle.id_core.specs.Machines.{World, MachineView, delivered, event_at, even
 use Rattle.id_element.specs.Replays.{ElementView}
 use Rattle.id_value.proofs.PlacesLemmas.{set-here, set-elsewhere, slice_get-image}
 use Rattle.id_runs.specs.Accounts.{IsAccounted}
-use Rattle.id_elements.specs.Runs.{AreHeldBefore, GoesOn, HasCount, HasWent, IsFree, IsHeldBack, StopAtFaults}
+use Rattle.id_elements.specs.Runs.{AreHeldBefore, GoesOn, HasWent, IsFree, IsHeldBack, StopAtFaults}
 use Rattle.id_elements.specs.Workers.{StopsAtFault, sent_in, weight_taken}
 use Rattle.id_elements.proofs.WorkersLemmas.{sent_after, taken_after, weight_removed}
 
@@ -38,11 +38,11 @@ event-free g count steps w k f =
     ap (event_of_routed g count w) f.at ∙ ap (event_of_given g n f.message) f.element ∙ ap (λ b. cond b None (Some (event_of g n f.state f.message))) f.stamp
 
 -- and what is said of it is its step
-pub step-free : (g : Parts) (count count' steps : ℕ) (w : World) (k : ℕ) → (f : IsFree count steps w k) (x : Step) → count' ≡ count
-    → option_map (λ (v : EventView). v.step) (event_at g count' w k) ≡ Some x → (event_of g (route_of f.message.payload count) f.state f.message).step ≡ x
-step-free g count count' steps w k f x same is =
+pub step-free : (g : Parts) (count steps : ℕ) (w : World) (k : ℕ) → (f : IsFree count steps w k) (x : Step)
+    → option_map (λ (v : EventView). v.step) (event_at g count w k) ≡ Some x → (event_of g (route_of f.message.payload count) f.state f.message).step ≡ x
+step-free g count steps w k f x is =
     some_same (event_of g (route_of f.message.payload count) f.state f.message).step x
-    (sym (ap (option_map (λ (v : EventView). v.step)) (event-free g count steps w k f)) ∙ (ap (λ (c : ℕ). option_map (λ (v : EventView). v.step) (event_at g c w k)) (sym same) ∙ is))
+    (sym (ap (option_map (λ (v : EventView). v.step)) (event-free g count steps w k f)) ∙ is)
 
 pub delivered-free : (g : Parts) (count steps : ℕ) (w : World) (k : ℕ) → (f : IsFree count steps w k)
     → delivered g count w k ≡ taken_from g k w f.message (route_of f.message.payload count) f.state
@@ -216,70 +216,54 @@ pub free_by : (w : World) (count steps k : ℕ) (s : State) (x : Message) → sl
     → length s.events ≢ steps → IsFalse (is_ended s x) → IsFree count steps w k
 free_by w count steps k s x there at some stamp = record { message = x; at = there; state = s; element = at; some = some; stamp = stamp }
 
--- one delivery more
-pub goes_on : (steps count k : ℕ) (old new : MachineView) → old.count ≡ count → IsFree count steps old.world k
-    → new ≡ record old { world = delivered old.graph old.count old.world k } → All (λ (s : State). length s.events ≤ steps) old.world.elements
-    → GoesOn steps old new
-goes_on steps count k old new same f is few =
-    let world_is : new.world ≡ to old.graph count steps old.world k f =
-    ap (λ (m : MachineView). m.world) is ∙ (ap (λ (c : ℕ). delivered old.graph c old.world k) same ∙ delivered-free old.graph count steps old.world k f) in
-    record {
-      same_graph = ap (λ (m : MachineView). m.graph) is;
-      same_count = ap (λ (m : MachineView). m.count) is;
-      same_keeps = ap (λ (m : MachineView). m.keeps) is;
-      few = subst (λ (w : World). All (λ (s : State). length s.events ≤ steps) w.elements) (sym world_is) (few_after old.graph count steps old.world k f few);
-      accounted = λ start was. subst (λ (w : World). IsAccounted start w.elements w.flight) (sym world_is) (accounted_after old.graph count steps old.world k f start was);
-    }
+-- ---- what a delivery leaves
 
-pub counts_on : (steps count k : ℕ) (old new : MachineView) → old.count ≡ count → IsFree count steps old.world k
-    → new ≡ record old { world = delivered old.graph old.count old.world k } → HasCount old → HasCount new
-counts_on steps count k old new same f is has =
-    let world_is : new.world ≡ to old.graph count steps old.world k f =
-    ap (λ (m : MachineView). m.world) is ∙ (ap (λ (c : ℕ). delivered old.graph c old.world k) same ∙ delivered-free old.graph count steps old.world k f) in
-    let c : new.count ≡ old.count = ap (λ (m : MachineView). m.count) is in
-    let l : length new.world.elements ≡ length (slice_set old.world.elements (number old.graph count steps old.world k f) (next old.graph count steps old.world k f)) =
-    ap (λ (w : World). length w.elements) world_is in
-    let m = length-set old.world.elements (number old.graph count steps old.world k f) (next old.graph count steps old.world k f) in
-    let a = has.0 in
-    let b = has.1 in
-    let d = has.2 in
-    (omega (arith, a, c), omega (arith, b, c), omega (arith, c, l, m, d))
+module _ (steps k : ℕ) (old new : MachineView) (f : IsFree old.count steps old.world k)
+    (is : new ≡ record old { world = delivered old.graph old.count old.world k }) where
+  pub after_is : new.world ≡ to old.graph old.count steps old.world k f
+  after_is = ap (λ (m : MachineView). m.world) is ∙ delivered-free old.graph old.count steps old.world k f
 
-pub within_on : (steps count k : ℕ) (old new : MachineView) → old.count ≡ count → IsFree count steps old.world k
-    → new ≡ record old { world = delivered old.graph old.count old.world k } → k ≤ length new.world.flight
-within_on steps count k old new same f is =
-    let world_is : new.world ≡ to old.graph count steps old.world k f =
-    ap (λ (m : MachineView). m.world) is ∙ (ap (λ (c : ℕ). delivered old.graph c old.world k) same ∙ delivered-free old.graph count steps old.world k f) in
-    subst (λ (w : World). k ≤ length w.flight) (sym world_is)
-    (still_within old.world.flight (outputs_of old.graph (number old.graph count steps old.world k f) f.state f.message) k (IsFree-within count steps old.world k f))
+  pub goes_on : All (λ (s : State). length s.events ≤ steps) old.world.elements → GoesOn steps old new
+  goes_on few = record {
+    same_graph = ap (λ (m : MachineView). m.graph) is;
+    same_count = ap (λ (m : MachineView). m.count) is;
+    same_keeps = ap (λ (m : MachineView). m.keeps) is;
+    few = subst (λ (w : World). All (λ (s : State). length s.events ≤ steps) w.elements) (sym after_is) (few_after old.graph old.count steps old.world k f few);
+    accounted = λ start was. subst (λ (w : World). IsAccounted start w.elements w.flight) (sym after_is) (accounted_after old.graph old.count steps old.world k f start was);
+  }
 
-pub held_on_all : (steps count k : ℕ) (old new : MachineView) → old.count ≡ count → IsFree count steps old.world k
-    → new ≡ record old { world = delivered old.graph old.count old.world k } → AreHeldBefore count steps old.world k → AreHeldBefore count steps new.world k
-held_on_all steps count k old new same f is held =
-    let world_is : new.world ≡ to old.graph count steps old.world k f =
-    ap (λ (m : MachineView). m.world) is ∙ (ap (λ (c : ℕ). delivered old.graph c old.world k) same ∙ delivered-free old.graph count steps old.world k f) in
-    subst (λ (w : World). AreHeldBefore count steps w k) (sym world_is) (held_before old.graph count steps old.world k f held)
+  pub as_many : length new.world.elements ≡ length old.world.elements
+  as_many = ap (λ (w : World). length w.elements) after_is
+      ∙ length-set old.world.elements (number old.graph old.count steps old.world k f) (next old.graph old.count steps old.world k f)
 
--- the event of a delivery is the last of an element, so where it did not go well, not every event went well
-pub failed_on : (steps count k : ℕ) (old new : MachineView) (x : Step) → old.count ≡ count → (f : IsFree count steps old.world k)
-    → new ≡ record old { world = delivered old.graph old.count old.world k }
-    → (event_of old.graph (route_of f.message.payload count) f.state f.message).step ≡ x → x ≢ Went → HasWent new.world → ⊥
-failed_on steps count k old new x same f is step_is bad went =
-    let world_is : new.world ≡ to old.graph count steps old.world k f =
-    ap (λ (m : MachineView). m.world) is ∙ (ap (λ (c : ℕ). delivered old.graph c old.world k) same ∙ delivered-free old.graph count steps old.world k f) in
-    let n = number old.graph count steps old.world k f in
-    let a = next old.graph count steps old.world k f in
-    let here = slice_get_within old.world.elements n f.state f.element in
-    let all : HasWent (to old.graph count steps old.world k f) = subst HasWent world_is went in
-    let mine : AllWent (get_or (slice_set old.world.elements n a) n a).events = all n a (omega (arith, here, length-set old.world.elements n a)) in
-    let mine' : AllWent a.events = subst (λ (s : State). AllWent s.events) (get_or-set_same old.world.elements n a a here) mine in
-    let v : EventView = event_of old.graph n f.state f.message in
-    let long = length-append f.state.events (v ∷ []) in
-    bad (sym step_is ∙ (ap (λ (u : EventView). u.step) (sym (last f.state.events v)) ∙ mine' (length f.state.events) v (omega (arith, long))))
-  where
-    last : (es : List EventView) (v : EventView) → get_or (es ++ v ∷ []) (length es) v ≡ v
-    last [] v = refl
-    last (x ∷ xs) v = last xs v
+  pub within_on : k ≤ length new.world.flight
+  within_on = subst (λ (w : World). k ≤ length w.flight) (sym after_is)
+      (still_within old.world.flight (outputs_of old.graph (number old.graph old.count steps old.world k f) f.state f.message) k (IsFree-within old.count steps old.world k f))
+
+  -- what is held back in front of a position of the old machine, if it is so behind the delivery
+  pub held_of : (from : ℕ) → AreHeldBefore old.count steps (to old.graph old.count steps old.world k f) from → AreHeldBefore new.count steps new.world from
+  held_of from held = subst (λ (n : ℕ). AreHeldBefore n steps new.world from) (sym (ap (λ (m : MachineView). m.count) is))
+      (subst (λ (w : World). AreHeldBefore old.count steps w from) (sym after_is) held)
+
+  pub held_on_all : AreHeldBefore old.count steps old.world k → AreHeldBefore new.count steps new.world k
+  held_on_all held = held_of k (held_before old.graph old.count steps old.world k f held)
+
+  -- the event of a delivery is the last of an element, so where it did not go well, not every event went well
+  pub failed_on : (x : Step) → (event_of old.graph (route_of f.message.payload old.count) f.state f.message).step ≡ x → x ≢ Went → HasWent new.world → ⊥
+  failed_on x step_is bad went =
+      let n = number old.graph old.count steps old.world k f in
+      let a = next old.graph old.count steps old.world k f in
+      let here = slice_get_within old.world.elements n f.state f.element in
+      let all : HasWent (to old.graph old.count steps old.world k f) = subst HasWent after_is went in
+      let mine : AllWent (get_or (slice_set old.world.elements n a) n a).events = all n a (omega (arith, here, length-set old.world.elements n a)) in
+      let mine' : AllWent a.events = subst (λ (s : State). AllWent s.events) (get_or-set_same old.world.elements n a a here) mine in
+      let v : EventView = event_of old.graph n f.state f.message in
+      let long = length-append f.state.events (v ∷ []) in
+      bad (sym step_is ∙ (ap (λ (u : EventView). u.step) (sym (last f.state.events v)) ∙ mine' (length f.state.events) v (omega (arith, long))))
+    where
+      last : (es : List EventView) (v : EventView) → get_or (es ++ v ∷ []) (length es) v ≡ v
+      last [] v = refl
+      last (x ∷ xs) v = last xs v
 
 -- ---- no element handles a message behind a fault
 
@@ -314,17 +298,14 @@ all_set P ss n s all mine k d lt = cases (cases_eq k n)
         subst P (sym (ap (λ (j : ℕ). get_or (slice_set ss n s) j d) is ∙ get_or-set_same ss n s d here)) mine
     cases (inr other) = subst P (sym (get_or-set_other ss n k s d other)) (all k d (omega (arith, lt, length-set ss n s)))
 
-module _ (steps count k : ℕ) (old new : MachineView) (x : Step) (same : old.count ≡ count) (f : IsFree count steps old.world k)
+module _ (steps k : ℕ) (old new : MachineView) (x : Step) (f : IsFree old.count steps old.world k)
     (is : new ≡ record old { world = delivered old.graph old.count old.world k })
-    (step_is : (event_of old.graph (route_of f.message.payload count) f.state f.message).step ≡ x) (went : HasWent old.world) where
+    (step_is : (event_of old.graph (route_of f.message.payload old.count) f.state f.message).step ≡ x) (went : HasWent old.world) where
   abbrev place : ℕ
-  place = route_of f.message.payload count
+  place = route_of f.message.payload old.count
 
   abbrev event : EventView
   event = event_of old.graph place f.state f.message
-
-  after_is : new.world ≡ to old.graph count steps old.world k f
-  after_is = ap (λ (m : MachineView). m.world) is ∙ (ap (λ (c : ℕ). delivered old.graph c old.world k) same ∙ delivered-free old.graph count steps old.world k f)
 
   before_it : AllWent f.state.events
   before_it = subst (λ (s : State). AllWent s.events) (get_or_from_slice_get old.world.elements place f.state f.state f.element)
@@ -332,14 +313,14 @@ module _ (steps count k : ℕ) (old new : MachineView) (x : Step) (same : old.co
 
   -- a delivery behind which every event went well keeps it so, where its own event does
   pub went_on : x ≡ Went → HasWent new.world
-  went_on good = subst HasWent (sym after_is)
-      (all_set (λ (s : State). AllWent s.events) old.world.elements place (next old.graph count steps old.world k f) went
+  went_on good = subst HasWent (sym (after_is steps k old new f is))
+      (all_set (λ (s : State). AllWent s.events) old.world.elements place (next old.graph old.count steps old.world k f) went
       (went_more f.state.events event before_it (step_is ∙ good)))
 
   -- and whatever its event is, none came behind a fault
   pub stop_on : StopAtFaults new.world
-  stop_on = subst StopAtFaults (sym after_is)
-      (all_set (λ (s : State). StopsAtFault s.events) old.world.elements place (next old.graph count steps old.world k f)
+  stop_on = subst StopAtFaults (sym (after_is steps k old new f is))
+      (all_set (λ (s : State). StopsAtFault s.events) old.world.elements place (next old.graph old.count steps old.world k f)
       (stop_where_went old.world went) (stops_more f.state.events event before_it))
 
 -- ---- one delivery after others
@@ -354,8 +335,7 @@ goes_on_more steps a b c p q = record {
 }
 
 -- all messages are held back, where all before the end are
-pub all_held : (count count' steps : ℕ) (w : World) (k : ℕ) → AreHeldBefore count steps w k → k ≡ length w.flight → count' ≡ count
-    → All (IsHeldBack count' steps w) w.flight
-all_held count count' steps w k held end same j d lt =
+pub all_held : (count steps : ℕ) (w : World) (k : ℕ) → AreHeldBefore count steps w k → k ≡ length w.flight → All (IsHeldBack count steps w) w.flight
+all_held count steps w k held end j d lt =
     let here : slice_get w.flight j ≡ Some (get_or w.flight j d) = slice_get-get_or w.flight j d lt in
-    subst (λ (n : ℕ). IsHeldBack n steps w (get_or w.flight j d)) (sym same) (held j (get_or w.flight j d) (omega (arith, lt, end)) here)
+    held j (get_or w.flight j d) (omega (arith, lt, end)) here

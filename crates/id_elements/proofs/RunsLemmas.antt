@@ -7,7 +7,6 @@ use Rattle.id_core.specs.Merged.{by_moment}
 use Rattle.id_core.specs.Firsts.{AreMergedOf}
 use Rattle.std.specs.List.{flat_map}
 use Rattle.std.proofs.lemmas.Grind.{flat_map-append}
-use Rattle.std.proofs.lemmas.List.{length-map}
 use Rattle.std.proofs.lemmas.List.Elements.{All-append, All-from_recursion, All-nil, recursion_from_All}
 use Rattle.id_instr.specs.Graph.{Parts}
 use Rattle.id_value.specs.declared.Constant.{Constant}
@@ -105,11 +104,10 @@ one_more P xs n x there is here before k d lt = cases (cases_eq k n)
 
 -- its states are what the records lead to
 pub replayed_of : (m : MachineView) (es : List ElementView) → AreElements m.graph m.count es → world_of es m.world.flight ≡ m.world
-    → length m.world.elements ≡ m.count → ((k : ℕ) (d : ElementView) → k < length es → Replays (get_or es k d)) → AreReplayed m.graph m.count m.world.elements
+    → length es ≡ m.count → ((k : ℕ) (d : ElementView) → k < length es → Replays (get_or es k d)) → AreReplayed m.graph m.count m.world.elements
 replayed_of m es are is long each =
     let same : states_of es ≡ m.world.elements = ap (λ (w : World). w.elements) is in
-    let len : length es ≡ m.count = sym (length-map es (λ (e : ElementView). e.state)) ∙ (ap length same ∙ long) in
-    subst (AreReplayed m.graph m.count) same (AreReplayed-from m.graph m.count es len are (recursion_from_All Replays es each))
+    subst (AreReplayed m.graph m.count) same (AreReplayed-from m.graph m.count es long are (recursion_from_All Replays es each))
 
 -- ---- whether no event was `Stuck`
 

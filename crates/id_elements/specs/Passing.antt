@@ -1,5 +1,5 @@
 -- How messages move between a worker's lists (docs/THREADS.md, "A worker").
-use Rattle.std.specs.Prelude.{◌≡◌, ◌+◌, ◌-◌, ℕ, List, [], ◌++◌, ◌∷◌, All}
+use Rattle.std.specs.Prelude.{◌≡◌, ◌<◌, ◌+◌, ◌-◌, ℕ, List, [], ◌++◌, ◌∷◌, All}
 use Rattle.std.specs.Prelude.{length, slice_get, take, OnErr, OnOk, Result, Some}
 use Rattle.std.specs.List.{sum_by}
 use Rattle.std.specs.declared.alloc.AllocError.{AllocError}
@@ -24,6 +24,7 @@ pub record IsGoalAt (count : ℕ) (ms : List Message) (k n : ℕ) : Type 0 where
   pub message : Message
   pub there : slice_get ms k ≡ Some message
   pub routed : route_of message.payload count ≡ n
+  pub below : n < count
 
 -- those of the last so many messages of its own that are for others than the element of this number were sent on: no
 -- message is lost, and where all went well, what is left is for the element

@@ -96,10 +96,6 @@ abbrev pub AreHeldBefore : ℕ → ℕ → World → ℕ → Type 0
 AreHeldBefore count steps w k =
     (j : ℕ) (m : Message) → j < k → slice_get w.flight j ≡ Some m → IsHeldBack count steps w m
 
--- the machine has as many elements as it says
-abbrev pub HasCount : MachineView → Type 0
-HasCount m = (0 < m.count) × (m.count ≤ 64) × (length m.world.elements ≡ m.count)
-
 -- the machine has gone on: it is of the same graph and of as many elements, which keep as much, none of which has
 -- handled more than so many messages, and its records account for each message for which they did before
 pub record GoesOn (steps : ℕ) (old new : MachineView) : Type 0 where

@@ -2,16 +2,16 @@
 
 ghost use Rattle.std.specs.Prelude.{◌≡◌, ◌<◌, ◌≤◌, ◌⊎◌, ◌↔◌, All, length, Err, IfErr, IfOk};
 ghost use Rattle.std.specs.Prelude.{IfSome, IsFalse, IsTrue, OnOk};
-ghost use Rattle.id_core.specs.Machines.{TakesInputs, delivered, start};
-ghost use Rattle.id_elements.specs.Runs.{AreBadSteps, HasCount, HasWent, IsByPositions, IsDelivered, IsFinished};
+ghost use Rattle.id_core.specs.Machines.{TakesInputs, delivered};
+ghost use Rattle.id_elements.specs.Runs.{AreBadSteps, HasWent, IsByPositions, IsDelivered, IsFinished};
 ghost use Rattle.id_elements.specs.Runs.{IsFree, IsRefusedRun, IsRun, MovesOn, StopAtFaults};
 ghost use Rattle.id_elements.specs.declared.settings.RunError.TheVariants.{BadElements, BadSteps};
 
 use crate::ended::Run;
 use crate::finish::{deliver, first_free, is_held_back};
 use crate::running::{moves_on, replay_all};
-use crate::settings::{MAX_STEPS, RunError, Settings};
-use id_core::{Keeps, MAX_ELEMENTS, Machine, MachineError};
+use crate::settings::{Allowed, MAX_STEPS, RunError, Settings};
+use id_core::{Count, Machine};
 use id_source::Inputs;
 use id_valid::Valid;
 use rand_core::{Rng, SeedableRng};
@@ -20,31 +20,6 @@ use std::alloc::{AllocError, Global};
 
 /// So many messages are drawn, at the most, until one is not held back.
 const DRAWS: u32 = 16;
-
-/// The machine at its start.
-fn start_of<'a>(
-    alloc: Global,
-    graph: &'a Valid,
-    inputs: &Inputs,
-    count: u32,
-    keeps: Keeps,
-) -> Result<Machine<'a>, AllocError>
-    requires inputs { TakesInputs graph.now inputs.now.values }
-    requires some { 0 < count }
-    requires few { count ≤ 64 }
-    ensures { IfOk result (λ m. m ≡ record {
-      graph = graph.now;
-      count = count;
-      keeps = keeps;
-      world = start graph.now inputs.now.values count;
-    }) }
-{
-    match Machine::keeping(alloc, graph, inputs, count, keeps) {
-        Ok(machine) => Ok(machine),
-        Err(MachineError::BadElements) => unreachable!(),
-        Err(MachineError::Memory) => Err(AllocError),
-    }
-}
 
 /// A position that is drawn from those below the end, from this one on.
 fn draw(rng: &mut Pcg64Mcg, from: usize, end: usize) -> usize
@@ -57,23 +32,15 @@ fn draw(rng: &mut Pcg64Mcg, from: usize, end: usize) -> usize
 }
 
 /// A position from this one on that was drawn, and whose message is not held back, if one was drawn soon.
-fn draw_free(
-    machine: &Machine<'_>,
-    rng: &mut Pcg64Mcg,
-    from: usize,
-    count: u32,
-    steps: u64,
-) -> Option<usize>
-    requires from { from < length machine.now.world.flight }
-    requires count { machine.now.count ≡ count }
-    requires elements { HasCount machine.now }
+fn draw_free(machine: &Machine<'_>, rng: &mut Pcg64Mcg, from: usize, steps: u64) -> Option<usize>
+    requires { from < length machine.now.world.flight }
     ensures from { IfSome result (λ k. from ≤ k) }
-    ensures free { IfSome result (IsFree count steps machine.now.world) }
+    ensures free { IfSome result (IsFree machine.now.count steps machine.now.world) }
 {
     let end = machine.in_flight().len();
     for _ in 0..DRAWS {
         let position = draw(rng, from, end);
-        if !is_held_back(machine, position, count, steps) {
+        if !is_held_back(machine, position, steps) {
             return Some(position);
         }
     }
@@ -81,15 +48,13 @@ fn draw_free(
 }
 
 /// A position from this one on whose message is not held back: one that was drawn, or this one.
-fn choose(machine: &Machine<'_>, rng: &mut Pcg64Mcg, from: usize, count: u32, steps: u64) -> usize
+fn choose(machine: &Machine<'_>, rng: &mut Pcg64Mcg, from: usize, steps: u64) -> usize
     requires from { from < length machine.now.world.flight }
-    requires free { IsFree count steps machine.now.world from }
-    requires count { machine.now.count ≡ count }
-    requires elements { HasCount machine.now }
+    requires free { IsFree machine.now.count steps machine.now.world from }
     ensures from { from ≤ result }
-    ensures free { IsFree count steps machine.now.world result }
+    ensures free { IsFree machine.now.count steps machine.now.world result }
 {
-    match draw_free(machine, rng, from, count, steps) {
+    match draw_free(machine, rng, from, steps) {
         Some(position) => position,
         None => from,
     }
@@ -101,11 +66,8 @@ fn choose(machine: &Machine<'_>, rng: &mut Pcg64Mcg, from: usize, count: u32, st
 fn deliver_drawn(
     machine: &mut Machine<'_>,
     rng: &mut Pcg64Mcg,
-    count: u32,
     steps: u64,
 ) -> Result<(), AllocError>
-    requires count { machine.old.count ≡ count }
-    requires elements { HasCount machine.old }
     requires few { All (λ s. length s.events ≤ steps) machine.old.world.elements }
     requires went { HasWent machine.old.world }
     ensures finished { OnOk result (IsFinished steps machine.old machine.new) }
@@ -114,12 +76,12 @@ fn deliver_drawn(
 {
     let mut from = 0usize;
     loop {
-        from = first_free(machine, from, count, steps);
+        from = first_free(machine, from, steps);
         if from == machine.in_flight().len() {
             return Ok(());
         }
-        let position = choose(machine, rng, from, count, steps);
-        if !deliver(machine, position, count, steps)? {
+        let position = choose(machine, rng, from, steps);
+        if !deliver(machine, position, steps)? {
             return Ok(());
         }
     }
@@ -130,22 +92,20 @@ fn run_drawn<'a>(
     alloc: Global,
     graph: &'a Valid,
     inputs: &Inputs,
-    settings: Settings,
+    allowed: Allowed,
     seed: u64,
 ) -> Result<Run<'a>, RunError>
-    requires inputs { TakesInputs graph.now inputs.now.values }
-    requires some { 0 < settings.elements }
-    requires few { settings.elements ≤ 64 }
-    ensures run { IfOk result (IsRun graph.now inputs.now.values settings.elements settings.steps) }
-    ensures kept { IfOk result (λ r. r.keeps ≡ settings.keeps) }
+    requires { TakesInputs graph.now inputs.now.values }
+    ensures run { IfOk result (IsRun graph.now inputs.now.values allowed.count.number allowed.steps) }
+    ensures kept { IfOk result (λ r. r.keeps ≡ allowed.keeps) }
     ensures moves { IfOk result (λ r. MovesOn r.world) }
-    ensures positions { IfOk result (λ r. IsByPositions graph.now inputs.now.values settings.elements r.world) }
-    ensures refused { IfErr result (IsRefusedRun graph.now inputs.now.values settings.elements settings.steps) }
+    ensures positions { IfOk result (λ r. IsByPositions graph.now inputs.now.values allowed.count.number r.world) }
+    ensures refused { IfErr result (IsRefusedRun graph.now inputs.now.values allowed.count.number allowed.steps) }
 {
     id_runs::orders_are_runs();
-    let mut machine = start_of(alloc, graph, inputs, settings.elements, settings.keeps)?;
+    let mut machine = Machine::begin(alloc, graph, inputs, allowed.count, allowed.keeps)?;
     let mut rng = Pcg64Mcg::seed_from_u64(seed);
-    deliver_drawn(&mut machine, &mut rng, settings.elements, settings.steps)?;
+    deliver_drawn(&mut machine, &mut rng, allowed.steps)?;
     replay_all(&machine);
     if !moves_on(&machine) {
         return Err(RunError::Stuck);
@@ -175,11 +135,16 @@ pub fn run_in_order<'a>(
     ensures steps { (result ≡ Err BadSteps) ↔ AreBadSteps settings.elements settings.steps }
     ensures refused { IfErr result (IsRefusedRun graph.now inputs.now.values settings.elements settings.steps) }
 {
-    if settings.elements == 0 || settings.elements > MAX_ELEMENTS {
+    let Some(count) = Count::new(settings.elements) else {
         return Err(RunError::BadElements);
-    }
+    };
     if settings.steps == 0 || settings.steps > MAX_STEPS {
         return Err(RunError::BadSteps);
     }
-    run_drawn(alloc, graph, inputs, settings, seed)
+    let allowed = Allowed {
+        count,
+        steps: settings.steps,
+        keeps: settings.keeps,
+    };
+    run_drawn(alloc, graph, inputs, allowed, seed)
 }

@@ -7,7 +7,7 @@ ghost use Rattle.id_core.specs.Machines.{delivered};
 ghost use Rattle.id_core.specs.Steps.{is_ended};
 ghost use Rattle.id_record.specs.Events.{AllWent};
 ghost use Rattle.id_tag.specs.Routes.{route_of};
-ghost use Rattle.id_elements.specs.Runs.{AreHeldBefore, GoesOn, HasCount, HasWent, IsFinished, IsFree, IsHeldBack};
+ghost use Rattle.id_elements.specs.Runs.{AreHeldBefore, GoesOn, HasWent, IsFinished, IsFree, IsHeldBack};
 ghost use Rattle.id_elements.specs.Runs.{StopAtFaults};
 
 use id_core::{Element, Machine, Step, TakeError};
@@ -17,12 +17,15 @@ use std::sync::Wait;
 
 /// The element that a message is for.
 #[inline(always)]
-fn element_for<'a, 'b>(machine: &'b Machine<'a>, message: &Message, count: u32) -> &'b Element<'a>
-    requires count { machine.now.count ≡ count }
-    requires elements { HasCount machine.now }
-    ensures { slice_get machine.now.world.elements (route_of message.now.payload count) ≡ Some result.now.state }
+fn element_for<'a, 'b>(machine: &'b Machine<'a>, message: &Message) -> &'b Element<'a>
+    ensures { slice_get machine.now.world.elements (route_of message.now.payload machine.now.count)
+        ≡ Some result.now.state }
 {
-    match machine.elements().get(route(message, count) as usize) {
+    let count = machine.count();
+    match machine
+        .elements()
+        .get(route(message, count.number) as usize)
+    {
         Some(element) => element,
         None => unreachable!(),
     }
@@ -41,32 +44,29 @@ fn takes_no_more(element: &Element<'_>, message: &Message, steps: u64) -> bool
 
 /// Whether the message at a position is held back: the element that it is for has handled `steps` messages, or no stamp
 /// is left for it there.
-pub fn is_held_back(machine: &Machine<'_>, position: usize, count: u32, steps: u64) -> bool
-    requires position { position < length machine.now.world.flight }
-    requires count { machine.now.count ≡ count }
-    requires elements { HasCount machine.now }
+pub fn is_held_back(machine: &Machine<'_>, position: usize, steps: u64) -> bool
+    requires { position < length machine.now.world.flight }
     ensures held { IsTrue result → (m : Message) → slice_get machine.now.world.flight position ≡ Some m
-        → IsHeldBack count steps machine.now.world m }
-    ensures free { IsFalse result → IsFree count steps machine.now.world position }
+        → IsHeldBack machine.now.count steps machine.now.world m }
+    ensures free { IsFalse result → IsFree machine.now.count steps machine.now.world position }
 {
     let message = machine.in_flight().message(position);
-    takes_no_more(element_for(machine, &message, count), &message, steps)
+    takes_no_more(element_for(machine, &message), &message, steps)
 }
 
 /// The first position from this one on whose message is not held back, or how many messages are in flight, if there is
 /// none.
-pub fn first_free(machine: &Machine<'_>, from: usize, count: u32, steps: u64) -> usize
+pub fn first_free(machine: &Machine<'_>, from: usize, steps: u64) -> usize
     requires from { from ≤ length machine.now.world.flight }
-    requires count { machine.now.count ≡ count }
-    requires elements { HasCount machine.now }
-    requires held { AreHeldBefore count steps machine.now.world from }
+    requires held { AreHeldBefore machine.now.count steps machine.now.world from }
     ensures bound { result ≤ length machine.now.world.flight }
-    ensures held { AreHeldBefore count steps machine.now.world result }
-    ensures free { result ≢ length machine.now.world.flight → IsFree count steps machine.now.world result }
+    ensures held { AreHeldBefore machine.now.count steps machine.now.world result }
+    ensures free { result ≢ length machine.now.world.flight
+        → IsFree machine.now.count steps machine.now.world result }
 {
     let len = machine.in_flight().len();
     for position in from..len {
-        if !is_held_back(machine, position, count, steps) {
+        if !is_held_back(machine, position, steps) {
             return position;
         }
     }
@@ -88,14 +88,8 @@ fn all_went(machine: &Machine<'_>) -> bool
 }
 
 /// Delivers the message at a position, which is not held back, and says whether its event went well.
-pub fn deliver(
-    machine: &mut Machine<'_>,
-    position: usize,
-    count: u32,
-    steps: u64,
-) -> Result<bool, AllocError>
-    requires count { machine.old.count ≡ count }
-    requires free { IsFree count steps machine.old.world position }
+pub fn deliver(machine: &mut Machine<'_>, position: usize, steps: u64) -> Result<bool, AllocError>
+    requires { IsFree machine.old.count steps machine.old.world position }
     ensures world { OnOk result (machine.new ≡ record machine.old {
       world = delivered machine.old.graph machine.old.count machine.old.world position;
     }) }
@@ -115,15 +109,8 @@ pub fn deliver(
 /// Goes on with the messages that are left until a fault, or until each that is left is held back. It takes the first
 /// that is not held back, and looks at no message in front of that again: what is held back stays so, and what is sent
 /// goes last. Where an event was a fault already, it delivers nothing.
-pub fn finish<R: Wait>(
-    rt: &R,
-    machine: &mut Machine<'_>,
-    count: u32,
-    steps: u64,
-) -> Result<(), AllocError>
-    requires count { machine.old.count ≡ count }
-    requires elements { HasCount machine.old }
-    requires few { All (λ s. length s.events ≤ steps) machine.old.world.elements }
+pub fn finish<R: Wait>(rt: &R, machine: &mut Machine<'_>, steps: u64) -> Result<(), AllocError>
+    requires { All (λ s. length s.events ≤ steps) machine.old.world.elements }
     ensures { OnOk result (IsFinished steps machine.old machine.new) }
 {
     if !all_went(machine) {
@@ -131,11 +118,11 @@ pub fn finish<R: Wait>(
     }
     let mut position = 0usize;
     for _ in rt.forever() {
-        position = first_free(machine, position, count, steps);
+        position = first_free(machine, position, steps);
         if position == machine.in_flight().len() {
             return Ok(());
         }
-        if !deliver(machine, position, count, steps)? {
+        if !deliver(machine, position, steps)? {
             return Ok(());
         }
     }

@@ -14,6 +14,7 @@ mod ended;
 mod finish;
 mod goals;
 mod hand;
+mod home;
 mod passing;
 mod running;
 mod settings;

@@ -1,30 +1,29 @@
 //! How messages move between a worker's lists.
 
-ghost use Rattle.std.specs.Prelude.{◌≡◌, ◌<◌, ◌≤◌, ◌+◌, ◌%◌, ◌++◌, [], ℕ, length};
+ghost use Rattle.std.specs.Prelude.{◌≡◌, ◌<◌, ◌≤◌, ◌+◌, ◌++◌, [], ℕ, length};
 ghost use Rattle.std.specs.Prelude.{reverse, vec_len, OnOk};
 ghost use Rattle.std.specs.List.{sum_by};
 ghost use Rattle.id_tag.specs.declared.Message.{Message};
 ghost use Rattle.id_elements.specs.Passing.{AreFor, IsFirstMoved, IsLastMoved, IsLastSent, IsSentOn};
 
 use crate::goals::{first_for_others, goal_at};
+use crate::home::{Home, Near};
 use id_element::{Element, fits};
 use id_flight::Queue;
 use std::alloc::AllocError;
 
-/// Moves the messages of a letter that came out of the inbox of the element of this number, of so many: to its own,
-/// where they are for the element and fit the graph, or else apart. What stands in an inbox is known by its type alone,
-/// so that is tested. After an error the rest is still in the letter.
+/// Moves the messages of a letter that came out of an element's inbox: to its own, where they are for the element and
+/// fit the graph, or else apart. What stands in an inbox is known by its type alone, so that is tested. After an error
+/// the rest is still in the letter.
 pub fn sort(
     own: &mut Queue,
     stray: &mut Queue,
     element: &Element<'_>,
-    number: u32,
-    count: u32,
+    home: Home,
     letter: &mut Queue,
 ) -> Result<(), AllocError>
-    requires below { number < count }
-    requires number { number ≡ element.now.number }
-    requires count { count ≡ element.now.count }
+    requires number { home.number ≡ element.now.number }
+    requires count { home.count.number ≡ element.now.count }
     ensures own { AreFor element.now own.old.messages → AreFor element.now own.new.messages }
     ensures weight { (f : Message → ℕ)
         → sum_by f own.new.messages + sum_by f stray.new.messages + sum_by f letter.new.messages
@@ -34,7 +33,7 @@ pub fn sort(
     while !letter.is_empty() {
         own.reserve(1)?;
         stray.reserve(1)?;
-        sort_first(own, stray, element, number, count, letter);
+        sort_first(own, stray, element, home, letter);
     }
     Ok(())
 }
@@ -45,16 +44,14 @@ fn sort_first(
     own: &mut Queue,
     stray: &mut Queue,
     element: &Element<'_>,
-    number: u32,
-    count: u32,
+    home: Home,
     letter: &mut Queue,
 )
     requires there { 0 < length letter.old.messages }
     requires room { 0 < own.old.room }
     requires room_apart { 0 < stray.old.room }
-    requires below { number < count }
-    requires number { number ≡ element.now.number }
-    requires count { count ≡ element.now.count }
+    requires number { home.number ≡ element.now.number }
+    requires count { home.count.number ≡ element.now.count }
     ensures own { AreFor element.now own.old.messages → AreFor element.now own.new.messages }
     ensures weight { (f : Message → ℕ)
         → sum_by f own.new.messages + sum_by f stray.new.messages + sum_by f letter.new.messages
@@ -62,8 +59,8 @@ fn sort_first(
     ensures shorter { length letter.new.messages < length letter.old.messages }
 {
     let message = letter.message(0);
-    let to = goal_at(letter, 0, number, count, u64::from(number));
-    if to == number && fits(element.graph(), &message) {
+    let to = goal_at(letter, 0, home.near());
+    if to == home.number && fits(element.graph(), &message) {
         move_first(letter, own);
     } else {
         stray.push_back_reserved(message);
@@ -86,42 +83,28 @@ fn move_first(from: &mut Queue, to: &mut Queue)
     from.remove(0);
 }
 
-/// Moves those of the last so many messages of an element's own that are for others, of so many, to the letters for
-/// them, and sets the bits of these. A sum is given that is routed to the element. After an error some of the last may
-/// stand in `back`, or still be for others.
+/// Moves those of the last so many messages of an element's own that are for others to the letters for them, and sets
+/// the bits of these. After an error some of the last may stand in `back`, or still be for others.
 #[inline(always)]
 pub fn send_on(
     own: &mut Queue,
     back: &mut Queue,
     letters: &mut Vec<Queue>,
-    number: u32,
-    count: u32,
+    near: Near,
     sent: usize,
-    near: u64,
     touched: &mut u64,
 ) -> Result<(), AllocError>
-    requires some { 0 < count }
-    requires count { vec_len letters.old ≡ count }
-    requires near { near % count ≡ number }
+    requires count { vec_len letters.old ≡ near.home.count.number }
     requires sent { sent ≤ length own.old.messages }
-    ensures { IsSentOn number sent own.old.messages back.old.messages letters.old.items
+    ensures { IsSentOn near.home.number sent own.old.messages back.old.messages letters.old.items
         own.new.messages back.new.messages letters.new.items result }
 {
     let len = own.len();
-    let position = first_for_others(own, len - sent, number, count, near);
+    let position = first_for_others(own, len - sent, near);
     if position == len {
         return Ok(());
     }
-    send_some(
-        own,
-        back,
-        letters,
-        number,
-        count,
-        len - position,
-        near,
-        touched,
-    )
+    send_some(own, back, letters, near, len - position, touched)
 }
 
 /// The same where some of them are.
@@ -130,22 +113,18 @@ fn send_some(
     own: &mut Queue,
     back: &mut Queue,
     letters: &mut Vec<Queue>,
-    number: u32,
-    count: u32,
+    near: Near,
     sent: usize,
-    near: u64,
     touched: &mut u64,
 ) -> Result<(), AllocError>
-    requires some { 0 < count }
-    requires count { vec_len letters.old ≡ count }
-    requires near { near % count ≡ number }
+    requires count { vec_len letters.old ≡ near.home.count.number }
     requires sent { sent ≤ length own.old.messages }
-    ensures { IsSentOn number sent own.old.messages back.old.messages letters.old.items
+    ensures { IsSentOn near.home.number sent own.old.messages back.old.messages letters.old.items
         own.new.messages back.new.messages letters.new.items result }
 {
     back.reserve(sent)?;
     for _ in 0..sent {
-        send_last(own, back, letters, number, count, near, touched)?;
+        send_last(own, back, letters, near, touched)?;
     }
     own.reserve(back.len())?;
     take_back(own, back);
@@ -159,23 +138,19 @@ fn send_last(
     own: &mut Queue,
     back: &mut Queue,
     letters: &mut Vec<Queue>,
-    number: u32,
-    count: u32,
-    near: u64,
+    near: Near,
     touched: &mut u64,
 ) -> Result<(), AllocError>
-    requires some { 0 < count }
-    requires count { vec_len letters.old ≡ count }
-    requires near { near % count ≡ number }
+    requires count { vec_len letters.old ≡ near.home.count.number }
     requires there { 0 < length own.old.messages }
     requires room { 0 < back.old.room }
-    ensures sent { IsLastSent number own.old.messages back.old.messages letters.old.items
+    ensures sent { IsLastSent near.home.number own.old.messages back.old.messages letters.old.items
         own.new.messages back.new.messages letters.new.items result }
     ensures room { back.old.room ≤ back.new.room + 1 }
 {
     let last = own.len() - 1;
-    let to = goal_at(own, last, number, count, near);
-    if to == number {
+    let to = goal_at(own, last, near);
+    if to == near.home.number {
         move_last(own, back);
         return Ok(());
     }

@@ -14,7 +14,7 @@ ghost use Rattle.id_runs.specs.Accounts.{IsAccounted};
 ghost use Rattle.id_runs.specs.Orders.{AreReplayed};
 ghost use Rattle.id_elements.specs.Doors.{HaveParts, queues_of};
 ghost use Rattle.id_elements.specs.Gathered.{AreGathered, IsWhole, states_of};
-ghost use Rattle.id_elements.specs.Runs.{AllMove, AreBadSteps, HasCount, IsByPositions, IsRefusedRun, IsRun};
+ghost use Rattle.id_elements.specs.Runs.{AllMove, AreBadSteps, IsByPositions, IsRefusedRun, IsRun};
 ghost use Rattle.id_elements.specs.Runs.{MovesOn, StopAtFaults};
 ghost use Rattle.id_elements.specs.Workers.{AreWorkers, IsSameWithin, StopsAtFault, WorkerView, sent_in};
 ghost use Rattle.id_elements.specs.declared.settings.RunError.TheVariants.{BadElements, BadSteps};
@@ -23,10 +23,11 @@ use crate::doors::{absorb_all, drain_all, keep_rest, open_all, send_start, split
 use crate::drawn::run_in_order;
 use crate::ended::Run;
 use crate::finish::finish;
-use crate::settings::{MAX_STEPS, RunError, Settings};
+use crate::home::Home;
+use crate::settings::{Allowed, MAX_STEPS, RunError, Settings};
 use crate::shared::Shared;
-use crate::worker::Worker;
-use id_core::{Element, Gate, Keeps, MAX_ELEMENTS, Machine, start_flight};
+use crate::worker::{Left, Worker};
+use id_core::{Count, Element, Gate, Keeps, Machine, start_flight};
 use id_flight::Queue;
 use id_inbox::Door;
 use id_source::Inputs;
@@ -96,24 +97,24 @@ fn doors_cross()
 /// The workers, one for each inbox.
 fn make_workers<'a>(
     alloc: Global,
+    count: Count,
     doors: &mut Vec<Door>,
     graph: &'a Valid,
     keeps: Keeps,
 ) -> Result<Vec<Worker<'a>>, AllocError>
-    requires few { vec_len doors.old ≤ 64 }
+    requires len { vec_len doors.old ≡ count.number }
     requires parts { HaveParts 1024 doors.old.items }
     ensures workers { IfOk result
-        (λ ws. AreWorkers graph.now (vec_len doors.old) 0 keeps (queues_of doors.new.items) ws.items) }
-    ensures len { IfOk result (λ ws. vec_len ws ≡ vec_len doors.old) }
-    ensures parts { OnOk result (HaveParts (1024 - vec_len doors.old) doors.new.items) }
+        (λ ws. AreWorkers graph.now count.number 0 keeps (queues_of doors.new.items) ws.items) }
+    ensures len { IfOk result (λ ws. vec_len ws ≡ count.number) }
+    ensures parts { OnOk result (HaveParts (1024 - count.number) doors.new.items) }
     ensures whole { OnOk result ((start : List Message)
         → IsWhole start doors.old.items [] [] → IsWhole start doors.new.items [] []) }
 {
-    let count = doors.len() as u32;
     let mut workers = Vec::new(alloc);
-    for number in 0..count {
+    for number in 0..count.number {
         let theirs = split_all(alloc, doors)?;
-        let worker = Worker::new(alloc, number, theirs, graph, keeps)?;
+        let worker = Worker::new(alloc, Home { number, count }, theirs, graph, keeps)?;
         workers.push(worker)?;
     }
     Ok(workers)
@@ -148,7 +149,15 @@ fn gather_one<'a>(
         → IsWhole start doors.old.items (states_of elements.old.items) left.old.messages
         → IsWhole start doors.new.items (states_of elements.new.items) left.new.messages) }
 {
-    let (theirs, element, own, came, back, stray, letters) = worker.into_parts();
+    let Left {
+        doors: theirs,
+        element,
+        own,
+        came,
+        back,
+        stray,
+        letters,
+    } = worker.into_parts();
     absorb_all(doors, theirs);
     keep_rest(left, own)?;
     keep_rest(left, came)?;
@@ -172,17 +181,16 @@ fn gather<'a>(
     doors: &mut Vec<Door>,
     mut workers: Vec<Worker<'a>>,
     graph: &'a Valid,
-    settings: Settings,
+    allowed: Allowed,
 ) -> Result<Gathered<'a>, AllocError>
-    requires len { vec_len workers ≡ settings.elements }
-    requires few { settings.elements ≤ 64 }
-    requires workers { AreWorkers graph.now settings.elements settings.steps settings.keeps (queues_of doors.old.items)
-        workers.items }
+    requires len { vec_len workers ≡ allowed.count.number }
+    requires workers { AreWorkers graph.now allowed.count.number allowed.steps allowed.keeps
+        (queues_of doors.old.items) workers.items }
     requires parts { HaveParts (1024 - vec_len workers) doors.old.items }
     ensures parts { OnOk result (HaveParts 1024 doors.new.items) }
     ensures elements { IfOk result
-        (λ r. AreGathered graph.now settings.elements settings.steps settings.keeps 0 r.elements.items) }
-    ensures len { IfOk result (λ r. length r.elements.items ≡ settings.elements) }
+        (λ r. AreGathered graph.now allowed.count.number allowed.steps allowed.keeps 0 r.elements.items) }
+    ensures len { IfOk result (λ r. length r.elements.items ≡ allowed.count.number) }
     ensures whole { IfOk result (λ r. (start : List Message) → IsWhole start doors.old.items [] []
         → IsWhole start doors.new.items (states_of r.elements.items) r.left.messages) }
 {
@@ -208,35 +216,32 @@ fn run_workers<'a, R: Threads + Wait + Sync, G: Gate + Sync>(
     alloc: Global,
     graph: &'a Valid,
     start: &Queue,
-    settings: Settings,
+    allowed: Allowed,
     limit: u32,
     gate: &G,
 ) -> Result<Gathered<'a>, AllocError>
-    requires some { 0 < settings.elements }
-    requires few { settings.elements ≤ 64 }
     ensures elements { IfOk result
-        (λ r. AreGathered graph.now settings.elements settings.steps settings.keeps 0 r.elements.items) }
-    ensures len { IfOk result (λ r. length r.elements.items ≡ settings.elements) }
+        (λ r. AreGathered graph.now allowed.count.number allowed.steps allowed.keeps 0 r.elements.items) }
+    ensures len { IfOk result (λ r. length r.elements.items ≡ allowed.count.number) }
     ensures accounted { IfOk result
         (λ r. IsAccounted start.now.messages (states_of r.elements.items) r.left.messages) }
 {
-    let count = settings.elements;
-    let mut doors = open_all(alloc, count)?;
+    let mut doors = open_all(alloc, allowed.count.number)?;
     send_start(rt, alloc, &mut doors, start)?;
-    let mut workers = make_workers(alloc, &mut doors, graph, settings.keeps)?;
-    let shared = Shared::new(alloc, count, start.len(), processors(rt))?;
+    let mut workers = make_workers(alloc, allowed.count, &mut doors, graph, allowed.keeps)?;
+    let shared = Shared::new(alloc, allowed.count.number, start.len(), processors(rt))?;
     work_all(
         rt,
         workers.as_mut_slice(),
         limit as usize,
-        settings.steps,
+        allowed.steps,
         &shared,
         gate,
     );
     if shared.was_refused() {
         return Err(AllocError);
     }
-    let mut gathered = gather(alloc, &mut doors, workers, graph, settings)?;
+    let mut gathered = gather(alloc, &mut doors, workers, graph, allowed)?;
     drain_all(rt, &mut doors, &mut gathered.left)?;
     Ok(gathered)
 }
@@ -247,26 +252,23 @@ fn machine_of<'a, R: Threads + Wait + Sync, G: Gate + Sync>(
     alloc: Global,
     graph: &'a Valid,
     inputs: &Inputs,
-    settings: Settings,
+    allowed: Allowed,
     limit: u32,
     gate: &G,
 ) -> Result<Machine<'a>, AllocError>
-    requires inputs { TakesInputs graph.now inputs.now.values }
-    requires some { 0 < settings.elements }
-    requires few { settings.elements ≤ 64 }
+    requires { TakesInputs graph.now inputs.now.values }
     ensures graph { IfOk result (λ m. m.graph ≡ graph.now) }
-    ensures count { IfOk result (λ m. m.count ≡ settings.elements) }
-    ensures kept { IfOk result (λ m. m.keeps ≡ settings.keeps) }
-    ensures elements { IfOk result HasCount }
-    ensures few { IfOk result (λ m. All (λ s. length s.events ≤ settings.steps) m.world.elements) }
+    ensures count { IfOk result (λ m. m.count ≡ allowed.count.number) }
+    ensures kept { IfOk result (λ m. m.keeps ≡ allowed.keeps) }
+    ensures few { IfOk result (λ m. All (λ s. length s.events ≤ allowed.steps) m.world.elements) }
     ensures stops { IfOk result (λ m. StopAtFaults m.world) }
     ensures accounted { IfOk result (λ m. IsAccounted (start_messages graph.now inputs.now.values) m.world.elements
         m.world.flight) }
 {
     id_runs::orders_are_runs();
     let start = start_flight(alloc, graph, inputs)?;
-    let Gathered { elements, left } = run_workers(rt, alloc, graph, &start, settings, limit, gate)?;
-    Ok(Machine::resume(graph, settings.keeps, elements, left))
+    let Gathered { elements, left } = run_workers(rt, alloc, graph, &start, allowed, limit, gate)?;
+    Ok(Machine::resume(graph, allowed.keeps, elements, left))
 }
 
 /// Whether no event of the machine was `Stuck`.
@@ -292,7 +294,6 @@ fn moves_at(element: &Element<'_>) -> bool
 
 /// The elements of a machine are what their records lead to.
 pub fn replay_all(machine: &Machine<'_>)
-    requires { HasCount machine.now }
     ensures { AreReplayed machine.now.graph machine.now.count machine.now.world.elements }
 {
     let elements = machine.elements();
@@ -307,21 +308,19 @@ fn run_allowed<'a, R: Threads + Wait + Sync, G: Gate + Sync>(
     alloc: Global,
     graph: &'a Valid,
     inputs: &Inputs,
-    settings: Settings,
+    allowed: Allowed,
     limit: u32,
     gate: &G,
 ) -> Result<Run<'a>, RunError>
-    requires inputs { TakesInputs graph.now inputs.now.values }
-    requires some { 0 < settings.elements }
-    requires few { settings.elements ≤ 64 }
-    ensures run { IfOk result (IsRun graph.now inputs.now.values settings.elements settings.steps) }
-    ensures kept { IfOk result (λ r. r.keeps ≡ settings.keeps) }
+    requires { TakesInputs graph.now inputs.now.values }
+    ensures run { IfOk result (IsRun graph.now inputs.now.values allowed.count.number allowed.steps) }
+    ensures kept { IfOk result (λ r. r.keeps ≡ allowed.keeps) }
     ensures moves { IfOk result (λ r. MovesOn r.world) }
-    ensures refused { IfErr result (IsRefusedRun graph.now inputs.now.values settings.elements settings.steps) }
+    ensures refused { IfErr result (IsRefusedRun graph.now inputs.now.values allowed.count.number allowed.steps) }
 {
     id_runs::orders_are_runs();
-    let mut machine = machine_of(rt, alloc, graph, inputs, settings, limit, gate)?;
-    finish(rt, &mut machine, settings.elements, settings.steps)?;
+    let mut machine = machine_of(rt, alloc, graph, inputs, allowed, limit, gate)?;
+    finish(rt, &mut machine, allowed.steps)?;
     replay_all(&machine);
     if !moves_on(&machine) {
         return Err(RunError::Stuck);
@@ -353,13 +352,18 @@ pub fn run_limited<'a, R: Threads + Wait + Sync, G: Gate + Sync>(
     ensures steps { (result ≡ Err BadSteps) ↔ AreBadSteps settings.elements settings.steps }
     ensures refused { IfErr result (IsRefusedRun graph.now inputs.now.values settings.elements settings.steps) }
 {
-    if settings.elements == 0 || settings.elements > MAX_ELEMENTS {
+    let Some(count) = Count::new(settings.elements) else {
         return Err(RunError::BadElements);
-    }
+    };
     if settings.steps == 0 || settings.steps > MAX_STEPS {
         return Err(RunError::BadSteps);
     }
-    run_allowed(rt, alloc, graph, inputs, settings, workers, gate)
+    let allowed = Allowed {
+        count,
+        steps: settings.steps,
+        keeps: settings.keeps,
+    };
+    run_allowed(rt, alloc, graph, inputs, allowed, workers, gate)
 }
 
 /// Runs the graph on these inputs, with a thread for each element, as `run_limited` does with that limit, or, where the

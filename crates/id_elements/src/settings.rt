@@ -1,6 +1,6 @@
 //! What a run is asked for, and why there is none.
 
-use id_core::Keeps;
+use id_core::{Count, Keeps};
 use std::alloc::AllocError;
 
 /// The most messages that an element may be allowed to handle.
@@ -32,6 +32,14 @@ impl Settings {
             keeps: Keeps::All,
         }
     }
+}
+
+/// What of settings is good.
+#[derive(Clone, Copy)]
+pub struct Allowed {
+    pub count: Count,
+    pub steps: u64,
+    pub keeps: Keeps,
 }
 
 /// Why there is no run.

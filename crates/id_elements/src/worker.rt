@@ -4,6 +4,7 @@ ghost use Rattle.std.specs.Prelude.{◌≡◌, [], map, replicate, IfOk};
 
 use crate::goals::near_of;
 use crate::hand::Hand;
+use crate::home::Home;
 use crate::passing::{send_on, sort};
 use crate::shared::Shared;
 use id_core::Keeps;
@@ -33,9 +34,8 @@ const SPARES: usize = 16;
 #[derive(Drop)]
 pub struct Worker<'a> {
     alloc: Global,
-    // That of the element, and how many elements there are.
-    number: u32,
-    count: u32,
+    // The element's number, and how many elements there are.
+    home: Home,
     // Whether it may handle more: each event went well, and memory sufficed.
     goes: bool,
     doors: Vec<Door>,
@@ -87,7 +87,26 @@ impl<'a> Model for Worker<'a> {
       back = w.back.messages;
       stray = w.stray.messages;
       letters = map (λ q. q.messages) w.letters.items;
-    }) × (w.number ≡ w.element.number) × (w.count ≡ w.element.count) };
+    }) × (w.home.number ≡ w.element.number) × (w.home.count.number ≡ w.element.count) };
+}
+
+/// What a worker leaves that has stopped.
+#[derive(Drop)]
+pub struct Left<'a> {
+    /// Its doors.
+    pub doors: Vec<Door>,
+    /// Its element.
+    pub element: Element<'a>,
+    /// What is for the element.
+    pub own: Queue,
+    /// What is left of the letter that came last.
+    pub came: Queue,
+    /// What was moved from the end of its own and not moved back.
+    pub back: Queue,
+    /// What came and is not for the element.
+    pub stray: Queue,
+    /// What is to be sent to each element.
+    pub letters: Vec<Queue>,
 }
 
 /// What a worker does next.
@@ -108,32 +127,30 @@ impl<'a> Worker<'a> {
     ghost use Rattle.id_elements.specs.Workers.{IsKept, IsSame, IsSameWithin, fresh_worker};
     ghost use Rattle.id_elements.specs.declared.worker.Turn.TheVariants.{Goes};
 
-    /// The worker of this number, with a door to each inbox, whose element has handled nothing and keeps so much of its
+    /// The worker of this element, with a door to each inbox. The element has handled nothing and keeps so much of its
     /// events.
     pub fn new(
         alloc: Global,
-        number: u32,
+        home: Home,
         doors: Vec<Door>,
         graph: &'a Valid,
         keeps: Keeps,
     ) -> Result<Worker<'a>, AllocError>
-        requires inbox { number < vec_len doors }
-        requires few { vec_len doors ≤ 64 }
+        requires count { vec_len doors ≡ home.count.number }
         requires parts { HaveParts 1 doors.items }
         requires unused { AreUnused doors.items }
-        ensures { IfOk result (λ w. w ≡ fresh_worker graph.now (vec_len doors) keeps number doors.items) }
+        ensures { IfOk result (λ w. w ≡ fresh_worker graph.now home.count.number keeps home.number doors.items) }
     {
-        let count = doors.len() as u32;
+        let count = home.count.number;
         let letters = no_letters(alloc, count)?;
         let spare = Vec::with_capacity(alloc, SPARES)?;
         let fed = vec![in alloc; 0u64; doors.len()]?;
         Ok(Worker {
             alloc,
-            number,
-            count,
+            home,
             goes: true,
             doors,
-            element: Element::keeping(alloc, number, count, graph, keeps),
+            element: Element::keeping(alloc, home.number, count, graph, keeps),
             own: Queue::new(alloc),
             came: Queue::new(alloc),
             back: Queue::new(alloc),
@@ -145,32 +162,20 @@ impl<'a> Worker<'a> {
         })
     }
 
-    /// What it has, once it has stopped: its doors, its element, what is for that, what is left of the letter that came
-    /// last, what was moved and not moved back, what is not for the element, and what is to be sent to each element.
-    pub fn into_parts(
-        self,
-    ) -> (
-        Vec<Door>,
-        Element<'a>,
-        Queue,
-        Queue,
-        Queue,
-        Queue,
-        Vec<Queue>,
-    )
-        ensures doors { result.0.items ≡ self.entry.doors }
-        ensures element { result.1 ≡ self.entry.element }
-        ensures own { result.2.messages ≡ self.entry.own }
-        ensures came { result.3.messages ≡ self.entry.came }
-        ensures back { result.4.messages ≡ self.entry.back }
-        ensures stray { result.5.messages ≡ self.entry.stray }
-        ensures letters { map (λ q. q.messages) result.6.items ≡ self.entry.letters }
+    /// What it leaves, once it has stopped.
+    pub fn into_parts(self) -> Left<'a>
+        ensures doors { result.doors.items ≡ self.entry.doors }
+        ensures element { result.element ≡ self.entry.element }
+        ensures own { result.own.messages ≡ self.entry.own }
+        ensures came { result.came.messages ≡ self.entry.came }
+        ensures back { result.back.messages ≡ self.entry.back }
+        ensures stray { result.stray.messages ≡ self.entry.stray }
+        ensures letters { map (λ q. q.messages) result.letters.items ≡ self.entry.letters }
         ensures kept { IsKept self.entry }
     {
         let Worker {
             alloc: _,
-            number: _,
-            count: _,
+            home: _,
             goes: _,
             doors,
             element,
@@ -183,7 +188,15 @@ impl<'a> Worker<'a> {
             fed: _,
             sent: _,
         } = self;
-        (doors, element, own, came, back, stray, letters)
+        Left {
+            doors,
+            element,
+            own,
+            came,
+            back,
+            stray,
+            letters,
+        }
     }
 
     /// How many messages its element has handled.
@@ -202,7 +215,7 @@ impl<'a> Worker<'a> {
         ensures goes { self.new.goes ≡ self.old.goes }
     {
         self.sort_letter()?;
-        match self.doors[self.number as usize].pop(rt) {
+        match self.doors[self.home.number as usize].pop(rt) {
             Some(letter) => {
                 self.came = letter;
                 self.sort_letter()?;
@@ -234,7 +247,7 @@ impl<'a> Worker<'a> {
         ensures goes { result ≡ Ok true → IsTrue self.new.goes }
     {
         let others = self.own.len() - 1;
-        let near = near_of(&self.own, position, self.number, self.count);
+        let near = near_of(&self.own, position, self.home);
         let went = match self.element.run_from(&mut self.own, position, limit, gate) {
             Ok(went) => went,
             Err(error) => {
@@ -246,7 +259,7 @@ impl<'a> Worker<'a> {
             self.goes = false;
             return Ok(false);
         }
-        if self.count == 1 {
+        if self.home.count.number == 1 {
             return Ok(true);
         }
         let sent = self.own.len() - others;
@@ -255,10 +268,8 @@ impl<'a> Worker<'a> {
             &mut self.own,
             &mut self.back,
             &mut self.letters,
-            self.number,
-            self.count,
-            sent,
             near,
+            sent,
             &mut touched,
         ) {
             Ok(()) => self.post_touched(rt, shared, touched),
@@ -290,8 +301,8 @@ impl<'a> Worker<'a> {
         }
     }
 
-    /// Puts the letters for the elements of these bits into their inboxes, where they are to go on at once, if there are
-    /// any bits.
+    /// Puts the letters for the elements of these bits into their inboxes, where they are to go on at once, if there
+    /// are any bits.
     #[inline(always)]
     fn post_touched<R: Wait>(
         &mut self,
@@ -368,7 +379,7 @@ impl<'a> Worker<'a> {
         let empty = self.empty_list();
         let letter = mem::replace(&mut self.letters[to], empty);
         self.sent = self.sent.saturating_add(1);
-        shared.count_sent(self.number as usize, self.sent);
+        shared.count_sent(self.home.number as usize, self.sent);
         match self.doors[to].push(rt, letter) {
             Ok(()) => {
                 shared.wake(to);
@@ -486,7 +497,7 @@ impl<'a> Worker<'a> {
         ensures { IsSameWithin steps self.old self.new }
     {
         shared.begin();
-        let number = self.number as usize;
+        let number = self.home.number as usize;
         let mut hand = Hand::new();
         let mut looks = 0u32;
         let mut taken = 0u64;
@@ -566,8 +577,7 @@ impl<'a> Worker<'a> {
             &mut self.own,
             &mut self.stray,
             &self.element,
-            self.number,
-            self.count,
+            self.home,
             &mut self.came,
         )
     }

@@ -1,7 +1,7 @@
 use Rattle.std.proofs.Common.{◌≡◌, true, false, ap, subst, sym, ◌∙◌}
 use Rattle.id_core.specs.Machines.{MachineView}
 use Rattle.id_elements.specs.Runs.{IsByPositions, IsRun, MovesOn}
-use Rattle.id_elements.proofs.DrawnLemmas.{start_accounted, start_counts, start_delivered, start_few, start_stops, start_went}
+use Rattle.id_elements.proofs.DrawnLemmas.{start_accounted, start_delivered, start_few, start_stops, start_went}
 use Rattle.id_elements.proofs.RunsLemmas.{run_from}
 use Rattle.id_elements.proofs.drawn.run_drawn.Goals as goal
 
@@ -11,30 +11,28 @@ deliver_drawn-requires c =
     let vs = c.args.inputs.now.values in
     let m = c.in_ok-machine.machine in
     record {
-      count = ap (λ (x : MachineView). x.count) c.in_ok-machine.ensures;
-      elements = start_counts g vs c.args.settings.elements c.args.settings.keeps m c.in_ok-machine.ensures c.requires.some c.requires.few;
-      few = start_few g vs c.args.settings.elements c.args.settings.keeps m c.in_ok-machine.ensures c.args.settings.steps;
-      went = start_went g vs c.args.settings.elements c.args.settings.keeps m c.in_ok-machine.ensures;
+      few = start_few g vs c.args.allowed.count.number c.args.allowed.keeps m c.in_ok-machine.ensures c.args.allowed.steps;
+      went = start_went g vs c.args.allowed.count.number c.args.allowed.keeps m c.in_ok-machine.ensures;
     }
 
 pub returns-then-not-moves_on-clause-refused : goal.returns-then-not-moves_on-clause-refused
 returns-then-not-moves_on-clause-refused c = record {
   machine = c.deliver_drawn.new.machine;
-  run = run_from c.args.graph.now c.args.inputs.now.values c.args.settings.elements c.args.settings.steps c.in_ok-machine.machine c.deliver_drawn.new.machine
+  run = run_from c.args.graph.now c.args.inputs.now.values c.args.allowed.count.number c.args.allowed.steps c.in_ok-machine.machine c.deliver_drawn.new.machine
       c.orders_are_runs.ensures (ap (λ (x : MachineView). x.graph) c.in_ok-machine.ensures) (ap (λ (x : MachineView). x.count) c.in_ok-machine.ensures)
-      (start_accounted c.args.graph.now c.args.inputs.now.values c.args.settings.elements c.args.settings.keeps c.in_ok-machine.machine c.in_ok-machine.ensures)
-      (start_stops c.args.graph.now c.args.inputs.now.values c.args.settings.elements c.args.settings.keeps c.in_ok-machine.machine c.in_ok-machine.ensures)
+      (start_accounted c.args.graph.now c.args.inputs.now.values c.args.allowed.count.number c.args.allowed.keeps c.in_ok-machine.machine c.in_ok-machine.ensures)
+      (start_stops c.args.graph.now c.args.inputs.now.values c.args.allowed.count.number c.args.allowed.keeps c.in_ok-machine.machine c.in_ok-machine.ensures)
       c.in_ok-deliver_drawn.ensures.finished c.replay_all.ensures;
   stuck = λ moves. (let k : false ≡ true = sym c.if-not-moves_on.true ∙ c.moves_on.ensures.1 moves in cc);
 }
 
 pub returns-clause-run : goal.returns-clause-run
 returns-clause-run c =
-    subst (IsRun c.args.graph.now c.args.inputs.now.values c.args.settings.elements c.args.settings.steps) (sym c.of.ensures)
-    (run_from c.args.graph.now c.args.inputs.now.values c.args.settings.elements c.args.settings.steps c.in_ok-machine.machine c.deliver_drawn.new.machine
+    subst (IsRun c.args.graph.now c.args.inputs.now.values c.args.allowed.count.number c.args.allowed.steps) (sym c.of.ensures)
+    (run_from c.args.graph.now c.args.inputs.now.values c.args.allowed.count.number c.args.allowed.steps c.in_ok-machine.machine c.deliver_drawn.new.machine
     c.orders_are_runs.ensures (ap (λ (x : MachineView). x.graph) c.in_ok-machine.ensures) (ap (λ (x : MachineView). x.count) c.in_ok-machine.ensures)
-    (start_accounted c.args.graph.now c.args.inputs.now.values c.args.settings.elements c.args.settings.keeps c.in_ok-machine.machine c.in_ok-machine.ensures)
-    (start_stops c.args.graph.now c.args.inputs.now.values c.args.settings.elements c.args.settings.keeps c.in_ok-machine.machine c.in_ok-machine.ensures)
+    (start_accounted c.args.graph.now c.args.inputs.now.values c.args.allowed.count.number c.args.allowed.keeps c.in_ok-machine.machine c.in_ok-machine.ensures)
+    (start_stops c.args.graph.now c.args.inputs.now.values c.args.allowed.count.number c.args.allowed.keeps c.in_ok-machine.machine c.in_ok-machine.ensures)
     c.in_ok-deliver_drawn.ensures.finished c.replay_all.ensures)
 
 pub returns-clause-moves : goal.returns-clause-moves
@@ -47,6 +45,6 @@ returns-clause-kept c =
 
 pub returns-clause-positions : goal.returns-clause-positions
 returns-clause-positions c =
-    subst (λ (m : MachineView). IsByPositions c.args.graph.now c.args.inputs.now.values c.args.settings.elements m.world) (sym c.of.ensures)
-    (start_delivered c.args.graph.now c.args.inputs.now.values c.args.settings.elements c.args.settings.keeps c.in_ok-machine.machine c.in_ok-machine.ensures
+    subst (λ (m : MachineView). IsByPositions c.args.graph.now c.args.inputs.now.values c.args.allowed.count.number m.world) (sym c.of.ensures)
+    (start_delivered c.args.graph.now c.args.inputs.now.values c.args.allowed.count.number c.args.allowed.keeps c.in_ok-machine.machine c.in_ok-machine.ensures
     c.deliver_drawn.new.machine.world c.in_ok-deliver_drawn.ensures.delivered)

@@ -1,7 +1,8 @@
-use Rattle.std.proofs.Common.{◌≡◌, ◌<◌, ℕ, true, length, Some, slice_get, refl, sym}
+use Rattle.std.proofs.Common.{◌≡◌, ◌<◌, ℕ, true, length, Some, slice_get, refl, sym, ap, ◌∙◌}
 use Rattle.std.proofs.Math.Dec.{ltb}
 use Rattle.std.proofs.lemmas.Bool.{ltb-true}
 use Rattle.std.proofs.lemmas.Option.{slice_get_read}
+use Rattle.id_tag.specs.Routes.{route_of}
 use Rattle.id_elements.proofs.FinishLemmas.{element_at}
 use Rattle.id_elements.proofs.finish.element_for.Goals as goal
 
@@ -14,4 +15,5 @@ returns c =
     let e = c.in-Some.element.now in
     let at : slice_get es c.route.result ≡ Some e =
     slice_get_read es _ _ _ refl (lt_of c.route.result (length es) (c.in-Some.ensures.lookup).0) (c.in-Some.ensures.lookup).1 in
-    element_at c.args.machine.now.world c.args.count c.route.result es e c.args.message.now c.elements.ensures.world at c.route.ensures.exact
+    element_at c.args.machine.now.world c.args.machine.now.count c.route.result es e c.args.message.now c.elements.ensures.world at
+    (c.route.ensures.exact ∙ ap (route_of c.args.message.now.payload) c.count-count.ensures)

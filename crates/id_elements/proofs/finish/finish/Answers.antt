@@ -1,14 +1,13 @@
-use Rattle.std.proofs.Common.{◌≡◌, length, refl, ap, ◌∙◌, arith}
+use Rattle.std.proofs.Common.{length, refl, ap, ◌∙◌, arith}
 use Rattle.std.proofs.lemmas.Grind.{common_steps}
 use Rattle.id_elements.specs.Runs.{GoesOn, IsFree}
-use Rattle.id_elements.proofs.FinishLemmas.{all_held, counts_on, goes_on, goes_on_more, held_on_all, stop_where_went, within_on}
+use Rattle.id_elements.proofs.FinishLemmas.{all_held, goes_on, goes_on_more, held_on_all, stop_where_went, within_on}
 use Rattle.id_elements.proofs.finish.finish.Goals as goal
 use Rattle.id_elements.proofs.finish.finish.Goals.{In_ok-deliver}
 
 pub loop-init : goal.loop-init
 loop-init g c = record {
-  on = record { same_graph = refl; same_count = refl; same_keeps = refl; few = c.requires.few; accounted = λ start was. was };
-  elements = c.requires.elements;
+  on = record { same_graph = refl; same_count = refl; same_keeps = refl; few = c.requires; accounted = λ start was. was };
   went = c.all_went.ensures.0 c.if-not-all_went.false;
   within = omega arith;
   held = λ j m lt at. absurd (omega (arith, lt));
@@ -20,22 +19,18 @@ returns-then-position-len g c =
     record {
       on = i.on;
       stops = λ _. stop_where_went c.loop.machine.world i.went;
-      honest = λ went. all_held c.args.count c.loop.machine.count c.args.steps c.loop.machine.world c.first_free-position.result c.first_free-position.ensures.held
-          (c.if-position-len.true ∙ (c.len.ensures ∙ ap length c.in_flight.ensures.value)) (i.on.same_count ∙ c.requires.count);
+      honest = λ went. all_held c.loop.machine.count c.args.steps c.loop.machine.world c.first_free-position.result c.first_free-position.ensures.held
+          (c.if-position-len.true ∙ (c.len.ensures ∙ ap length c.in_flight.ensures.value));
     }
 
 -- what a delivery leaves
 module _ (g : _) (c : In_ok-deliver g) where
-  same : c.loop.machine.count ≡ c.args.count
-  same = c.loop.invariant.on.same_count ∙ c.requires.count
-
-  free : IsFree c.args.count c.args.steps c.loop.machine.world c.first_free-position.result
+  free : IsFree c.loop.machine.count c.args.steps c.loop.machine.world c.first_free-position.result
   free = c.first_free-position.ensures.free (grind (arith, common_steps))
 
   on : GoesOn c.args.steps c.args.machine.now c.deliver.new.machine
   on = goes_on_more c.args.steps c.args.machine.now c.loop.machine c.deliver.new.machine c.loop.invariant.on
-      (goes_on c.args.steps c.args.count c.first_free-position.result c.loop.machine c.deliver.new.machine same free c.in_ok-deliver.ensures.world
-      c.loop.invariant.on.few)
+      (goes_on c.args.steps c.first_free-position.result c.loop.machine c.deliver.new.machine free c.in_ok-deliver.ensures.world c.loop.invariant.on.few)
 
 pub returns-then-not-branch : goal.returns-then-not-branch
 returns-then-not-branch g c = record {
@@ -50,9 +45,8 @@ loop-preserved g c =
     let k = c.first_free-position.result in
     record {
       on = on g d;
-      elements = counts_on c.args.steps c.args.count k c.loop.machine c.deliver.new.machine (same g d) (free g d) c.in_ok-deliver.ensures.world c.loop.invariant.elements;
       went = (c.in_ok-deliver.ensures.went c.loop.invariant.went).0 c.if-not-branch.false;
-      within = within_on c.args.steps c.args.count k c.loop.machine c.deliver.new.machine (same g d) (free g d) c.in_ok-deliver.ensures.world;
-      held = held_on_all c.args.steps c.args.count k c.loop.machine c.deliver.new.machine (same g d) (free g d) c.in_ok-deliver.ensures.world
+      within = within_on c.args.steps k c.loop.machine c.deliver.new.machine (free g d) c.in_ok-deliver.ensures.world;
+      held = held_on_all c.args.steps k c.loop.machine c.deliver.new.machine (free g d) c.in_ok-deliver.ensures.world
           c.first_free-position.ensures.held;
     }

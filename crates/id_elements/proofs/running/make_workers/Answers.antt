@@ -13,18 +13,17 @@ loop-number-preserved c =
     let theirs = c.in_ok-theirs.ensures.queues ∙ i.queues in
     let a : vec_len c.split_all.new.doors ≡ length c.split_all.new.doors.items = search rules in
     let b : vec_len c.args.doors.now ≡ length c.args.doors.now.items = search rules in
-    let d : vec_len c.in_ok-theirs.theirs ≡ length c.in_ok-theirs.theirs.items = search rules in
     record {
       queues = cut.queues ∙ i.queues;
       long = a ∙ (same_length c.split_all.new.doors.items c.args.doors.now.items (cut.queues ∙ i.queues) ∙ sym b);
       workers = rw c.in_ok-push.ensures.items
-          (workers_more c.args.graph.now (vec_len c.args.doors.now) 0 c.args.keeps (queues_of c.args.doors.now.items) c.loop-number.workers.items c.in_ok-worker.worker i.workers
-          (subst (IsWorker c.args.graph.now (vec_len c.args.doors.now) 0 c.args.keeps (queues_of c.args.doors.now.items) (length c.loop-number.workers.items)) (sym c.in_ok-worker.ensures)
+          (workers_more c.args.graph.now c.args.count.number 0 c.args.keeps (queues_of c.args.doors.now.items) c.loop-number.workers.items c.in_ok-worker.worker i.workers
+          (subst (IsWorker c.args.graph.now c.args.count.number 0 c.args.keeps (queues_of c.args.doors.now.items) (length c.loop-number.workers.items)) (sym c.in_ok-worker.ensures)
           (record {
             queues = theirs;
             element = record {
               number = search rules;
-              count_is = d ∙ (same_length c.in_ok-theirs.theirs.items c.args.doors.now.items theirs ∙ sym b);
+              count_is = refl;
               graph = refl;
             };
             kept = refl;

@@ -9,7 +9,7 @@ abbrev pub invariant-loop-number : goal.invariant-loop-number
 invariant-loop-number l = record {
   queues : queues_of l.doors.items ≡ queues_of l.fn.doors.items;
   long : vec_len l.doors ≡ vec_len l.fn.doors;
-  workers : AreWorkers l.graph (vec_len l.fn.doors) 0 l.keeps (queues_of l.fn.doors.items) l.workers.items;
+  workers : AreWorkers l.graph l.count.number 0 l.keeps (queues_of l.fn.doors.items) l.workers.items;
   len : vec_len l.workers ≡ l.number;
   parts : HaveParts (1024 - l.number) l.doors.items;
   whole : (start : List Message) → IsWhole start l.fn.doors.items [] [] → IsWhole start l.doors.items [] [];

@@ -10,5 +10,5 @@ loop-element-preserved c =
 
 pub returns : goal.returns
 returns c =
-    replayed_of c.args.machine.now c.elements-elements.result.now c.elements-elements.ensures.elements c.elements-elements.ensures.world c.requires.2
+    replayed_of c.args.machine.now c.elements-elements.result.now c.elements-elements.ensures.elements c.elements-elements.ensures.world c.elements-elements.ensures.len
     (λ k d lt. c.loop-element.invariant k d (let end = c.loop-element-test.false in omega (arith, lt, end)))

@@ -20,13 +20,12 @@ gather-requires-clause-workers g c =
     let same = c.work_all.auto.workers in
     let long : length vs ≡ length ws = (let k : length c.as_mut_slice.result.now ≡ length ws = ap length old in omega (arith, same, k)) in
     let all : vec_len c.in_ok-workers.workers ≡ length ws = search rules in
-    let count : vec_len c.send_start.new.doors ≡ c.args.settings.elements = c.send_start.ensures.len ∙ c.in_ok-doors.ensures.len in
-    subst (AreWorkers c.args.graph.now c.args.settings.elements c.args.settings.steps c.args.settings.keeps (queues_of c.make_workers.new.doors.items))
+    subst (AreWorkers c.args.graph.now c.args.allowed.count.number c.args.allowed.steps c.args.allowed.keeps (queues_of c.make_workers.new.doors.items))
     (sym (written c.in_ok-workers.workers.len vs ws (all ∙ sym long) long))
-    (workers_worked c.args.graph.now c.args.settings.elements 0 c.args.settings.steps c.args.settings.keeps (queues_of c.make_workers.new.doors.items) ws vs long
-    (subst (λ (k : ℕ). AreWorkers c.args.graph.now k 0 c.args.settings.keeps (queues_of c.make_workers.new.doors.items) ws) count c.in_ok-workers.ensures.workers)
+    (workers_worked c.args.graph.now c.args.allowed.count.number 0 c.args.allowed.steps c.args.allowed.keeps (queues_of c.make_workers.new.doors.items) ws vs long
+    c.in_ok-workers.ensures.workers
     (λ i d lt.
-    subst (λ (xs : List WorkerView). IsSameWithin c.args.settings.steps (get_or xs i d) (get_or vs i d)) old
+    subst (λ (xs : List WorkerView). IsSameWithin c.args.allowed.steps (get_or xs i d) (get_or vs i d)) old
     (c.work_all.ensures i d (subst (λ (xs : List WorkerView). i < length xs) (sym old) lt))))
 
 pub returns-clause-accounted : goal.returns-clause-accounted

@@ -1,5 +1,7 @@
-use Rattle.std.proofs.Common.{◌≡◌, ◌-◌, ◌<◌, ◌∙◌, length, sym, arith}
+use Rattle.std.proofs.Common.{◌≡◌, ◌-◌, ◌<◌, ◌∙◌, Ok, Err, length, subst, sym, arith}
 use Rattle.id_element.proofs.StretchesLemmas.{behind_long}
+use Rattle.id_elements.specs.declared.home.Home.{Home}
+use Rattle.id_elements.specs.Passing.{IsSentOn}
 use Rattle.id_elements.proofs.WorkersLemmas.{IsKept-alone, IsKept-failed, IsKept-sent, IsKept-unsent, count_given, number_given}
 use Rattle.id_elements.proofs.worker.Worker.handle.Goals as goal
 
@@ -57,7 +59,9 @@ invariant_of-self-in-Ok-send_on g c =
     let from : length n.list.messages - sent ≡ length own - 1 = omega (arith, long) in (
       IsKept-sent w.goes w.doors.items w.element own w.came.messages w.back.messages w.stray.messages w.letters.items
           (rw (← c.self.view_is) at c.requires.goes) c.self.invariant.0 c.args.limit c.args.position n.list.messages n.self _ p
-          sent s.own.messages s.back.messages s.letters.items w.number c.self.invariant.1 c.if-not-went.false from p.others c.in-Ok-send_on.ensures,
+          sent s.own.messages s.back.messages s.letters.items w.home.number c.self.invariant.1 c.if-not-went.false from p.others
+          (subst (λ (h : Home). IsSentOn h.number sent n.list.messages w.back.messages w.letters.items s.own.messages s.back.messages s.letters.items (Ok tt))
+          c.near_of-near.ensures c.in-Ok-send_on.ensures),
       c.self.invariant.1 ∙ sym (number_given c.args.limit c.args.position own w.element n.list.messages n.self _ p),
       c.self.invariant.2 ∙ sym (count_given c.args.limit c.args.position own w.element n.list.messages n.self _ p),
     )
@@ -73,7 +77,9 @@ invariant_of-self-in-Err-send_on g c =
     let sent = c.len.result - (c.len-others.result - 1) in (
       IsKept-unsent w.goes w.doors.items w.element own w.came.messages w.back.messages w.stray.messages w.letters.items
           (rw (← c.self.view_is) at c.requires.goes) c.self.invariant.0 c.args.limit c.args.position n.list.messages n.self _ p
-          sent s.own.messages s.back.messages s.letters.items w.number c.in-Err-send_on.field-0 c.in-Err-send_on.ensures,
+          sent s.own.messages s.back.messages s.letters.items w.home.number c.in-Err-send_on.field-0
+          (subst (λ (h : Home). IsSentOn h.number sent n.list.messages w.back.messages w.letters.items s.own.messages s.back.messages s.letters.items
+          (Err c.in-Err-send_on.field-0)) c.near_of-near.ensures c.in-Err-send_on.ensures),
       c.self.invariant.1 ∙ sym (number_given c.args.limit c.args.position own w.element n.list.messages n.self _ p),
       c.self.invariant.2 ∙ sym (count_given c.args.limit c.args.position own w.element n.list.messages n.self _ p),
     )
