@@ -30,26 +30,6 @@ const LAST_ROUND: i64 = 10_000;
 /// The round in which the words ask what lacks a value, where they say nothing.
 const DEFAULT_ROUNDS: &str = "300";
 
-// A text, the statuses of the program, and an example.
-macro_rules! with_statuses {
-    ($text:literal) => {
-        concat!(
-            $text,
-            "Statuses:
-  0  the run is quiet, or what was asked for is done
-  1  the run stopped at a fault, which is printed
-  2  the text or an input is refused
-  3  the run stopped at the step limit, or messages are left, or there are too many facts
-  4  the command line is refused
-  5  a file can't be read, memory ran out, or a write failed
-  6  the trace is none of a run
-
-Example:
-  idc run examples/sum.id --steps 1000"
-        )
-    };
-}
-
 ghost use Rattle.std.specs.Prelude.{◌≡◌, ◌++◌, ◌∷◌, ◌↔◌, [], List, IfErr, IfOk, IsTrue, OnOk, codes, false, filter};
 ghost use Rattle.std.specs.Prelude.{map};
 ghost use Rattle.std.specs.IoError.{error_kind};
@@ -69,6 +49,7 @@ ghost use Rattle.id_args.specs.Requests.{end_in_help, gives_input, input_words, 
 mod request;
 #[cfg(test)]
 mod tests;
+mod texts;
 
 use clap::builder::ValueParser;
 use clap::error::ErrorKind;
@@ -78,74 +59,7 @@ use std::alloc::{AllocError, Global};
 use std::convert::AsStr;
 use std::env::Env;
 use std::{env, io};
-
-/// What stands below the help of `run`.
-const STATUSES: &str = with_statuses!("");
-
-/// What stands below the first page of help: the options of the commands, the statuses and an example.
-const OVERVIEW: &str = with_statuses!(
-    "Options of run:
-      --elements <N>  How many elements the machine has, from 1 to 64 [default: 1]
-      --steps <N>     The most messages that each element handles [default: 1000000]
-      --order <SEED>  Delivers messages in the random order that this number gives, by one thread
-      --names         Prints the value of each name
-      --trace         Prints each event before the answer
-
-Options of graph:
-      --dot           Prints it in the language of Graphviz
-
-Options of why:
-      --rounds <N>    How often the rules are used, at most 10000 [default: 300]
-
-Options of judge:
-      --elements <N>  How many elements the machine had, from 1 to 64 [default: 1]
-      --names         Prints the value of each name
-
-"
-);
-
-/// What help calls a word of `judge` behind its file.
-const JUDGED: &str =
-    "A log: the events of a run, a line each, as run prints them with --trace; - is standard input. Or \
-    a value for the parameter of main with that name";
-
-/// What stands below the help of `facts`.
-const FACTS_HELP: &str = "Statuses:
-  0  the facts of the round are printed
-  2  the text or an input is refused
-  3  there are too many facts
-  4  the command line is refused
-  5  a file can't be read, memory ran out, or a write failed
-
-Example:
-  idc facts examples/factorial.id 5 n=3";
-
-/// What stands below the help of `why`.
-const WHY_HELP: &str = "Statuses:
-  0  the answer, and what lacks a value, are printed
-  2  the text or an input is refused
-  3  there are too many facts
-  4  the command line is refused
-  5  a file can't be read, memory ran out, or a write failed
-
-Example:
-  idc why examples/each_other.id";
-
-/// What stands below the help of `judge`.
-const JUDGE_HELP: &str =
-    "Several logs are merged as they are read, whole lines by stamp and then by element.
-
-Statuses:
-  0  it is the trace of a run that is quiet
-  1  it is that of a run that stopped at a fault
-  2  the text or an input is refused
-  3  it is that of a run in which messages are left
-  4  the command line is refused
-  5  a file can't be read, memory ran out, or a write failed
-  6  the trace is none of a run
-
-Example:
-  idc judge examples/factorial.id LOG.0 LOG.1 n=10 --elements 2";
+use texts::{BAD_LOGS, FACTS_HELP, JUDGE_HELP, JUDGED, OVERVIEW, STATUSES, UNREAD, WHY_HELP};
 
 /// The argument that names the file.
 fn file_argument<'a>(alloc: Global) -> Arg<'a>
@@ -769,14 +683,6 @@ fn request_in<'a>(
     }
 }
 
-/// What is told of words that `clap` takes and that ask for nothing: those of `judge` alone may be such.
-const BAD_LOGS: &str = "error: judge takes from 1 to 64 logs, and standard input, which is '-', once
-
-Usage: idc judge [OPTIONS] <FILE> <LOG|NAME=VALUE>...
-
-For more information, try '--help'.
-";
-
 /// The refusal of words that `clap` takes and that ask for nothing.
 fn bad_logs(alloc: Global) -> Unasked
     ensures { IsRefusal result }
@@ -834,9 +740,6 @@ pub fn read_words<'a, S: AsStr>(alloc: Global, words: &'a [S]) -> Result<Request
         Err(error) => Err(answer_for(alloc, words, &error)),
     }
 }
-
-/// What is told of words that can't be read.
-const UNREAD: &str = "error: a word of the command line isn't UTF-8\n";
 
 /// Why the process has no words that can be read: one is no text, or a growth was refused.
 fn unread(alloc: Global, error: &io::Error) -> Unasked

@@ -1,5 +1,6 @@
 use crate::request::{Request, Unasked};
-use crate::{BAD_LOGS, read_words, unread};
+use crate::texts::BAD_LOGS;
+use crate::{read_words, unread};
 use std::io;
 
 #[test]
