@@ -39,8 +39,8 @@ ghost use Rattle.clap.specs.Words.{app_of, found_of, kind_of, rows_of, rule_of, 
 ghost use Rattle.id_args.specs.Commands.{AreCommands, IsCommand, bare_shape, check_shape, command_shape};
 ghost use Rattle.id_args.specs.Commands.{elements_rule, facts_shape, file_rule, flag_rule, graph_shape};
 ghost use Rattle.id_args.specs.Commands.{inputs_rule, judge_rules, judge_shape, number_rule, order_rule};
-ghost use Rattle.id_args.specs.Commands.{program_app, rounds_option_rule, rounds_rule, run_rules, run_shape, steps_rule};
-ghost use Rattle.id_args.specs.Commands.{why_shape, words_rule};
+ghost use Rattle.id_args.specs.Commands.{program_app, rounds_option_rule, rounds_rule, run_rules, run_shape};
+ghost use Rattle.id_args.specs.Commands.{steps_rule, why_shape, words_rule};
 ghost use Rattle.id_args.specs.Matches.{Gives, IsAsked, IsAskedIn, IsNumberOf, IsOrderOf, IsRefusal, Tells};
 ghost use Rattle.id_args.specs.Requests.{AreLogs, AskFor, HasFile, IsRequestOf, IsUnread, IsUnreadWords};
 ghost use Rattle.id_args.specs.Requests.{judge_words, names_log, words_read};

@@ -10,7 +10,7 @@ ghost use Rattle.std.specs.Prelude.{◌≡◌, map, IfOk, OnOk};
 ghost use Rattle.id_core.specs.Machines.{IsQuiet};
 ghost use Rattle.id_core.specs.Observed.{answer};
 ghost use Rattle.id_source.specs.Rounds.{IsAnswer};
-ghost use Rattle.id_source.specs.Sources.{AreInputs, source};
+ghost use Rattle.id_source.specs.Sources.{source};
 ghost use Rattle.id_by_hand.specs.ByHand.{IsAnswerOf, IsLater};
 
 use id_compile::{Prepared, prepare};
@@ -52,8 +52,7 @@ fn last_first(machine: &mut Machine<'_>) -> Result<(), TakeError>
 }
 
 /// The answer of a program with its inputs, if it has one: by a run of this crate's own, which fell quiet.
-fn answer_of(alloc: Global, prepared: &Prepared) -> Result<Option<SourceValue>, Failure>
-    requires { AreInputs prepared.now.compiled.checked prepared.now.inputs.values }
+fn answer_of(alloc: Global, prepared: &Prepared<'_>) -> Result<Option<SourceValue>, Failure>
     ensures { IfOk result (IsAnswer (source prepared.now.compiled.checked prepared.now.inputs.values)) }
 {
     id_laws::inputs_fit();
@@ -87,19 +86,9 @@ fn answer_by_hand(alloc: Global, text: &str, words: &[&str]) -> Result<Option<So
     ensures { IfOk result (IsAnswerOf text.now (map (λ w. w.now) words.now)) }
 {
     match prepare(alloc, text, words) {
-        Ok(prepared) => answer_once(alloc, prepared),
+        Ok(prepared) => answer_of(alloc, &prepared),
         Err(_) => Err(Failure::Refused),
     }
-}
-
-/// The answer of a program with its inputs, which is let go.
-fn answer_once(alloc: Global, prepared: Prepared) -> Result<Option<SourceValue>, Failure>
-    requires { AreInputs prepared.compiled.checked prepared.inputs.values }
-    ensures { IfOk result (IsAnswer (source prepared.compiled.checked prepared.inputs.values)) }
-{
-    let answer = answer_of(alloc, &prepared);
-    drop(prepared);
-    answer
 }
 
 fn main(rt: HostRuntime) -> io::Result<()> {

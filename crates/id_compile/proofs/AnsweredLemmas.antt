@@ -25,18 +25,6 @@ module _ {A E : Type 0} where
   ok_all (Ok a) P all = all a
   ok_all (Err e) P all = tt
 
-  pub on_ok_both : (r : Result A E) (P Q : A → Type 0) (R : Type 0) → ((a : A) → P a → Q a → R) → IfOk r P → IfOk r Q → OnOk r R
-  on_ok_both (Ok a) P Q R t h k = t a h k
-  on_ok_both (Err e) P Q R t h k = tt
-
-  pub if_ok_all : (r : Result A E) (P Q R : A → Type 0) (X : Type 0) → ((a : A) → P a → X → Q a → R a) → IfOk r P → OnOk r X → IfOk r Q → IfOk r R
-  if_ok_all (Ok a) P Q R X t h x k = t a h x k
-  if_ok_all (Err e) P Q R X t h x k = tt
-
-  pub if_ok_with : (r : Result A E) (X : Type 0) (P Q : A → Type 0) → ((a : A) → X → P a → Q a) → OnOk r X → IfOk r P → IfOk r Q
-  if_ok_with (Ok a) X P Q t x h = t a x h
-  if_ok_with (Err e) X P Q t x h = tt
-
   pub if_err : (r : Result A E) (P Q : E → Type 0) → ((e : E) → P e → Q e) → IfErr r P → IfErr r Q
   if_err (Ok a) P Q t h = tt
   if_err (Err e) P Q t h = t e h

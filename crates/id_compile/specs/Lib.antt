@@ -3,3 +3,4 @@ pub mod Programs
 pub mod Refusals
 -- For use inside.
 pub mod Codes
+pub mod Kept

@@ -1,5 +1,5 @@
 -- The program of a text (docs/PROMISES.md, "The engine").
-use Rattle.std.specs.Prelude.{◌≡◌, ◌≤◌, ◌<◌, ℕ, List, Some, slice_get, option_map}
+use Rattle.std.specs.Prelude.{◌≡◌, ◌≤◌, ◌<◌, ℕ, List, Some, length, slice_get, option_map}
 use Rattle.id_text.specs.declared.token.Token.{Token}
 use Rattle.id_text.specs.declared.token.TextError.{TextError}
 use Rattle.id_text.specs.Lexes.{Lexes, IsRefusal}
@@ -18,6 +18,7 @@ use Rattle.id_source.specs.declared.inputs.Wanted.{Wanted}
 use Rattle.id_source.specs.Inputs.{AreInputsOf, wanted}
 use Rattle.id_instr.specs.Graph.{Parts}
 use Rattle.id_pieces.specs.Rows.{size}
+use Rattle.id_build.specs.Own.{IsOwn}
 use Rattle.id_compile.specs.declared.compiled.CompileError.{CompileError}
 use Rattle.id_compile.specs.declared.compiled.CompileError.TheVariants as compiler
 
@@ -52,8 +53,9 @@ pub record HasInputs (text : List ℕ) (words : List (List ℕ)) : Type 0 where
   pub inputs : List Constant
   pub are_inputs : AreInputsOf program words inputs
 
--- a program with its graph, as contracts see them
+-- a text with its program and a graph of it, as contracts see them
 pub record CompiledView : Type 0 where
+  pub text : List ℕ
   pub checked : Checked
   pub graph : Parts
 
@@ -64,6 +66,13 @@ IsNameOfParam P number name = option_map (λ (w : Wanted). w.name) (slice_get (w
 -- the places of the program's things are at most so many bytes in
 pub record IsPlacedWithin (size : ℕ) (P : Checked) : Type 0 where
   pub within : (q : ℕ) → HasPlace (tree P) q → q ≤ size
+
+-- the text is short, the program is the text's, its places lie in the text, and the graph is its own
+pub record IsCompiled (text : List ℕ) (P : Checked) (g : Parts) : Type 0 where
+  pub short : length text ≤ 1048576
+  pub program : IsProgramOf text P
+  pub within : IsPlacedWithin (length text) P
+  pub own : IsOwn P g
 
 -- why a text has no graph: it has no tokens, they have no tree, the program is refused, or it is too large
 pub data IsRefusedBy (text : List ℕ) : CompileError → Type 0 where

@@ -21,30 +21,45 @@ use id_valid::Valid;
 use std::alloc::Global;
 use std::marker::Model;
 
-/// A program with its own graph, the one of those that the schemas give it that `build` makes.
+/// A text with its program and that program's own graph, the one of those that the schemas give it that `build` makes.
+///
+/// Keeps: the text is one that may be compiled, by its length, and the places of the program lie in it.
 #[derive(Drop)]
-pub struct Compiled {
+pub struct Compiled<'t> {
+    text: &'t str,
     checked: Checked,
     valid: Valid,
 }
 
-impl Model for Compiled {
-    ghost use Rattle.id_build.specs.Own.{IsOwn};
+impl<'t> Model for Compiled<'t> {
     ghost use Rattle.id_compile.specs.Codes.{coded_compiled};
-    ghost use Rattle.id_compile.specs.Programs.{CompiledView};
+    ghost use Rattle.id_compile.specs.Programs.{CompiledView, IsCompiled};
 
     ghost Value = { CompiledView };
 
     ghost coded = { coded_compiled };
 
-    ghost view = { λ c. record { checked = c.checked; graph = c.valid } };
+    ghost view = { λ c. record { text = c.text.now; checked = c.checked; graph = c.valid } };
 
-    ghost invariant = { λ c. IsOwn c.checked c.valid };
+    ghost invariant = { λ c. IsCompiled c.text.now c.checked c.valid };
 }
 
-impl Compiled {
-    ghost use Rattle.std.specs.Prelude.{◌≡◌};
+impl<'t> Compiled<'t> {
+    ghost use Rattle.std.specs.Prelude.{◌≡◌, ◌≤◌, length};
     ghost use Rattle.id_build.specs.Own.{IsOwn};
+    ghost use Rattle.id_compile.specs.Programs.{IsPlacedWithin, IsProgramOf};
+
+    /// The text. Takes no memory.
+    pub fn text(&self) -> &'t str
+        ensures value { result.now ≡ self.now.text }
+        ensures program { IsProgramOf self.now.text self.now.checked }
+
+        // What the printers rest on.
+        ensures within { IsPlacedWithin (length self.now.text) self.now.checked }
+        ensures short { length self.now.text ≤ 1048576 }
+    {
+        self.text
+    }
 
     /// The program. Takes no memory.
     pub fn checked(&self) -> &Checked
@@ -63,8 +78,8 @@ impl Compiled {
 
     /// The program's graph: the program gives its memory back.
     pub fn into_valid(self) -> Valid
-        ensures value { result ≡ self.graph }
-        ensures kept { IsOwn self.checked self.graph }
+        ensures value { result ≡ self.entry.graph }
+        ensures kept { IsOwn self.entry.checked self.entry.graph }
     {
         let Compiled { valid, .. } = self;
         valid
@@ -169,7 +184,8 @@ fn graph_of(alloc: Global, checked: &Checked) -> Result<Valid, CompileError>
 }
 
 /// The program of a text, and its graph; or why it has none.
-pub fn compile(alloc: Global, text: &str) -> Result<Compiled, CompileError>
+pub fn compile<'t>(alloc: Global, text: &'t str) -> Result<Compiled<'t>, CompileError>
+    ensures text { IfOk result (λ c. c.text ≡ text.now) }
     ensures program { IfOk result (λ c. IsProgramOf text.now c.checked) }
     ensures small { IfOk result (λ c. size c.checked ≤ 1000000) }
 
@@ -182,7 +198,11 @@ pub fn compile(alloc: Global, text: &str) -> Result<Compiled, CompileError>
 {
     let checked = checked_program(alloc, text)?;
     match graph_of(alloc, &checked) {
-        Ok(valid) => Ok(Compiled { checked, valid }),
+        Ok(valid) => Ok(Compiled {
+            text,
+            checked,
+            valid,
+        }),
         Err(error) => Err(error),
     }
 }

@@ -4,6 +4,7 @@ ghost use Rattle.std.specs.Prelude.{◌≡◌, ◌≢◌, ◌≤◌, length, map
 ghost use Rattle.id_source.specs.Sources.{AreInputs};
 ghost use Rattle.id_source.specs.Inputs.{AreInputsOf};
 ghost use Rattle.id_pieces.specs.Rows.{size};
+ghost use Rattle.id_compile.specs.Kept.{AreInputs-prop};
 ghost use Rattle.id_compile.specs.Programs.{IsPlacedWithin, IsProgramOf};
 ghost use Rattle.id_compile.specs.Refusals.{AreRefusedFor, IsInsideOf, IsRefusedSource};
 
@@ -13,14 +14,15 @@ use id_check::Checked;
 use id_source::{InputError, Inputs, param_name, read_inputs};
 use std::alloc::Global;
 
-/// A program with its graph and the inputs of its `main`.
-pub struct Prepared {
-    pub compiled: Compiled,
+/// A text with its program, the graph of that, and the inputs of its `main`.
+pub struct Prepared<'t> {
+    pub compiled: Compiled<'t>,
     pub inputs: Inputs,
+    pub ghost own: { AreInputs compiled.checked inputs.values } by { AreInputs-prop compiled.checked inputs.values },
 }
 
 /// A drop of its own, so that who holds a text with its inputs lets it go by one call.
-impl Drop for Prepared {
+impl<'t> Drop for Prepared<'t> {
     fn drop(self) {
         let Prepared {
             compiled: _,
@@ -49,11 +51,14 @@ fn inputs_of(alloc: Global, checked: &Checked, words: &[&str]) -> Result<Inputs,
 }
 
 /// A program with its graph and the inputs that these words give it.
-fn with_inputs(alloc: Global, compiled: Compiled, words: &[&str]) -> Result<Prepared, EngineError>
-    ensures same { IfOk result (λ p. p.compiled ≡ compiled) }
+fn with_inputs<'t>(
+    alloc: Global,
+    compiled: Compiled<'t>,
+    words: &[&str],
+) -> Result<Prepared<'t>, EngineError>
+    ensures same { IfOk result (λ p. p.compiled ≡ compiled.entry) }
     ensures inputs { IfOk result (λ p. AreInputsOf p.compiled.checked (map (λ w. w.now) words.now) p.inputs.values) }
-    ensures own { IfOk result (λ p. AreInputs p.compiled.checked p.inputs.values) }
-    ensures refused { IfErr result (AreRefusedFor compiled.checked (map (λ w. w.now) words.now)) }
+    ensures refused { IfErr result (AreRefusedFor compiled.entry.checked (map (λ w. w.now) words.now)) }
 {
     match inputs_of(alloc, compiled.checked(), words) {
         Ok(inputs) => Ok(Prepared { compiled, inputs }),
@@ -65,7 +70,12 @@ fn with_inputs(alloc: Global, compiled: Compiled, words: &[&str]) -> Result<Prep
 }
 
 /// The program of a text, its graph, and the inputs that the words give it; or why there are none.
-pub fn prepare(alloc: Global, text: &str, words: &[&str]) -> Result<Prepared, EngineError>
+pub fn prepare<'t>(
+    alloc: Global,
+    text: &'t str,
+    words: &[&str],
+) -> Result<Prepared<'t>, EngineError>
+    ensures text { IfOk result (λ p. p.compiled.text ≡ text.now) }
     ensures program { IfOk result (λ p. IsProgramOf text.now p.compiled.checked) }
     ensures small { IfOk result (λ p. size p.compiled.checked ≤ 1000000) }
     ensures inputs { IfOk result (λ p. AreInputsOf p.compiled.checked (map (λ w. w.now) words.now) p.inputs.values) }

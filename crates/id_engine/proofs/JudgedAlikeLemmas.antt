@@ -7,18 +7,17 @@ use Rattle.id_value.specs.declared.Constant.{Constant}
 use Rattle.id_instr.specs.Graph.{Parts}
 use Rattle.id_build.specs.Own.{IsOwn, own_number, schemas_of}
 use Rattle.id_source.specs.Inputs.{AreInputsOf}
-use Rattle.id_source.specs.Sources.{AreInputs, Source, source}
+use Rattle.id_source.specs.Sources.{AreInputs, source}
 use Rattle.id_record.specs.declared.kept.Keeps.TheVariants.{All}
 use Rattle.id_core.specs.Events.{EventView}
 use Rattle.id_core.specs.Machines.{MachineView, World, start}
-use Rattle.id_runs.specs.Legal.{IsLegalList, IsSameBut, LeadTo, LegalLists, next}
+use Rattle.id_runs.specs.Legal.{IsLegalList, IsSameBut, LegalLists, next}
 use Rattle.id_runs.specs.Orders.{IsLegalOrder}
 use Rattle.id_runs.proofs.Weights.{same_order}
 use Rattle.id_laws.specs.Laws.{IsSound, Soundness}
 use Rattle.id_sink.specs.declared.sink.PrintError.{PrintError}
 use Rattle.id_sink.specs.Told.{SinkView}
 use Rattle.id_trace.specs.Traces.{trace_text}
-use Rattle.id_print.specs.Reports.{report_text}
 use Rattle.id_print.specs.RunReports.{IsReportFrom}
 use Rattle.id_print.specs.declared.run_reports.Report.{Report}
 use Rattle.id_judge.specs.declared.verdict.Cause.{Cause}
@@ -27,9 +26,9 @@ use Rattle.id_judge.specs.Lines.{AreClear, ClearLines, GoesNoFurther, IsFirstLin
 use Rattle.id_judge.proofs.FollowLemmas.{same_end}
 use Rattle.id_judge.proofs.OrderLemmas.{other_order}
 use Rattle.id_compile.specs.Programs.{IsProgramOf}
-use Rattle.id_engine.specs.Commands.{HasShown, Judge, Shows}
+use Rattle.id_engine.specs.Commands.{Judge, Shows}
 use Rattle.id_engine.specs.Commands.Shows.{legal, other}
-use Rattle.id_engine.specs.Judged.{cause_text, legal_text, other_text, status_of}
+use Rattle.id_engine.specs.Judged.{cause_text, legal_text, other_text}
 use Rattle.id_engine.specs.JudgedAlike.{JudgedAlike}
 use Rattle.id_engine.specs.OneProgram.{AreAlike}
 use Rattle.id_engine.specs.Runs.{HasRun}

@@ -3,12 +3,11 @@ use Rattle.std.proofs.Common.{◌≡◌, ◌+◌, ◌<◌, ◌≤◌, ◌⊎◌,
 use Rattle.std.specs.Prelude.{◌==◌, if◌then◌else◌, nat_eq, not}
 use Rattle.std.proofs.lemmas.Bool.{cases_lt}
 use Rattle.id_table.specs.declared.row.Row.{Row}
-use Rattle.id_table.specs.declared.row.Node.{Node}
 use Rattle.id_table.specs.declared.row.Node.TheVariants.{Head}
 use Rattle.id_table.specs.Rows.{at}
 use Rattle.id_check.specs.declared.checked.Checked.{Checked}
 use Rattle.id_check.specs.Programs.{place, rows}
-use Rattle.id_desugar.specs.Regions.{in_block, in_procedure, is_loop_head, loop_heads, loops_by, order_by, order_of, those}
+use Rattle.id_desugar.specs.Regions.{is_loop_head, loop_heads, loops_by, order_by, order_of, those}
 use Rattle.id_instr.specs.Graph.{Parts}
 use Rattle.id_instr.specs.declared.instr.Op.TheVariants as op
 use Rattle.id_instr.specs.declared.instr.PortKind.TheVariants as port
@@ -17,7 +16,7 @@ use Rattle.id_pieces.specs.Made.{arc_of, arcs_in, first_in, graph_by, instrs_fro
 use Rattle.id_build.specs.Own.{IsOwn, own_number}
 use Rattle.id_pieces.specs.Rows as pieces
 use Rattle.id_pieces.specs.Rows.{feeds, made}
-use Rattle.id_pieces.specs.Schemas.{Numbered, all_heads}
+use Rattle.id_pieces.specs.Schemas.{Numbered}
 use Rattle.id_build.proofs.OneOwnLemmas.{one_own}
 use Rattle.id_engine.specs.OneProgram.{AreAlike}
 use Rattle.id_engine.proofs.SameFactsLemmas.{AreAlike-sym}

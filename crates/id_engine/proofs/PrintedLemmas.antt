@@ -26,6 +26,10 @@ use Rattle.id_engine.specs.Reports.PrintsMachine.{reported, out_of_memory}
 use Rattle.id_engine.specs.Runs.{IsTraceOf}
 use Rattle.id_engine.proofs.RunLemmas.{IsTrueOf-run}
 
+-- what is printed is the same text by another name
+pub Prints-same : {old new : SinkView} {a b : List ℕ} {r : Result (Unit {0}) PrintError} → a ≡ b → Prints old new a r → Prints old new b r
+Prints-same {old} {new} {a} {b} {r} is printed = subst (λ (x : List ℕ). Prints old new x r) is printed
+
 -- ---- what is printed of a machine
 
 module _ (text : List ℕ) (b : Bool) (es : List EventView) (r : Report) (old new : SinkView) where

@@ -1,5 +1,5 @@
 -- Where legal lists lead, the records of elements tell no two events at one moment, and the first fault is one.
-use Rattle.std.proofs.Common.{◌≡◌, ◌≢◌, ◌⊎◌, inl, inr, ℕ, zero, suc, ◌<◌, ◌≤◌, ◌+◌, max, List, [], ◌∷◌, ◌++◌, Some, None, Ordering, length, replicate}
+use Rattle.std.proofs.Common.{◌≡◌, ◌≢◌, inl, inr, ℕ, zero, suc, ◌<◌, ◌≤◌, List, [], ◌∷◌, ◌++◌, Some, length, replicate}
 use Rattle.std.proofs.Common.{refl, sym, ap, ◌∙◌, subst, arith}
 use Rattle.std.specs.Prelude.{get_or, slice_get}
 use Rattle.std.specs.declared.cmp.Ordering.TheVariants.{Less}
@@ -29,7 +29,7 @@ use Rattle.id_observe.specs.Merged.{by_moment}
 use Rattle.id_observe.specs.Paths.{path_in, structure_in}
 use Rattle.id_observe.specs.Sourced.{fault_of}
 use Rattle.id_observe.proofs.MergedLemmas.{earlier_element, earlier_stamp}
-use Rattle.id_runs.specs.Legal.{CanFollow, LeadTo, after_event, follow, no_more}
+use Rattle.id_runs.specs.Legal.{LeadTo, follow, no_more}
 use Rattle.id_runs.proofs.Banks.{among_flat}
 
 -- the events of an element are its own, none has a later stamp than its last, and no two have one

@@ -22,36 +22,6 @@ pub record PrintsAsked (text bytes : List ℕ) (r : Request) (old new : SinkView
   pub refused : IfErr result (IsRefusedRequest text r)
   pub inside : IfErr result (IsInsideOf text)
 
--- the request asks for what is computed on inputs
-abbrev pub IsComputed : Request → Type 0
-IsComputed (asks.Check file) = ⊥
-IsComputed (asks.Graph file) = ⊥
-IsComputed (asks.Draw file) = ⊥
-IsComputed (asks.Run file inputs count trace steps order names) = Unit {0}
-IsComputed (asks.Facts file rounds inputs) = Unit {0}
-IsComputed (asks.Why file rounds inputs) = Unit {0}
-IsComputed (asks.Judge file logs inputs count names) = Unit {0}
-
--- the request asks for a run
-abbrev pub IsToRun : Request → Type 0
-IsToRun (asks.Check file) = ⊥
-IsToRun (asks.Graph file) = ⊥
-IsToRun (asks.Draw file) = ⊥
-IsToRun (asks.Run file inputs count trace steps order names) = Unit {0}
-IsToRun (asks.Facts file rounds inputs) = ⊥
-IsToRun (asks.Why file rounds inputs) = ⊥
-IsToRun (asks.Judge file logs inputs count names) = ⊥
-
--- the request asks for a run, or to judge the trace of one
-abbrev pub IsOfRun : Request → Type 0
-IsOfRun (asks.Check file) = ⊥
-IsOfRun (asks.Graph file) = ⊥
-IsOfRun (asks.Draw file) = ⊥
-IsOfRun (asks.Run file inputs count trace steps order names) = Unit {0}
-IsOfRun (asks.Facts file rounds inputs) = ⊥
-IsOfRun (asks.Why file rounds inputs) = ⊥
-IsOfRun (asks.Judge file logs inputs count names) = Unit {0}
-
 -- the request asks to judge a log
 abbrev pub IsToJudge : Request → Type 0
 IsToJudge (asks.Check file) = ⊥

@@ -63,8 +63,8 @@ pub data Shows (P : Checked) (text : List ℕ) : Command → ℕ → List ℕ �
   facts : {n : ℕ} {ws : List (List ℕ)} {vs : List Constant} {fs : List Fact} → AreInputsOf P ws vs
       → AreFacts (source P vs) n fs →
       Shows P text (Facts n ws) 0 (facts_text text fs)
-  -- the answer of the round is told, and of each thing on which it, or a fetch that waits, hangs and that lacks a value,
-  -- exactly what it needs that lacks one too
+  -- the answer of the round is told, and of each thing on which it, or a fetch that waits, hangs and that lacks a
+  -- value, exactly what it needs that lacks one too
   reasons : {n : ℕ} {ws : List (List ℕ)} {vs : List Constant} (r : Reasons) → AreInputsOf P ws vs
       → AreReasons (source P vs) n r →
       Shows P text (Why n ws) 0 (reasons_text (record { text = text; checked = P; facts = r.paths }) n r)

@@ -3,7 +3,6 @@ use Rattle.std.specs.Prelude.{◌≡◌, ℕ, Bool, List, Option, Result, Ok, Er
 use Rattle.id_check.specs.declared.checked.Checked.{Checked}
 use Rattle.id_value.specs.declared.Constant.{Constant}
 use Rattle.id_sink.specs.Told.{SinkView}
-use Rattle.id_log.specs.declared.log.LogFault.{LogFault}
 use Rattle.id_log.specs.Logs.{Ahead, Hears, MayBreak}
 use Rattle.id_compile.specs.declared.error.EngineError.{EngineError}
 use Rattle.id_compile.specs.Refusals.{IsInsideOf, IsRefusedRun}

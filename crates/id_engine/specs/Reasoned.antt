@@ -8,7 +8,8 @@ use Rattle.id_why.specs.declared.reasons.Reasons.{Reasons}
 use Rattle.id_why.specs.Rounds.{AreReasons}
 use Rattle.id_compile.specs.Programs.{HasInputs, IsProgramOf}
 
--- what lacks a value in a round of a text on these input words is told: it has inputs, and the round is within the limit
+-- what lacks a value in a round of a text on these input words is told: it has inputs, and the round is within the
+-- limit
 pub record AreTakenReasons (text : List ℕ) (words : List (List ℕ)) (round : ℕ) : Type 0 where
   pub inputs : HasInputs text words
   pub few_rounds : round ≤ 10000

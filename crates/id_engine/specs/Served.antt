@@ -1,6 +1,6 @@
 -- What the program does with a request (docs/PROMISES.md, "The program").
 use Rattle.std.specs.Prelude.{◌≡◌, ◌≢◌, ℕ, List, [], map, Option, None, Some, Result, Ok, Err}
-use Rattle.std.specs.Prelude.{IfOk, IfErr, Vec, string_bytes}
+use Rattle.std.specs.Prelude.{IfOk, IfErr, string_bytes}
 use Rattle.id_sink.specs.declared.sink.PrintError.{PrintError}
 use Rattle.id_sink.specs.Told.{SinkView, Prints}
 use Rattle.id_args.specs.declared.request.Request.{Request}
@@ -143,8 +143,8 @@ pub data DrivesBy (text : List ℕ) (a : Option Ahead) (r : Request) (out out' e
       DrivesBy text a r out out' err err' (row_of (source_cause (log_fault fault))).2
 
 -- the same of the logs that a request asks to judge, merged; of another request no log is read
-abbrev pub DrivesWith : (List ℕ → Option Ahead) → Option (List (List ℕ)) → List ℕ → Request → SinkView → SinkView → SinkView
-    → SinkView → ℕ → Type 0
+abbrev pub DrivesWith : (List ℕ → Option Ahead) → Option (List (List ℕ)) → List ℕ → Request → SinkView → SinkView
+    → SinkView → SinkView → ℕ → Type 0
 DrivesWith told None text r out out' err err' status = Serves text [] r out out' err err' status
 DrivesWith told (Some names) text r out out' err err' status =
     DrivesBy text (logs_ahead told names) r out out' err err' status

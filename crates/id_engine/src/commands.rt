@@ -3,7 +3,7 @@
 ghost use Rattle.std.specs.Prelude.{◌≡◌, ◌≢◌, ◌≤◌, length, map, IfOk, IfErr, OnOk, string_bytes};
 ghost use Rattle.id_build.specs.Own.{IsOwn};
 ghost use Rattle.id_source.specs.Computed.{AreFacts};
-ghost use Rattle.id_source.specs.Sources.{AreInputs, source};
+ghost use Rattle.id_source.specs.Sources.{source};
 ghost use Rattle.id_facts.specs.Listed.{facts_in};
 ghost use Rattle.id_sink.specs.Told.{Prints};
 ghost use Rattle.id_print.specs.Texts.{facts_text};
@@ -12,7 +12,7 @@ ghost use Rattle.id_graph.specs.Dot.{dot_text};
 ghost use Rattle.id_engine.specs.Commands.{AreFactsOf, Check, Draw_graph, Facts, IsListingOf, IsPictureOf, List_graph};
 ghost use Rattle.id_engine.specs.Commands.{ShowsAll, ShowsFront};
 ghost use Rattle.id_engine.specs.OneRound.{OneRound};
-ghost use Rattle.id_compile.specs.Programs.{HasProgram, IsPlacedWithin, IsProgramOf};
+ghost use Rattle.id_compile.specs.Programs.{HasProgram};
 ghost use Rattle.id_compile.specs.Refusals.{AreRefusedFacts, AreTakenFacts, IsInsideOf, IsRefusedText};
 ghost use Rattle.id_engine.specs.Reports.{AreRefusedRounds};
 
@@ -77,19 +77,17 @@ fn listing_of(alloc: Global, text: &str) -> Result<String, EngineError>
     ensures not_write { IfErr result (λ e. e ≢ EngineError.Write) }
 {
     match compile(alloc, text) {
-        Ok(compiled) => list_compiled(alloc, compiled, text),
+        Ok(compiled) => list_compiled(alloc, compiled),
         Err(error) => Err(EngineError::Compile(error)),
     }
 }
 
 /// The listing of a compiled text's graph.
-fn list_compiled(alloc: Global, compiled: Compiled, text: &str) -> Result<String, EngineError>
-    requires program { IsProgramOf text.now compiled.checked }
-    requires within { IsPlacedWithin (length text.now) compiled.checked }
-    requires short { length text.now ≤ 1048576 }
-    ensures listing { IfOk result (λ s. IsListingOf text.now (string_bytes s)) }
+fn list_compiled(alloc: Global, compiled: Compiled<'_>) -> Result<String, EngineError>
+    ensures listing { IfOk result (λ s. IsListingOf compiled.entry.text (string_bytes s)) }
     ensures memory { IfErr result (λ e. e ≡ EngineError.Memory) }
 {
+    let text = compiled.text();
     let valid = compiled.into_valid();
     match list(alloc, valid.graph(), text) {
         Ok(listing) => Ok(listing),
@@ -123,36 +121,21 @@ fn picture_of(alloc: Global, text: &str) -> Result<String, EngineError>
     ensures not_write { IfErr result (λ e. e ≢ EngineError.Write) }
 {
     match compile(alloc, text) {
-        Ok(compiled) => draw_once(alloc, compiled, text),
+        Ok(compiled) => draw_compiled(alloc, &compiled),
         Err(error) => Err(EngineError::Compile(error)),
     }
 }
 
 /// The picture of a compiled text's graph, which is the program's own.
-fn draw_compiled(alloc: Global, compiled: &Compiled, text: &str) -> Result<String, EngineError>
-    requires within { IsPlacedWithin (length text.now) compiled.now.checked }
-    requires short { length text.now ≤ 1048576 }
-    ensures picture { IfOk result (λ s. string_bytes s ≡ dot_text text.now compiled.now.graph) }
+fn draw_compiled(alloc: Global, compiled: &Compiled<'_>) -> Result<String, EngineError>
+    ensures picture { IfOk result (λ s. string_bytes s ≡ dot_text compiled.now.text compiled.now.graph) }
     ensures own { IsOwn compiled.now.checked compiled.now.graph }
     ensures memory { IfErr result (λ e. e ≡ EngineError.Memory) }
 {
-    match draw(alloc, compiled.valid().graph(), text) {
+    match draw(alloc, compiled.valid().graph(), compiled.text()) {
         Ok(picture) => Ok(picture),
         Err(_) => Err(EngineError::Memory),
     }
-}
-
-/// The same, and lets the program go.
-fn draw_once(alloc: Global, compiled: Compiled, text: &str) -> Result<String, EngineError>
-    requires within { IsPlacedWithin (length text.now) compiled.checked }
-    requires short { length text.now ≤ 1048576 }
-    ensures picture { IfOk result (λ s. string_bytes s ≡ dot_text text.now compiled.graph) }
-    ensures own { IsOwn compiled.checked compiled.graph }
-    ensures memory { IfErr result (λ e. e ≡ EngineError.Memory) }
-{
-    let picture = draw_compiled(alloc, &compiled, text);
-    drop(compiled);
-    picture
 }
 
 /// Writes the facts of a round of the text on these input words, a line for each, and answers the status, 0.
@@ -173,7 +156,7 @@ pub fn facts_text<W: Sink>(
     ensures inside { IfErr result (IsInsideOf text.now) }
 {
     let found = facts_of(alloc, text, inputs, round)?;
-    match print_found(found, text, out) {
+    match print_found(found, out) {
         Ok(()) => Ok(0),
         Err(_) => Err(EngineError::Write),
     }
@@ -181,62 +164,51 @@ pub fn facts_text<W: Sink>(
 
 /// A text's program with its inputs, and the facts of a round of it.
 #[derive(Drop)]
-struct Found {
-    prepared: Prepared,
+struct Found<'t> {
+    prepared: Prepared<'t>,
     round: Round,
 }
 
 /// Writes the facts that were found, a line for each. Takes no memory.
-fn print_found<W: Sink>(found: Found, text: &str, out: &mut W) -> Result<(), PrintError>
-    requires short { length text.now ≤ 1048576 }
-    ensures { Prints (W.told out.old) (W.told out.new) (facts_text text.now (facts_found found)) result }
+fn print_found<W: Sink>(found: Found<'_>, out: &mut W) -> Result<(), PrintError>
+    ensures { Prints (W.told out.old) (W.told out.new)
+        (facts_text found.entry.prepared.compiled.text (facts_found found.entry)) result }
 {
     let Found { prepared, round } = found;
-    let done = write_round(round, prepared.compiled.checked(), text, out);
-    drop(prepared);
-    done
+    let compiled = &prepared.compiled;
+    write_round(round, compiled.checked(), compiled.text(), out)
 }
 
 /// The facts of a round of the text on these input words.
-fn facts_of(alloc: Global, text: &str, inputs: &[&str], round: u32) -> Result<Found, EngineError>
+fn facts_of<'t>(
+    alloc: Global,
+    text: &'t str,
+    inputs: &[&str],
+    round: u32,
+) -> Result<Found<'t>, EngineError>
+    ensures text { IfOk result (λ f. f.prepared.compiled.text ≡ text.now) }
     ensures facts { IfOk result
         (λ f. AreFactsOf text.now (map (λ w. w.now) inputs.now) round (facts_found f)) }
-    ensures short { OnOk result (length text.now ≤ 1048576) }
     ensures taken { OnOk result (AreTakenFacts text.now (map (λ w. w.now) inputs.now) round) }
     ensures refused { IfErr result (AreRefusedFacts text.now (map (λ w. w.now) inputs.now) round) }
     ensures inside { IfErr result (IsInsideOf text.now) }
     ensures not_write { IfErr result (λ e. e ≢ EngineError.Write) }
 {
     match prepare(alloc, text, inputs) {
-        Ok(prepared) => facts_once(alloc, prepared, round),
+        Ok(prepared) => match facts_of_prepared(alloc, &prepared, round) {
+            Ok(round) => Ok(Found { prepared, round }),
+            Err(error) => Err(error),
+        },
         Err(error) => Err(error),
     }
 }
 
-/// The facts of a round of a compiled program on its inputs, with that program.
-fn facts_once(alloc: Global, prepared: Prepared, round: u32) -> Result<Found, EngineError>
-    requires { AreInputs prepared.compiled.checked prepared.inputs.values }
-    ensures facts { IfOk result
-        (λ f. AreFacts (source prepared.compiled.checked prepared.inputs.values) round (facts_found f)) }
-    ensures few { IfOk result (λ f. (round ≤ 10000) × (length (facts_found f) ≤ 1000000)) }
-    ensures refused { IfErr result
-        (AreRefusedRounds (source prepared.compiled.checked prepared.inputs.values) round) }
-{
-    match facts_of_prepared(alloc, &prepared, round) {
-        Ok(facts) => Ok(Found {
-            prepared,
-            round: facts,
-        }),
-        Err(error) => {
-            drop(prepared);
-            Err(error)
-        }
-    }
-}
-
 /// The facts of a round of a compiled program on its inputs.
-fn facts_of_prepared(alloc: Global, prepared: &Prepared, round: u32) -> Result<Round, EngineError>
-    requires { AreInputs prepared.now.compiled.checked prepared.now.inputs.values }
+fn facts_of_prepared(
+    alloc: Global,
+    prepared: &Prepared<'_>,
+    round: u32,
+) -> Result<Round, EngineError>
     ensures facts { IfOk result (λ r. AreFacts (source prepared.now.compiled.checked prepared.now.inputs.values) round
         (facts_in prepared.now.compiled.checked r.paths r.rows.items)) }
     ensures few { IfOk result (λ r. (round ≤ 10000)

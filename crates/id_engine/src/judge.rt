@@ -1,9 +1,8 @@
 //! A log, or a trace in memory, judged as one of a text.
 
-ghost use Rattle.std.specs.Prelude.{◌≡◌, ◌≢◌, ◌≤◌, ◌<◌, false, length, map};
+ghost use Rattle.std.specs.Prelude.{◌≡◌, ◌≢◌, ◌<◌, false, map};
 ghost use Rattle.std.specs.Prelude.{[], Err, IfErr, IfOk, OnOk, ◌++◌};
 ghost use Rattle.id_build.specs.Own.{IsOwn};
-ghost use Rattle.id_source.specs.Sources.{AreInputs};
 ghost use Rattle.id_print.specs.Reports.{report_text};
 ghost use Rattle.id_sink.specs.Told.{Prints};
 ghost use Rattle.id_log.specs.Logs.{Hears};
@@ -18,7 +17,7 @@ ghost use Rattle.id_engine.specs.Listening.{IsInsideFor, IsUnheard, IsUnjudged, 
 ghost use Rattle.id_engine.specs.Reports.{AreAllowed, IsUnallowed};
 ghost use Rattle.id_engine.specs.Runs.{keeps_for};
 
-use crate::run::{keeps_for, status_of};
+use crate::run::{Asked, status_of};
 use id_compile::{EngineError, Prepared, prepare};
 use id_core::{Machine, MachineError};
 use id_judge::{Cause, Judge, Verdict, hear};
@@ -88,16 +87,15 @@ fn printed(written: Result<(), PrintError>, status: u8) -> Result<u8, EngineErro
 fn write_legal<W: Sink>(
     events: usize,
     report: &Report,
-    text: &str,
+    prepared: &Prepared<'_>,
     names: bool,
     out: &mut W,
 ) -> Result<(), PrintError>
-    requires fits { length text.now ≤ 1048576 }
-    ensures { Prints (W.told out.old) (W.told out.new) (legal_text events ++ report_text text.now names report.now)
-        result }
+    ensures { Prints (W.told out.old) (W.told out.new)
+        (legal_text events ++ report_text prepared.now.compiled.text names report.now) result }
 {
     put_legal(out, events)?;
-    write_report(report, text, names, out)
+    write_report(report, prepared.compiled.text(), names, out)
 }
 
 /// Writes that a trace is one of a run of so many events, which has come to this machine, and what that shows, and
@@ -106,20 +104,17 @@ fn print_shown<W: Sink>(
     alloc: Global,
     machine: &Machine<'_>,
     events: usize,
-    text: &str,
+    prepared: &Prepared<'_>,
     names: bool,
     out: &mut W,
 ) -> Result<u8, EngineError>
-    requires kept { machine.now.keeps ≡ keeps_for false names }
-    requires fits { length text.now ≤ 1048576 }
-    ensures { PrintsLegal machine.now events text.now names (W.told out.old) (W.told out.new) result }
+    requires { machine.now.keeps ≡ keeps_for false names }
+    ensures { PrintsLegal machine.now events prepared.now.compiled.text names (W.told out.old) (W.told out.new) result }
 {
     match run_report(alloc, machine, names) {
         Ok(report) => {
-            let written = write_legal(events, &report, text, names, out);
-            let status = printed(written, status_of(&report.ending));
-            drop(report);
-            status
+            let written = write_legal(events, &report, prepared, names, out);
+            printed(written, status_of(&report.ending))
         }
         Err(_) => Err(EngineError::Memory),
     }
@@ -130,19 +125,17 @@ fn print_machine<W: Sink>(
     alloc: Global,
     machine: Machine<'_>,
     events: usize,
-    text: &str,
+    prepared: &Prepared<'_>,
     names: bool,
     out: &mut W,
 ) -> Result<u8, EngineError>
-    requires kept { machine.keeps ≡ keeps_for false names }
-    requires fits { length text.now ≤ 1048576 }
-    ensures { PrintsLegal machine.entry events text.now names (W.told out.old) (W.told out.new) result }
+    requires { machine.keeps ≡ keeps_for false names }
+    ensures { PrintsLegal machine.entry events prepared.now.compiled.text names (W.told out.old) (W.told out.new)
+        result }
 {
     let mut machine = machine;
     machine.give_back(alloc);
-    let status = print_shown(alloc, &machine, events, text, names, out);
-    drop(machine);
-    status
+    print_shown(alloc, &machine, events, prepared, names, out)
 }
 
 /// Writes that the event at this position can't follow, and why, and answers the status. No number is left for an event
@@ -161,11 +154,10 @@ fn print_other<W: Sink>(position: usize, cause: Cause, out: &mut W) -> Result<u8
 /// A judge of traces of a compiled program with its inputs, which has read nothing.
 fn start_judge<'a>(
     alloc: Global,
-    prepared: &'a Prepared,
+    prepared: &'a Prepared<'_>,
     count: u32,
     names: bool,
 ) -> Result<Judge<'a>, EngineError>
-    requires { AreInputs prepared.now.compiled.checked prepared.now.inputs.values }
     ensures own { IsOwn prepared.now.compiled.checked prepared.now.compiled.graph }
     ensures ready { IfOk result IsReady }
     ensures judges { IfOk result (JudgesOn prepared.now.compiled.graph count (keeps_for false names)) }
@@ -174,13 +166,13 @@ fn start_judge<'a>(
     ensures refused { IfErr result (IsUnallowed count 1) }
 {
     id_laws::inputs_fit();
-    match Judge::new(
-        alloc,
-        prepared.compiled.valid(),
-        &prepared.inputs,
-        count,
-        keeps_for(false, names),
-    ) {
+    let keeps = Asked {
+        names,
+        trace: false,
+    }
+    .keeps();
+    let graph = prepared.compiled.valid();
+    match Judge::new(alloc, graph, &prepared.inputs, count, keeps) {
         Ok(judge) => Ok(judge),
         Err(MachineError::BadElements) => Err(EngineError::BadElements),
         Err(MachineError::Memory) => Err(EngineError::Memory),
@@ -190,12 +182,11 @@ fn start_judge<'a>(
 /// What the judge says of a log, as of the trace of a run of a compiled program with its inputs.
 fn verdict_of<'a, L: Log>(
     alloc: Global,
-    prepared: &'a Prepared,
+    prepared: &'a Prepared<'_>,
     log: &mut L,
     count: u32,
     names: bool,
 ) -> Result<Verdict<'a>, Unjudged>
-    requires { AreInputs prepared.now.compiled.checked prepared.now.inputs.values }
     ensures own { IsOwn prepared.now.compiled.checked prepared.now.compiled.graph }
     ensures verdict { IfOk result (λ v. Hears (L.ahead log.old) (λ trace. IsLineVerdict prepared.now.compiled.graph
         prepared.now.inputs.values count (keeps_for false names) trace v)) }
@@ -224,48 +215,25 @@ fn refused(answer: Result<u8, EngineError>) -> Result<u8, Unjudged>
 /// Judges a log as the trace of a run of a compiled program with its inputs, and writes what comes of that.
 fn judge_prepared<L: Log, W: Sink>(
     alloc: Global,
-    prepared: &Prepared,
-    text: &str,
+    prepared: &Prepared<'_>,
     log: &mut L,
     count: u32,
     names: bool,
     out: &mut W,
 ) -> Result<u8, Unjudged>
-    requires inputs { AreInputs prepared.now.compiled.checked prepared.now.inputs.values }
-    requires short { length text.now ≤ 1048576 }
-    ensures { Listens prepared.now.compiled.checked prepared.now.inputs.values text.now (L.ahead log.old) count names
-        (W.told out.old) (W.told out.new) result }
+    ensures { Listens prepared.now.compiled.checked prepared.now.inputs.values prepared.now.compiled.text
+        (L.ahead log.old) count names (W.told out.old) (W.told out.new) result }
 {
     id_laws::sound();
     id_laws::complete();
     id_laws::legal_lists();
     match verdict_of(alloc, prepared, log, count, names) {
         Ok(Verdict::Legal(machine, events)) => refused(print_machine(
-            alloc, machine, events, text, names, out,
+            alloc, machine, events, prepared, names, out,
         )),
         Ok(Verdict::CannotFollow(position, cause)) => refused(print_other(position, cause, out)),
         Err(error) => Err(error),
     }
-}
-
-/// The same, and lets the program go.
-fn judge_once<L: Log, W: Sink>(
-    alloc: Global,
-    prepared: Prepared,
-    text: &str,
-    log: &mut L,
-    count: u32,
-    names: bool,
-    out: &mut W,
-) -> Result<u8, Unjudged>
-    requires inputs { AreInputs prepared.compiled.checked prepared.inputs.values }
-    requires short { length text.now ≤ 1048576 }
-    ensures { Listens prepared.compiled.checked prepared.inputs.values text.now (L.ahead log.old) count names
-        (W.told out.old) (W.told out.new) result }
-{
-    let status = judge_prepared(alloc, &prepared, text, log, count, names, out);
-    drop(prepared);
-    status
 }
 
 /// Compiles a text, judges whether what a log has is the trace of a run of it on the inputs that the words give, on so
@@ -302,7 +270,7 @@ pub fn judge_log<L: Log, W: Sink>(
     ensures inside { IfErr result (IsInsideFor text.now) }
 {
     match prepare(alloc, text, inputs) {
-        Ok(prepared) => judge_once(alloc, prepared, text, log, count, names, out),
+        Ok(prepared) => judge_prepared(alloc, &prepared, log, count, names, out),
         Err(error) => Err(Unjudged::Refused(error)),
     }
 }

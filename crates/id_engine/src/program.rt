@@ -1,11 +1,12 @@
 //! The whole program over any source of texts, any logs and any sinks.
 
-ghost use Rattle.std.specs.Prelude.{◌≡◌, [], map, option_map, IfErr, IfOk, List, None, ℕ, Option, Result};
-ghost use Rattle.id_engine.specs.Asked.{IsComputed, IsOfRun, IsToJudge, IsToRun, PrintsAsked};
+ghost use Rattle.std.specs.Prelude.{◌≡◌, [], map, option_map, IfErr, IfOk, List, ℕ, Option, Result};
+ghost use Rattle.id_engine.specs.Asked.{IsToJudge, PrintsAsked};
 ghost use Rattle.id_compile.specs.Refusals.{IsInsideOf, IsPrintedLine, IsToldRefusal, plain, row_of};
 ghost use Rattle.id_engine.specs.Served.{Answers, Drives, DrivesBy, HasHelped, Serves, file_of, log_fault, logs_of};
 ghost use Rattle.id_engine.specs.Served.{words_of};
-ghost use Rattle.id_merge.specs.Merging.{logs_ahead, merged_ahead};
+ghost use Rattle.id_log.specs.Logs.{Ahead, MayBreak};
+ghost use Rattle.id_merge.specs.Merging.{logs_ahead};
 ghost use Rattle.id_sink.specs.Reading.{IsToldText};
 ghost use Rattle.id_sink.specs.declared.source.SourceFault.{SourceFault};
 
@@ -60,103 +61,6 @@ fn answer<O: Sink, E: Sink>(unasked: &Unasked, out: &mut O, err: &mut E) -> u8
     }
 }
 
-/// Runs a text as a request asks for, prints the run, and answers the status.
-fn run_asked<R: Threads + Wait + Sync, G: Gate + Sync, O: Sink>(
-    rt: &R,
-    alloc: Global,
-    request: &Request<'_>,
-    text: &str,
-    gate: &G,
-    out: &mut O,
-) -> Result<u8, EngineError>
-    requires { IsToRun request.now }
-    ensures { (bytes : List ℕ) → PrintsAsked text.now bytes request.now (O.told out.old) (O.told out.new) result }
-{
-    match request {
-        Request::Run {
-            inputs,
-            count,
-            trace,
-            steps,
-            order,
-            names,
-            ..
-        } => engine(
-            rt,
-            alloc,
-            text,
-            inputs.as_slice(),
-            Settings {
-                elements: *count,
-                steps: *steps,
-                order: *order,
-                keeps: Keeps::Tellings,
-            },
-            *names,
-            *trace,
-            gate,
-            out,
-        ),
-        _ => unreachable!(),
-    }
-}
-
-/// Runs a text as a request asks for, or judges a trace as one of it, prints what comes of it, and answers the status.
-fn print_of_run<R: Threads + Wait + Sync, G: Gate + Sync, O: Sink>(
-    rt: &R,
-    alloc: Global,
-    request: &Request<'_>,
-    text: &str,
-    trace: &[u8],
-    gate: &G,
-    out: &mut O,
-) -> Result<u8, EngineError>
-    requires { IsOfRun request.now }
-    ensures { PrintsAsked text.now trace.now request.now (O.told out.old) (O.told out.new) result }
-{
-    match request {
-        Request::Judge {
-            inputs,
-            count,
-            names,
-            ..
-        } => judge_text(alloc, text, trace, inputs.as_slice(), *count, *names, out),
-        _ => run_asked(rt, alloc, request, text, gate, out),
-    }
-}
-
-/// Prints what a request asks for of a text that is computed on inputs, and answers the status.
-fn print_computed<R: Threads + Wait + Sync, G: Gate + Sync, O: Sink>(
-    rt: &R,
-    alloc: Global,
-    request: &Request<'_>,
-    text: &str,
-    trace: &[u8],
-    gate: &G,
-    out: &mut O,
-) -> Result<u8, EngineError>
-    requires { IsComputed request.now }
-    ensures { PrintsAsked text.now trace.now request.now (O.told out.old) (O.told out.new) result }
-{
-    match request {
-        Request::Facts { rounds, inputs, .. } => facts_text(
-            alloc,
-            text,
-            inputs.as_slice(),
-            *rounds,
-            out,
-        ),
-        Request::Why { rounds, inputs, .. } => reasons_text(
-            alloc,
-            text,
-            inputs.as_slice(),
-            *rounds,
-            out,
-        ),
-        _ => print_of_run(rt, alloc, request, text, trace, gate, out),
-    }
-}
-
 /// Prints what a request asks for of a text, and of a trace, and answers the status.
 fn print_asked<R: Threads + Wait + Sync, G: Gate + Sync, O: Sink>(
     rt: &R,
@@ -173,7 +77,36 @@ fn print_asked<R: Threads + Wait + Sync, G: Gate + Sync, O: Sink>(
         Request::Check { .. } => check_text(alloc, text, out),
         Request::Graph { .. } => graph_text(alloc, text, out),
         Request::Draw { .. } => draw_text(alloc, text, out),
-        _ => print_computed(rt, alloc, request, text, trace, gate, out),
+        Request::Run {
+            inputs,
+            count,
+            trace: events,
+            steps,
+            order,
+            names,
+            ..
+        } => {
+            let settings = Settings {
+                elements: *count,
+                steps: *steps,
+                order: *order,
+                keeps: Keeps::Tellings,
+            };
+            let words = inputs.as_slice();
+            engine(rt, alloc, text, words, settings, *names, *events, gate, out)
+        }
+        Request::Facts { rounds, inputs, .. } => {
+            facts_text(alloc, text, inputs.as_slice(), *rounds, out)
+        }
+        Request::Why { rounds, inputs, .. } => {
+            reasons_text(alloc, text, inputs.as_slice(), *rounds, out)
+        }
+        Request::Judge {
+            inputs,
+            count,
+            names,
+            ..
+        } => judge_text(alloc, text, trace, inputs.as_slice(), *count, *names, out),
     }
 }
 
@@ -287,44 +220,20 @@ fn judge_asked<L: Log, O: Sink, E: Sink>(
     }
 }
 
-/// Judges the log of this name as a request asks for, and answers the status.
-fn judge_named<T: Logs, O: Sink, E: Sink>(
+/// Judges a log that was to be opened as a request asks for, and answers the status.
+fn judge_opened<L: Log + Drop, O: Sink, E: Sink>(
     alloc: Global,
     request: &Request<'_>,
     text: &str,
-    name: &str,
-    logs: &mut T,
+    opened: Result<L, LogFault>,
     out: &mut O,
     err: &mut E,
 ) -> u8
     requires { IsToJudge request.now }
-    ensures { DrivesBy text.now (T.told logs.old name.now) request.now (O.told out.old) (O.told out.new)
-        (E.told err.old) (E.told err.new) result }
+    ensures { (a : Option Ahead) → IfOk opened (λ log. L.ahead log ≡ a) → IfErr opened (MayBreak a)
+        → DrivesBy text.now a request.now (O.told out.old) (O.told out.new) (E.told err.old) (E.told err.new) result }
 {
-    match logs.open(alloc, name) {
-        Ok(log) => {
-            let mut log = log;
-            judge_asked(alloc, request, text, &mut log, out, err)
-        }
-        Err(fault) => refuse_plainly(of_source_fault(log_fault(fault)), err),
-    }
-}
-
-/// Judges the logs of these names, merged, as a request asks for, and answers the status.
-fn judge_merged<T: Logs, O: Sink, E: Sink>(
-    alloc: Global,
-    request: &Request<'_>,
-    text: &str,
-    names: &[&str],
-    logs: &mut T,
-    out: &mut O,
-    err: &mut E,
-) -> u8
-    requires { IsToJudge request.now }
-    ensures { DrivesBy text.now (merged_ahead None (map (λ name. T.told logs.old name.now) names.now)) request.now
-        (O.told out.old) (O.told out.new) (E.told err.old) (E.told err.new) result }
-{
-    match open_merged(alloc, logs, names) {
+    match opened {
         Ok(log) => {
             let mut log = log;
             judge_asked(alloc, request, text, &mut log, out, err)
@@ -348,9 +257,16 @@ fn judge_logs<T: Logs, O: Sink, E: Sink>(
         (O.told out.old) (O.told out.new) (E.told err.old) (E.told err.new) result }
 {
     if names.len() == 1 {
-        judge_named(alloc, request, text, names[0], logs, out, err)
+        judge_opened(alloc, request, text, logs.open(alloc, names[0]), out, err)
     } else {
-        judge_merged(alloc, request, text, names, logs, out, err)
+        judge_opened(
+            alloc,
+            request,
+            text,
+            open_merged(alloc, logs, names),
+            out,
+            err,
+        )
     }
 }
 

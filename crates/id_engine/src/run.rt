@@ -1,10 +1,9 @@
 //! A text, compiled, run and printed.
 
-ghost use Rattle.std.specs.Prelude.{◌≡◌, ◌≢◌, ◌≤◌, ◌++◌, length, map};
+ghost use Rattle.std.specs.Prelude.{◌≡◌, ◌≢◌, ◌++◌, map};
 ghost use Rattle.std.specs.Prelude.{IfErr, IfOk, IsTrue, None, OnOk};
 ghost use Rattle.id_record.specs.declared.kept.Keeps.TheVariants as keeps;
 ghost use Rattle.id_build.specs.Own.{IsOwn};
-ghost use Rattle.id_source.specs.Sources.{AreInputs};
 ghost use Rattle.id_print.specs.Reports.{report_text};
 ghost use Rattle.id_sink.specs.Told.{Prints};
 ghost use Rattle.id_trace.specs.Traces.{trace_text};
@@ -32,16 +31,25 @@ use std::alloc::{AllocError, Global};
 use std::sync::Wait;
 use std::thread::Threads;
 
-/// As much as is kept of the events of a run whose trace or names are asked for, or neither.
-pub fn keeps_for(trace: bool, names: bool) -> Keeps
-    ensures { result ≡ keeps_for trace names }
-{
-    if trace {
-        Keeps::All
-    } else if names {
-        Keeps::Names
-    } else {
-        Keeps::Tellings
+/// What is asked for of a run beside its report: the value of each name, and all events.
+#[derive(Clone, Copy)]
+pub(crate) struct Asked {
+    pub names: bool,
+    pub trace: bool,
+}
+
+impl Asked {
+    /// As much as is kept of the events of a run of which this is asked for.
+    pub(crate) fn keeps(self) -> Keeps
+        ensures { result ≡ keeps_for self.trace self.names }
+    {
+        if self.trace {
+            Keeps::All
+        } else if self.names {
+            Keeps::Names
+        } else {
+            Keeps::Tellings
+        }
     }
 }
 
@@ -82,30 +90,29 @@ fn trace_of<'a>(alloc: Global, run: &'a Run<'_>, trace: bool) -> Result<Merged<'
 fn write_run<W: Sink>(
     events: &Merged<'_>,
     report: &Report,
-    text: &str,
+    prepared: &Prepared<'_>,
     names: bool,
     out: &mut W,
 ) -> Result<(), PrintError>
-    requires fits { length text.now ≤ 1048576 }
     ensures { Prints (W.told out.old) (W.told out.new)
-        (trace_text events.now ++ report_text text.now names report.now) result }
+        (trace_text events.now ++ report_text prepared.now.compiled.text names report.now) result }
 {
     write_trace(events, out)?;
-    write_report(report, text, names, out)
+    write_report(report, prepared.compiled.text(), names, out)
 }
 
 /// Writes the line of each event, and then the report, and answers the status. The events are let go.
 fn print_events<W: Sink>(
     events: Merged<'_>,
     report: &Report,
-    text: &str,
+    prepared: &Prepared<'_>,
     names: bool,
     out: &mut W,
 ) -> Result<u8, EngineError>
-    requires fits { length text.now ≤ 1048576 }
-    ensures { PrintsEvents text.now names events.entry report.now (W.told out.old) (W.told out.new) result }
+    ensures { PrintsEvents prepared.now.compiled.text names events.entry report.now (W.told out.old) (W.told out.new)
+        result }
 {
-    match write_run(&events, report, text, names, out) {
+    match write_run(&events, report, prepared, names, out) {
         Ok(()) => Ok(status_of(&report.ending)),
         Err(_) => Err(EngineError::Write),
     }
@@ -117,17 +124,16 @@ fn print_run<W: Sink>(
     alloc: Global,
     run: &Run<'_>,
     report: &Report,
-    text: &str,
-    names: bool,
-    trace: bool,
+    prepared: &Prepared<'_>,
+    asked: Asked,
     out: &mut W,
 ) -> Result<u8, EngineError>
-    requires kept { IsTrue trace → run.now.keeps ≡ keeps.All }
-    requires fits { length text.now ≤ 1048576 }
-    ensures { PrintsRun text.now trace names run.now.world report.now (W.told out.old) (W.told out.new) result }
+    requires { IsTrue asked.trace → run.now.keeps ≡ keeps.All }
+    ensures { PrintsRun prepared.now.compiled.text asked.trace asked.names run.now.world report.now (W.told out.old)
+        (W.told out.new) result }
 {
-    match trace_of(alloc, run, trace) {
-        Ok(events) => print_events(events, report, text, names, out),
+    match trace_of(alloc, run, asked.trace) {
+        Ok(events) => print_events(events, report, prepared, asked.names, out),
         Err(_) => Err(EngineError::Memory),
     }
 }
@@ -136,57 +142,29 @@ fn print_run<W: Sink>(
 fn print_ended<W: Sink>(
     alloc: Global,
     run: &mut Run<'_>,
-    graph: &Valid,
-    text: &str,
-    names: bool,
-    trace: bool,
+    prepared: &Prepared<'_>,
+    asked: Asked,
     out: &mut W,
 ) -> Result<u8, EngineError>
-    requires graph { run.old.graph ≡ graph.now }
-    requires kept { run.old.keeps ≡ keeps_for trace names }
-    requires fits { length text.now ≤ 1048576 }
-    ensures { PrintsMachine run.old text.now trace names (W.told out.old) (W.told out.new) result }
+    requires graph { run.old.graph ≡ prepared.now.compiled.graph }
+    requires kept { run.old.keeps ≡ keeps_for asked.trace asked.names }
+    ensures { PrintsMachine run.old prepared.now.compiled.text asked.trace asked.names (W.told out.old)
+        (W.told out.new) result }
 {
-    match report_of(alloc, run, graph, names) {
-        Ok(report) => {
-            let status = print_run(alloc, run, &report, text, names, trace, out);
-            drop(report);
-            status
-        }
+    match report_of(alloc, run, prepared.compiled.valid(), asked.names) {
+        Ok(report) => print_run(alloc, run, &report, prepared, asked, out),
         Err(error) => Err(error),
     }
-}
-
-/// Writes what is asked for of a run of the graph, and lets the run go.
-fn print_once<W: Sink>(
-    alloc: Global,
-    run: Run<'_>,
-    graph: &Valid,
-    text: &str,
-    names: bool,
-    trace: bool,
-    out: &mut W,
-) -> Result<u8, EngineError>
-    requires graph { run.graph ≡ graph.now }
-    requires kept { run.keeps ≡ keeps_for trace names }
-    requires fits { length text.now ≤ 1048576 }
-    ensures { PrintsMachine run.entry text.now trace names (W.told out.old) (W.told out.new) result }
-{
-    let mut run = run;
-    let status = print_ended(alloc, &mut run, graph, text, names, trace, out);
-    drop(run);
-    status
 }
 
 /// The run of a compiled program with its inputs. No run of such a graph is `Stuck`.
 fn run_for<'a, R: Threads + Wait + Sync, G: Gate + Sync>(
     rt: &R,
     alloc: Global,
-    prepared: &'a Prepared,
+    prepared: &'a Prepared<'_>,
     settings: Settings,
     gate: &G,
 ) -> Result<Run<'a>, EngineError>
-    requires { AreInputs prepared.now.compiled.checked prepared.now.inputs.values }
     ensures own { IsOwn prepared.now.compiled.checked prepared.now.compiled.graph }
     ensures run { IfOk result (IsRun prepared.now.compiled.graph prepared.now.inputs.values settings.elements
         settings.steps) }
@@ -220,61 +198,29 @@ fn run_for<'a, R: Threads + Wait + Sync, G: Gate + Sync>(
 fn run_prepared<R: Threads + Wait + Sync, G: Gate + Sync, W: Sink>(
     rt: &R,
     alloc: Global,
-    prepared: &Prepared,
-    text: &str,
+    prepared: &Prepared<'_>,
     settings: Settings,
-    names: bool,
-    trace: bool,
+    asked: Asked,
     gate: &G,
     out: &mut W,
 ) -> Result<u8, EngineError>
-    requires inputs { AreInputs prepared.now.compiled.checked prepared.now.inputs.values }
-    requires short { length text.now ≤ 1048576 }
-    ensures { RunsSo prepared.now.compiled.checked prepared.now.inputs.values text.now settings.elements trace
-        settings.steps settings.order names (W.told out.old) (W.told out.new) result }
+    ensures { RunsSo prepared.now.compiled.checked prepared.now.inputs.values prepared.now.compiled.text
+        settings.elements asked.trace settings.steps settings.order asked.names (W.told out.old) (W.told out.new)
+        result }
 {
     id_laws::sound();
     id_laws::complete();
-    let asked = Settings {
-        keeps: keeps_for(trace, names),
+    let kept = Settings {
+        keeps: asked.keeps(),
         ..settings
     };
-    match run_for(rt, alloc, prepared, asked, gate) {
-        Ok(run) => print_once(
-            alloc,
-            run,
-            prepared.compiled.valid(),
-            text,
-            names,
-            trace,
-            out,
-        ),
+    match run_for(rt, alloc, prepared, kept, gate) {
+        Ok(run) => {
+            let mut run = run;
+            print_ended(alloc, &mut run, prepared, asked, out)
+        }
         Err(error) => Err(error),
     }
-}
-
-/// The same, and lets the program go.
-fn run_once<R: Threads + Wait + Sync, G: Gate + Sync, W: Sink>(
-    rt: &R,
-    alloc: Global,
-    prepared: Prepared,
-    text: &str,
-    settings: Settings,
-    names: bool,
-    trace: bool,
-    gate: &G,
-    out: &mut W,
-) -> Result<u8, EngineError>
-    requires inputs { AreInputs prepared.compiled.checked prepared.inputs.values }
-    requires short { length text.now ≤ 1048576 }
-    ensures { RunsSo prepared.compiled.checked prepared.inputs.values text.now settings.elements trace settings.steps
-        settings.order names (W.told out.old) (W.told out.new) result }
-{
-    let status = run_prepared(
-        rt, alloc, &prepared, text, settings, names, trace, gate, out,
-    );
-    drop(prepared);
-    status
 }
 
 /// The status of a run that ended so.
@@ -333,7 +279,10 @@ pub fn engine<R: Threads + Wait + Sync, G: Gate + Sync, W: Sink>(
     ensures inside { IfErr result (IsInsideOf text.now) }
 {
     match prepare(alloc, text, inputs) {
-        Ok(prepared) => run_once(rt, alloc, prepared, text, settings, names, trace, gate, out),
+        Ok(prepared) => {
+            let asked = Asked { names, trace };
+            run_prepared(rt, alloc, &prepared, settings, asked, gate, out)
+        }
         Err(error) => Err(error),
     }
 }

@@ -1,7 +1,7 @@
 //! The command that says why there is no answer.
 
-ghost use Rattle.std.specs.Prelude.{◌≡◌, ◌≢◌, ◌≤◌, length, map, IfOk, IfErr, OnOk};
-ghost use Rattle.id_source.specs.Sources.{AreInputs, source};
+ghost use Rattle.std.specs.Prelude.{◌≡◌, ◌≢◌, ◌≤◌, map, IfOk, IfErr, OnOk};
+ghost use Rattle.id_source.specs.Sources.{source};
 ghost use Rattle.id_sink.specs.Told.{Prints};
 ghost use Rattle.id_print.specs.Reasons.{reasons_text};
 ghost use Rattle.id_why.specs.Rounds.{AreReasons};
@@ -35,7 +35,7 @@ pub fn reasons_text<W: Sink>(
     ensures inside { IfErr result (IsInsideOf text.now) }
 {
     let reasoned = reasons_of(alloc, text, inputs, round)?;
-    match print_reasoned(reasoned, round, text, out) {
+    match print_reasoned(reasoned, round, out) {
         Ok(()) => Ok(0),
         Err(_) => Err(EngineError::Write),
     }
@@ -43,78 +43,58 @@ pub fn reasons_text<W: Sink>(
 
 /// A text's program with its inputs, and what lacks a value in a round of it.
 #[derive(Drop)]
-struct Reasoned {
-    prepared: Prepared,
+struct Reasoned<'t> {
+    prepared: Prepared<'t>,
     reasons: Reasons,
 }
 
 /// Writes what was found, a line for each thing. Takes no memory.
 fn print_reasoned<W: Sink>(
-    reasoned: Reasoned,
+    reasoned: Reasoned<'_>,
     round: u32,
-    text: &str,
     out: &mut W,
 ) -> Result<(), PrintError>
-    requires short { length text.now ≤ 1048576 }
     ensures { Prints (W.told out.old) (W.told out.new) (reasons_text (record {
-      text = text.now;
-      checked = reasoned.prepared.compiled.checked;
-      facts = reasoned.reasons.paths;
-    }) round reasoned.reasons) result }
+      text = reasoned.entry.prepared.compiled.text;
+      checked = reasoned.entry.prepared.compiled.checked;
+      facts = reasoned.entry.reasons.paths;
+    }) round reasoned.entry.reasons) result }
 {
     let Reasoned { prepared, reasons } = reasoned;
-    let done = write_reasons(reasons, prepared.compiled.checked(), round, text, out);
-    drop(prepared);
-    done
+    let compiled = &prepared.compiled;
+    write_reasons(reasons, compiled.checked(), round, compiled.text(), out)
 }
 
 /// What lacks a value in a round of the text on these input words.
-fn reasons_of(
+fn reasons_of<'t>(
     alloc: Global,
-    text: &str,
+    text: &'t str,
     inputs: &[&str],
     round: u32,
-) -> Result<Reasoned, EngineError>
+) -> Result<Reasoned<'t>, EngineError>
+    ensures text { IfOk result (λ r. r.prepared.compiled.text ≡ text.now) }
     ensures reasons { IfOk result (λ r. AreReasonsOf text.now (map (λ w. w.now) inputs.now) round
         r.prepared.compiled.checked r.reasons) }
-    ensures short { OnOk result (length text.now ≤ 1048576) }
     ensures taken { OnOk result (AreTakenReasons text.now (map (λ w. w.now) inputs.now) round) }
     ensures refused { IfErr result (AreRefusedFacts text.now (map (λ w. w.now) inputs.now) round) }
     ensures inside { IfErr result (IsInsideOf text.now) }
     ensures not_write { IfErr result (λ e. e ≢ EngineError.Write) }
 {
     match prepare(alloc, text, inputs) {
-        Ok(prepared) => reasons_once(alloc, prepared, round),
+        Ok(prepared) => match reasons_of_prepared(alloc, &prepared, round) {
+            Ok(reasons) => Ok(Reasoned { prepared, reasons }),
+            Err(error) => Err(error),
+        },
         Err(error) => Err(error),
-    }
-}
-
-/// What lacks a value in a round of a compiled program on its inputs, with that program.
-fn reasons_once(alloc: Global, prepared: Prepared, round: u32) -> Result<Reasoned, EngineError>
-    requires { AreInputs prepared.compiled.checked prepared.inputs.values }
-    ensures same { IfOk result (λ r. r.prepared ≡ prepared) }
-    ensures reasons { IfOk result
-        (λ r. AreReasons (source prepared.compiled.checked prepared.inputs.values) round r.reasons) }
-    ensures few { OnOk result (round ≤ 10000) }
-    ensures refused { IfErr result
-        (AreRefusedRounds (source prepared.compiled.checked prepared.inputs.values) round) }
-{
-    match reasons_of_prepared(alloc, &prepared, round) {
-        Ok(reasons) => Ok(Reasoned { prepared, reasons }),
-        Err(error) => {
-            drop(prepared);
-            Err(error)
-        }
     }
 }
 
 /// What lacks a value in a round of a compiled program on its inputs.
 fn reasons_of_prepared(
     alloc: Global,
-    prepared: &Prepared,
+    prepared: &Prepared<'_>,
     round: u32,
 ) -> Result<Reasons, EngineError>
-    requires { AreInputs prepared.now.compiled.checked prepared.now.inputs.values }
     ensures reasons { IfOk result
         (AreReasons (source prepared.now.compiled.checked prepared.now.inputs.values) round) }
     ensures few { OnOk result (round ≤ 10000) }

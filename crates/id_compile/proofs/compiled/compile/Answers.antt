@@ -1,9 +1,11 @@
+use Rattle.std.proofs.Common.{refl}
 use Rattle.std.proofs.lemmas.Result.{IfOk-from_err}
 use Rattle.id_compile.proofs.AnsweredLemmas.{err_from, err_taken, graph_inside, refused_graph}
 use Rattle.id_compile.proofs.compiled.compile.Goals as goal
 
-pub returns-in-Err : goal.returns-in-Err
-returns-in-Err c = record {
+pub returns : goal.returns
+returns c = record {
+  text = tt;
   program = tt;
   small = tt;
   within = tt;
@@ -18,6 +20,7 @@ returns-in_err-checked c =
     let is = c.from_residual.ensures in
     let told = c.in_err-checked.ensures in
     record {
+      text = IfOk-from_err r _ is.0;
       program = IfOk-from_err r _ is.0;
       small = IfOk-from_err r _ is.0;
       within = IfOk-from_err r _ is.0;
@@ -28,6 +31,7 @@ returns-in_err-checked c =
 
 pub returns-in-Ok : goal.returns-in-Ok
 returns-in-Ok c = record {
+  text = refl;
   program = c.in_ok-checked.ensures.program;
   small = c.in-Ok.ensures.small;
   within = c.in_ok-checked.ensures.within;

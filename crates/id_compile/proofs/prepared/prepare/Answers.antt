@@ -1,14 +1,18 @@
 use Rattle.std.proofs.Common.{◌≡◌, ◌≢◌, ◌≤◌, length, map, sym, subst}
+use Rattle.id_source.specs.Sources.{AreInputs}
 use Rattle.id_pieces.specs.Rows.{size}
 use Rattle.id_compile.specs.declared.error.EngineError.TheVariants.{Write}
 use Rattle.id_compile.specs.Programs.{CompiledView, IsPlacedWithin, IsProgramOf}
 use Rattle.id_compile.specs.Refusals.{AreRefusedFor, IsInsideOf, IsRefusedSource}
 use Rattle.id_compile.specs.Refusals.IsRefusedSource.{by_text, by_words}
-use Rattle.id_compile.proofs.AnsweredLemmas.{if_err, if_ok, late_words, on_ok}
+use Rattle.id_compile.proofs.AnsweredLemmas.{if_err, if_ok, late_words, ok_all, on_ok}
 use Rattle.id_compile.proofs.prepared.prepare.Goals as goal
 
 pub returns-in-Ok : goal.returns-in-Ok
 returns-in-Ok c = record {
+  text = (let Q : CompiledView → Type 0 = λ v. v.text ≡ c.args.text.now in
+      if_ok c.with_inputs.result (λ p. p.compiled ≡ c.in-Ok.compiled) (λ p. Q p.compiled) (λ p e. subst Q (sym e) c.in-Ok.ensures.text)
+      c.with_inputs.ensures.same);
   program = (let Q : CompiledView → Type 0 = λ v. IsProgramOf c.args.text.now v.checked in
       if_ok c.with_inputs.result (λ p. p.compiled ≡ c.in-Ok.compiled) (λ p. Q p.compiled) (λ p e. subst Q (sym e) c.in-Ok.ensures.program)
       c.with_inputs.ensures.same);
@@ -16,7 +20,7 @@ returns-in-Ok c = record {
       if_ok c.with_inputs.result (λ p. p.compiled ≡ c.in-Ok.compiled) (λ p. Q p.compiled) (λ p e. subst Q (sym e) c.in-Ok.ensures.small)
       c.with_inputs.ensures.same);
   inputs = c.with_inputs.ensures.inputs;
-  own = c.with_inputs.ensures.own;
+  own = ok_all c.with_inputs.result (λ p. AreInputs p.compiled.checked p.inputs.values) (λ p. p.own);
   within = (let Q : CompiledView → Type 0 = λ v. IsPlacedWithin (length c.args.text.now) v.checked in
       if_ok c.with_inputs.result (λ p. p.compiled ≡ c.in-Ok.compiled) (λ p. Q p.compiled) (λ p e. subst Q (sym e) c.in-Ok.ensures.within)
       c.with_inputs.ensures.same);
@@ -38,6 +42,7 @@ returns-in-Ok c = record {
 
 pub returns-in-Err : goal.returns-in-Err
 returns-in-Err c = record {
+  text = tt;
   program = tt;
   small = tt;
   inputs = tt;

@@ -23,7 +23,7 @@ returns-in_err-found g c =
 
 pub returns-in-Ok : goal.returns-in-Ok
 returns-in-Ok g c = record {
-  shown = HasShown-facts _ _ _ _ _ _ _ c.in_ok-found.ensures.facts c.in-Ok.ensures;
+  shown = HasShown-facts _ _ _ _ _ _ _ c.in_ok-found.ensures.facts (rw c.in_ok-found.ensures.text at c.in-Ok.ensures);
   cut = λ e. absurd cc;
   silent = tt;
   taken = c.in_ok-found.ensures.taken;
@@ -37,7 +37,7 @@ returns-in-Err g c = record {
   cut = λ _. record {
     status = 0;
     error = c.in-Err.field-0;
-    shown = HasShown-facts _ _ _ _ _ _ _ c.in_ok-found.ensures.facts c.in-Err.ensures;
+    shown = HasShown-facts _ _ _ _ _ _ _ c.in_ok-found.ensures.facts (rw c.in_ok-found.ensures.text at c.in-Err.ensures);
   };
   silent = λ h. absurd (h refl);
   taken = tt;

@@ -8,14 +8,15 @@ use Rattle.id_engine.proofs.commands.list_compiled.Goals as goal
 pub list-requires-clause-places : goal.list-requires-clause-places
 list-requires-clause-places c =
     let p = c.args.compiled in
-    subst (λ (g : Parts). All (λ i. i.place ≤ length c.args.text.now) g.instrs) (sym (c.graph.ensures.value ∙ c.into_valid-valid.ensures.value))
-    (instrs_within c.requires.within p.graph (schemas_of c.into_valid-valid.ensures.kept))
+    rw c.text-text.ensures.value (subst (λ (g : Parts). All (λ i. i.place ≤ length p.text) g.instrs)
+    (sym (c.graph.ensures.value ∙ c.into_valid-valid.ensures.value))
+    (instrs_within c.text-text.ensures.within p.graph (schemas_of c.into_valid-valid.ensures.kept)))
 
 pub returns-in-Ok-clause-listing : goal.returns-in-Ok-clause-listing
 returns-in-Ok-clause-listing c = record {
   program = c.args.compiled.checked;
-  is_program = c.requires.program;
+  is_program = c.text-text.ensures.program;
   graph = c.args.compiled.graph;
   own = c.into_valid-valid.ensures.kept;
-  listing_is = c.in-Ok.ensures ∙ ap (listing c.args.text.now) (c.graph.ensures.value ∙ c.into_valid-valid.ensures.value);
+  listing_is = (rw c.text-text.ensures.value at c.in-Ok.ensures) ∙ ap (listing c.args.compiled.text) (c.graph.ensures.value ∙ c.into_valid-valid.ensures.value);
 }

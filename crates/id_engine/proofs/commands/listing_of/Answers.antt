@@ -16,7 +16,7 @@ returns-in-Err c = record {
 
 pub returns-in-Ok : goal.returns-in-Ok
 returns-in-Ok c = record {
-  listing = c.list_compiled.ensures.listing;
+  listing = rw c.in-Ok.ensures.text at c.list_compiled.ensures.listing;
   program = (let has : HasProgram c.args.text.now = record {
     program = c.in-Ok.compiled.checked;
     is_program = c.in-Ok.ensures.program;

@@ -1,4 +1,4 @@
-use Rattle.std.proofs.Common.{◌≡◌, sym, subst, string_bytes}
+use Rattle.std.proofs.Common.{◌≡◌, ◌∙◌, ℕ, List, ap, sym, subst, string_bytes}
 use Rattle.id_graph.specs.Dot.{dot_text}
 use Rattle.id_engine.specs.Commands.{IsPictureOf}
 use Rattle.id_compile.specs.Programs.{HasProgram}
@@ -18,22 +18,22 @@ returns-in-Err c = record {
 
 pub returns-in-Ok : goal.returns-in-Ok
 returns-in-Ok c = record {
-  picture = if_ok c.draw_once.result (λ s. string_bytes s ≡ dot_text c.args.text.now c.in-Ok.compiled.graph) (λ s. IsPictureOf c.args.text.now (string_bytes s))
+  picture = if_ok c.draw_compiled.result (λ s. string_bytes s ≡ dot_text c.in-Ok.compiled.text c.in-Ok.compiled.graph) (λ s. IsPictureOf c.args.text.now (string_bytes s))
       (λ s h. record {
         program = c.in-Ok.compiled.checked;
         is_program = c.in-Ok.ensures.program;
         graph = c.in-Ok.compiled.graph;
-        own = c.draw_once.ensures.own;
-        picture_is = h;
-      }) c.draw_once.ensures.picture;
+        own = c.draw_compiled.ensures.own;
+        picture_is = h ∙ ap (λ (t : List ℕ). dot_text t c.in-Ok.compiled.graph) c.in-Ok.ensures.text;
+      }) c.draw_compiled.ensures.picture;
   program = (let has : HasProgram c.args.text.now = record {
     program = c.in-Ok.compiled.checked;
     is_program = c.in-Ok.ensures.program;
     small =
         c.in-Ok.ensures.small;
   } in
-      on_ok c.draw_once.result (HasProgram c.args.text.now) has);
-  refused = if_err _ _ _ (λ e h. subst (IsRefusedText c.args.text.now) (sym h) by_memory) c.draw_once.ensures.memory;
-  inside = if_err _ _ _ (λ e h. let l = late_memory c.args.text.now e h in l.0) c.draw_once.ensures.memory;
-  not_write = if_err _ _ _ (λ e h. let l = late_memory c.args.text.now e h in l.1) c.draw_once.ensures.memory;
+      on_ok c.draw_compiled.result (HasProgram c.args.text.now) has);
+  refused = if_err _ _ _ (λ e h. subst (IsRefusedText c.args.text.now) (sym h) by_memory) c.draw_compiled.ensures.memory;
+  inside = if_err _ _ _ (λ e h. let l = late_memory c.args.text.now e h in l.0) c.draw_compiled.ensures.memory;
+  not_write = if_err _ _ _ (λ e h. let l = late_memory c.args.text.now e h in l.1) c.draw_compiled.ensures.memory;
 }

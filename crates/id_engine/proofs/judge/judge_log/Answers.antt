@@ -1,6 +1,7 @@
 use Rattle.std.proofs.Common.{◌≡◌, map, refl}
 use Rattle.id_compile.specs.declared.error.EngineError.TheVariants.{Write}
 use Rattle.id_compile.specs.Refusals.IsRefusedRun.{by_source}
+use Rattle.id_engine.specs.Listening.{Listens}
 use Rattle.id_engine.proofs.JudgedLemmas.{Listens-cut, Listens-inside, Listens-refused, Listens-shown, Listens-silent, Listens-taken}
 use Rattle.id_engine.proofs.judge.judge_log.Goals as goal
 
@@ -15,29 +16,20 @@ returns-in-Err g c = record {
 }
 
 pub returns-in-Ok : goal.returns-in-Ok
-returns-in-Ok g c = record {
-  shown = (let p = c.in-Ok.prepared in
-      let e = c.in-Ok.ensures in
-      Listens-shown c.args.text.now (map (λ w. w.now) c.args.inputs.now) p.compiled.checked e.program e.small p.inputs.values e.inputs
-      _ c.args.count c.args.names _ _ _ c.judge_once.ensures);
-  cut = (let p = c.in-Ok.prepared in
-      let e = c.in-Ok.ensures in
-      Listens-cut c.args.text.now (map (λ w. w.now) c.args.inputs.now) p.compiled.checked e.program e.small p.inputs.values e.inputs
-      _ c.args.count c.args.names _ _ _ c.judge_once.ensures);
-  silent = (let p = c.in-Ok.prepared in
-      let e = c.in-Ok.ensures in
-      Listens-silent c.args.text.now (map (λ w. w.now) c.args.inputs.now) p.compiled.checked e.program e.small p.inputs.values e.inputs
-      _ c.args.count c.args.names _ _ _ c.judge_once.ensures);
-  taken = (let p = c.in-Ok.prepared in
-      let e = c.in-Ok.ensures in
-      Listens-taken c.args.text.now (map (λ w. w.now) c.args.inputs.now) p.compiled.checked e.program e.small p.inputs.values e.inputs
-      _ c.args.count c.args.names _ _ _ c.judge_once.ensures);
-  refused = (let p = c.in-Ok.prepared in
-      let e = c.in-Ok.ensures in
-      Listens-refused c.args.text.now (map (λ w. w.now) c.args.inputs.now) p.compiled.checked e.program e.small p.inputs.values e.inputs
-      _ c.args.count c.args.names _ _ _ c.judge_once.ensures);
-  inside = (let p = c.in-Ok.prepared in
-      let e = c.in-Ok.ensures in
-      Listens-inside c.args.text.now (map (λ w. w.now) c.args.inputs.now) p.compiled.checked e.program e.small p.inputs.values e.inputs
-      _ c.args.count c.args.names _ _ _ c.judge_once.ensures);
-}
+returns-in-Ok g c =
+    let text = c.args.text.now in
+    let ws = map (λ w. w.now) c.args.inputs.now in
+    let p = c.in-Ok.prepared in
+    let P = p.compiled.checked in
+    let vs = p.inputs.values in
+    let e = c.in-Ok.ensures in
+    let so : Listens P vs text (g.L.Log.ahead c.args.log.now) c.args.count c.args.names (g.W.Sink.told c.args.out.now) (g.W.Sink.told c.judge_prepared.new.out)
+    c.judge_prepared.result = rw e.text at c.judge_prepared.ensures in
+    record {
+      shown = Listens-shown text ws P e.program e.small vs e.inputs _ c.args.count c.args.names _ _ _ so;
+      cut = Listens-cut text ws P e.program e.small vs e.inputs _ c.args.count c.args.names _ _ _ so;
+      silent = Listens-silent text ws P e.program e.small vs e.inputs _ c.args.count c.args.names _ _ _ so;
+      taken = Listens-taken text ws P e.program e.small vs e.inputs _ c.args.count c.args.names _ _ _ so;
+      refused = Listens-refused text ws P e.program e.small vs e.inputs _ c.args.count c.args.names _ _ _ so;
+      inside = Listens-inside text ws P e.program e.small vs e.inputs _ c.args.count c.args.names _ _ _ so;
+    }

@@ -1,4 +1,4 @@
-use Rattle.std.proofs.Common.{Err, ap, refl}
+use Rattle.std.proofs.Common.{Err, ap}
 use Rattle.id_engine.specs.declared.judge.Unjudged.TheVariants.{Refused}
 use Rattle.id_engine.proofs.ServedLemmas.{DrivesBy-broken, DrivesBy-heard, DrivesBy-refused}
 use Rattle.id_engine.proofs.program.judge_asked.Goals as goal

@@ -1,6 +1,7 @@
 use Rattle.std.proofs.Common.{◌≡◌, map, refl}
 use Rattle.id_compile.specs.declared.error.EngineError.TheVariants.{Write}
 use Rattle.id_compile.specs.Refusals.IsRefusedRun.{by_source}
+use Rattle.id_engine.specs.Reports.{RunsSo}
 use Rattle.id_engine.proofs.ShownLemmas.{RunsSo-cut, RunsSo-front, RunsSo-inside, RunsSo-ran, RunsSo-refused, RunsSo-shown, RunsSo-silent, RunsSo-taken}
 use Rattle.id_engine.proofs.run.engine.Goals as goal
 
@@ -17,37 +18,25 @@ returns-in-Err g c = record {
 }
 
 pub returns-in-Ok : goal.returns-in-Ok
-returns-in-Ok g c = record {
-  shown = (let p = c.in-Ok.prepared in
-      let e = c.in-Ok.ensures in
-      RunsSo-shown c.args.text.now (map (λ w. w.now) c.args.inputs.now) p.compiled.checked e.program e.small p.inputs.values e.inputs
-      c.args.settings.elements c.args.trace c.args.settings.steps c.args.settings.order c.args.names _ _ _ c.run_once.ensures);
-  ran = (let p = c.in-Ok.prepared in
-      let e = c.in-Ok.ensures in
-      RunsSo-ran c.args.text.now (map (λ w. w.now) c.args.inputs.now) p.compiled.checked e.program e.small p.inputs.values e.inputs
-      c.args.settings.elements c.args.trace c.args.settings.steps c.args.settings.order c.args.names _ _ _ c.run_once.ensures);
-  cut = (let p = c.in-Ok.prepared in
-      let e = c.in-Ok.ensures in
-      RunsSo-cut c.args.text.now (map (λ w. w.now) c.args.inputs.now) p.compiled.checked e.program e.small p.inputs.values e.inputs
-      c.args.settings.elements c.args.trace c.args.settings.steps c.args.settings.order c.args.names _ _ _ c.run_once.ensures);
-  front = (let p = c.in-Ok.prepared in
-      let e = c.in-Ok.ensures in
-      RunsSo-front c.args.text.now (map (λ w. w.now) c.args.inputs.now) p.compiled.checked e.program e.small p.inputs.values e.inputs
-      c.args.settings.elements c.args.trace c.args.settings.steps c.args.settings.order c.args.names _ _ _ c.run_once.ensures);
-  silent = (let p = c.in-Ok.prepared in
-      let e = c.in-Ok.ensures in
-      RunsSo-silent c.args.text.now (map (λ w. w.now) c.args.inputs.now) p.compiled.checked e.program e.small p.inputs.values e.inputs
-      c.args.settings.elements c.args.trace c.args.settings.steps c.args.settings.order c.args.names _ _ _ c.run_once.ensures);
-  taken = (let p = c.in-Ok.prepared in
-      let e = c.in-Ok.ensures in
-      RunsSo-taken c.args.text.now (map (λ w. w.now) c.args.inputs.now) p.compiled.checked e.program e.small p.inputs.values e.inputs
-      c.args.settings.elements c.args.trace c.args.settings.steps c.args.settings.order c.args.names _ _ _ c.run_once.ensures);
-  refused = (let p = c.in-Ok.prepared in
-      let e = c.in-Ok.ensures in
-      RunsSo-refused c.args.text.now (map (λ w. w.now) c.args.inputs.now) p.compiled.checked e.program e.small p.inputs.values e.inputs
-      c.args.settings.elements c.args.trace c.args.settings.steps c.args.settings.order c.args.names _ _ _ c.run_once.ensures);
-  inside = (let p = c.in-Ok.prepared in
-      let e = c.in-Ok.ensures in
-      RunsSo-inside c.args.text.now (map (λ w. w.now) c.args.inputs.now) p.compiled.checked e.program e.small p.inputs.values e.inputs
-      c.args.settings.elements c.args.trace c.args.settings.steps c.args.settings.order c.args.names _ _ _ c.run_once.ensures);
-}
+returns-in-Ok g c =
+    let text = c.args.text.now in
+    let ws = map (λ w. w.now) c.args.inputs.now in
+    let s = c.args.settings in
+    let t = c.args.trace in
+    let b = c.args.names in
+    let p = c.in-Ok.prepared in
+    let P = p.compiled.checked in
+    let vs = p.inputs.values in
+    let e = c.in-Ok.ensures in
+    let so : RunsSo P vs text s.elements t s.steps s.order b (g.W.Sink.told c.args.out.now) (g.W.Sink.told c.run_prepared.new.out) c.run_prepared.result =
+    rw e.text at c.run_prepared.ensures in
+    record {
+      shown = RunsSo-shown text ws P e.program e.small vs e.inputs s.elements t s.steps s.order b _ _ _ so;
+      ran = RunsSo-ran text ws P e.program e.small vs e.inputs s.elements t s.steps s.order b _ _ _ so;
+      cut = RunsSo-cut text ws P e.program e.small vs e.inputs s.elements t s.steps s.order b _ _ _ so;
+      front = RunsSo-front text ws P e.program e.small vs e.inputs s.elements t s.steps s.order b _ _ _ so;
+      silent = RunsSo-silent text ws P e.program e.small vs e.inputs s.elements t s.steps s.order b _ _ _ so;
+      taken = RunsSo-taken text ws P e.program e.small vs e.inputs s.elements t s.steps s.order b _ _ _ so;
+      refused = RunsSo-refused text ws P e.program e.small vs e.inputs s.elements t s.steps s.order b _ _ _ so;
+      inside = RunsSo-inside text ws P e.program e.small vs e.inputs s.elements t s.steps s.order b _ _ _ so;
+    }

@@ -1,8 +1,10 @@
-use Rattle.std.proofs.Common.{refl}
+use Rattle.std.proofs.Common.{ℕ, List, ap, refl}
+use Rattle.id_print.specs.Reasons.{reasons_text}
 use Rattle.std.proofs.lemmas.Result.{IfOk-from_err}
 use Rattle.id_compile.specs.declared.error.EngineError.TheVariants.{Write}
 use Rattle.id_compile.proofs.AnsweredLemmas.{err_all, err_from, err_not, err_taken}
 use Rattle.id_compile.specs.Refusals.AreRefusedFacts.{by_write}
+use Rattle.id_engine.proofs.PrintedLemmas.{Prints-same}
 use Rattle.id_engine.proofs.ReasonedLemmas.{HasShown-reasons}
 use Rattle.id_engine.proofs.why.reasons_text.Goals as goal
 
@@ -23,7 +25,10 @@ returns-in_err-reasoned g c =
 
 pub returns-in-Ok : goal.returns-in-Ok
 returns-in-Ok g c = record {
-  shown = HasShown-reasons _ _ _ _ _ _ _ _ c.in_ok-reasoned.ensures.reasons c.in-Ok.ensures;
+  shown = (let q = c.in_ok-reasoned.reasoned in
+      HasShown-reasons c.args.text.now _ c.args.round q.prepared.compiled.checked q.reasons _ _ _ c.in_ok-reasoned.ensures.reasons
+      (Prints-same (ap (λ (t : List ℕ). reasons_text (record { text = t; checked = q.prepared.compiled.checked; facts = q.reasons.paths }) c.args.round q.reasons)
+      c.in_ok-reasoned.ensures.text) c.in-Ok.ensures));
   cut = λ e. absurd cc;
   silent = tt;
   taken = c.in_ok-reasoned.ensures.taken;
@@ -37,7 +42,10 @@ returns-in-Err g c = record {
   cut = λ _. record {
     status = 0;
     error = c.in-Err.field-0;
-    shown = HasShown-reasons _ _ _ _ _ _ _ _ c.in_ok-reasoned.ensures.reasons c.in-Err.ensures;
+    shown = (let q = c.in_ok-reasoned.reasoned in
+        HasShown-reasons c.args.text.now _ c.args.round q.prepared.compiled.checked q.reasons _ _ _ c.in_ok-reasoned.ensures.reasons
+        (Prints-same (ap (λ (t : List ℕ). reasons_text (record { text = t; checked = q.prepared.compiled.checked; facts = q.reasons.paths }) c.args.round q.reasons)
+        c.in_ok-reasoned.ensures.text) c.in-Err.ensures));
   };
   silent = λ h. absurd (h refl);
   taken = tt;
