@@ -1,7 +1,7 @@
 -- Lemmas on specs/Stretches.antt: a stretch that has not begun, one event more, and what moves in the end.
-use Rattle.std.proofs.Common.{◌≡◌, ◌<◌, ◌≤◌, ◌+◌, ◌-◌, ◌++◌, ◌∷◌, [], ℕ, zero, suc, All, List, Option, Some, None, true, false, drop, length, map, take, refl, sym, ap, subst, ◌∙◌, arith, append_assoc, length-append}
+use Rattle.std.proofs.Common.{◌≡◌, ◌<◌, ◌≤◌, ◌+◌, ◌-◌, ◌++◌, ◌∷◌, [], ℕ, suc, All, List, Option, Some, true, false, drop, length, map, take, refl, sym, ap, subst, ◌∙◌, arith, append_assoc, length-append}
 use Rattle.std.specs.Prelude.{Bool, IfSome, IsErr, Result, Ok, Err, slice_get}
-use Rattle.std.specs.List.{flat_map, remove, sum_by}
+use Rattle.std.specs.List.{remove, sum_by}
 use Rattle.std.proofs.lemmas.Bool.{false≢true}
 use Rattle.std.proofs.lemmas.Grind.{flat_map-append}
 use Rattle.std.proofs.lemmas.List.Edits.{length-remove}
@@ -10,20 +10,21 @@ use Rattle.std.proofs.lemmas.List.Elements.{All-append, All-cons, All-drop, All-
 use Rattle.std.proofs.lemmas.List.Sums.{sum_by-append, sum_by-cons, sum_by-remove, sum_by_push}
 use Rattle.std.proofs.lemmas.Option.{get_or_from_slice_get, slice_get_read, slice_get_within}
 use Rattle.std.proofs.Math.Seq.{take-append_seam}
-use Rattle.id_instr.specs.Graph.{Parts, arcs_on}
+use Rattle.id_instr.specs.Graph.{Parts}
 use Rattle.id_instr.specs.declared.dests.Dest.{Dest}
 use Rattle.id_instr.specs.declared.instr.Op.{Op}
-use Rattle.id_instr.specs.declared.instr.Instr.{Instr}
 use Rattle.id_tag.specs.declared.Message.{Message}
 use Rattle.id_tag.specs.declared.Tag.{Tag}
 use Rattle.id_tag.specs.declared.Value.{Value}
 use Rattle.id_tag.specs.declared.Value.TheVariants.{Address}
 use Rattle.id_tag.specs.declared.plain.PlainToken.{PlainToken}
 use Rattle.id_tag.specs.Plains.{cell_of, message_of, tag_in, whole}
+use Rattle.id_tag.specs.declared.Payload.{Payload}
+use Rattle.id_tag.specs.declared.Payload.TheVariants.{Token, Read, Write}
 use Rattle.id_tag.specs.Routes.{route_of, tag_route}
+use Rattle.id_element.specs.Storage.{IsToken}
 use Rattle.id_ops.specs.declared.plain_fired.PlainFired.{PlainFired}
 use Rattle.id_ops.specs.declared.plain_fired.PlainFired.TheVariants.{Nothing, Out, Side, Moved, Sent, Addressed, Asked, Stored}
-use Rattle.id_ops.specs.Operators.{side_of}
 use Rattle.id_ops.specs.PlainFired.{fired_of}
 use Rattle.id_record.specs.declared.step.Step.{Step}
 use Rattle.id_record.specs.declared.step.Step.TheVariants as step
@@ -35,15 +36,13 @@ use Rattle.id_element.specs.Kept.{IsKept}
 use Rattle.id_element.specs.Replays.{ElementView}
 use Rattle.id_element.specs.declared.storage.Storage.{Storage}
 use Rattle.id_element.specs.Storage.{element_at}
-use Rattle.id_element.specs.Steps.{State, event_of, outputs_of, state_after, step_of}
-use Rattle.id_element.specs.Takes.{GoesAt, HandlesAt, IsForAt, Takes, came_well}
+use Rattle.id_element.specs.Steps.{event_of, outputs_of, state_after}
+use Rattle.id_element.specs.Takes.{GoesAt, HandlesAt, IsForAt, came_well}
 use Rattle.id_element.proofs.ElementsLemmas.{sends_fit, stays}
-use Rattle.id_value.specs.declared.FaultKind.{FaultKind}
-use Rattle.id_record.specs.declared.step.Fault.TheVariants.{Operator}
 use Rattle.id_element.specs.declared.step.Short.{Short}
 use Rattle.id_element.specs.declared.step.Short.TheVariants as short
 use Rattle.id_element.specs.Shorts.{short_step}
-use Rattle.id_element.specs.Stretches.{BecomesNear, Ends, GoesOn, IsBehind, LeavesNear, Spreads, Stretch, TakesNear, far_after, near_after, sent_by, taken_by}
+use Rattle.id_element.specs.Stretches.{GoesOn, IsBehind, LeavesNear, OthersStay, Spreads, Stretch, TakesNear, far_after, near_after, sent_by, taken_by}
 
 -- ---- lists
 
@@ -300,25 +299,29 @@ near_for e m near near' list list' sent at nears sents x =
 
 -- ---- a stretch under way
 
+-- the same of what is not the only element
+stay_more : (e : ElementView) (k : ℕ) (list list1 more : List Message) → k < length list → OthersStay e k list list1 → OthersStay e k list (list1 ++ more)
+stay_more e k list list1 more lt is = λ several. behind_more k list list1 more lt (is several)
+
 -- n events have happened, this message is at hand, and what is near comes next: all of it is for the element
 pub record AtHand (n most k : ℕ) (e e' : ElementView) (list : List Message) (m : Message) (near list' : List Message) : Type 0 where
   pub kept : IsKept e' most
   pub for_it : IsFor e'.graph e'.count e'.number m
   pub nears : AreFor e' near
   pub stretch : Stretch n e e' list (m ∷ near) list' true
-  pub behind : IsBehind k list list'
+  pub behind : OthersStay e k list list'
 
 -- the same where none is at hand
 pub record Between (n most k : ℕ) (e e' : ElementView) (list near list' : List Message) (well : Bool) : Type 0 where
   pub kept : IsKept e' most
   pub nears : AreFor e' near
   pub stretch : Stretch n e e' list near list' well
-  pub behind : IsBehind k list list'
+  pub behind : OthersStay e k list list'
 
 fits_for : (e : ElementView) (ms : List Message) → AreFor e ms → All (Fits e.graph) ms
 fits_for e ms are k d lt = (are k d lt).fits
 
-for_at : (P : Message → Type 0) (ms : List Message) (k : ℕ) (m : Message) → slice_get ms k ≡ Some m → IfSome (slice_get ms k) P → P m
+pub for_at : (P : Message → Type 0) (ms : List Message) (k : ℕ) (m : Message) → slice_get ms k ≡ Some m → IfSome (slice_get ms k) P → P m
 for_at P ms k m at is = subst (λ (o : Option Message). IfSome o P) at is
 
 pub hand_start : (most k : ℕ) (e : ElementView) (list near list1 : List Message) (m : Message) → IsKept e most → IsForAt e list k → k < length list
@@ -330,7 +333,7 @@ hand_start most k e list near list1 m kept for lt at none left =
       for_it = for_at (IsFor e.graph e.count e.number) list k m at for;
       nears = All-nil (IsFor e.graph e.count e.number);
       stretch = stretch_start k e list m at;
-      behind = behind_first k list lt;
+      behind = λ several. behind_first k list lt;
     }))
 
 -- the message at hand was taken
@@ -346,7 +349,7 @@ hand_took n most k e d d' list m near list1 near' list2 s well h x lt is_well =
       kept = stays e1 d d' m [] [] x.sent (Some s) most refl h.for_it x.takes h.kept;
       nears = subst (λ (v : ElementView). AreFor v near') (sym x.takes.element) nears;
       stretch = stretch_more n e e1 (element_at d') list m near list1 near' list2 s well h.stretch x (fits_for e1 near h.nears) sends is_well;
-      behind = subst (IsBehind k list) (sym x.spreads.behind) (behind_more k list list1 x.spreads.more lt h.behind);
+      behind = subst (OthersStay e k list) (sym x.spreads.behind) (stay_more e k list list1 x.spreads.more lt h.behind);
     }
 
 -- it was not, so it still is at hand
@@ -356,18 +359,11 @@ hand_same n most k e e1 e2 list m near list1 near' list2 h x =
     subst (λ (v : ElementView). AtHand n most k e v list m near' list2) (sym x.element)
     (subst (λ xs. AtHand n most k e e1 list m xs list2) (sym x.near_same) (subst (λ xs. AtHand n most k e e1 list m near xs) (sym x.same) h))
 
--- what became of it, by the answer
-pub became_well : (e e' : ElementView) (m : Message) (t : Tag) (near near' list list' : List Message) (q : Short) → q ≡ short.Went
-    → BecomesNear e e' m near near' list list' (short_step t q) → TakesNear e e' m near near' list list' step.Went
-became_well e e' m t near near' list list' q is x = subst (λ (p : Short). BecomesNear e e' m near near' list list' (short_step t p)) is x
-
-pub became_ill : (e e' : ElementView) (m : Message) (t : Tag) (near near' list list' : List Message) (q : Short) (f : FaultKind) → q ≡ short.Failed f
-    → BecomesNear e e' m near near' list list' (short_step t q) → TakesNear e e' m near near' list list' (step.Fault (Operator f t))
-became_ill e e' m t near near' list list' q f is x = subst (λ (p : Short). BecomesNear e e' m near near' list list' (short_step t p)) is x
-
-pub became_none : (e e' : ElementView) (m : Message) (t : Tag) (near near' list list' : List Message) (q : Short) → q ≡ short.Apart
-    → BecomesNear e e' m near near' list list' (short_step t q) → LeavesNear e e' near near' list list'
-became_none e e' m t near near' list list' q is x = subst (λ (p : Short). BecomesNear e e' m near near' list list' (short_step t p)) is x
+-- what was handled in full went well, by the answer
+pub took_well : (e e' : ElementView) (m : Message) (t : Tag) (near near' list list' : List Message) (s : Step) (q : Short) → short_step t q ≡ Some s → q ≡ short.Went
+    → TakesNear e e' m near near' list list' s → TakesNear e e' m near near' list list' step.Went
+took_well e e' m t near near' list list' s q is went x =
+    subst (λ (o : Option Step). IfSome o (λ r. TakesNear e e' m near near' list list' r)) (sym (ap (short_step t) (sym went) ∙ is)) x
 
 -- the last of what is near is at hand
 pub hand_next : (n most k : ℕ) (e e' : ElementView) (list near rest list' : List Message) (m : Message) → Between n most k e e' list near list' true
@@ -382,6 +378,33 @@ hand_next n most k e e' list near rest list' m b is =
       behind = b.behind;
     }
 
+-- all goes to one element
+route_one : (p : Payload) → IsToken p → route_of p 1 ≡ 0
+route_one (Token t p v) is = omega arith
+route_one (Read c t) is = absurd is
+route_one (Write c v t) is = absurd is
+
+-- the only element turns to what stands somewhere in the list, which is a token
+pub hand_turn : (n most k : ℕ) (e e' : ElementView) (list near list1 list2 : List Message) (m0 m : Message) → Between n most k e e' list near list1 true
+    → near ≡ [] → e.count ≡ 1 → IsFor e.graph e.count e.number m0 → IsToken m0.payload → IsToken m.payload → All (Fits e.graph) list
+    → slice_get list1 k ≡ Some m → list2 ≡ remove list1 k → AtHand n most k e e' list m near list2
+hand_turn n most k e e' list near list1 list2 m0 m b empty one first token0 token fit at left =
+    let count : e'.count ≡ 1 = ap (λ (v : ElementView). v.count) b.stretch.element ∙ one in
+    let number : e'.number ≡ 0 =
+    ap (λ (v : ElementView). v.number) b.stretch.element ∙ sym (sym (ap (route_of m0.payload) one ∙ route_one m0.payload token0) ∙ first.routed) in
+    let fits : All (Fits e'.graph) list1 = subst (λ g. All (Fits g) list1) (sym (graph_of b.stretch)) (b.stretch.fit fit) in
+    let own : Fits e'.graph m = subst (Fits e'.graph) (get_or_from_slice_get list1 k m m at) (fits k m (slice_get_within list1 k m at)) in
+    let moved : Stretch n e e' list (m ∷ []) (remove list1 k) true =
+    stretch_moved n e e' list [] list1 (m ∷ []) (remove list1 k) true (subst (λ xs. Stretch n e e' list xs list1 true) empty b.stretch)
+    (λ f. let w = weight_removed f list1 k m at in omega (arith, w, sum_by-cons f m [])) (All-removed (Fits e.graph) list1 k) in
+    subst (λ xs. AtHand n most k e e' list m xs list2) (sym empty) (subst (λ xs. AtHand n most k e e' list m [] xs) (sym left) (record {
+      kept = b.kept;
+      for_it = record { routed = ap (route_of m.payload) count ∙ route_one m.payload token ∙ sym number; fits = own };
+      nears = All-nil (IsFor e'.graph e'.count e'.number);
+      stretch = moved;
+      behind = λ several. absurd (several one);
+    }))
+
 -- nothing is near
 pub ends_empty : (n most k : ℕ) (e e' : ElementView) (list near list' : List Message) (well : Bool) → Between n most k e e' list near list' well
     → near ≡ [] → Stretch n e e' list [] list' well
@@ -389,19 +412,19 @@ ends_empty n most k e e' list near list' well b is = subst (λ xs. Stretch n e e
 
 -- what is near goes to the end of the list
 pub ends_back : (n most k : ℕ) (e e' : ElementView) (list near list1 list' : List Message) (well : Bool) → Between n most k e e' list near list1 well
-    → list' ≡ list1 ++ near → k < length list → Stretch n e e' list [] list' well × IsBehind k list list'
+    → list' ≡ list1 ++ near → k < length list → Stretch n e e' list [] list' well × OthersStay e k list list'
 ends_back n most k e e' list near list1 list' well b is lt = (
   stretch_back n e e' list near list1 list' well b.stretch is (fits_for e' near b.nears),
-  subst (IsBehind k list) (sym is) (behind_more k list list1 near lt b.behind),
+  subst (OthersStay e k list) (sym is) (stay_more e k list list1 near lt b.behind),
 )
 
 -- and what is at hand behind it
 pub record Left (n k : ℕ) (e e' : ElementView) (list list' : List Message) : Type 0 where
   pub stretch : Stretch n e e' list [] list' true
-  pub behind : IsBehind k list list'
+  pub behind : OthersStay e k list list'
   pub last : IsForAt e' list' (length list' - 1)
-  pub before : IsBehind k list (remove list' (length list' - 1))
-  pub long : length list ≤ length list'
+  pub before : OthersStay e k list (remove list' (length list' - 1))
+  pub some : 0 < length list'
 
 pub ends_left : (n most k : ℕ) (e e' : ElementView) (list : List Message) (m : Message) (near list1 list' : List Message) → AtHand n most k e e' list m near list1
     → list' ≡ (list1 ++ near) ++ m ∷ [] → k < length list → Left n k e e' list list'
@@ -412,13 +435,11 @@ ends_left n most k e e' list m near list1 list' h is lt =
     ap (λ i. slice_get list' i) at ∙ ap (λ xs. slice_get xs (length (list1 ++ near))) is ∙ last_of (list1 ++ near) m in
     record {
       stretch = stretch_left n e e' list m near list1 list' true h.stretch is (fits_for e' near h.nears) h.for_it.fits;
-      behind = subst (IsBehind k list) (sym is) (behind_more k list (list1 ++ near) (m ∷ []) lt (behind_more k list list1 near lt h.behind));
-      before = subst (IsBehind k list) (sym (ap (λ i. remove list' i) at ∙ ap (λ xs. remove xs (length (list1 ++ near))) is ∙ without_last (list1 ++ near) m))
-          (behind_more k list list1 near lt h.behind);
+      behind = subst (OthersStay e k list) (sym is) (stay_more e k list (list1 ++ near) (m ∷ []) lt (stay_more e k list list1 near lt h.behind));
+      before = subst (OthersStay e k list) (sym (ap (λ i. remove list' i) at ∙ ap (λ xs. remove xs (length (list1 ++ near))) is ∙ without_last (list1 ++ near) m))
+          (stay_more e k list list1 near lt h.behind);
       last = subst (λ (o : Option Message). IfSome o (IsFor e'.graph e'.count e'.number)) (sym last) h.for_it;
-      long =
-          let a = behind_long k list list1 lt h.behind in
-          omega (arith, a, long, length-append list1 near);
+      some = omega (arith, long);
     }
   where
     without_last : (xs : List Message) (x : Message) → remove (xs ++ x ∷ []) (length xs) ≡ xs
@@ -434,7 +455,7 @@ ends_left n most k e e' list m near list1 list' h is lt =
 -- ---- a message that is handled alone
 
 pub goes_behind : (n most k j : ℕ) (e e1 e2 : ElementView) (list list1 list2 : List Message) (r : Result Bool TakeError) → Stretch n e e1 list [] list1 true → n < most
-    → IsBehind k list (remove list1 j) → k < length list → GoesAt j e1 e2 list1 list2 r → GoesOn most k e e2 list list2 r
+    → OthersStay e k list (remove list1 j) → k < length list → GoesAt j e1 e2 list1 list2 r → GoesOn most k e e2 list list2 r
 goes_behind n most k j e e1 e2 list list1 list2 r s few before lt x = from x.step x.handles x.well
   where
     done : (st : Step) (b : Bool) → HandlesAt j e1 e2 list1 list2 (Ok st) → (b ≡ true → st ≡ step.Went) → GoesOn most k e e2 list list2 (Ok b)
@@ -454,7 +475,7 @@ goes_behind n most k j e e1 e2 list list1 list2 r s few before lt x = from x.ste
           few = omega (arith, few);
           some = omega arith;
           stretch = stretch_more n e e1 e2 list m [] (remove list1 j) [] list2 st b first taken (All-nil (Fits e1.graph)) h.handles.fits is;
-          others = subst (IsBehind k list) (sym h.handles.becomes.outputs) (behind_more k list (remove list1 j) outs lt before);
+          others = subst (OthersStay e k list) (sym h.handles.becomes.outputs) (stay_more e k list (remove list1 j) outs lt before);
         }
 
     failed : (x : TakeError) → HandlesAt j e1 e2 list1 list2 (Err x) → GoesOn most k e e2 list list2 (Err x)
@@ -475,7 +496,7 @@ goes_behind n most k j e e1 e2 list list1 list2 r s few before lt x = from x.ste
 
 pub goes_alone : (most k : ℕ) (e e' : ElementView) (list list' : List Message) (r : Result Bool TakeError) → 0 < most → k < length list
     → GoesAt k e e' list list' r → GoesOn most k e e' list list' r
-goes_alone most k e e' list list' r some lt x = goes_behind 0 most k k e e e' list list list' r (stretch_none e list) some (behind_first k list lt) lt x
+goes_alone most k e e' list list' r some lt x = goes_behind 0 most k k e e e' list list list' r (stretch_none e list) some (λ several. behind_first k list lt) lt x
 
 -- nothing was handled
 pub goes_none : (most k : ℕ) (e e' : ElementView) (list list' : List Message) (r : Result Bool TakeError) → IsErr r → e' ≡ e → list' ≡ list

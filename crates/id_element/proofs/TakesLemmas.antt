@@ -6,7 +6,6 @@ use Rattle.std.specs.Prelude.{IsTrue}
 use Rattle.std.proofs.lemmas.Bool.{eqb-true}
 use Rattle.std.proofs.Math.Nat.{le-max_left, le-max_right}
 use Rattle.id_tag.specs.declared.Message.{Message}
-use Rattle.id_tag.specs.declared.Tag.{Tag}
 use Rattle.id_match.specs.Waiting.{Store}
 use Rattle.id_bank.specs.Cells.{Cells}
 use Rattle.id_value.specs.declared.FaultKind.{FaultKind}
@@ -23,7 +22,6 @@ use Rattle.id_record.specs.Sends.{numbered}
 use Rattle.id_element.specs.declared.step.Short.{Short}
 use Rattle.id_element.specs.declared.step.Short.TheVariants as short
 use Rattle.id_element.specs.declared.step.TakeError.{TakeError}
-use Rattle.id_element.specs.declared.step.TakeError.TheVariants.{StampEnd}
 use Rattle.id_element.specs.declared.storage.Storage.{Storage}
 use Rattle.id_element.specs.Storage.{TreatsFrom, element_at, state_of}
 use Rattle.id_element.specs.Handled.{IsRecorded, IsSent, recorded, token_outcome, token_sends}

@@ -1,19 +1,34 @@
 -- A stretch of an element's events: those of a message of a list and of what follows from it (docs/MACHINE.md, "Element
 -- step").
-use Rattle.std.specs.Prelude.{◌≡◌, ◌<◌, ◌≤◌, ◌+◌, ◌-◌, ◌++◌, [], ℕ, All, Bool, List, OnOk, Option, None, Some, Result, Ok, Err}
-use Rattle.std.specs.Prelude.{true, false, length, take}
+use Rattle.std.specs.Prelude.{◌≡◌, ◌<◌, ◌≤◌, ◌+◌, ◌-◌, ◌++◌, ◌∷◌, [], ℕ, All, Bool, List, OnOk, Result, Ok, Err}
+use Rattle.std.specs.Prelude.{◌^◌, Some, true, false, length, slice_get, take}
 use Rattle.std.specs.List.{flat_map, remove, sum_by}
-use Rattle.id_instr.specs.Graph.{Parts}
+use Rattle.id_instr.specs.Graph.{IsGraph, Parts}
+use Rattle.id_instr.specs.declared.instr.Instr.{Instr}
+use Rattle.id_valid.specs.Validator.{IsValid}
 use Rattle.id_tag.specs.declared.Message.{Message}
 use Rattle.id_tag.specs.Routes.{route_of}
 use Rattle.id_ops.specs.declared.plain_fired.PlainFired.{PlainFired}
-use Rattle.id_ops.specs.declared.plain_fired.PlainFired.TheVariants.{Nothing, Out, Side, Moved, Sent, Addressed, Asked, Stored}
+use Rattle.id_ops.specs.declared.plain_fired.PlainFired.TheVariants.{Nothing, Out, Side, Moved}
+use Rattle.id_ops.specs.declared.plain_fired.PlainFired.TheVariants.{Sent, Addressed, Asked, Stored}
 use Rattle.id_record.specs.declared.step.Step.{Step}
 use Rattle.id_record.specs.Events.{AllWent, EventView}
 use Rattle.id_element.specs.declared.step.TakeError.{TakeError}
 use Rattle.id_element.specs.declared.stretch.Ran.{Ran}
 use Rattle.id_element.specs.declared.stretch.Ran.TheVariants as ran
+use Rattle.id_element.specs.declared.step.Shot.{Shot}
+use Rattle.id_element.specs.declared.step.Shot.TheVariants as shot
+use Rattle.id_element.specs.declared.step.Taken.{Taken}
+use Rattle.id_element.specs.declared.step.Taken.TheVariants as taken
+use Rattle.id_element.specs.declared.storage.Storage.{Storage}
+use Rattle.id_flight.specs.Queues.{QueueView}
+use Rattle.id_tag.specs.declared.plain.PlainToken.{PlainToken}
+use Rattle.id_tag.specs.Plains.{message_of}
+use Rattle.id_record.specs.declared.step.Step.TheVariants.{Went}
+use Rattle.id_element.specs.Firings.{IsBound, most_sent}
 use Rattle.id_element.specs.Fits.{Fits}
+use Rattle.id_element.specs.Steps.{next_stamp}
+use Rattle.id_element.specs.Storage.{IsShort, state_of}
 use Rattle.id_element.specs.Replays.{ElementView}
 use Rattle.id_element.specs.Takes.{IsForAt, Takes}
 
@@ -36,11 +51,16 @@ pub record Stretch (n : ℕ) (e e' : ElementView) (list near list' : List Messag
   pub went : well ≡ true → AllWent ran
   pub fits : All (Fits e.graph) (sent_by ran)
   pub fit : All (Fits e.graph) list → All (Fits e.graph) list'
-  pub weight : (f : Message → ℕ) → sum_by f list' + sum_by f near + taken_by f ran ≡ sum_by f list + sum_by f (sent_by ran)
+  pub weight : (f : Message → ℕ) → sum_by f list' + sum_by f near + taken_by f ran
+      ≡ sum_by f list + sum_by f (sent_by ran)
 
 -- the message at a position has left the list, the others stand where they stood, and what came stands behind them
 abbrev pub IsBehind : ℕ → List Message → List Message → Type 0
 IsBehind k list list' = take (length list - 1) list' ≡ remove list k
+
+-- that is so unless the element is the only one: there a stretch that turns takes some of the others, too
+abbrev pub OthersStay : ElementView → ℕ → List Message → List Message → Type 0
+OthersStay e k list list' = (e.count ≡ 1 → ⊥) → IsBehind k list list'
 
 -- whether all went well, where nothing failed
 abbrev pub is_well : Result Bool TakeError → Bool
@@ -48,13 +68,15 @@ is_well (Ok b) = b
 is_well (Err x) = true
 
 -- the element has handled the message at a position of a list, and what follows from it, at most so many: the answer is
--- whether that went well; or no stamp is left for one of them, or a growth was refused, and that one has not been handled
-pub record GoesOn (most k : ℕ) (e e' : ElementView) (list list' : List Message) (r : Result Bool TakeError) : Type 0 where
+-- whether that went well; or no stamp is left for one of them, or a growth was refused, and that one has not been
+-- handled
+pub record GoesOn (most k : ℕ) (e e' : ElementView) (list list' : List Message)
+    (r : Result Bool TakeError) : Type 0 where
   pub n : ℕ
   pub few : n ≤ most
   pub some : OnOk r (0 < n)
   pub stretch : Stretch n e e' list [] list' (is_well r)
-  pub others : OnOk r (IsBehind k list list')
+  pub others : OnOk r (OthersStay e k list list')
 
 -- ---- inside
 
@@ -81,11 +103,59 @@ pub record LeavesNear (e e' : ElementView) (near near' list list' : List Message
   pub near_same : near' ≡ near
   pub same : list' ≡ list
 
--- the one or the other
-abbrev pub BecomesNear : ElementView → ElementView → Message → List Message → List Message → List Message → List Message
-    → Option Step → Type 0
-BecomesNear e e' m near near' list list' (Some s) = TakesNear e e' m near near' list list' s
-BecomesNear e e' m near near' list list' None = LeavesNear e e' near near' list list'
+-- a storage may take a plain token, of which no instruction sends more than the most, with room for that
+pub record MayGoOn (d : Storage) (most : ℕ) (t : PlainToken) (near list : QueueView) : Type 0 where
+  pub valid : IsValid d.log.graph
+  pub bound : IsBound d.log.graph d.log.element most
+  pub counted : d.contexts ≤ d.stamp
+  pub numbered : d.structures ≤ d.stamp
+  pub fits : Fits d.log.graph (message_of t)
+  pub few : most ≤ 256
+  pub room : length near.messages + most < list.room
+  pub room_near : most ≤ near.room
+
+-- a storage is ready for the event of a plain token at its instruction and at this stamp, which is the next: all its
+-- numbers are small, and there is room for it and for what it sends
+pub record IsReady (d : Storage) (i : Instr) (t : PlainToken) (stamp : ℕ) (near list : QueueView) : Type 0 where
+  pub room : 0 < d.log.room
+  pub own : slice_get d.log.graph.instrs t.instr ≡ Some i
+  pub next : stamp ≡ next_stamp (state_of d) (message_of t)
+  pub short : IsShort d (most_sent i) t stamp
+  pub room_in_list : length near.messages + most_sent i < list.room
+  pub room_near : most_sent i ≤ near.room
+
+-- its graph is valid, and it may make one more context and one more structure
+pub record MayMake (d : Storage) : Type 0 where
+  pub graph : IsGraph d.log.graph
+  pub valid : IsValid d.log.graph
+  pub counted : d.contexts + 1 < 2 ^ 64
+  pub numbered : d.structures + 1 < 2 ^ 64
+
+-- what is near with what stands in the token's place
+abbrev pub with_next : Shot → List Message → PlainToken → List Message
+with_next shot.Next near t = near ++ message_of t ∷ []
+with_next shot.Went near t = near
+with_next shot.Full near t = near
+
+-- the token at hand was fired in small numbers and has left its place; to be fired in full it would have stayed
+abbrev pub Shoots : Shot → ElementView → ElementView → List Message → List Message → List Message → List Message
+    → PlainToken → PlainToken → Type 0
+Shoots s e e' near near' list list' t t' = TakesNear e e' (message_of t) near (with_next s near' t') list list' Went
+
+-- nothing has changed at all
+abbrev pub AllStays : Storage → Storage → QueueView → QueueView → QueueView → QueueView
+    → PlainToken → PlainToken → Type 0
+AllStays d d' near near' list list' t t' = (d' ≡ d) × (near' ≡ near) × (list' ≡ list) × (t' ≡ t)
+
+-- what became of the token at hand
+abbrev pub Became : Taken → ElementView → ElementView → List Message → List Message → List Message → List Message
+    → PlainToken → PlainToken → Type 0
+Became taken.Next e e' near near' list list' t t' =
+    TakesNear e e' (message_of t) near (near' ++ message_of t' ∷ []) list list' Went
+Became taken.Went e e' near near' list list' t t' = TakesNear e e' (message_of t) near near' list list' Went
+Became taken.Failed e e' near near' list list' t t' = (s : Step) × TakesNear e e' (message_of t) near near' list list' s
+Became taken.Apart e e' near near' list list' t t' = LeavesNear e e' near near' list list' × (t' ≡ t)
+Became taken.Memory e e' near near' list list' t t' = LeavesNear e e' near near' list list' × (t' ≡ t)
 
 -- what is near, where this is sent of what was fired: it comes there where it stays under the tag
 abbrev pub near_after : PlainFired → List Message → List Message → List Message
@@ -122,12 +192,13 @@ pub record IsCut (most : ℕ) (e e' : ElementView) (list list' : List Message) :
   pub few : n < most
   pub stretch : Stretch n e e' list [] list' true
   pub last : IsForAt e' list' (length list' - 1)
-  pub long : length list ≤ length list'
+  pub some : 0 < length list'
 
 -- how a stretch ended: all went well; the last event did not; what stands at the end of the list is to be handled in
 -- full; or no stamp is left for that, or a growth was refused
 abbrev pub RanSo : ℕ → ℕ → ElementView → ElementView → List Message → List Message → Ran → Type 0
-RanSo most k e e' list list' ran.Went = Ends most e e' list list' true × IsBehind k list list'
-RanSo most k e e' list list' ran.Failed = Ends most e e' list list' false × IsBehind k list list'
-RanSo most k e e' list list' ran.Apart = IsCut most e e' list list' × IsBehind k list (remove list' (length list' - 1))
+RanSo most k e e' list list' ran.Went = Ends most e e' list list' true × OthersStay e k list list'
+RanSo most k e e' list list' ran.Failed = Ends most e e' list list' false × OthersStay e k list list'
+RanSo most k e e' list list' ran.Apart =
+    IsCut most e e' list list' × OthersStay e k list (remove list' (length list' - 1))
 RanSo most k e e' list list' (ran.Refused x) = IsCut most e e' list list'

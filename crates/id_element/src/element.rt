@@ -147,20 +147,24 @@ impl<'a> Element<'a> {
         }
     }
 
-    /// Handles the message at a position of a list, from 0, which is for this element, and what follows from it under its
-    /// context and iteration, one message after another, at most so many, and answers whether all went well. What has
-    /// been handled has left the list, and what else was sent for it stands at the end. After an error no stamp is left
-    /// for one of these messages, or a growth was refused, and that one has not been handled.
+    /// Handles the message at a position of a list, from 0, which is for this element, and what follows from it under
+    /// its context and iteration, one message after another, at most so many, and answers whether all went well. Behind
+    /// each of the first `turns` messages, and where it is the only element, it goes on with what stands in that
+    /// message's place then, as long as that is of the same context. What has been handled has left the list, and what
+    /// else was sent for it stands at the end. After an error no stamp is left for one of these messages, or a growth
+    /// was refused, and that one has not been handled.
     #[inline(always)]
     pub fn run_from<G: Gate>(
         &mut self,
         list: &mut Queue,
         position: usize,
+        turns: u64,
         limit: u64,
         gate: &G,
     ) -> Result<bool, TakeError>
         requires there { position < length list.old.messages }
         requires for_it { IsForAt self.old list.old.messages position }
+        requires fit { 0 < turns → All (Fits self.old.graph) list.old.messages }
         requires some { 0 < limit }
         ensures { GoesOn limit position self.old self.new list.old.messages list.new.messages result }
     {
@@ -181,6 +185,7 @@ impl<'a> Element<'a> {
             list,
             position,
             token,
+            turns,
             limit,
             gate,
         ) {

@@ -30,7 +30,7 @@ impl Model for Near {
 
 impl Near {
     ghost use Rattle.std.specs.Prelude.{◌≡◌, ◌<◌, ◌≤◌, ◌+◌, ◌^◌, ◌++◌, ◌∷◌, []};
-    ghost use Rattle.std.specs.Prelude.{MatchOption, OnOk, length};
+    ghost use Rattle.std.specs.Prelude.{IsTrue, OnOk, false, length};
     ghost use Rattle.id_tag.specs.Plains.{message_of};
 
     /// None. Takes no memory.
@@ -81,13 +81,22 @@ impl Near {
         self.tokens.push_reserved(*token);
     }
 
-    /// Takes out the last one, if there is one. Takes no memory.
+    /// Puts the last one in the place of a token, if there is one, and says whether. Takes no memory.
     #[inline(always)]
-    pub fn pop(&mut self) -> Option<PlainToken>
-        ensures { MatchOption result ((self.old.messages ≡ []) × (self.new.messages ≡ []))
-            (λ t. self.old.messages ≡ self.new.messages ++ message_of t ∷ []) }
+    pub fn take_last(&mut self, token: &mut PlainToken) -> bool
+        ensures some { IsTrue result → self.old.messages ≡ self.new.messages ++ message_of token.new ∷ [] }
+        ensures none { result ≡ false → self.old.messages ≡ [] }
+        ensures empty { result ≡ false → self.new.messages ≡ [] }
+        ensures same { result ≡ false → token.new ≡ token.old }
+        ensures len { length self.new.messages ≤ length self.old.messages }
     {
-        self.tokens.pop()
+        match self.tokens.pop() {
+            Some(last) => {
+                *token = last;
+                true
+            }
+            None => false,
+        }
     }
 
     /// Moves all to the end of a list, in order, in which there is room for them. Takes no memory.

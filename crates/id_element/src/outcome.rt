@@ -1,13 +1,16 @@
 //! What a token does at its instruction, and what is sent for it (docs/MACHINE.md, "Element step").
 
-ghost use Rattle.std.specs.Prelude.{Some, ◌≡◌, ◌+◌, ◌-◌, ◌^◌, ◌<◌, ◌≤◌};
+ghost use Rattle.std.specs.Prelude.{Some, ◌≡◌, ◌≢◌, ◌+◌, ◌-◌, ◌^◌, ◌<◌, ◌≤◌};
 ghost use Rattle.std.specs.Prelude.{◌++◌, ◌∷◌, [], ◌||◌, ◌==◌, length, max};
 ghost use Rattle.std.specs.Prelude.{IfOk, IfSome, OnOk, OnErr, IfErr, IsTrue, true, false, if◌then◌else◌, map};
 ghost use Rattle.id_bank.specs.Cells.{Cells};
 ghost use Rattle.id_element.specs.Steps.{allocated_by, answer_fired, arrival, at_instr, fill_verdict, fresh_numbers};
 ghost use Rattle.id_element.specs.Steps.{fired_verdict, made_by, waiting_after};
 ghost use Rattle.id_element.specs.Shorts.{short_step};
-ghost use Rattle.id_element.specs.Stretches.{far_after, near_after};
+ghost use Rattle.id_element.specs.Stretches.{far_after, near_after, with_next};
+ghost use Rattle.id_element.specs.declared.step.Shot.TheVariants as shot;
+ghost use Rattle.id_element.specs.declared.step.Reacted.TheVariants as reacted;
+ghost use Rattle.id_element.specs.declared.step.PlainOperands.TheVariants as operands;
 ghost use Rattle.id_record.specs.Sends.{HasSecond, count_started, sent, started, numbered, replies, token_to};
 ghost use Rattle.id_tag.specs.declared.Sender.TheVariants.{Element};
 ghost use Rattle.id_tag.specs.declared.Payload.TheVariants.{Token};
@@ -15,7 +18,8 @@ ghost use Rattle.id_record.specs.declared.step.Verdict.TheVariants as verdict;
 ghost use Rattle.id_record.specs.Events.{full_step};
 ghost use Rattle.id_tag.specs.Tags.{same_tag};
 ghost use Rattle.id_element.specs.declared.step.Arrival.TheVariants.{Fires};
-ghost use Rattle.id_element.specs.Firings.{IsBound, IsMost, IsReaction, firing_of, most_sent, operands_in, verdict_of};
+ghost use Rattle.id_element.specs.Firings.{IsBound, IsMet, IsMost, IsReaction};
+ghost use Rattle.id_element.specs.Firings.{firing_of, most_sent, operands_in, verdict_of};
 ghost use Rattle.id_instr.specs.Ports.{two_ports};
 ghost use Rattle.id_match.specs.Waiting.{Store, offer_after, offer_answer, pair_of};
 ghost use Rattle.id_match.specs.declared.meeting.Offered.TheVariants.{Pair};
@@ -34,7 +38,7 @@ ghost use Rattle.id_ops.specs.Operators.{side_of, tag_within};
 
 use crate::gate::{Gate, Handling};
 use crate::near::Near;
-use crate::step::{Arrival, PlainOperands, Reacted, Short, TakeError};
+use crate::step::{Arrival, PlainOperands, Reacted, Short, Shot, TakeError};
 use id_bank::{ReadAnswer, WriteAnswer};
 use id_flight::Queue;
 use id_instr::{Dest, Graph, Instr, Op, Port};
@@ -204,9 +208,55 @@ fn met(op: Op, token: &PlainToken, partner: Plain) -> Reacted
     }
 }
 
+/// What an operator of one port fires on a plain token in small numbers, where it does.
+#[inline(always)]
+pub fn fires_one(op: Op, token: &PlainToken) -> Option<PlainFired>
+    requires port { two_ports op ≡ false }
+    requires iteration { token.now.iteration < 2 ^ 32 - 1 }
+    ensures { IfSome result (λ p. (w : Store) → IsReaction op w w token.now (reacted.Plain p)) }
+{
+    fire_one(op, token.iteration, token.value)
+}
+
+/// What an operator of two ports fires on these plain operands, of which the token is one, in small numbers, where it
+/// does.
+#[inline(always)]
+pub fn fires_two(op: Op, token: &PlainToken, left: Plain, right: Plain) -> Option<PlainFired>
+    requires { two_ports op ≡ true }
+    ensures { IfSome result (λ p. (w later : Store)
+        → IsReaction op w later token.now (reacted.Fires (operands.Two left right))
+        → IsReaction op w later token.now (reacted.Plain p)) }
+{
+    fire_two(op, left, right)
+}
+
+/// Offers a plain token at an operator of two ports to what waits, in short where that is in reach. After an error
+/// nothing has changed.
+#[inline(always)]
+pub fn offer(waiting: &mut Waiting, op: Op, token: &PlainToken) -> Result<Met, AllocError>
+    requires { two_ports op ≡ true }
+    ensures met { IfOk result (IsMet op waiting.old waiting.new token.now) }
+    ensures err { OnErr result (waiting.new ≡ waiting.old) }
+{
+    match waiting.offer_plain(token)? {
+        Met::Kept => Ok(Met::Kept),
+        Met::Partner(partner) => Ok(Met::Partner(partner)),
+        Met::Apart => Ok(Met::Apart),
+    }
+}
+
+/// The operand of a plain token at an operator of one port.
+#[inline(always)]
+pub fn operand_of(op: Op, token: &PlainToken) -> PlainOperands
+    requires { two_ports op ≡ false }
+    ensures { (w : Store) → IsReaction op w w token.now (reacted.Fires result) }
+{
+    PlainOperands::One(token.value)
+}
+
 /// The two values by port, of which `value` came to this port.
 #[inline(always)]
-fn by_port(port: Port, value: Plain, partner: Plain) -> (Plain, Plain)
+pub fn by_port(port: Port, value: Plain, partner: Plain) -> (Plain, Plain)
     ensures { Pair (whole result.0) (whole result.1) ≡ pair_of port (whole value) (whole partner) }
 {
     match port {
@@ -531,82 +581,175 @@ pub fn send_plain_fired<G: Gate>(
     }
 }
 
-/// Lets the gate hold this handling, and appends the outputs of a firing in small numbers, for which there is room:
-/// those that stay under the tag's context and iteration to what is near, and the others to a list. Takes no memory.
+/// Where a message was sent: by which event, of which element, at which stamp.
+#[derive(Clone, Copy)]
+pub struct Mark {
+    pub position: u32,
+    pub stamp: u32,
+    pub sender: u8,
+}
+
+/// Sends what was fired in small numbers on a plain token, for which there is room, each message with this mark: those
+/// that stay under the tag's context and iteration come near, the last of them in the token's place, and the others to
+/// the end of a list. Takes no memory.
 #[inline(always)]
-pub fn send_near<G: Gate>(
+pub fn send_near(
     instr: &Instr,
-    like: &PlainToken,
+    mark: Mark,
     fired: PlainFired,
+    token: &mut PlainToken,
     near: &mut Near,
     list: &mut Queue,
-    at: &Handling,
-    gate: &G,
-)
+) -> Shot
     requires room { length near.old.messages + most_sent instr.now < list.old.room }
     requires room_near { most_sent instr.now ≤ near.old.room }
     requires few { most_sent instr.now ≤ 256 }
-    ensures near { near.new.messages ≡ near_after fired near.old.messages
-        (numbered like.now.sender like.now.position like.now.stamp 0
-        (sent (Some instr.now.op) (arcs_on (side_of (fired_of (tag_in like.now) fired)) instr.now) (tag_in like.now)
-        (fired_of (tag_in like.now) fired))) }
+    ensures near { with_next result near.new.messages token.new ≡ near_after fired near.old.messages
+        (numbered mark.sender mark.position mark.stamp 0
+        (sent (Some instr.now.op) (arcs_on (side_of (fired_of (tag_in token.old) fired)) instr.now) (tag_in token.old)
+        (fired_of (tag_in token.old) fired))) }
     ensures far { list.new.messages ≡ far_after fired list.old.messages
-        (numbered like.now.sender like.now.position like.now.stamp 0
-        (sent (Some instr.now.op) (arcs_on (side_of (fired_of (tag_in like.now) fired)) instr.now) (tag_in like.now)
-        (fired_of (tag_in like.now) fired))) }
+        (numbered mark.sender mark.position mark.stamp 0
+        (sent (Some instr.now.op) (arcs_on (side_of (fired_of (tag_in token.old) fired)) instr.now) (tag_in token.old)
+        (fired_of (tag_in token.old) fired))) }
+    ensures short { result ≢ shot.Full }
     ensures room { length near.new.messages ≤ list.new.room }
+    ensures spare { result ≡ shot.Next → length near.new.messages < list.new.room }
 {
-    gate.hold(at);
     let dests = instr.dests.as_slice();
     match fired {
-        PlainFired::Nothing => {}
+        PlainFired::Nothing => Shot::Went,
         PlainFired::Out(value) | PlainFired::Side(true, value) => {
-            put_near(dests, &with_value(like, value), near)
+            put_near(dests, value, mark, token, near)
         }
         PlainFired::Side(false, value) => {
-            let second = instr.others.as_slice();
-            put_near(second, &with_value(like, value), near)
+            put_near(instr.others.as_slice(), value, mark, token, near)
         }
-        PlainFired::Sent(target, value) => send_to(target, &with_value(like, value), list),
+        PlainFired::Addressed(cell) => put_near(dests, cell.address(), mark, token, near),
+        PlainFired::Sent(target, value) => {
+            send_to(target, &like(token, value, mark), list);
+            Shot::Went
+        }
         PlainFired::Moved(iteration, value) => {
             send_plain(
                 dests,
                 &PlainToken {
-                    value,
                     iteration,
-                    ..*like
+                    ..like(token, value, mark)
                 },
                 list,
-            )
+            );
+            Shot::Went
         }
-        PlainFired::Addressed(cell) => put_near(dests, &with_value(like, cell.address()), near),
-        PlainFired::Asked(cell, instr) => list.push_read_reserved(
-            &PlainToken {
-                instr,
-                output: 0,
-                ..*like
-            },
-            cell,
-        ),
+        PlainFired::Asked(cell, instr) => {
+            list.push_read_reserved(
+                &PlainToken {
+                    instr,
+                    ..like(token, token.value, mark)
+                },
+                cell,
+            );
+            Shot::Went
+        }
         PlainFired::Stored(cell, value) => {
-            list.push_write_reserved(&PlainToken { output: 0, ..*like }, cell, value)
+            list.push_write_reserved(&like(token, token.value, mark), cell, value);
+            Shot::Went
         }
     }
 }
 
-/// Adds one plain token for each destination, in order, each like this one, to what is near.
+/// A plain token with this value and this mark and with number 0, and else like this one.
 #[inline(always)]
-fn put_near(dests: &[Dest], like: &PlainToken, near: &mut Near)
+fn like(token: &PlainToken, value: Plain, mark: Mark) -> PlainToken
+    ensures { result ≡ record token.now {
+      value = value;
+      position = mark.position;
+      stamp = mark.stamp;
+      sender = mark.sender;
+      output = 0;
+    } }
+{
+    PlainToken {
+        value,
+        position: mark.position,
+        stamp: mark.stamp,
+        sender: mark.sender,
+        output: 0,
+        ..*token
+    }
+}
+
+/// Adds one plain token with this value for each destination, in order, under a token's tag and with this mark, to what
+/// is near, the last of them in the token's place, if there is one.
+#[inline(always)]
+fn put_near(
+    dests: &[Dest],
+    value: Plain,
+    mark: Mark,
+    token: &mut PlainToken,
+    near: &mut Near,
+) -> Shot
     requires room { length dests.now ≤ near.old.room }
     requires few { length dests.now ≤ 256 }
-    ensures messages { near.new.messages ≡ near.old.messages
-        ++ numbered like.now.sender like.now.position like.now.stamp 0
-        (map (token_to (tag_in like.now) (whole like.now.value)) dests.now) }
-    ensures len { length near.new.messages ≡ length near.old.messages + length dests.now }
+    ensures messages { with_next result near.new.messages token.new ≡ near.old.messages
+        ++ numbered mark.sender mark.position mark.stamp 0
+        (map (token_to (tag_in token.old) (whole value)) dests.now) }
+    ensures short { result ≢ shot.Full }
+    ensures len { length near.new.messages ≤ length near.old.messages + length dests.now }
 {
-    for (number, dest) in dests.iter().enumerate() {
-        near.push_reserved(&plain_to(like, *dest, number));
+    let len = dests.len();
+    if len == 0 {
+        return Shot::Went;
     }
+    let last = len - 1;
+    for number in 0..last {
+        near.push_reserved(&plain_under(token, value, mark, dests[number], number));
+    }
+    put_next(dests[last], value, mark, last, token);
+    Shot::Next
+}
+
+/// A plain token for a destination, with this value, this mark and this number, under the tag of another one.
+#[inline(always)]
+fn plain_under(
+    token: &PlainToken,
+    value: Plain,
+    mark: Mark,
+    dest: Dest,
+    number: usize,
+) -> PlainToken
+    requires { number < 256 }
+    ensures { message_of result ≡ record {
+      payload = token_to (tag_in token.now) (whole value) dest;
+      sender = Element mark.sender;
+      position = mark.position;
+      output = number;
+      stamp = mark.stamp;
+    } }
+{
+    plain_to(&like(token, value, mark), dest, number)
+}
+
+/// Puts a plain token for a destination, with this value, this mark and this number, in the place of the token under
+/// whose tag it is. What stays as it is is not written again.
+#[inline(always)]
+fn put_next(dest: Dest, value: Plain, mark: Mark, number: usize, token: &mut PlainToken)
+    requires { number < 256 }
+    ensures { message_of token.new ≡ record {
+      payload = token_to (tag_in token.old) (whole value) dest;
+      sender = Element mark.sender;
+      position = mark.position;
+      output = number;
+      stamp = mark.stamp;
+    } }
+{
+    token.value = value;
+    token.instr = dest.instr;
+    token.port = dest.port;
+    token.position = mark.position;
+    token.stamp = mark.stamp;
+    token.sender = mark.sender;
+    token.output = number as u8;
 }
 
 /// A plain token with this value, and else like this one.

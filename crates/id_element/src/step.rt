@@ -78,3 +78,29 @@ pub enum Short {
     /// It was not handled, and nothing has changed: it is to be handled as any message.
     Apart,
 }
+
+/// What firing in small numbers came to.
+#[derive(Clone, Copy)]
+pub enum Shot {
+    /// It was recorded and sent, and the last of what goes on stands in the token's place.
+    Next,
+    /// It was recorded and sent, and nothing stands in the token's place.
+    Went,
+    /// Nothing has changed: it is to be fired in full.
+    Full,
+}
+
+/// What became of a plain token at hand.
+#[derive(Clone, Copy)]
+pub enum Taken {
+    /// It was handled, all went well, and what goes on stands in its place.
+    Next,
+    /// It was handled, all went well, and nothing stands in its place.
+    Went,
+    /// It was handled, and its instruction failed.
+    Failed,
+    /// It was not handled, and nothing has changed: it is to be handled as any message.
+    Apart,
+    /// It was not handled, since a growth was refused, and nothing has changed.
+    Memory,
+}

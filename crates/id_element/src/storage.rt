@@ -316,6 +316,18 @@ impl<'a> Storage<'a> {
         ((stamp | self.log.len() as u64) <= 0xffff_ffff) & (most <= 0x100)
     }
 
+    /// The same at the stamp after this one, which is not below the token's.
+    #[inline(always)]
+    pub fn is_short_after(&self, graph: &Graph, most: usize, token: &PlainToken, last: u64) -> bool
+        requires bound { IsBound graph.now self.now.log.element most }
+        requires fits { Fits graph.now (message_of token.now) }
+        requires above { token.now.stamp ≤ last }
+        ensures small { IsTrue result → last < 2 ^ 32 - 1 }
+        ensures short { IsTrue result → IsShort self.now most token.now (last + 1) }
+    {
+        ((last | self.log.len() as u64) < 0xffff_ffff) & (most <= 0x100)
+    }
+
     /// Makes room for an event that sends so many messages, to so many replies.
     #[inline(always)]
     pub fn reserve(

@@ -1,8 +1,11 @@
 //! A stretch of events: a plain token of a list, and what follows from it under its context and iteration, one after
-//! another. This is the loop in which an element spends its time (docs/PIPELINE.md).
+//! another. This is the loop in which an element spends its time (docs/PIPELINE.md): an arm for each operator, which
+//! sends by itself, and the last of what it sends under the same tag takes the token's place.
 
-ghost use Rattle.std.specs.Prelude.{◌≡◌, ◌<◌, ◌≤◌, ◌+◌, ◌++◌, ◌∷◌, [], IsTrue, Some, length, slice_get};
+ghost use Rattle.std.specs.Prelude.{◌≡◌, ◌<◌, ◌≤◌, ◌+◌, ◌++◌, ◌∷◌, [], All, IsTrue, Some, false, length, slice_get};
+ghost use Rattle.std.specs.List.{remove};
 ghost use Rattle.id_tag.specs.Plains.{message_of};
+ghost use Rattle.id_element.specs.Fits.{Fits};
 ghost use Rattle.id_element.specs.Kept.{IsKept};
 ghost use Rattle.id_element.specs.Storage.{element_at};
 ghost use Rattle.id_element.specs.Stretches.{RanSo};
@@ -10,15 +13,15 @@ ghost use Rattle.id_element.specs.Takes.{IsForAt};
 
 use crate::gate::Gate;
 use crate::near::Near;
-use crate::outcome::{next_stamp, react_plain, send_near};
-use crate::step::{Reacted, Short, TakeError};
+use crate::outcome::{Mark, by_port, fires_one, fires_two, offer, operand_of, send_near};
+use crate::step::{PlainOperands, Short, Shot, TakeError, Taken};
 use crate::storage::Storage;
 use id_flight::Queue;
-use id_instr::{Graph, Instr};
+use id_instr::{Dyadic, Graph, Instr, Op};
+use id_match::Met;
 use id_ops::PlainFired;
 use id_record::PlainFiring;
-use id_tag::PlainToken;
-use std::alloc::AllocError;
+use id_tag::{Plain, PlainToken};
 
 /// How a stretch ended.
 #[derive(Clone, Copy)]
@@ -34,8 +37,10 @@ pub enum Ran {
 }
 
 /// Handles the plain token at a position of a list, and what follows from it under its context and iteration, at most
-/// so many messages, and says how that ended. Nothing is near before and afterwards. The list is ready for the message
-/// to leave it, and both have room for what one message sends, and the list for one more.
+/// so many messages, and says how that ended. Behind each of the first messages, as many as it may turn behind, and
+/// where its element is the only one, it goes on with what stands in the token's place then, as long as that is a plain
+/// token of the same context: the next iteration of a loop, say. Nothing is near before and afterwards. The list is
+/// ready for the message to leave it, and both have room for what one message sends, and the list for one more.
 #[inline(always)]
 pub fn run<G: Gate>(
     storage: &mut Storage<'_>,
@@ -44,6 +49,7 @@ pub fn run<G: Gate>(
     list: &mut Queue,
     position: usize,
     first: PlainToken,
+    turns: u64,
     limit: u64,
     gate: &G,
 ) -> Ran
@@ -53,6 +59,7 @@ pub fn run<G: Gate>(
     requires there { position < length list.old.messages }
     requires for_it { IsForAt (element_at storage.old) list.old.messages position }
     requires first { slice_get list.old.messages position ≡ Some (message_of first) }
+    requires fit { 0 < turns → All (Fits storage.old.log.graph) list.old.messages }
     requires some { 0 < limit }
     requires room { most < list.old.room }
     requires room_near { most ≤ near.old.room }
@@ -65,25 +72,27 @@ pub fn run<G: Gate>(
     let graph = valid.graph();
     let mut token = first;
     list.remove(position);
+    let turns = may_turn(storage, turns);
     for done in 0..limit {
-        match storage.take_near(graph, &token, most, near, list, gate) {
-            Ok(Short::Went) => {}
-            Ok(Short::Failed(_)) => {
+        match storage.go_on(graph, &mut token, most, near, list, gate) {
+            Taken::Next => {}
+            Taken::Went => {
+                if !turn(turns, done, most, list, position, &mut token) {
+                    return Ran::Went;
+                }
+            }
+            Taken::Failed => {
                 near.give_back(list);
                 return Ran::Failed;
             }
-            Ok(Short::Apart) => {
+            Taken::Apart => {
                 leave(near, list, &token);
                 return Ran::Apart;
             }
-            Err(error) => {
+            Taken::Memory => {
                 leave(near, list, &token);
-                return Ran::Refused(error);
+                return Ran::Refused(TakeError::Memory);
             }
-        }
-        match near.pop() {
-            Some(next) => token = next,
-            None => return Ran::Went,
         }
         if !has_room(near, list, most) {
             leave(near, list, &token);
@@ -92,6 +101,48 @@ pub fn run<G: Gate>(
     }
     leave(near, list, &token);
     Ran::Went
+}
+
+/// Behind how many messages a stretch may turn: none, unless its element is the only one. Takes no memory.
+#[inline(always)]
+fn may_turn(storage: &Storage<'_>, turns: u64) -> u64
+    ensures asked { 0 < result → 0 < turns }
+    ensures alone { 0 < result → storage.now.count ≡ 1 }
+{
+    if storage.count == 1 { turns } else { 0 }
+}
+
+/// Takes the message at a position of a list in the place of a token, where a stretch turns behind this message, from
+/// 0, there is room for what one message sends, and that is a plain token of the same context, and says whether it did.
+/// Takes no memory.
+#[inline(always)]
+fn turn(
+    turns: u64,
+    done: u64,
+    most: usize,
+    list: &mut Queue,
+    position: usize,
+    token: &mut PlainToken,
+) -> bool
+    ensures turns { IsTrue result → done < turns }
+    ensures took { IsTrue result → slice_get list.old.messages position ≡ Some (message_of token.new) }
+    ensures left { IsTrue result → list.new.messages ≡ remove list.old.messages position }
+    ensures room { IsTrue result → most < list.new.room }
+    ensures same { result ≡ false → list.new.messages ≡ list.old.messages }
+{
+    if done >= turns || position >= list.len() || most >= list.room() {
+        return false;
+    }
+    let next = match list.token(position) {
+        Some(next) => *next,
+        None => return false,
+    };
+    if next.serial != token.serial || next.element != token.element {
+        return false;
+    }
+    list.remove(position);
+    *token = next;
+    true
 }
 
 /// Whether there is room for what one message sends and for what is near. Takes no memory.
@@ -116,158 +167,478 @@ fn leave(near: &mut Near, list: &mut Queue, token: &PlainToken)
 }
 
 impl<'a> Storage<'a> {
-    ghost use Rattle.std.specs.Prelude.{◌≡◌, ◌+◌, ◌^◌, ◌<◌, ◌≤◌, None, OnOk, Some, length, slice_get};
+    ghost use Rattle.std.specs.Prelude.{◌≡◌, ◌≢◌, ◌+◌, ◌^◌, ◌<◌, ◌≤◌, Some, [], false, length, slice_get, true};
     ghost use Rattle.id_instr.specs.Graph.{IsGraph};
+    ghost use Rattle.id_instr.specs.Ports.{two_ports};
     ghost use Rattle.id_valid.specs.Validator.{IsValid};
     ghost use Rattle.id_tag.specs.Plains.{message_of, tag_in};
     ghost use Rattle.id_match.specs.Waiting.{Store};
+    ghost use Rattle.id_instr.specs.declared.instr.Instr.{Instr};
     ghost use Rattle.id_ops.specs.PlainFired.{MakesNone, fired_of};
+    ghost use Rattle.id_ops.specs.declared.plain_fired.PlainFired.TheVariants.{Nothing};
     ghost use Rattle.id_record.specs.declared.step.Step.TheVariants.{Went};
+    ghost use Rattle.id_element.specs.declared.step.Taken.TheVariants as taken;
+    ghost use Rattle.id_element.specs.declared.step.Shot.TheVariants as shot;
+    ghost use Rattle.id_element.specs.declared.step.PlainOperands.TheVariants as plain;
+    ghost use Rattle.id_element.specs.declared.step.Reacted.TheVariants as reacted;
     ghost use Rattle.id_element.specs.Storage.{IsShort, element_at, state_of};
     ghost use Rattle.id_element.specs.Firings.{IsBound, IsReaction, most_sent};
-    ghost use Rattle.id_element.specs.Fits.{Fits};
     ghost use Rattle.id_element.specs.Handled.{IsRecorded, outputs_at, token_outcome, token_sends};
-    ghost use Rattle.id_element.specs.Shorts.{came_short, short_step};
     ghost use Rattle.id_element.specs.Steps.{allocated_by, next_stamp};
-    ghost use Rattle.id_element.specs.Stretches.{BecomesNear, far_after, near_after};
+    ghost use Rattle.id_element.specs.Stretches.{AllStays, Became, IsReady, MayGoOn, MayMake, Shoots};
+    ghost use Rattle.id_element.specs.Stretches.{far_after, near_after, with_next};
 
-    /// Handles a plain token that fits the graph, where that is short, and says what became of it: the element step. What
-    /// it sends under its own context and iteration comes near, and all else to the end of the list. There is room for
-    /// what it sends, and in the list for what is near and for one more.
+    /// Handles the token at hand as `take_near` does, and where nothing takes its place, the last of what is near does.
     #[inline(always)]
-    pub fn take_near<G: Gate>(
+    fn go_on<G: Gate>(
         &mut self,
         graph: &Graph,
-        token: &PlainToken,
+        token: &mut PlainToken,
         most: usize,
         near: &mut Near,
         list: &mut Queue,
         gate: &G,
-    ) -> Result<Short, TakeError>
+    ) -> Taken
         requires own { graph.now ≡ self.old.log.graph }
-        requires valid { IsValid graph.now }
-        requires bound { IsBound graph.now self.old.log.element most }
-        requires counted { self.old.contexts ≤ self.old.stamp }
-        requires numbered { self.old.structures ≤ self.old.stamp }
-        requires fits { Fits graph.now (message_of token.now) }
-        requires few { most ≤ 256 }
-        requires room { length near.old.messages + most < list.old.room }
-        requires room_near { most ≤ near.old.room }
+        requires goes { MayGoOn self.old most token.old near.old list.old }
 
-        ensures becomes { BecomesNear (element_at self.old) (element_at self.new) (message_of token.now)
-            near.old.messages near.new.messages list.old.messages list.new.messages
-            (came_short (tag_in token.now) result) }
+        ensures became { Became result (element_at self.old) (element_at self.new) near.old.messages near.new.messages
+            list.old.messages list.new.messages token.old token.new }
         ensures room { length near.new.messages ≤ list.new.room }
-        ensures spare { came_short (tag_in token.now) result ≡ None → length near.new.messages < list.new.room }
+        ensures spare { result ≢ taken.Failed → result ≢ taken.Went → length near.new.messages < list.new.room }
+        ensures empty { result ≡ taken.Went → near.new.messages ≡ [] }
     {
-        let stamp = next_stamp(self.stamp, u64::from(token.stamp))?;
-        if !self.is_short_in(graph, most, token, stamp) {
-            return Ok(Short::Apart);
+        let taken = self.take_near(graph, token, most, near, list, gate);
+        if let Taken::Went = taken {
+            if near.take_last(token) {
+                return Taken::Next;
+            }
         }
-        self.reserve_event()?;
-        let instr = &graph.instrs()[token.instr as usize];
-        let reacted = react_plain(&mut self.waiting, instr.op, token)?;
-        Ok(self.conclude_near(instr, token, stamp as u32, reacted, near, list, gate))
+        taken
     }
 
-    /// Makes room for an event without replies.
+    /// Handles a plain token that fits the graph, where that is short, and says what became of it: the element step.
+    /// What it sends under its own context and iteration comes near, the last of it in its place, and all else to the
+    /// end of the list. There is room for what it sends, and in the list for what is near and for one more.
     #[inline(always)]
-    fn reserve_event(&mut self) -> Result<(), AllocError>
-        ensures element { element_at self.new ≡ element_at self.old }
-        ensures room { OnOk result (0 < self.new.log.room) }
+    fn take_near<G: Gate>(
+        &mut self,
+        graph: &Graph,
+        token: &mut PlainToken,
+        most: usize,
+        near: &mut Near,
+        list: &mut Queue,
+        gate: &G,
+    ) -> Taken
+        requires own { graph.now ≡ self.old.log.graph }
+        requires goes { MayGoOn self.old most token.old near.old list.old }
+
+        ensures became { Became result (element_at self.old) (element_at self.new) near.old.messages near.new.messages
+            list.old.messages list.new.messages token.old token.new }
+        ensures room { length near.new.messages ≤ list.new.room }
+        ensures spare { result ≢ taken.Failed → result ≢ taken.Went → length near.new.messages < list.new.room }
     {
-        self.log.reserve(0)?;
-        Ok(())
+        let last = self.stamp.max(u64::from(token.stamp));
+        if !self.is_short_after(graph, most, token, last) {
+            return Taken::Apart;
+        }
+        let stamp = last + 1;
+        if self.log.reserve(0).is_err() {
+            return Taken::Memory;
+        }
+        let instr = &graph.instrs()[token.instr as usize];
+        if instr.op.two_ports() {
+            self.take_second(instr, token, stamp as u32, near, list, gate)
+        } else {
+            self.take_one(instr, token, stamp as u32, near, list, gate)
+        }
     }
 
-    /// Lets the gate hold what came of a plain token, sends it, and records the event, unless it is to be handled apart:
-    /// the element step at this stamp, which is the next, where what waited before is known. There is room for it. Takes
+    /// The same at an instruction of one port, at this stamp, which is the next. There is room for it.
+    #[inline(always)]
+    fn take_one<G: Gate>(
+        &mut self,
+        instr: &Instr,
+        token: &mut PlainToken,
+        stamp: u32,
+        near: &mut Near,
+        list: &mut Queue,
+        gate: &G,
+    ) -> Taken
+        requires ready { IsReady self.old instr.now token.old stamp near.old list.old }
+        requires makes { MayMake self.old }
+        requires port { two_ports instr.now.op ≡ false }
+
+        ensures became { Became result (element_at self.old) (element_at self.new) near.old.messages near.new.messages
+            list.old.messages list.new.messages token.old token.new }
+        ensures room { length near.new.messages ≤ list.new.room }
+        ensures spare { result ≢ taken.Failed → result ≢ taken.Went → length near.new.messages < list.new.room }
+    {
+        let shot = self.arms_of_one(instr, token, stamp, near, list, gate);
+        match shot {
+            Shot::Next => Taken::Next,
+            Shot::Went => Taken::Went,
+            Shot::Full => {
+                let operand = operand_of(instr.op, token);
+                self.take_full(instr, token, stamp, operand, near, list, gate)
+            }
+        }
+    }
+
+    /// The same at an instruction of two ports: the token waits for its partner, or has met it.
+    #[inline(always)]
+    fn take_second<G: Gate>(
+        &mut self,
+        instr: &Instr,
+        token: &mut PlainToken,
+        stamp: u32,
+        near: &mut Near,
+        list: &mut Queue,
+        gate: &G,
+    ) -> Taken
+        requires ready { IsReady self.old instr.now token.old stamp near.old list.old }
+        requires makes { MayMake self.old }
+        requires port { two_ports instr.now.op ≡ true }
+
+        ensures became { Became result (element_at self.old) (element_at self.new) near.old.messages near.new.messages
+            list.old.messages list.new.messages token.old token.new }
+        ensures room { length near.new.messages ≤ list.new.room }
+        ensures spare { result ≢ taken.Failed → result ≢ taken.Went → length near.new.messages < list.new.room }
+    {
+        match offer(&mut self.waiting, instr.op, token) {
+            Ok(Met::Kept) => self.keep(instr, token, stamp, near, list, gate),
+            Ok(Met::Partner(partner)) => {
+                let (left, right) = by_port(token.port, token.value, partner);
+                self.take_pair(instr, token, stamp, left, right, near, list, gate)
+            }
+            Ok(Met::Apart) => Taken::Apart,
+            Err(_) => Taken::Memory,
+        }
+    }
+
+    /// The same of a token that waits from now on, at an element where these waited before.
+    #[inline(always)]
+    fn keep<G: Gate>(
+        &mut self,
+        instr: &Instr,
+        token: &mut PlainToken,
+        stamp: u32,
+        near: &mut Near,
+        list: &mut Queue,
+        gate: &G,
+    ) -> Taken
+        requires ready { IsReady self.old instr.now token.old stamp near.old list.old }
+        requires came { (w : Store) × IsReaction instr.now.op w self.old.waiting token.old (reacted.Plain Nothing) }
+
+        ensures became { (w : Store) → IsReaction instr.now.op w self.old.waiting token.old (reacted.Plain Nothing)
+            → Became result (record (element_at self.old) { state = record (state_of self.old) { waiting = w } })
+            (element_at self.new) near.old.messages near.new.messages list.old.messages list.new.messages token.old
+            token.new }
+        ensures room { length near.new.messages ≤ list.new.room }
+        ensures spare { result ≢ taken.Failed → result ≢ taken.Went → length near.new.messages < list.new.room }
+    {
+        match self.conclude_near(instr, token, stamp, PlainFired::Nothing, near, list, gate) {
+            Shot::Next => Taken::Next,
+            Shot::Went => Taken::Went,
+            Shot::Full => unreachable!(),
+        }
+    }
+
+    /// The same of a token that has met its partner: these are the operands.
+    #[inline(always)]
+    fn take_pair<G: Gate>(
+        &mut self,
+        instr: &Instr,
+        token: &mut PlainToken,
+        stamp: u32,
+        left: Plain,
+        right: Plain,
+        near: &mut Near,
+        list: &mut Queue,
+        gate: &G,
+    ) -> Taken
+        requires ready { IsReady self.old instr.now token.old stamp near.old list.old }
+        requires makes { MayMake self.old }
+        requires port { two_ports instr.now.op ≡ true }
+        requires came { (w : Store)
+            × IsReaction instr.now.op w self.old.waiting token.old (reacted.Fires (plain.Two left right)) }
+
+        ensures became { (w : Store)
+            → IsReaction instr.now.op w self.old.waiting token.old (reacted.Fires (plain.Two left right))
+            → Became result (record (element_at self.old) { state = record (state_of self.old) { waiting = w } })
+            (element_at self.new) near.old.messages near.new.messages list.old.messages list.new.messages token.old
+            token.new }
+        ensures room { length near.new.messages ≤ list.new.room }
+        ensures spare { result ≢ taken.Failed → result ≢ taken.Went → length near.new.messages < list.new.room }
+    {
+        let shot = self.arms_of_two(instr, token, stamp, left, right, near, list, gate);
+        match shot {
+            Shot::Next => Taken::Next,
+            Shot::Went => Taken::Went,
+            Shot::Full => {
+                let operands = PlainOperands::Two(left, right);
+                self.take_full(instr, token, stamp, operands, near, list, gate)
+            }
+        }
+    }
+
+    /// The arms of operators of one port: fires that of an instruction on the token, where that is in small numbers.
+    #[inline(always)]
+    fn arms_of_one<G: Gate>(
+        &mut self,
+        instr: &Instr,
+        token: &mut PlainToken,
+        stamp: u32,
+        near: &mut Near,
+        list: &mut Queue,
+        gate: &G,
+    ) -> Shot
+        requires ready { IsReady self.old instr.now token.old stamp near.old list.old }
+        requires port { two_ports instr.now.op ≡ false }
+
+        ensures shoots { result ≢ shot.Full → (w : Store)
+            → IsReaction instr.now.op w self.old.waiting token.old (reacted.Fires (plain.One token.old.value))
+            → Shoots result (record (element_at self.old) { state = record (state_of self.old) { waiting = w } })
+            (element_at self.new) near.old.messages near.new.messages list.old.messages list.new.messages token.old
+            token.new }
+        ensures full { result ≡ shot.Full
+            → AllStays self.old self.new near.old near.new list.old list.new token.old token.new }
+        ensures room { length near.new.messages ≤ list.new.room }
+        ensures spare { result ≡ shot.Next → length near.new.messages < list.new.room }
+    {
+        let op = instr.op;
+        match op {
+            Op::Const(_) => self.shoot_one(op, instr, token, stamp, near, list, gate),
+            Op::Unary(_) => self.shoot_one(op, instr, token, stamp, near, list, gate),
+            Op::Merge(_) => self.shoot_one(op, instr, token, stamp, near, list, gate),
+            Op::Next(_) => self.shoot_one(op, instr, token, stamp, near, list, gate),
+            Op::Reset(_) => self.shoot_one(op, instr, token, stamp, near, list, gate),
+            Op::Fetch { .. } => self.shoot_one(op, instr, token, stamp, near, list, gate),
+            _ => Shot::Full,
+        }
+    }
+
+    /// The arms of operators of two ports: fires that of an instruction on these operands, where that is in small
+    /// numbers.
+    #[inline(always)]
+    fn arms_of_two<G: Gate>(
+        &mut self,
+        instr: &Instr,
+        token: &mut PlainToken,
+        stamp: u32,
+        left: Plain,
+        right: Plain,
+        near: &mut Near,
+        list: &mut Queue,
+        gate: &G,
+    ) -> Shot
+        requires ready { IsReady self.old instr.now token.old stamp near.old list.old }
+        requires port { two_ports instr.now.op ≡ true }
+        requires came { (w : Store)
+            × IsReaction instr.now.op w self.old.waiting token.old (reacted.Fires (plain.Two left right)) }
+
+        ensures shoots { result ≢ shot.Full → (w : Store)
+            → IsReaction instr.now.op w self.old.waiting token.old (reacted.Fires (plain.Two left right))
+            → Shoots result (record (element_at self.old) { state = record (state_of self.old) { waiting = w } })
+            (element_at self.new) near.old.messages near.new.messages list.old.messages list.new.messages token.old
+            token.new }
+        ensures full { result ≡ shot.Full
+            → AllStays self.old self.new near.old near.new list.old list.new token.old token.new }
+        ensures room { length near.new.messages ≤ list.new.room }
+        ensures spare { result ≡ shot.Next → length near.new.messages < list.new.room }
+    {
+        let op = instr.op;
+        match op {
+            Op::Binary(Dyadic::Arithmetic(_)) => {
+                self.shoot_two(op, instr, token, stamp, left, right, near, list, gate)
+            }
+            Op::Binary(Dyadic::Comparison(_)) => {
+                self.shoot_two(op, instr, token, stamp, left, right, near, list, gate)
+            }
+            Op::Binary(Dyadic::Truth(_)) => {
+                self.shoot_two(op, instr, token, stamp, left, right, near, list, gate)
+            }
+            Op::Switch(_) => self.shoot_two(op, instr, token, stamp, left, right, near, list, gate),
+            Op::Send { .. } => self.shoot_two(
+                op, instr, token, stamp, left, right, near, list, gate,
+            ),
+            Op::Back(_) => self.shoot_two(op, instr, token, stamp, left, right, near, list, gate),
+            Op::Address { .. } => {
+                self.shoot_two(op, instr, token, stamp, left, right, near, list, gate)
+            }
+            Op::Store { .. } => self.shoot_two(
+                op, instr, token, stamp, left, right, near, list, gate,
+            ),
+            _ => Shot::Full,
+        }
+    }
+
+    /// Fires an operator of one port on the token, where that is in small numbers.
+    #[inline(always)]
+    fn shoot_one<G: Gate>(
+        &mut self,
+        op: Op,
+        instr: &Instr,
+        token: &mut PlainToken,
+        stamp: u32,
+        near: &mut Near,
+        list: &mut Queue,
+        gate: &G,
+    ) -> Shot
+        requires ready { IsReady self.old instr.now token.old stamp near.old list.old }
+        requires op { op ≡ instr.now.op }
+        requires port { two_ports op ≡ false }
+
+        ensures shoots { result ≢ shot.Full → (w : Store)
+            → IsReaction op w self.old.waiting token.old (reacted.Fires (plain.One token.old.value))
+            → Shoots result (record (element_at self.old) { state = record (state_of self.old) { waiting = w } })
+            (element_at self.new) near.old.messages near.new.messages list.old.messages list.new.messages token.old
+            token.new }
+        ensures full { result ≡ shot.Full
+            → AllStays self.old self.new near.old near.new list.old list.new token.old token.new }
+        ensures room { length near.new.messages ≤ list.new.room }
+        ensures spare { result ≡ shot.Next → length near.new.messages < list.new.room }
+    {
+        match fires_one(op, token) {
+            Some(fired) => self.conclude_near(instr, token, stamp, fired, near, list, gate),
+            None => Shot::Full,
+        }
+    }
+
+    /// Fires an operator of two ports on these operands, where that is in small numbers.
+    #[inline(always)]
+    fn shoot_two<G: Gate>(
+        &mut self,
+        op: Op,
+        instr: &Instr,
+        token: &mut PlainToken,
+        stamp: u32,
+        left: Plain,
+        right: Plain,
+        near: &mut Near,
+        list: &mut Queue,
+        gate: &G,
+    ) -> Shot
+        requires ready { IsReady self.old instr.now token.old stamp near.old list.old }
+        requires op { op ≡ instr.now.op }
+        requires port { two_ports op ≡ true }
+        requires came { (w : Store)
+            × IsReaction op w self.old.waiting token.old (reacted.Fires (plain.Two left right)) }
+
+        ensures shoots { result ≢ shot.Full → (w : Store)
+            → IsReaction op w self.old.waiting token.old (reacted.Fires (plain.Two left right))
+            → Shoots result (record (element_at self.old) { state = record (state_of self.old) { waiting = w } })
+            (element_at self.new) near.old.messages near.new.messages list.old.messages list.new.messages token.old
+            token.new }
+        ensures full { result ≡ shot.Full
+            → AllStays self.old self.new near.old near.new list.old list.new token.old token.new }
+        ensures room { length near.new.messages ≤ list.new.room }
+        ensures spare { result ≡ shot.Next → length near.new.messages < list.new.room }
+    {
+        match fires_two(op, token, left, right) {
+            Some(fired) => self.conclude_near(instr, token, stamp, fired, near, list, gate),
+            None => Shot::Full,
+        }
+    }
+
+    /// Lets the gate hold what was fired in small numbers, records the event, and sends it. There is room for it. Takes
     /// no memory.
     #[inline(always)]
     fn conclude_near<G: Gate>(
         &mut self,
         instr: &Instr,
-        token: &PlainToken,
-        stamp: u32,
-        reacted: Reacted,
-        near: &mut Near,
-        list: &mut Queue,
-        gate: &G,
-    ) -> Short
-        requires room { 0 < self.old.log.room }
-        requires own { slice_get self.old.log.graph.instrs token.now.instr ≡ Some instr.now }
-        requires stamp { stamp ≡ next_stamp (state_of self.old) (message_of token.now) }
-        requires short { IsShort self.old (most_sent instr.now) token.now stamp }
-        requires came { (w : Store) × IsReaction instr.now.op w self.old.waiting token.now reacted }
-        requires room_in_list { length near.old.messages + most_sent instr.now < list.old.room }
-        requires room_near { most_sent instr.now ≤ near.old.room }
-        requires graph { IsGraph self.old.log.graph }
-        requires valid { IsValid self.old.log.graph }
-        requires counted { self.old.contexts + 1 < 2 ^ 64 }
-        requires numbered { self.old.structures + 1 < 2 ^ 64 }
-
-        ensures becomes { (w : Store) → IsReaction instr.now.op w self.old.waiting token.now reacted
-            → BecomesNear (record (element_at self.old) { state = record (state_of self.old) { waiting = w } })
-            (element_at self.new) (message_of token.now) near.old.messages near.new.messages list.old.messages
-            list.new.messages (short_step (tag_in token.now) result) }
-        ensures room { length near.new.messages ≤ list.new.room }
-        ensures spare { short_step (tag_in token.now) result ≡ None → length near.new.messages < list.new.room }
-    {
-        match reacted {
-            Reacted::Plain(fired) => {
-                self.conclude_plain(instr, token, stamp, fired, near, list, gate);
-                Short::Went
-            }
-            Reacted::Fires(operands) => {
-                self.hold(gate);
-                near.give_back(list);
-                self.conclude_full(instr, token, stamp, operands, list)
-            }
-            Reacted::Apart => Short::Apart,
-        }
-    }
-
-    /// Lets the gate hold what was fired in small numbers, sends it, and records the event. There is room for it. Takes
-    /// no memory.
-    #[inline(always)]
-    fn conclude_plain<G: Gate>(
-        &mut self,
-        instr: &Instr,
-        token: &PlainToken,
+        token: &mut PlainToken,
         stamp: u32,
         fired: PlainFired,
         near: &mut Near,
         list: &mut Queue,
         gate: &G,
-    )
-        requires room { 0 < self.old.log.room }
-        requires short { IsShort self.old (most_sent instr.now) token.now stamp }
-        requires makes_none { MakesNone fired token.now.value }
-        requires takes_none { allocated_by instr.now.op (fired_of (tag_in token.now) fired) ≡ 0 }
-        requires own { slice_get self.old.log.graph.instrs token.now.instr ≡ Some instr.now }
-        requires room_in_list { length near.old.messages + most_sent instr.now < list.old.room }
-        requires room_near { most_sent instr.now ≤ near.old.room }
+    ) -> Shot
+        requires ready { IsReady self.old instr.now token.old stamp near.old list.old }
+        requires came { (w : Store) × IsReaction instr.now.op w self.old.waiting token.old (reacted.Plain fired) }
 
-        ensures recorded { IsRecorded self.old self.new (message_of token.now) stamp
-            (token_outcome self.old instr.now (tag_in token.now) (fired_of (tag_in token.now) fired) Went) }
-        ensures near { near.new.messages ≡ near_after fired near.old.messages (outputs_at self.old stamp
-            (token_sends instr.now (tag_in token.now) (fired_of (tag_in token.now) fired))) }
-        ensures far { list.new.messages ≡ far_after fired list.old.messages (outputs_at self.old stamp
-            (token_sends instr.now (tag_in token.now) (fired_of (tag_in token.now) fired))) }
+        ensures shoots { (w : Store) → IsReaction instr.now.op w self.old.waiting token.old (reacted.Plain fired)
+            → Shoots result (record (element_at self.old) { state = record (state_of self.old) { waiting = w } })
+            (element_at self.new) near.old.messages near.new.messages list.old.messages list.new.messages token.old
+            token.new }
+        ensures short { result ≢ shot.Full }
         ensures room { length near.new.messages ≤ list.new.room }
+        ensures spare { result ≡ shot.Next → length near.new.messages < list.new.room }
     {
-        let sample = PlainToken {
+        self.conclude_plain(instr, token, stamp, fired, near, list, gate)
+    }
+
+    /// The same of what is recorded and sent.
+    #[inline(always)]
+    fn conclude_plain<G: Gate>(
+        &mut self,
+        instr: &Instr,
+        token: &mut PlainToken,
+        stamp: u32,
+        fired: PlainFired,
+        near: &mut Near,
+        list: &mut Queue,
+        gate: &G,
+    ) -> Shot
+        requires ready { IsReady self.old instr.now token.old stamp near.old list.old }
+        requires makes_none { MakesNone fired token.old.value }
+        requires takes_none { allocated_by instr.now.op (fired_of (tag_in token.old) fired) ≡ 0 }
+
+        ensures recorded { IsRecorded self.old self.new (message_of token.old) stamp
+            (token_outcome self.old instr.now (tag_in token.old) (fired_of (tag_in token.old) fired) Went) }
+        ensures near { with_next result near.new.messages token.new ≡ near_after fired near.old.messages
+            (outputs_at self.old stamp (token_sends instr.now (tag_in token.old) (fired_of (tag_in token.old) fired))) }
+        ensures far { list.new.messages ≡ far_after fired list.old.messages (outputs_at self.old stamp
+            (token_sends instr.now (tag_in token.old) (fired_of (tag_in token.old) fired))) }
+        ensures short { result ≢ shot.Full }
+        ensures room { length near.new.messages ≤ list.new.room }
+        ensures spare { result ≡ shot.Next → length near.new.messages < list.new.room }
+    {
+        let mark = Mark {
             position: self.log.len() as u32,
             stamp,
             sender: self.log.element() as u8,
-            ..*token
         };
-        send_near(instr, &sample, fired, near, list, &self.handling(), gate);
+        self.hold(gate);
         self.log.push_plain(PlainFiring {
             token,
             stamp,
             fired,
         });
         self.stamp = u64::from(stamp);
+        send_near(instr, mark, fired, token, near, list)
+    }
+
+    /// Lets the gate hold what these operands fire in full, sends it behind what is near, and records the event. There
+    /// is room for it. Takes no memory.
+    #[inline(never)]
+    fn take_full<G: Gate>(
+        &mut self,
+        instr: &Instr,
+        token: &PlainToken,
+        stamp: u32,
+        operands: PlainOperands,
+        near: &mut Near,
+        list: &mut Queue,
+        gate: &G,
+    ) -> Taken
+        requires ready { IsReady self.old instr.now token.now stamp near.old list.old }
+        requires makes { MayMake self.old }
+        requires came { (w : Store) × IsReaction instr.now.op w self.old.waiting token.now (reacted.Fires operands) }
+
+        ensures became { (w : Store) → IsReaction instr.now.op w self.old.waiting token.now (reacted.Fires operands)
+            → Became result (record (element_at self.old) { state = record (state_of self.old) { waiting = w } })
+            (element_at self.new) near.old.messages near.new.messages list.old.messages list.new.messages token.now
+            token.now }
+        ensures room { length near.new.messages ≤ list.new.room }
+        ensures spare { result ≢ taken.Failed → result ≢ taken.Went → length near.new.messages < list.new.room }
+    {
+        self.hold(gate);
+        near.give_back(list);
+        match self.conclude_full(instr, token, stamp, operands, list) {
+            Short::Went => Taken::Went,
+            Short::Failed(_) => Taken::Failed,
+            Short::Apart => unreachable!(),
+        }
     }
 }

@@ -63,7 +63,7 @@ length_letters (q ∷ qs) = ap suc (length_letters qs)
 AreFor-both : (e : ElementView) (ms : List Message) → AreRouted e.count e.number ms → All (Fits e.graph) ms → AreFor e ms
 AreFor-both e ms routed fits k d lt = record { routed = routed k d lt; fits = fits k d lt }
 
-fits_for : (e : ElementView) (ms : List Message) → AreFor e ms → All (Fits e.graph) ms
+pub fits_for : (e : ElementView) (ms : List Message) → AreFor e ms → All (Fits e.graph) ms
 fits_for e ms are k d lt = (are k d lt).fits
 
 routed_for : (e : ElementView) (ms : List Message) → AreFor e ms → AreRouted e.count e.number ms

@@ -1,6 +1,6 @@
 //! Which of its own messages a worker takes next: one of the context at hand, as long as there is one.
 
-ghost use Rattle.std.specs.Prelude.{◌≡◌, ◌<◌, ◌≤◌, length, IsTrue};
+ghost use Rattle.std.specs.Prelude.{◌≡◌, ◌<◌, ◌≤◌, length, not, IsTrue};
 
 use id_flight::Queue;
 use id_tag::Context;
@@ -33,6 +33,14 @@ impl Hand {
         ensures { result ≡ self.now.position }
     {
         self.position
+    }
+
+    /// Whether what comes to stand in the place of the message at hand is next, where it is of the same context.
+    #[inline(always)]
+    pub fn turns(&self) -> bool
+        ensures { result ≡ not self.now.may_be_in_front }
+    {
+        !self.may_be_in_front
     }
 
     /// Takes the next message behind what is at hand to hand, if there is any.

@@ -236,6 +236,7 @@ impl<'a> Worker<'a> {
         rt: &R,
         shared: &Shared,
         position: usize,
+        turns: u64,
         limit: u64,
         gate: &G,
     ) -> Result<bool, TakeError>
@@ -248,7 +249,10 @@ impl<'a> Worker<'a> {
     {
         let others = self.own.len() - 1;
         let near = near_of(&self.own, position, self.home);
-        let went = match self.element.run_from(&mut self.own, position, limit, gate) {
+        let went = match self
+            .element
+            .run_from(&mut self.own, position, turns, limit, gate)
+        {
             Ok(went) => went,
             Err(error) => {
                 self.goes = false;
@@ -420,6 +424,21 @@ impl<'a> Worker<'a> {
         if self.own.is_empty() { None } else { Some(0) }
     }
 
+    /// Behind how many messages a stretch may turn to what stands in its first one's place: those of the first half of
+    /// its steps, as long as nothing else is to be looked at first.
+    #[inline(always)]
+    fn turns(&self, steps: u64, hand: &Hand) -> u64
+        ensures { 0 < result → length self.now.element.state.events < steps }
+    {
+        let half = steps - steps / 2;
+        let handled = self.handled();
+        if hand.turns() && handled < half {
+            half - handled - 1
+        } else {
+            0
+        }
+    }
+
     /// Handles the next message of its own, if there is one, and what follows from it.
     #[inline(always)]
     fn step<R: Wait, G: Gate>(
@@ -438,8 +457,9 @@ impl<'a> Worker<'a> {
     {
         match self.next(steps, hand) {
             Some(position) => {
+                let turns = self.turns(steps, hand);
                 let left = steps - self.handled();
-                if self.handle(rt, shared, position, left, gate)? {
+                if self.handle(rt, shared, position, turns, left, gate)? {
                     Ok(Turn::Goes)
                 } else {
                     Ok(Turn::Stops)

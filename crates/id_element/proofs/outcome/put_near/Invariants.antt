@@ -7,6 +7,6 @@ use Rattle.id_element.proofs.outcome.put_near.Given as goal
 abbrev pub invariant-loop-number : goal.invariant-loop-number
 invariant-loop-number l =
     (l.fn.near.room ≡ l.near.room + l.number)
-    × (l.near.messages ≡ l.fn.near.messages ++ numbered l.like.sender l.like.position l.like.stamp 0
-    (map (token_to (tag_in l.like) (whole l.like.value)) (take l.number l.dests)))
+    × (l.near.messages ≡ l.fn.near.messages ++ numbered l.mark.sender l.mark.position l.mark.stamp 0
+    (map (token_to (tag_in l.token) (whole l.value)) (take l.number l.dests)))
     × (length l.near.messages ≡ length l.fn.near.messages + l.number)

@@ -4,7 +4,7 @@ use Rattle.std.specs.List.{remove}
 use Rattle.id_tag.specs.declared.Message.{Message}
 use Rattle.id_element.specs.Replays.{ElementView}
 use Rattle.id_element.specs.Storage.{element_at}
-use Rattle.id_element.specs.Stretches.{GoesOn, IsBehind}
+use Rattle.id_element.specs.Stretches.{GoesOn, OthersStay}
 use Rattle.id_element.proofs.StretchesLemmas.{goes_alone, goes_behind, goes_none}
 use Rattle.id_element.proofs.element.Element.run_from.Goals as goal
 
@@ -38,7 +38,7 @@ returns-in-Apart g c =
     let e2 = c.take_from-in-Apart.new.self in
     let same : list ≡ a.list.now.messages = c.reserve.ensures.messages ∙ c.open.ensures.same in
     let there : a.position < length list = subst (λ (xs : List Message). a.position < length xs) (sym same) c.requires.there in
-    let before = subst (λ i. IsBehind a.position list (remove list1 i)) (sym (ap (λ n. n - 1) c.len-last.ensures)) ran.1 in
+    let before = subst (λ i. OthersStay (element_at c.self.inside.storage) a.position list (remove list1 i)) (sym (ap (λ n. n - 1) c.len-last.ensures)) ran.1 in
     let goes = goes_behind ran.0.n a.limit a.position _ (element_at c.self.inside.storage) _ e2 list list1 list2 r ran.0.stretch ran.0.few before there
     c.take_from-in-Apart.ensures in
     subst (λ (v : ElementView). GoesOn a.limit a.position v e2 a.list.now.messages list2 r) c.self.view_is
