@@ -12,8 +12,11 @@ invariant_of-result c =
     let F : Read → Type 0 = λ r. StartsWith (items r.cells) c.args.facts.now in
     read-more a.checked.now a.links a.cells c.add_all.new.self a.waits c.wait_all.new.waits c.len.result
     c.args.facts.now c.as_slice.result.now
-    c.self.invariant (subst F (sym c.self.view_is) c.requires.front) c.requires.before (omega (arith, c.len.ensures,
-    a.cells.items.ok.0)) c.as_slice.ensures
+    c.self.invariant (subst F (sym c.self.view_is) c.requires.front) c.requires.before (omega (
+      arith,
+      c.len.ensures,
+      a.cells.items.ok.0,
+    )) c.as_slice.ensures
     c.in_ok-add_all.ensures c.in_ok-wait_all.ensures
 
 pub returns : goal.returns
