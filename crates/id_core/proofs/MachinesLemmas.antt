@@ -36,7 +36,7 @@ use Rattle.id_core.specs.Machines.{event_of_routed, event_at, start_message, inp
 use Rattle.id_core.specs.Machines.{AllKeep, IsElement, AreElements, IsMachine, MachineView}
 use Rattle.id_record.specs.declared.kept.Keeps.{Keeps}
 use Rattle.id_record.specs.declared.kept.Keeps.TheVariants as kept
-use Rattle.id_observe.specs.Tellings.{AreOf, KeepAll, KeepNames}
+use Rattle.id_observe.specs.Elements.{AreOf, KeepAll, KeepNames}
 use Rattle.id_observe.specs.Observed.{main_tag}
 use Rattle.id_element.proofs.SentLemmas.{kind_at_op}
 use Rattle.id_core.proofs.InputsLemmas.{inputs_fit}

@@ -1,6 +1,6 @@
 //! The machine: its elements and the messages in flight, in a list (docs/MACHINE.md, "Runs").
 
-ghost use Rattle.std.specs.Prelude.{◌≡◌, ◌<◌, ◌≤◌, ◌+◌, ◌++◌, ◌↔◌, [], All, length, map};
+ghost use Rattle.std.specs.Prelude.{◌≡◌, ◌<◌, ◌+◌, ◌++◌, ◌↔◌, [], All, length, map};
 ghost use Rattle.std.specs.Prelude.{replicate, IfOk, OnOk};
 ghost use Rattle.std.specs.Prelude.{IsTrue};
 ghost use Rattle.id_instr.specs.declared.dests.Port.TheVariants.{Zero};
@@ -17,7 +17,7 @@ use id_element::{Element, Gate, Handling, TakeError};
 use id_flight::Queue;
 use id_instr::Port;
 use id_observe::{
-    Holdings, Observed, answer, first_fault, main_tag, observe_holdings, observe_names,
+    Holdings, Observed, Records, answer, first_fault, main_tag, observe_holdings, observe_names,
     observe_records,
 };
 use id_ops::value_of;
@@ -275,7 +275,7 @@ impl<'a> Machine<'a> {
     pub fn answer(&self, alloc: Global) -> Result<Option<SourceValue>, AllocError>
         ensures { IfOk result (λ o. o ≡ answer self.now.graph self.now.world) }
     {
-        answer(alloc, self.graph, self.elements.as_slice())
+        answer(alloc, &self.records())
     }
 
     /// What the run so far shows that binders have, for who asks for nothing else.
@@ -283,7 +283,7 @@ impl<'a> Machine<'a> {
         requires { self.now.keeps ≢ keeps.Tellings }
         ensures { IfOk result (λ v. v.items ≡ names self.now.graph self.now.world) }
     {
-        observe_names(alloc, self.graph, self.elements.as_slice())
+        observe_names(alloc, &self.records())
     }
 
     /// What the run so far shows of its answer and of structures, for who asks for nothing else: by one look through
@@ -294,7 +294,7 @@ impl<'a> Machine<'a> {
         ensures cells { IfOk result (λ o. o.cells ≡ cell_values self.now.graph self.now.world) }
         ensures waiting { IfOk result (λ o. o.waiting ≡ waiting self.now.graph self.now.world) }
     {
-        observe_holdings(alloc, self.graph, self.elements.as_slice())
+        observe_holdings(alloc, &self.records())
     }
 
     /// The first fault of the run so far, by stamp and then by element, if there is one.
@@ -302,7 +302,20 @@ impl<'a> Machine<'a> {
         ensures { IfOk result (λ o. MatchOption o (faults self.now.graph self.now.world ≡ [])
             (IsFirstFault self.now.graph self.now.world.elements)) }
     {
-        first_fault(alloc, self.graph, self.elements())
+        first_fault(alloc, &self.records())
+    }
+
+    /// Its elements with their graph, as observation takes them.
+    fn records(&self) -> Records<'_>
+        ensures graph { result.graph.now ≡ self.now.graph }
+        ensures elements { map (λ e. e.state) result.elements.now ≡ self.now.world.elements }
+        ensures kept { AllKeep self.now.keeps result.elements.now }
+        ensures rise { IsStrictlyIncreasing (map (λ e. e.number) result.elements.now) }
+    {
+        Records {
+            graph: self.graph.graph(),
+            elements: self.elements(),
+        }
     }
 
     /// How many elements there are. Takes no memory.

@@ -20,7 +20,7 @@ use Rattle.id_element.specs.Replays.{ElementView}
 use Rattle.id_observe.specs.Observed.{ask_of, asks_of, cell_value, cell_value_of, label_marks, reader_in, shape_at, shape_of, shapes_of, structures_in}
 use Rattle.id_observe.specs.Observed.{is_label, is_label_of, put_of}
 use Rattle.id_observe.specs.Sourced.{source_value}
-use Rattle.id_observe.specs.declared.paths.Paths.{Paths}
+use Rattle.id_observe.specs.declared.records.Paths.{Paths}
 use Rattle.id_observe.specs.Paths.{events_of, made, makings_of, path_by, path_in, site_at}
 use Rattle.id_observe.proofs.WalksLemmas.{filter_map-next_part, take-next, walk-next}
 
@@ -89,10 +89,10 @@ shapes_of-makings g path (e ∷ es) =
     one (Some s) = refl
 
 -- what is shown of them, where tables tell what the events of elements do
-pub structures-from_makings : (g h : Parts) (es : List ElementView) (p : Paths) → p.graph.now ≡ h → path_by p ≡ path_in h (map (λ e. e.state) es)
-    → p.makings.items ≡ makings_of h (events_of (map (λ e. e.state) es)) → h ≡ g
+pub structures-from_makings : (g : Parts) (es : List ElementView) (p : Paths) → p.graph.now ≡ g → path_by p ≡ path_in g (map (λ e. e.state) es)
+    → p.makings.items ≡ makings_of g (events_of (map (λ e. e.state) es))
     → map (shape_at p.graph.now (path_by p)) p.makings.items ≡ structures_in g (map (λ e. e.state) es)
-structures-from_makings g h es p graph path makings same =
+structures-from_makings g es p graph path makings =
     let ss = map (λ e. e.state) es in
-    ap (λ x. map (shape_at x (path_by p)) p.makings.items) graph ∙ ap (λ f. map (shape_at h f) p.makings.items) path
-    ∙ ap (map (shape_at h (path_in h ss))) makings ∙ shapes_of-makings h (path_in h ss) (events_of ss) ∙ ap (λ x. structures_in x ss) same
+    ap (λ x. map (shape_at x (path_by p)) p.makings.items) graph ∙ ap (λ f. map (shape_at g f) p.makings.items) path
+    ∙ ap (map (shape_at g (path_in g ss))) makings ∙ shapes_of-makings g (path_in g ss) (events_of ss)

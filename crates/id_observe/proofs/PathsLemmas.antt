@@ -15,7 +15,7 @@ use Rattle.id_tag.specs.Tags.{same_context, same_structure}
 use Rattle.id_record.specs.Events.{EventView}
 use Rattle.id_element.specs.Replays.{ElementView}
 use Rattle.id_value.specs.List.{Among}
-use Rattle.id_observe.specs.declared.paths.Paths.{Paths}
+use Rattle.id_observe.specs.declared.records.Paths.{Paths}
 use Rattle.id_observe.specs.Paths.{events_of, name_by, structure_by}
 use Rattle.id_source.specs.declared.PathStep.{PathStep}
 use Rattle.id_observe.specs.Paths.{enter_in, enter_of, maker_in, maker_of, path_by, path_of, step_of, steps_to}

@@ -1,4 +1,5 @@
 -- What public clauses cite.
+pub mod Elements
 pub mod Paths
 pub mod Tellings
 pub mod Sourced

@@ -16,7 +16,7 @@ use Rattle.id_tag.specs.declared.Structure.{Structure}
 use Rattle.id_observe.specs.declared.shown.CellValue.{CellValue}
 use Rattle.id_observe.specs.declared.shown.Named.{Named}
 use Rattle.id_observe.specs.declared.paths.Making.{Making}
-use Rattle.id_observe.specs.declared.paths.Paths.{Paths}
+use Rattle.id_observe.specs.declared.records.Paths.{Paths}
 use Rattle.id_observe.specs.Paths.{is_alloc}
 use Rattle.id_source.specs.declared.SourceValue.{SourceValue}
 use Rattle.id_source.specs.declared.Path.{Path}

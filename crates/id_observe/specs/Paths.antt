@@ -21,7 +21,7 @@ use Rattle.id_ops.specs.declared.Fired.{Fired}
 use Rattle.id_ops.specs.declared.Fired.TheVariants.{Out}
 use Rattle.id_record.specs.Events.{EventView, tag_of}
 use Rattle.id_observe.specs.declared.paths.Making.{Making}
-use Rattle.id_observe.specs.declared.paths.Paths.{Paths}
+use Rattle.id_observe.specs.declared.records.Paths.{Paths}
 use Rattle.id_observe.specs.declared.paths.Tables.{Tables}
 use Rattle.id_source.specs.declared.Path.{Path}
 use Rattle.id_source.specs.declared.PathStep.{PathStep}

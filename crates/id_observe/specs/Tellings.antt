@@ -1,5 +1,5 @@
 -- What tellings say of the paths of tags, of structures and of the answer, as events do.
-use Rattle.std.specs.Prelude.{◌≡◌, ◌≢◌, ◌++◌, All, List, [], ◌∷◌, Option, Some, None}
+use Rattle.std.specs.Prelude.{◌≡◌, ◌++◌, List, [], ◌∷◌, Option, Some, None}
 use Rattle.std.specs.Prelude.{if◌then◌else◌, option_map}
 use Rattle.std.specs.List.{cons_option, filter_map}
 use Rattle.std.specs.HashMap.{get}
@@ -11,26 +11,12 @@ use Rattle.id_tag.specs.declared.Structure.{Structure}
 use Rattle.id_tag.specs.declared.Tag.{Tag}
 use Rattle.id_tag.specs.declared.Value.{Value}
 use Rattle.id_tag.specs.Tags.{same_context, same_structure, same_tag}
-use Rattle.id_record.specs.declared.kept.Keeps.TheVariants as keeps
 use Rattle.id_record.specs.declared.telling.Telling.{Telling}
 use Rattle.id_record.specs.declared.telling.Told.{Told}
 use Rattle.id_record.specs.declared.telling.Told.TheVariants.{Entered, Made, Came}
-use Rattle.id_element.specs.Replays.{ElementView}
 use Rattle.id_observe.specs.declared.paths.Making.{Making}
 use Rattle.id_observe.specs.declared.paths.Tables.{Tables}
 use Rattle.id_observe.specs.Paths.{if_made, if_same, is_alloc, is_enter, main_tag}
-
--- the elements are of this graph
-abbrev pub AreOf : Parts → List ElementView → Type 0
-AreOf g es = All (λ e. e.graph ≡ g) es
-
--- they keep all events
-abbrev pub KeepAll : List ElementView → Type 0
-KeepAll es = All (λ e. e.keeps ≡ keeps.All) es
-
--- they keep what came to merges
-abbrev pub KeepNames : List ElementView → Type 0
-KeepNames es = All (λ e. e.keeps ≢ keeps.Tellings) es
 
 -- the context that was entered, where that is told of an `enter`
 abbrev pub entered_told : Parts → Telling → Option Context

@@ -5,27 +5,23 @@ ghost use Rattle.std.specs.List.{filter_map};
 ghost use Rattle.id_observe.specs.Observed.{answer_in, first_value};
 ghost use Rattle.id_observe.specs.Paths.{structure_in};
 ghost use Rattle.id_observe.specs.Sourced.{source_value};
-ghost use Rattle.id_observe.specs.Tellings.{AreOf, value_told};
+ghost use Rattle.id_observe.specs.Tellings.{value_told};
 
-use crate::paths::{Paths, value_by};
+use crate::paths::value_by;
+use crate::records::{Paths, Records};
 use id_element::Element;
 use id_record::Tellings;
 use id_source::{Site, SourceValue};
 use id_tag::{Structure, Value};
-use id_valid::Valid;
 use std::alloc::{AllocError, Global};
 
 /// The answer that these records show, for who asks for nothing else. Memory is wanted only where it is a structure.
-pub fn answer(
-    alloc: Global,
-    graph: &Valid,
-    elements: &[Element<'_>],
-) -> Result<Option<SourceValue>, AllocError>
-    requires { AreOf graph.now elements.now }
-    ensures { IfOk result (λ o. o ≡ answer_in graph.now (map (λ e. e.state) elements.now)) }
+pub fn answer(alloc: Global, records: &Records<'_>) -> Result<Option<SourceValue>, AllocError>
+    ensures { IfOk result
+        (λ o. o ≡ answer_in records.now.graph.now (map (λ e. e.state) records.now.elements.now)) }
 {
-    match first_value(elements) {
-        Some(value) => told_value(alloc, graph, elements, value),
+    match first_value(records.elements) {
+        Some(value) => told_value(alloc, records, value),
         None => Ok(None),
     }
 }
@@ -33,18 +29,17 @@ pub fn answer(
 /// The value as one of the source, where these records tell under which tag each structure was made.
 fn told_value(
     alloc: Global,
-    graph: &Valid,
-    elements: &[Element<'_>],
+    records: &Records<'_>,
     value: Value,
 ) -> Result<Option<SourceValue>, AllocError>
-    requires { AreOf graph.now elements.now }
-    ensures { IfOk result (λ o. o ≡ source_value (structure_in graph.now (map (λ e. e.state) elements.now)) value) }
+    ensures { IfOk result (λ o. o
+        ≡ source_value (structure_in records.now.graph.now (map (λ e. e.state) records.now.elements.now)) value) }
 {
     match value {
         Value::Int(number) => Ok(Some(SourceValue::Int(number))),
         Value::Bool(truth) => Ok(Some(SourceValue::Bool(truth))),
         Value::Structure(structure) => {
-            let name = told_name(alloc, graph, elements, structure)?;
+            let name = told_name(alloc, records, structure)?;
             Ok(Some(SourceValue::Name(name)))
         }
         _ => Ok(None),
@@ -52,16 +47,11 @@ fn told_value(
 }
 
 /// The name of the structure, where these records tell under which tag each was made.
-fn told_name(
-    alloc: Global,
-    graph: &Valid,
-    elements: &[Element<'_>],
-    structure: Structure,
-) -> Result<Site, AllocError>
-    requires { AreOf graph.now elements.now }
-    ensures { IfOk result (λ a. a ≡ structure_in graph.now (map (λ e. e.state) elements.now) structure) }
+fn told_name(alloc: Global, records: &Records<'_>, structure: Structure) -> Result<Site, AllocError>
+    ensures { IfOk result (λ a. a
+        ≡ structure_in records.now.graph.now (map (λ e. e.state) records.now.elements.now) structure) }
 {
-    let paths = Paths::new(alloc, graph.graph(), elements)?;
+    let paths = Paths::new(alloc, records)?;
     paths.name(alloc, structure)
 }
 

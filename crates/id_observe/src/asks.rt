@@ -4,32 +4,25 @@ ghost use Rattle.std.specs.Prelude.{◌≡◌, ◌++◌, [], map, option_map, If
 ghost use Rattle.std.specs.List.{cons_option};
 ghost use Rattle.id_observe.specs.Observed.{ask_of, asks_of, reader_in};
 ghost use Rattle.id_observe.specs.Paths.{events_of, path_by, structure_by};
-ghost use Rattle.id_observe.specs.Tellings.{KeepAll};
 
-use crate::paths::Paths;
+use crate::records::{Paths, Whole};
 use crate::shown::ask_of;
 use id_bank::Reader;
-use id_element::Element;
 use id_record::Events;
 use id_source::Ask;
 use id_tag::Payload;
 use std::alloc::{AllocError, Global};
 
-/// What the fetches ask for whose reads these records show.
-pub fn all_asks(
-    alloc: Global,
-    paths: &Paths<'_>,
-    elements: &[Element<'_>],
-) -> Result<Vec<Ask>, AllocError>
-    requires { KeepAll elements.now }
+/// What the fetches ask for whose reads the records show.
+pub fn all_asks(alloc: Global, whole: &Whole<'_>) -> Result<Vec<Ask>, AllocError>
     ensures { IfOk result
         (λ v. v.items
-        ≡ asks_of paths.now.graph.now (path_by paths.now) (structure_by paths.now)
-        (events_of (map (λ e. e.state) elements.now))) }
+        ≡ asks_of whole.now.paths.graph.now (path_by whole.now.paths) (structure_by whole.now.paths)
+        (events_of (map (λ e. e.state) whole.now.paths.elements.now))) }
 {
     let mut asks = Vec::new(alloc);
-    for element in elements {
-        add_handled(alloc, paths, &element.events(), &mut asks)?;
+    for element in whole.paths.elements {
+        add_handled(alloc, &whole.paths, &element.events(), &mut asks)?;
     }
     Ok(asks)
 }

@@ -4,31 +4,25 @@ ghost use Rattle.std.specs.Prelude.{◌≡◌, ◌++◌, [], map, IfOk, OnOk};
 ghost use Rattle.std.specs.List.{cons_option};
 ghost use Rattle.id_observe.specs.Paths.{events_of, path_by, structure_by};
 ghost use Rattle.id_observe.specs.Sourced.{faults_of};
-ghost use Rattle.id_observe.specs.Tellings.{KeepAll};
 ghost use Rattle.id_record.specs.declared.kept.Keeps.TheVariants as keeps;
 
-use crate::paths::Paths;
+use crate::records::{Paths, Whole};
 use crate::sourced::source_fault;
 use id_element::Element;
 use id_record::Events;
 use id_source::SourceFault;
 use std::alloc::{AllocError, Global};
 
-/// The faults that these records show.
-pub fn all_faults(
-    alloc: Global,
-    paths: &Paths<'_>,
-    elements: &[Element<'_>],
-) -> Result<Vec<SourceFault>, AllocError>
-    requires { KeepAll elements.now }
+/// The faults that the records show.
+pub fn all_faults(alloc: Global, whole: &Whole<'_>) -> Result<Vec<SourceFault>, AllocError>
     ensures { IfOk result
         (λ v. v.items
-        ≡ faults_of paths.now.graph.now (path_by paths.now) (structure_by paths.now)
-        (events_of (map (λ e. e.state) elements.now))) }
+        ≡ faults_of whole.now.paths.graph.now (path_by whole.now.paths) (structure_by whole.now.paths)
+        (events_of (map (λ e. e.state) whole.now.paths.elements.now))) }
 {
     let mut faults = Vec::new(alloc);
-    for element in elements {
-        add_element_faults(alloc, paths, element, &mut faults)?;
+    for element in whole.paths.elements {
+        add_element_faults(alloc, &whole.paths, element, &mut faults)?;
     }
     Ok(faults)
 }

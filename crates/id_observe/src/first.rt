@@ -7,29 +7,23 @@ ghost use Rattle.id_element.specs.Replays.{Replays};
 ghost use Rattle.id_observe.specs.Firsts.{IsFirstFault, earlier_of, earliest_in};
 ghost use Rattle.id_observe.specs.Paths.{path_in, structure_in};
 ghost use Rattle.id_observe.specs.Sourced.{fault_of, faults_in};
-ghost use Rattle.id_observe.specs.Tellings.{AreOf};
 
-use crate::paths::Paths;
+use crate::records::{Paths, Records};
 use crate::sourced::source_fault;
 use id_element::Element;
 use id_record::{Fault, Faulted, Step};
 use id_source::SourceFault;
-use id_valid::Valid;
 use std::alloc::{AllocError, Global};
 
 /// The first fault of all events of these elements, whose numbers rise, by stamp and then by element, if there is one.
-pub fn first_fault(
-    alloc: Global,
-    graph: &Valid,
-    elements: &[Element<'_>],
-) -> Result<Option<SourceFault>, AllocError>
-    requires of { AreOf graph.now elements.now }
-    requires rise { IsStrictlyIncreasing (map (λ e. e.number) elements.now) }
-    ensures { IfOk result (λ o. MatchOption o (faults_in graph.now (map (λ e. e.state) elements.now) ≡ [])
-        (IsFirstFault graph.now (map (λ e. e.state) elements.now))) }
+pub fn first_fault(alloc: Global, records: &Records<'_>) -> Result<Option<SourceFault>, AllocError>
+    requires { IsStrictlyIncreasing (map (λ e. e.number) records.now.elements.now) }
+    ensures { IfOk result (λ o. MatchOption o
+        (faults_in records.now.graph.now (map (λ e. e.state) records.now.elements.now) ≡ [])
+        (IsFirstFault records.now.graph.now (map (λ e. e.state) records.now.elements.now))) }
 {
-    match earliest(elements) {
-        Some(first) => shown(alloc, graph, elements, first.fault),
+    match earliest(records.elements) {
+        Some(first) => shown(alloc, records, first.fault),
         None => Ok(None),
     }
 }
@@ -37,15 +31,14 @@ pub fn first_fault(
 /// The fault as one of the source, where these records tell under which tags contexts and structures were made.
 fn shown(
     alloc: Global,
-    graph: &Valid,
-    elements: &[Element<'_>],
+    records: &Records<'_>,
     fault: Fault,
 ) -> Result<Option<SourceFault>, AllocError>
-    requires { AreOf graph.now elements.now }
-    ensures { IfOk result (λ o. o ≡ fault_of graph.now (path_in graph.now (map (λ e. e.state) elements.now))
-        (structure_in graph.now (map (λ e. e.state) elements.now)) (steps.Fault fault)) }
+    ensures { IfOk result (λ o. o ≡ fault_of records.now.graph.now
+        (path_in records.now.graph.now (map (λ e. e.state) records.now.elements.now))
+        (structure_in records.now.graph.now (map (λ e. e.state) records.now.elements.now)) (steps.Fault fault)) }
 {
-    let paths = Paths::new(alloc, graph.graph(), elements)?;
+    let paths = Paths::new(alloc, records)?;
     source_fault(alloc, &paths, Step::Fault(fault))
 }
 

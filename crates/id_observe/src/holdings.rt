@@ -10,10 +10,10 @@ ghost use Rattle.id_observe.specs.Sourced.{source_value};
 ghost use Rattle.id_observe.specs.Paths.{structure_by};
 ghost use Rattle.id_observe.specs.Observed.{waiting_in};
 ghost use Rattle.id_observe.specs.Paths.{path_by};
-ghost use Rattle.id_observe.specs.Tellings.{AreOf};
 
 use crate::answered::answer;
-use crate::paths::{Paths, is_alloc};
+use crate::paths::is_alloc;
+use crate::records::{Paths, Records};
 use crate::shown::{CellValue, Named, all_structures, all_waiting};
 use crate::sourced::{source_value, value_in};
 use id_bank::{Cells, Filled};
@@ -21,7 +21,6 @@ use id_element::Element;
 use id_instr::Graph;
 use id_source::{Ask, Path, Shape, Site, SourceValue};
 use id_tag::Structure;
-use id_valid::Valid;
 use id_value::Sequence;
 use std::alloc::{AllocError, Global};
 
@@ -41,57 +40,53 @@ pub struct Holdings {
 
 /// What these elements show of the answer and of structures, for who asks for nothing else. The records are looked
 /// through once; where no instruction makes structures and no cell was read or written, for the answer alone.
-pub fn observe_holdings(
-    alloc: Global,
-    graph: &Valid,
-    elements: &[Element<'_>],
-) -> Result<Holdings, AllocError>
-    requires { AreOf graph.now elements.now }
-    ensures answer { IfOk result (λ o. o.answer ≡ answer_in graph.now (map (λ e. e.state) elements.now)) }
+pub fn observe_holdings(alloc: Global, records: &Records<'_>) -> Result<Holdings, AllocError>
+    ensures answer { IfOk result
+        (λ o. o.answer ≡ answer_in records.now.graph.now (map (λ e. e.state) records.now.elements.now)) }
     ensures structures { IfOk result
-        (λ o. o.structures ≡ structures_in graph.now (map (λ e. e.state) elements.now)) }
-    ensures cells { IfOk result (λ o. o.cells ≡ cell_values_in graph.now (map (λ e. e.state) elements.now)) }
-    ensures waiting { IfOk result (λ o. o.waiting ≡ waiting_in graph.now (map (λ e. e.state) elements.now)) }
+        (λ o. o.structures ≡ structures_in records.now.graph.now (map (λ e. e.state) records.now.elements.now)) }
+    ensures cells { IfOk result
+        (λ o. o.cells ≡ cell_values_in records.now.graph.now (map (λ e. e.state) records.now.elements.now)) }
+    ensures waiting { IfOk result
+        (λ o. o.waiting ≡ waiting_in records.now.graph.now (map (λ e. e.state) records.now.elements.now)) }
 {
-    if hold_nothing(graph.graph(), elements) {
-        return Ok(no_holdings(alloc, answer(alloc, graph, elements)?));
+    if hold_nothing(records.graph, records.elements) {
+        return Ok(no_holdings(alloc, answer(alloc, records)?));
     }
-    held(alloc, graph, elements)
+    held(alloc, records)
 }
 
 /// The same where there may be structures or cells.
-fn held(alloc: Global, graph: &Valid, elements: &[Element<'_>]) -> Result<Holdings, AllocError>
-    requires { AreOf graph.now elements.now }
-    ensures answer { IfOk result (λ o. o.answer ≡ answer_in graph.now (map (λ e. e.state) elements.now)) }
+fn held(alloc: Global, records: &Records<'_>) -> Result<Holdings, AllocError>
+    ensures answer { IfOk result
+        (λ o. o.answer ≡ answer_in records.now.graph.now (map (λ e. e.state) records.now.elements.now)) }
     ensures structures { IfOk result
-        (λ o. o.structures ≡ structures_in graph.now (map (λ e. e.state) elements.now)) }
-    ensures cells { IfOk result (λ o. o.cells ≡ cell_values_in graph.now (map (λ e. e.state) elements.now)) }
-    ensures waiting { IfOk result (λ o. o.waiting ≡ waiting_in graph.now (map (λ e. e.state) elements.now)) }
+        (λ o. o.structures ≡ structures_in records.now.graph.now (map (λ e. e.state) records.now.elements.now)) }
+    ensures cells { IfOk result
+        (λ o. o.cells ≡ cell_values_in records.now.graph.now (map (λ e. e.state) records.now.elements.now)) }
+    ensures waiting { IfOk result
+        (λ o. o.waiting ≡ waiting_in records.now.graph.now (map (λ e. e.state) records.now.elements.now)) }
 {
-    let paths = Paths::new(alloc, graph.graph(), elements)?;
-    held_by(alloc, &paths, elements)
+    let paths = Paths::new(alloc, records)?;
+    held_by(alloc, &paths)
 }
 
-/// What these elements show of the answer and of structures, by these paths and names.
-fn held_by(
-    alloc: Global,
-    paths: &Paths<'_>,
-    elements: &[Element<'_>],
-) -> Result<Holdings, AllocError>
+/// What elements show of the answer and of structures, by these paths and names.
+fn held_by(alloc: Global, paths: &Paths<'_>) -> Result<Holdings, AllocError>
     ensures answer { IfOk result (λ o. o.answer
         ≡ option_and_then (source_value (structure_by paths.now)) (slice_get paths.now.values.items 0)) }
     ensures structures { IfOk result (λ o. o.structures
         ≡ map (shape_at paths.now.graph.now (path_by paths.now)) paths.now.makings.items) }
     ensures cells { IfOk result (λ o. o.cells
         ≡ filter_map (cell_value_of (structure_by paths.now))
-        (flat_map (λ e. cells_of e.cells) (map (λ e. e.state) elements.now))) }
+        (flat_map (λ e. cells_of e.cells) (map (λ e. e.state) paths.now.elements.now))) }
     ensures waiting { IfOk result (λ o. o.waiting
         ≡ map (ask_of paths.now.graph.now (path_by paths.now) (structure_by paths.now))
-        (flat_map (λ e. deferred_of e.cells) (map (λ e. e.state) elements.now))) }
+        (flat_map (λ e. deferred_of e.cells) (map (λ e. e.state) paths.now.elements.now))) }
 {
     let structures = all_structures(alloc, paths)?;
-    let cells = all_cell_values(alloc, paths, elements)?;
-    let waiting = all_waiting(alloc, paths, elements)?;
+    let cells = all_cell_values(alloc, paths)?;
+    let waiting = all_waiting(alloc, paths)?;
     let answer = value_in(alloc, paths, paths.first_value())?;
     Ok(Holdings {
         answer,
@@ -137,19 +132,15 @@ fn no_holdings(alloc: Global, answer: Option<SourceValue>) -> Holdings
     }
 }
 
-/// What the cells of these elements hold.
-fn all_cell_values(
-    alloc: Global,
-    paths: &Paths<'_>,
-    elements: &[Element<'_>],
-) -> Result<Vec<CellValue>, AllocError>
+/// What the cells of the elements hold.
+fn all_cell_values(alloc: Global, paths: &Paths<'_>) -> Result<Vec<CellValue>, AllocError>
     ensures { IfOk result
         (λ v. v.items
         ≡ filter_map (cell_value_of (structure_by paths.now))
-        (flat_map (λ e. cells_of e.cells) (map (λ e. e.state) elements.now))) }
+        (flat_map (λ e. cells_of e.cells) (map (λ e. e.state) paths.now.elements.now))) }
 {
     let mut values = Vec::new(alloc);
-    for element in elements {
+    for element in paths.elements {
         add_cell_values(alloc, paths, element.cells(alloc)?, &mut values)?;
     }
     Ok(values)

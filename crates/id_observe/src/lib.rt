@@ -15,6 +15,7 @@ mod holdings;
 mod merge;
 mod observe;
 mod paths;
+mod records;
 mod shown;
 mod sourced;
 
@@ -24,4 +25,5 @@ pub use holdings::{Holdings, observe_holdings};
 pub use merge::{Merged, merge_records};
 pub use observe::{Observed, observe_names, observe_records};
 pub use paths::main_tag;
+pub use records::Records;
 pub use shown::CellValue;

@@ -6,7 +6,7 @@ ghost use Rattle.std.specs.Prelude.{MatchOption};
 ghost use Rattle.std.specs.List.{flat_map};
 ghost use Rattle.std.specs.List.Sorted.{IsStrictlyIncreasing, IsStrictlySortedBy};
 ghost use Rattle.id_record.specs.Events.{EventView};
-ghost use Rattle.id_observe.specs.Tellings.{KeepAll};
+ghost use Rattle.id_observe.specs.Elements.{KeepAll};
 ghost use Rattle.id_observe.specs.Merged.{by_moment, AreRecords, AreMerged, IsEarliest, IsMerge, earlier_of, head_of};
 
 use id_element::Element;

@@ -16,11 +16,11 @@ ghost use Rattle.id_observe.specs.Observed.{shape_at};
 ghost use Rattle.id_observe.specs.Paths.{structure_by};
 ghost use Rattle.id_observe.specs.Observed.{structures_in, waiting_in};
 ghost use Rattle.id_observe.specs.Paths.{path_by};
-ghost use Rattle.id_observe.specs.Tellings.{AreOf, KeepAll, KeepNames};
+ghost use Rattle.id_observe.specs.Elements.{AreOf, KeepAll, KeepNames};
 
 use crate::asks::all_asks;
 use crate::faults::all_faults;
-use crate::paths::Paths;
+use crate::records::{Paths, Records, Whole};
 use crate::shown::{all_cells, all_names, all_structures, all_waiting};
 use crate::sourced::value_in;
 use id_element::Element;
@@ -66,54 +66,48 @@ pub fn observe_records(
     ensures waiting { IfOk result (λ o. o.waiting ≡ waiting_in graph.now (map (λ e. e.state) elements.now)) }
     ensures faults { IfOk result (λ o. o.faults ≡ faults_in graph.now (map (λ e. e.state) elements.now)) }
 {
-    let paths = Paths::new(alloc, graph.graph(), elements)?;
-    shown_by(alloc, &paths, elements)
+    let records = Records {
+        graph: graph.graph(),
+        elements,
+    };
+    let paths = Paths::new(alloc, &records)?;
+    shown_by(alloc, &Whole { paths })
 }
 
-/// What the records of these elements show that binders have, for who asks for nothing else.
-pub fn observe_names(
-    alloc: Global,
-    graph: &Valid,
-    elements: &[Element<'_>],
-) -> Result<Vec<NameValue>, AllocError>
-    requires of { AreOf graph.now elements.now }
-    requires kept { KeepNames elements.now }
-    ensures { IfOk result (λ v. v.items ≡ names_in graph.now (map (λ e. e.state) elements.now)) }
+/// What these records show that binders have, for who asks for nothing else.
+pub fn observe_names(alloc: Global, records: &Records<'_>) -> Result<Vec<NameValue>, AllocError>
+    requires { KeepNames records.now.elements.now }
+    ensures { IfOk result
+        (λ v. v.items ≡ names_in records.now.graph.now (map (λ e. e.state) records.now.elements.now)) }
 {
-    let paths = Paths::new(alloc, graph.graph(), elements)?;
-    all_names(alloc, &paths, elements)
+    let paths = Paths::new(alloc, records)?;
+    all_names(alloc, &paths)
 }
 
-/// What the records of these elements show, by these paths and names.
-fn shown_by(
-    alloc: Global,
-    paths: &Paths<'_>,
-    elements: &[Element<'_>],
-) -> Result<Observed, AllocError>
-    requires of { AreOf paths.now.graph.now elements.now }
-    requires kept { KeepAll elements.now }
-    ensures answer { IfOk result (λ o. o.answer
-        ≡ option_and_then (source_value (structure_by paths.now)) (slice_get paths.now.values.items 0)) }
+/// What the records show, by these paths and names.
+fn shown_by(alloc: Global, whole: &Whole<'_>) -> Result<Observed, AllocError>
+    ensures answer { IfOk result (λ o. o.answer ≡ option_and_then (source_value (structure_by whole.now.paths))
+        (slice_get whole.now.paths.values.items 0)) }
     ensures names { IfOk result (λ o. o.names
-        ≡ names_of paths.now.graph.now (path_by paths.now) (structure_by paths.now)
-        (events_of (map (λ e. e.state) elements.now))) }
+        ≡ names_of whole.now.paths.graph.now (path_by whole.now.paths) (structure_by whole.now.paths)
+        (events_of (map (λ e. e.state) whole.now.paths.elements.now))) }
     ensures structures { IfOk result (λ o. o.structures
-        ≡ map (shape_at paths.now.graph.now (path_by paths.now)) paths.now.makings.items) }
+        ≡ map (shape_at whole.now.paths.graph.now (path_by whole.now.paths)) whole.now.paths.makings.items) }
     ensures cells { IfOk result (λ o. o.cells
-        ≡ filter_map (put_of paths.now.graph.now (path_by paths.now) (structure_by paths.now))
-        (flat_map (λ e. cells_of e.cells) (map (λ e. e.state) elements.now))) }
+        ≡ filter_map (put_of whole.now.paths.graph.now (path_by whole.now.paths) (structure_by whole.now.paths))
+        (flat_map (λ e. cells_of e.cells) (map (λ e. e.state) whole.now.paths.elements.now))) }
     ensures asks { IfOk result (λ o. o.asks
-        ≡ asks_of paths.now.graph.now (path_by paths.now) (structure_by paths.now)
-        (events_of (map (λ e. e.state) elements.now))) }
+        ≡ asks_of whole.now.paths.graph.now (path_by whole.now.paths) (structure_by whole.now.paths)
+        (events_of (map (λ e. e.state) whole.now.paths.elements.now))) }
     ensures waiting { IfOk result (λ o. o.waiting
-        ≡ map (ask_of paths.now.graph.now (path_by paths.now) (structure_by paths.now))
-        (flat_map (λ e. deferred_of e.cells) (map (λ e. e.state) elements.now))) }
+        ≡ map (ask_of whole.now.paths.graph.now (path_by whole.now.paths) (structure_by whole.now.paths))
+        (flat_map (λ e. deferred_of e.cells) (map (λ e. e.state) whole.now.paths.elements.now))) }
     ensures faults { IfOk result (λ o. o.faults
-        ≡ faults_of paths.now.graph.now (path_by paths.now) (structure_by paths.now)
-        (events_of (map (λ e. e.state) elements.now))) }
+        ≡ faults_of whole.now.paths.graph.now (path_by whole.now.paths) (structure_by whole.now.paths)
+        (events_of (map (λ e. e.state) whole.now.paths.elements.now))) }
 {
-    let told = told_by(alloc, paths, elements)?;
-    let held = held_by(alloc, paths, elements)?;
+    let told = told_by(alloc, whole)?;
+    let held = held_by(alloc, &whole.paths)?;
     Ok(Observed {
         answer: told.answer,
         names: told.names,
@@ -134,26 +128,25 @@ struct Told {
     faults: Sequence<SourceFault>,
 }
 
-/// The answer that the records of these elements show, what binders have, what fetches ask for, and their faults, by
-/// these paths and names.
-fn told_by(alloc: Global, paths: &Paths<'_>, elements: &[Element<'_>]) -> Result<Told, AllocError>
-    requires of { AreOf paths.now.graph.now elements.now }
-    requires kept { KeepAll elements.now }
-    ensures answer { IfOk result (λ o. o.answer
-        ≡ option_and_then (source_value (structure_by paths.now)) (slice_get paths.now.values.items 0)) }
+/// The answer that the records show, what binders have, what fetches ask for, and their faults, by these paths and
+/// names.
+fn told_by(alloc: Global, whole: &Whole<'_>) -> Result<Told, AllocError>
+    ensures answer { IfOk result (λ o. o.answer ≡ option_and_then (source_value (structure_by whole.now.paths))
+        (slice_get whole.now.paths.values.items 0)) }
     ensures names { IfOk result (λ o. o.names
-        ≡ names_of paths.now.graph.now (path_by paths.now) (structure_by paths.now)
-        (events_of (map (λ e. e.state) elements.now))) }
+        ≡ names_of whole.now.paths.graph.now (path_by whole.now.paths) (structure_by whole.now.paths)
+        (events_of (map (λ e. e.state) whole.now.paths.elements.now))) }
     ensures asks { IfOk result (λ o. o.asks
-        ≡ asks_of paths.now.graph.now (path_by paths.now) (structure_by paths.now)
-        (events_of (map (λ e. e.state) elements.now))) }
+        ≡ asks_of whole.now.paths.graph.now (path_by whole.now.paths) (structure_by whole.now.paths)
+        (events_of (map (λ e. e.state) whole.now.paths.elements.now))) }
     ensures faults { IfOk result (λ o. o.faults
-        ≡ faults_of paths.now.graph.now (path_by paths.now) (structure_by paths.now)
-        (events_of (map (λ e. e.state) elements.now))) }
+        ≡ faults_of whole.now.paths.graph.now (path_by whole.now.paths) (structure_by whole.now.paths)
+        (events_of (map (λ e. e.state) whole.now.paths.elements.now))) }
 {
-    let names = all_names(alloc, paths, elements)?;
-    let asks = all_asks(alloc, paths, elements)?;
-    let faults = all_faults(alloc, paths, elements)?;
+    let paths = &whole.paths;
+    let names = all_names(alloc, paths)?;
+    let asks = all_asks(alloc, whole)?;
+    let faults = all_faults(alloc, whole)?;
     let answer = value_in(alloc, paths, paths.first_value())?;
     Ok(Told {
         answer,
@@ -171,20 +164,20 @@ struct Held {
     waiting: Sequence<Ask>,
 }
 
-/// What these elements show of structures, by these paths and names.
-fn held_by(alloc: Global, paths: &Paths<'_>, elements: &[Element<'_>]) -> Result<Held, AllocError>
+/// What the elements show of structures, by these paths and names.
+fn held_by(alloc: Global, paths: &Paths<'_>) -> Result<Held, AllocError>
     ensures structures { IfOk result (λ o. o.structures
         ≡ map (shape_at paths.now.graph.now (path_by paths.now)) paths.now.makings.items) }
     ensures cells { IfOk result (λ o. o.cells
         ≡ filter_map (put_of paths.now.graph.now (path_by paths.now) (structure_by paths.now))
-        (flat_map (λ e. cells_of e.cells) (map (λ e. e.state) elements.now))) }
+        (flat_map (λ e. cells_of e.cells) (map (λ e. e.state) paths.now.elements.now))) }
     ensures waiting { IfOk result (λ o. o.waiting
         ≡ map (ask_of paths.now.graph.now (path_by paths.now) (structure_by paths.now))
-        (flat_map (λ e. deferred_of e.cells) (map (λ e. e.state) elements.now))) }
+        (flat_map (λ e. deferred_of e.cells) (map (λ e. e.state) paths.now.elements.now))) }
 {
     let structures = all_structures(alloc, paths)?;
-    let cells = all_cells(alloc, paths, elements)?;
-    let waiting = all_waiting(alloc, paths, elements)?;
+    let cells = all_cells(alloc, paths)?;
+    let waiting = all_waiting(alloc, paths)?;
     Ok(Held {
         structures: Sequence::new(structures),
         cells: Sequence::new(cells),

@@ -10,8 +10,9 @@ ghost use Rattle.id_valid.specs.Roles.{op_at};
 ghost use Rattle.id_observe.specs.Paths.{Adds, AreTold, events_of, main_tag, place_of};
 ghost use Rattle.id_observe.specs.Paths.{enters_loop, if_made, if_same, step_of, steps_to};
 ghost use Rattle.id_observe.specs.Paths.{is_alloc, is_enter};
-ghost use Rattle.id_observe.specs.Tellings.{AddsOne, AddsTold, AreOf, entered_told, made_told, value_told};
+ghost use Rattle.id_observe.specs.Tellings.{AddsOne, AddsTold, entered_told, made_told, value_told};
 
+use crate::records::{Paths, Records};
 use id_element::{Element, op_at};
 use id_instr::{Graph, Op};
 use id_record::{Telling, Tellings, Told};
@@ -213,44 +214,29 @@ fn add_maker(
     }
 }
 
-/// What the records of elements tell of the paths of tags and the names of structures: under which tag each context was
-/// entered and each structure was made, those structures one element's record after another's, how many steps a path
-/// has at most, and which values came to the answer.
-#[derive(Drop)]
-pub struct Paths<'a> {
-    pub graph: &'a Graph,
-    pub enters: HashMap<Context, Tag, NearHasher>,
-    pub makers: HashMap<Structure, Tag, NearHasher>,
-    pub makings: Vec<Making>,
-    pub most: u128,
-    pub values: Vec<Value>,
-}
-
 impl<'a> Paths<'a> {
     ghost use Rattle.std.specs.Prelude.{◌≡◌, map, slice_get, IfOk};
     ghost use Rattle.id_observe.specs.Paths.{answers, events_of, path_in, site_at, structure_by, structure_in};
     ghost use Rattle.id_observe.specs.Paths.{makings_of, path_by};
 
-    /// What the records of these elements of this graph tell.
-    pub fn new(
-        alloc: Global,
-        graph: &'a Graph,
-        elements: &[Element<'_>],
-    ) -> Result<Paths<'a>, AllocError>
-        requires { AreOf graph.now elements.now }
-        ensures paths { IfOk result (λ p. path_by p ≡ path_in graph.now (map (λ e. e.state) elements.now)) }
+    /// What these records tell.
+    pub fn new(alloc: Global, records: &Records<'a>) -> Result<Paths<'a>, AllocError>
+        ensures paths { IfOk result
+            (λ p. path_by p ≡ path_in records.now.graph.now (map (λ e. e.state) records.now.elements.now)) }
         ensures structures { IfOk result
-            (λ p. structure_by p ≡ structure_in graph.now (map (λ e. e.state) elements.now)) }
-        ensures makings { IfOk result
-            (λ p. p.makings.items ≡ makings_of graph.now (events_of (map (λ e. e.state) elements.now))) }
-        ensures graph { IfOk result (λ p. p.graph.now ≡ graph.now) }
+            (λ p. structure_by p ≡ structure_in records.now.graph.now (map (λ e. e.state) records.now.elements.now)) }
+        ensures makings { IfOk result (λ p. p.makings.items
+            ≡ makings_of records.now.graph.now (events_of (map (λ e. e.state) records.now.elements.now))) }
+        ensures graph { IfOk result (λ p. p.graph.now ≡ records.now.graph.now) }
+        ensures elements { IfOk result (λ p. p.elements.now ≡ records.now.elements.now) }
         ensures values { IfOk result
-            (λ p. p.values.items ≡ answers (events_of (map (λ e. e.state) elements.now))) }
+            (λ p. p.values.items ≡ answers (events_of (map (λ e. e.state) records.now.elements.now))) }
     {
-        let tables = all_records(alloc, graph, elements)?;
-        let most = count_events(elements);
+        let tables = all_records(alloc, records)?;
+        let most = count_events(records.elements);
         Ok(Paths {
-            graph,
+            graph: records.graph,
+            elements: records.elements,
             enters: tables.enters,
             makers: tables.makers,
             makings: tables.makings,
@@ -307,9 +293,8 @@ impl<'a> Paths<'a> {
 }
 
 /// What the records of these elements tell, one record after another.
-fn all_records(alloc: Global, graph: &Graph, elements: &[Element<'_>]) -> Result<Tables, AllocError>
-    requires { AreOf graph.now elements.now }
-    ensures { IfOk result (AreTold graph.now (events_of (map (λ e. e.state) elements.now))) }
+fn all_records(alloc: Global, records: &Records<'_>) -> Result<Tables, AllocError>
+    ensures { IfOk result (AreTold records.now.graph.now (events_of (map (λ e. e.state) records.now.elements.now))) }
 {
     let mut tables = Tables {
         enters: HashMap::with_hasher(alloc, NearHasher::new()),
@@ -317,8 +302,8 @@ fn all_records(alloc: Global, graph: &Graph, elements: &[Element<'_>]) -> Result
         makings: Vec::new(alloc),
         values: Vec::new(alloc),
     };
-    for element in elements {
-        add_record(graph, element, &mut tables)?;
+    for element in records.elements {
+        add_record(records.graph, element, &mut tables)?;
     }
     Ok(tables)
 }

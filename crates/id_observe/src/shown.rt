@@ -11,7 +11,7 @@ ghost use Rattle.id_bank.specs.Cells.{cells_of, deferred_of};
 ghost use Rattle.id_observe.specs.Observed.{ask_of, claims};
 ghost use Rattle.id_observe.specs.Paths.{events_of};
 ghost use Rattle.id_record.specs.Tellings.{is_value_merge};
-ghost use Rattle.id_observe.specs.Tellings.{AreOf, KeepNames};
+ghost use Rattle.id_observe.specs.Elements.{KeepNames};
 ghost use Rattle.id_observe.specs.Observed.{is_label, is_next};
 ghost use Rattle.id_observe.specs.Observed.{label_marks, name_at, name_in, names_of, put_of};
 ghost use Rattle.id_observe.specs.Sourced.{source_value};
@@ -19,10 +19,10 @@ ghost use Rattle.id_observe.specs.Observed.{shape_at};
 ghost use Rattle.id_observe.specs.Paths.{structure_by};
 ghost use Rattle.id_observe.specs.Paths.{path_by, place_of};
 
-use crate::paths::{Making, Paths, place_of};
+use crate::paths::{Making, place_of};
+use crate::records::Paths;
 use crate::sourced::source_value;
 use id_bank::{Cells, Filled, Reader};
-use id_element::Element;
 use id_instr::{Graph, Instr, Op};
 use id_record::is_value_merge;
 use id_source::{Ask, NameValue, Put, Shape, Site, SourceValue};
@@ -46,22 +46,17 @@ pub struct Named {
     pub name: Site,
 }
 
-/// What these records show that binders have.
-pub fn all_names(
-    alloc: Global,
-    paths: &Paths<'_>,
-    elements: &[Element<'_>],
-) -> Result<Vec<NameValue>, AllocError>
-    requires of { AreOf paths.now.graph.now elements.now }
-    requires kept { KeepNames elements.now }
+/// What the records show that binders have.
+pub fn all_names(alloc: Global, paths: &Paths<'_>) -> Result<Vec<NameValue>, AllocError>
+    requires { KeepNames paths.now.elements.now }
     ensures { IfOk result
         (λ v. v.items
         ≡ names_of paths.now.graph.now (path_by paths.now) (structure_by paths.now)
-        (events_of (map (λ e. e.state) elements.now))) }
+        (events_of (map (λ e. e.state) paths.now.elements.now))) }
 {
     let marks = label_marks(alloc, paths.graph())?;
     let mut names = Vec::new(alloc);
-    for element in elements {
+    for element in paths.elements {
         add_names(alloc, paths, marks.as_slice(), element.merged(), &mut names)?;
     }
     Ok(names)
@@ -237,19 +232,15 @@ fn shape_at(alloc: Global, paths: &Paths<'_>, making: Making) -> Result<Shape, A
     })
 }
 
-/// What the cells of these elements show that is put into them.
-pub fn all_cells(
-    alloc: Global,
-    paths: &Paths<'_>,
-    elements: &[Element<'_>],
-) -> Result<Vec<Put>, AllocError>
+/// What the cells of the elements show that is put into them.
+pub fn all_cells(alloc: Global, paths: &Paths<'_>) -> Result<Vec<Put>, AllocError>
     ensures { IfOk result
         (λ v. v.items
         ≡ filter_map (put_of paths.now.graph.now (path_by paths.now) (structure_by paths.now))
-        (flat_map (λ e. cells_of e.cells) (map (λ e. e.state) elements.now))) }
+        (flat_map (λ e. cells_of e.cells) (map (λ e. e.state) paths.now.elements.now))) }
 {
     let mut puts = Vec::new(alloc);
-    for element in elements {
+    for element in paths.elements {
         add_puts(alloc, paths, element.cells(alloc)?, &mut puts)?;
     }
     Ok(puts)
@@ -307,19 +298,15 @@ fn put_of(alloc: Global, paths: &Paths<'_>, filled: Filled) -> Result<Option<Put
     }
 }
 
-/// The fetches whose replies wait in the cells of these elements.
-pub fn all_waiting(
-    alloc: Global,
-    paths: &Paths<'_>,
-    elements: &[Element<'_>],
-) -> Result<Vec<Ask>, AllocError>
+/// The fetches whose replies wait in the cells of the elements.
+pub fn all_waiting(alloc: Global, paths: &Paths<'_>) -> Result<Vec<Ask>, AllocError>
     ensures { IfOk result
         (λ v. v.items
         ≡ map (ask_of paths.now.graph.now (path_by paths.now) (structure_by paths.now))
-        (flat_map (λ e. deferred_of e.cells) (map (λ e. e.state) elements.now))) }
+        (flat_map (λ e. deferred_of e.cells) (map (λ e. e.state) paths.now.elements.now))) }
 {
     let mut asks = Vec::new(alloc);
-    for element in elements {
+    for element in paths.elements {
         add_asks(alloc, paths, element.deferred(alloc)?.as_slice(), &mut asks)?;
     }
     Ok(asks)

@@ -8,7 +8,7 @@ ghost use Rattle.id_observe.specs.Paths.{site_at};
 ghost use Rattle.id_observe.specs.Paths.{structure_by};
 ghost use Rattle.id_observe.specs.Paths.{path_by};
 
-use crate::paths::Paths;
+use crate::records::Paths;
 use id_record::{Fault, Step};
 use id_source::{Site, SourceFault, SourceValue};
 use id_tag::{Cell, Structure, Tag, Value};

@@ -8,13 +8,13 @@ use Rattle.id_observe.proofs.answered.answer.Goals as goal
 
 pub returns-in-Some : goal.returns-in-Some
 returns-in-Some c =
-    let states = map (λ e. e.state) c.args.elements.now in
+    let states = map (λ e. e.state) c.args.records.now.elements.now in
     let first : first_value states ≡ Some c.in-Some.value = sym c.first_value.ensures ∙ c.in-Some.is in
-    let shown = sym (ap (option_and_then (source_value (structure_in c.args.graph.now states))) first) in
+    let shown = sym (ap (option_and_then (source_value (structure_in c.args.records.now.graph.now states))) first) in
     subst (λ l. IfOk c.told_value.result (λ o. o ≡ l)) shown c.told_value.ensures
 
 pub returns-in-None : goal.returns-in-None
 returns-in-None c =
-    let states = map (λ e. e.state) c.args.elements.now in
+    let states = map (λ e. e.state) c.args.records.now.elements.now in
     let first : first_value states ≡ None = sym c.first_value.ensures ∙ c.in-None.is in
-    sym (ap (option_and_then (source_value (structure_in c.args.graph.now states))) first)
+    sym (ap (option_and_then (source_value (structure_in c.args.records.now.graph.now states))) first)

@@ -15,18 +15,18 @@ use Rattle.id_observe.proofs.first.first_fault.Goals as goal
 
 pub returns-in-Some : goal.returns-in-Some
 returns-in-Some c =
-    let g = c.args.graph.now in
-    let es = c.args.elements.now in
+    let g = c.args.records.now.graph.now in
+    let es = c.args.records.now.elements.now in
     let ss = map (λ e. e.state) es in
     let a = c.in-Some.first in
     IfOk-weaker c.shown.result (λ o. o ≡ fault_of g (path_in g ss) (structure_in g ss) (steps.Fault a.fault))
     (λ o. MatchOption o (faults_in g ss ≡ []) (IsFirstFault g ss))
-    (λ (o : Option SourceFault) is. first-shown g es a o (sorted_from_strictly_increasing _ c.requires.rise)
+    (λ (o : Option SourceFault) is. first-shown g es a o (sorted_from_strictly_increasing _ c.requires)
     (recursion_from_All Replays es c.earliest.ensures.kept) (sym c.earliest.ensures.first ∙ c.in-Some.is) is)
     c.shown.ensures
 
 pub returns-in-None : goal.returns-in-None
 returns-in-None c =
-    let es = c.args.elements.now in
-    none-shown c.args.graph.now es (sorted_from_strictly_increasing _ c.requires.rise) (recursion_from_All Replays es c.earliest.ensures.kept)
+    let es = c.args.records.now.elements.now in
+    none-shown c.args.records.now.graph.now es (sorted_from_strictly_increasing _ c.requires) (recursion_from_All Replays es c.earliest.ensures.kept)
     (sym c.earliest.ensures.first ∙ c.in-None.is)

@@ -13,7 +13,7 @@ use Rattle.id_observe.proofs.holdings.all_cell_values.Goals as goal
 
 pub loop-element-preserved : goal.loop-element-preserved
 loop-element-preserved c =
-    let es = c.args.elements.now in
+    let es = c.args.paths.now.elements.now in
     let at : slice_get es c.loop-element.element-index ≡ Some c.element-item.result = slice_get_read es _ _ _ refl c.loop-element-test.true c.element-item.is in
     let next = walk-next (λ s. cells_of s.cells) (cell_value_of (structure_by c.args.paths.now)) es c.loop-element.element-index c.element-item.result at in
     rw (c.in_ok-add_cell_values.ensures, c.loop-element.invariant, c.in_ok-cells.ensures, next)
@@ -29,4 +29,4 @@ returns c =
     let name = structure_by c.args.paths.now in
     c.loop-element.invariant
     ∙ ap (λ es. filter_map (cell_value_of name) (flat_map (λ e. cells_of e.cells) (map (λ e. e.state) es)))
-    (take_all c.loop-element.element-index c.args.elements.now c.loop-element-test.false)
+    (take_all c.loop-element.element-index c.args.paths.now.elements.now c.loop-element-test.false)

@@ -8,4 +8,4 @@ use Rattle.id_observe.proofs.holdings.all_cell_values.Given as goal
 
 abbrev pub invariant-loop-element : goal.invariant-loop-element
 invariant-loop-element l = l.values.items ≡ filter_map (cell_value_of (structure_by l.paths))
-    (flat_map (λ e. cells_of e.cells) (map (λ e. e.state) (take l.element-index l.elements)))
+    (flat_map (λ e. cells_of e.cells) (map (λ e. e.state) (take l.element-index l.paths.elements.now)))

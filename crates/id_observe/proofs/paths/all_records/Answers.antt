@@ -14,22 +14,22 @@ use Rattle.id_observe.proofs.paths.all_records.Goals as goal
 
 pub loop-element-init : goal.loop-element-init
 loop-element-init c = record {
-  enters = λ d. let none = (enter_in-last c.args.graph.now d).none in grind (arith, common_steps, none);
-  makers = λ d. let none = (maker_in-last c.args.graph.now d).none in grind (arith, common_steps, none);
+  enters = λ d. let none = (enter_in-last c.args.records.now.graph.now d).none in grind (arith, common_steps, none);
+  makers = λ d. let none = (maker_in-last c.args.records.now.graph.now d).none in grind (arith, common_steps, none);
   makings = c.new-3.ensures.items;
   values = c.new-4.ensures.items;
 }
 
 pub add_record-requires : goal.add_record-requires
 add_record-requires c =
-    let es = c.args.elements.now in
+    let es = c.args.records.now.elements.now in
     let at : slice_get es c.loop-element.element-index ≡ Some c.element-item.result = slice_get_read es _ _ _ refl c.loop-element-test.true c.element-item.is in
-    all-get (λ e. e.graph ≡ c.args.graph.now) es c.loop-element.element-index c.element-item.result c.requires at
+    all-get (λ e. e.graph ≡ c.args.records.now.graph.now) es c.loop-element.element-index c.element-item.result c.args.records.now.of at
 
 pub loop-element-preserved : goal.loop-element-preserved
 loop-element-preserved c =
-    let g = c.args.graph.now in
-    let es = c.args.elements.now in
+    let g = c.args.records.now.graph.now in
+    let es = c.args.records.now.elements.now in
     let i = c.loop-element.element-index in
     let e = c.element-item.result in
     let at : slice_get es i ≡ Some e = slice_get_read es _ _ _ refl c.loop-element-test.true c.element-item.is in
@@ -52,8 +52,8 @@ returns-in_err-add_record c = if_err _ c.from_residual.result c.from_residual.en
 -- the records so far are all
 pub returns : goal.returns
 returns c =
-    let g = c.args.graph.now in
-    let all = take_all c.loop-element.element-index c.args.elements.now c.loop-element-test.false in
+    let g = c.args.records.now.graph.now in
+    let all = take_all c.loop-element.element-index c.args.records.now.elements.now c.loop-element-test.false in
     record {
       enters = λ d. c.loop-element.invariant.enters d ∙ ap (λ es. enter_in g (events_of (map (λ e. e.state) es)) d) all;
       makers = λ d. c.loop-element.invariant.makers d ∙ ap (λ es. maker_in g (events_of (map (λ e. e.state) es)) d) all;

@@ -8,6 +8,6 @@ use Rattle.id_observe.proofs.shown.all_names.Given as goal
 abbrev pub invariant-loop-element : goal.invariant-loop-element
 invariant-loop-element l = record {
   names : l.names.items ≡ names_of l.paths.graph.now (path_by l.paths) (structure_by l.paths)
-      (events_of (map (λ e. e.state) (take l.element-index l.elements)));
+      (events_of (map (λ e. e.state) (take l.element-index l.paths.elements.now)));
   marks : l.marks.items ≡ label_marks l.paths.graph.now;
 }

@@ -14,7 +14,7 @@ use Rattle.id_observe.proofs.shown.all_waiting.Goals as goal
 
 pub loop-element-preserved : goal.loop-element-preserved
 loop-element-preserved c =
-    let es = c.args.elements.now in
+    let es = c.args.paths.now.elements.now in
     let at : slice_get es c.loop-element.element-index ≡ Some c.element-item.result = slice_get_read es _ _ _ refl c.loop-element-test.true c.element-item.is in
     let next = images-next (λ s. deferred_of s.cells) (ask_of c.args.paths.now.graph.now (path_by c.args.paths.now) (structure_by c.args.paths.now)) es
     c.loop-element.element-index c.element-item.result at in
@@ -32,4 +32,4 @@ returns c =
     let ask = ask_of c.args.paths.now.graph.now (path_by c.args.paths.now) name in
     c.loop-element.invariant
     ∙ ap (λ es. map ask (flat_map (λ e. deferred_of e.cells) (map (λ e. e.state) es)))
-    (take_all c.loop-element.element-index c.args.elements.now c.loop-element-test.false)
+    (take_all c.loop-element.element-index c.args.paths.now.elements.now c.loop-element-test.false)

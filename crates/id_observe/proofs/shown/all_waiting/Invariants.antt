@@ -9,4 +9,4 @@ use Rattle.id_observe.proofs.shown.all_waiting.Given as goal
 
 abbrev pub invariant-loop-element : goal.invariant-loop-element
 invariant-loop-element l = l.asks.items ≡ map (ask_of l.paths.graph.now (path_by l.paths) (structure_by l.paths))
-    (flat_map (λ e. deferred_of e.cells) (map (λ e. e.state) (take l.element-index l.elements)))
+    (flat_map (λ e. deferred_of e.cells) (map (λ e. e.state) (take l.element-index l.paths.elements.now)))
