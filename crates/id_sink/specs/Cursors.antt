@@ -1,7 +1,6 @@
 -- Places of a text that were found before.
 use Rattle.std.specs.Prelude.{◌≡◌, ℕ, ◌+◌, ◌≤◌, List, length}
 use Rattle.id_text.specs.Places.{line_of, column_of}
-use Rattle.id_text.specs.declared.token.TheConstants.{MAX_BYTES}
 use Rattle.id_sink.specs.declared.cursor.Series.{Series}
 use Rattle.id_sink.specs.declared.cursor.Spot.{Spot}
 
@@ -18,9 +17,8 @@ pub record IsSeries (text : List ℕ) (s : Series) : Type 0 where
   pub last : IsSpot text s.last
   pub back : IsSpot text s.back
 
--- the text is short enough, and the series are of places of it
+-- the series are of places of the text
 pub record IsCursor (text : List ℕ) (s t u v : Series) : Type 0 where
-  pub fits : length text ≤ MAX_BYTES
   pub step : IsSeries text s
   pub place : IsSeries text t
   pub other_step : IsSeries text u

@@ -5,15 +5,14 @@ ghost use Rattle.id_text.specs.Places.{line_of, column_of};
 ghost use Rattle.id_sink.specs.Cursors.{IsSeries, IsSpot};
 ghost use Rattle.id_sink.specs.Texts.{has_brace};
 
-use id_text::MAX_BYTES;
 use std::marker::Model;
 
 /// A place of a text, with its line and column.
 #[derive(Clone, Copy, Drop)]
 pub struct Spot {
     at: usize,
-    line: u32,
-    column: u32,
+    line: usize,
+    column: usize,
 }
 
 /// A series of places: the last of them, and the last that stood before the one that it followed.
@@ -29,8 +28,7 @@ pub struct Series {
 /// From a place to a later one only the bytes between them are read; places that rise take one pass over the text in
 /// all. So do places that rise again and again from one that they come back to.
 ///
-/// Keeps: the text is one that may be compiled, by its length, and each place that was looked up lies in it and has its
-/// line and column. Clauses see the text alone.
+/// Keeps: each place that was looked up lies in the text and has its line and column. Clauses see the text alone.
 #[derive(Drop)]
 pub struct Cursor<'a> {
     text: &'a str,
@@ -54,7 +52,6 @@ impl<'a> Model for Cursor<'a> {
 impl<'a> Cursor<'a> {
     /// A cursor at the start of the text.
     pub fn new(text: &'a str) -> Cursor<'a>
-        requires { length text.now ≤ MAX_BYTES }
         ensures { result ≡ text.now }
     {
         Cursor {
@@ -67,7 +64,7 @@ impl<'a> Cursor<'a> {
     }
 
     /// The line and column of a place. One behind the end of the text has those of the end.
-    pub fn line_col(&mut self, at: usize) -> (u32, u32)
+    pub fn line_col(&mut self, at: usize) -> (usize, usize)
         ensures line { result.0 ≡ line_of self.old at }
         ensures column { result.1 ≡ column_of self.old at }
         ensures same { self.new ≡ self.old }
@@ -78,7 +75,7 @@ impl<'a> Cursor<'a> {
     }
 
     /// The line and column of the place of a step of a path.
-    pub fn step_line_col(&mut self, at: usize) -> (u32, u32)
+    pub fn step_line_col(&mut self, at: usize) -> (usize, usize)
         ensures line { result.0 ≡ line_of self.old at }
         ensures column { result.1 ≡ column_of self.old at }
         ensures same { self.new ≡ self.old }
@@ -147,7 +144,6 @@ fn fresh() -> Series
 
 /// The series with this place as its last. A place before the last is found from the one that was such before.
 fn series_at(text: &[u8], from: Series, at: usize) -> Series
-    requires fits { length text.now ≤ MAX_BYTES }
     requires from { IsSeries text.now from }
     requires inside { at ≤ length text.now }
     ensures at { result.last.at ≡ at }
@@ -166,7 +162,6 @@ fn series_at(text: &[u8], from: Series, at: usize) -> Series
 
 /// The spot at this place, found from another one.
 fn spot_at(text: &[u8], from: Spot, at: usize) -> Spot
-    requires fits { length text.now ≤ MAX_BYTES }
     requires from { IsSpot text.now from }
     requires inside { at ≤ length text.now }
     ensures at { result.at ≡ at }
@@ -181,7 +176,6 @@ fn spot_at(text: &[u8], from: Spot, at: usize) -> Spot
 
 /// The spot at this place, found from one that is not behind it.
 fn spot_after(text: &[u8], from: Spot, at: usize) -> Spot
-    requires fits { length text.now ≤ MAX_BYTES }
     requires from { IsSpot text.now from }
     requires behind { from.at ≤ at }
     requires inside { at ≤ length text.now }

@@ -45,7 +45,8 @@ pub fn put_numbers<W: Sink>(
     put_long(sink, second)
 }
 
-fn put_line_column<W: Sink>(sink: &mut W, line: u32, column: u32) -> Result<(), PrintError>
+/// A line and a column.
+fn put_line_column<W: Sink>(sink: &mut W, line: usize, column: usize) -> Result<(), PrintError>
     ensures { Prints (W.told sink.old) (W.told sink.new) (line_column_text line column) result }
 {
     put_numbers(sink, line as u64, b":", column as u64)
@@ -58,9 +59,10 @@ pub fn put_place<W: Sink>(sink: &mut W, text: &str, at: usize) -> Result<(), Pri
     ensures { Prints (W.told sink.old) (W.told sink.new) (place_text text.now at) result }
 {
     let (line, column) = line_col(text, at);
-    put_line_column(sink, line, column)
+    put_line_column(sink, line as usize, column as usize)
 }
 
+/// A step of a path.
 fn put_step<W: Sink>(
     sink: &mut W,
     cursor: &mut Cursor<'_>,
