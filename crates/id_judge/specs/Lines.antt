@@ -97,8 +97,8 @@ pub record GoesNoFurther (g : Parts) (vs : List Constant) (count : ℕ) (text : 
   pub no_trace : (es : List EventView) → IsLegalList g vs count es → text ≡ trace_text es → ⊥
 
 -- the text is the lines of k events, a legal list, which lead somewhere, and a rest, with whose first line no event can
--- come next there, for this cause; where lines are clear, no legal list has more of the text's lines, and no other cause
--- is so
+-- come next there, for this cause; where lines are clear, no legal list has more of the text's lines, and no other
+-- cause is so
 pub record IsFirstLine (g : Parts) (vs : List Constant) (count : ℕ) (text : List ℕ) (k : ℕ) (cause : Cause)
     : Type 0 where
   pub events : List EventView
@@ -115,7 +115,8 @@ pub record IsFirstLine (g : Parts) (vs : List Constant) (count : ℕ) (text : Li
       → LeadTo g count (start g vs count) es w → length es ≡ k → text ≡ trace_text es ++ tail
       → IsLineCause g count w tail other → (IsFalse (is_line tail) → other ≡ NoLine) → other ≡ cause
 
--- a text is the trace of a legal list of n events that ends in this state. Where lines are clear, it is that of no other
+-- a text is the trace of a legal list of n events that ends in this state. Where lines are clear, it is that of no
+-- other
 pub record IsLegalTrace (g : Parts) (vs : List Constant) (count : ℕ) (text : List ℕ) (n : ℕ) (w : World)
     : Type 0 where
   pub events : List EventView
