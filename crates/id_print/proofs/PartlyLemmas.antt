@@ -1,5 +1,5 @@
 -- Lemmas on specs/Texts.antt: the lines of structures and cells, of which some are printed.
-use Rattle.std.proofs.Common.{◌≡◌, ℕ, ◌+◌, List, [], ◌∷◌, ◌++◌}
+use Rattle.std.proofs.Common.{◌≡◌, ℕ, List, [], ◌∷◌, ◌++◌}
 use Rattle.std.proofs.Common.{Result, Ok, Err, IsErr, append_assoc, sym, ap, subst}
 use Rattle.std.proofs.Common.{◌∙◌}
 use Rattle.id_print.specs.declared.helds.Held.{Held}

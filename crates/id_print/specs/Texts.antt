@@ -4,7 +4,6 @@ use Rattle.std.specs.Prelude.{codes}
 use Rattle.std.specs.List.{flat_map}
 use Rattle.id_source.specs.declared.SourceValue.{SourceValue}
 use Rattle.id_source.specs.declared.Site.{Site}
-use Rattle.id_source.specs.declared.Shape.{Shape}
 use Rattle.id_source.specs.declared.Put.{Put}
 use Rattle.id_source.specs.declared.Ask.{Ask}
 use Rattle.id_value.specs.declared.FaultKind.{FaultKind}

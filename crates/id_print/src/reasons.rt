@@ -1,6 +1,6 @@
 //! What lacks a value in a round, a line for each thing.
 
-ghost use Rattle.std.specs.Prelude.{◌≡◌, ◌≤◌, length};
+ghost use Rattle.std.specs.Prelude.{◌≡◌};
 ghost use Rattle.id_sink.specs.Told.{Prints, PrintsWith};
 ghost use Rattle.id_print.specs.Texts.{answer_text, answer_value_text};
 ghost use Rattle.id_print.specs.Reasons.{answer_in, asked_text, body_text, cells_text, end_text, fails_text};
@@ -12,7 +12,6 @@ use crate::rows::{Pen, put_cell_behind, put_site_behind, put_value};
 use id_check::Checked;
 use id_facts::{Point, RowValue};
 use id_sink::{Cursor, PrintError, Sink, put, put_number};
-use id_text::MAX_BYTES;
 use id_why::{Cell, Line, Reasons};
 
 /// Writes the answer of round n of the text, a line for each thing that lacks a value, and one that says so where the
@@ -24,7 +23,6 @@ pub fn write_reasons<W: Sink>(
     text: &str,
     sink: &mut W,
 ) -> Result<(), PrintError>
-    requires fits { length text.now ≤ MAX_BYTES }
     ensures { Prints (W.told sink.old) (W.told sink.new)
         (reasons_text (record { text = text.now; checked = checked.now; facts = reasons.paths }) n reasons) result }
 {

@@ -1,6 +1,6 @@
 //! Reports of runs, and how they are printed.
 
-ghost use Rattle.std.specs.Prelude.{◌≡◌, ◌≢◌, ◌≤◌, ◌++◌, [], codes, length, IfOk, IsTrue};
+ghost use Rattle.std.specs.Prelude.{◌≡◌, ◌≢◌, ◌++◌, [], codes, IfOk, IsTrue};
 ghost use Rattle.id_record.specs.declared.kept.Keeps.TheVariants as keeps;
 ghost use Rattle.id_sink.specs.Told.{Prints, PrintsWith};
 ghost use Rattle.id_print.specs.Texts.{kind_text, fault_head_text, fault_text, answer_text, answer_value_text};
@@ -22,7 +22,6 @@ use id_sink::{
     put_site, put_value,
 };
 use id_source::{Ask, NameValue, Shape, Site, SourceFault, SourceValue};
-use id_text::MAX_BYTES;
 use id_valid::Valid;
 use id_value::FaultKind;
 use std::alloc::{AllocError, Global};
@@ -62,7 +61,6 @@ fn put_fault_head<W: Sink>(kind: FaultKind, sink: &mut W) -> Result<(), PrintErr
 
 /// Writes the line of a fault. Takes no memory.
 pub fn write_fault<W: Sink>(fault: &SourceFault, text: &str, sink: &mut W) -> Result<(), PrintError>
-    requires fits { length text.now ≤ MAX_BYTES }
     ensures { Prints (W.told sink.old) (W.told sink.new) (fault_text text.now fault.now) result }
 {
     let mut cursor = Cursor::new(text);
@@ -334,7 +332,6 @@ pub fn write_report<W: Sink>(
     names: bool,
     sink: &mut W,
 ) -> Result<(), PrintError>
-    requires fits { length text.now ≤ MAX_BYTES }
     ensures { Prints (W.told sink.old) (W.told sink.new) (report_text text.now names report.now) result }
 {
     let shown = asked(names, report.names.as_slice());

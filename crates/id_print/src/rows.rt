@@ -1,6 +1,6 @@
 //! The facts of a round by path and row, a line for each, without their paths.
 
-ghost use Rattle.std.specs.Prelude.{◌≡◌, ◌≤◌, ◌++◌, length, codes};
+ghost use Rattle.std.specs.Prelude.{◌≡◌, ◌++◌, codes};
 ghost use Rattle.id_sink.specs.Told.{Prints, PrintsWith};
 ghost use Rattle.id_sink.specs.Texts.{bounds_text, cell_text, equal_text, filled_text, point_value_text};
 ghost use Rattle.id_sink.specs.Texts.{site_text, value_text};
@@ -16,7 +16,6 @@ use id_sink::{
     Cursor, PrintError, Sink, put, put_at, put_bounds, put_index, put_int, put_steps, truth_bytes,
 };
 use id_source::PathStep;
-use id_text::MAX_BYTES;
 use std::marker::Model;
 
 /// A cursor of the text, its program, the facts, and room for the steps of a path of them.
@@ -63,7 +62,6 @@ pub fn write_round<W: Sink>(
     text: &str,
     sink: &mut W,
 ) -> Result<(), PrintError>
-    requires fits { length text.now ≤ MAX_BYTES }
     ensures { Prints (W.told sink.old) (W.told sink.new)
         (facts_text text.now (facts_in checked.now round.paths round.rows.items)) result }
 {
