@@ -15,12 +15,7 @@ use Rattle.id_tag.specs.Plains.{whole}
 use Rattle.id_tag.specs.Plains.{tag_in}
 use Rattle.id_tag.specs.declared.plain.PlainToken.{PlainToken}
 use Rattle.id_instr.specs.declared.instr.Op.{Op}
-use Rattle.id_match.specs.Waiting.{Store, pair_of}
-use Rattle.id_match.specs.declared.meeting.Met.{Met}
-use Rattle.id_match.specs.declared.meeting.Met.TheVariants.{Kept, Partner, Apart}
-use Rattle.id_match.specs.declared.meeting.Offered.TheVariants.{Pair}
-use Rattle.id_tag.specs.declared.plain.Plain.{Plain}
-use Rattle.id_ops.specs.declared.plain_fired.PlainFired.TheVariants as fired
+use Rattle.id_match.specs.Waiting.{Store}
 use Rattle.id_ops.specs.declared.Operands.{Operands}
 use Rattle.id_ops.specs.declared.Operands.TheVariants.{One, Two}
 use Rattle.id_ops.specs.declared.plain_fired.PlainFired.{PlainFired}
@@ -87,11 +82,3 @@ abbrev pub IsReaction : Op → Store → Store → PlainToken → Reacted → Ty
 IsReaction op w later t (reacted.Plain p) = IsPlainFiring op w later t p
 IsReaction op w later t (reacted.Fires o) = IsFiring op w later t o
 IsReaction op w later t reacted.Apart = later ≡ w
-
--- what became of a plain token that was offered at an operator of two ports, and these wait afterwards: it waits, or
--- fires the operator with its partner, each at its port, or nothing has changed
-abbrev pub IsMet : Op → Store → Store → PlainToken → Met → Type 0
-IsMet op w later t Kept = IsReaction op w later t (reacted.Plain fired.Nothing)
-IsMet op w later t (Partner v) = (l r : Plain) → Pair (whole l) (whole r) ≡ pair_of t.port (whole t.value) (whole v)
-    → IsReaction op w later t (reacted.Fires (plain.Two l r))
-IsMet op w later t Apart = later ≡ w

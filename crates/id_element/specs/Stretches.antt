@@ -142,11 +142,6 @@ abbrev pub Shoots : Shot → ElementView → ElementView → List Message → Li
     → PlainToken → PlainToken → Type 0
 Shoots s e e' near near' list list' t t' = TakesNear e e' (message_of t) near (with_next s near' t') list list' Went
 
--- nothing has changed at all
-abbrev pub AllStays : Storage → Storage → QueueView → QueueView → QueueView → QueueView
-    → PlainToken → PlainToken → Type 0
-AllStays d d' near near' list list' t t' = (d' ≡ d) × (near' ≡ near) × (list' ≡ list) × (t' ≡ t)
-
 -- what became of the token at hand
 abbrev pub Became : Taken → ElementView → ElementView → List Message → List Message → List Message → List Message
     → PlainToken → PlainToken → Type 0

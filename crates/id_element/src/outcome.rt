@@ -9,8 +9,6 @@ ghost use Rattle.id_element.specs.Steps.{fired_verdict, made_by, waiting_after};
 ghost use Rattle.id_element.specs.Shorts.{short_step};
 ghost use Rattle.id_element.specs.Stretches.{far_after, near_after, with_next};
 ghost use Rattle.id_element.specs.declared.step.Shot.TheVariants as shot;
-ghost use Rattle.id_element.specs.declared.step.Reacted.TheVariants as reacted;
-ghost use Rattle.id_element.specs.declared.step.PlainOperands.TheVariants as operands;
 ghost use Rattle.id_record.specs.Sends.{HasSecond, count_started, sent, started, numbered, replies, token_to};
 ghost use Rattle.id_tag.specs.declared.Sender.TheVariants.{Element};
 ghost use Rattle.id_tag.specs.declared.Payload.TheVariants.{Token};
@@ -18,7 +16,7 @@ ghost use Rattle.id_record.specs.declared.step.Verdict.TheVariants as verdict;
 ghost use Rattle.id_record.specs.Events.{full_step};
 ghost use Rattle.id_tag.specs.Tags.{same_tag};
 ghost use Rattle.id_element.specs.declared.step.Arrival.TheVariants.{Fires};
-ghost use Rattle.id_element.specs.Firings.{IsBound, IsMet, IsMost, IsReaction};
+ghost use Rattle.id_element.specs.Firings.{IsBound, IsMost, IsReaction};
 ghost use Rattle.id_element.specs.Firings.{firing_of, most_sent, operands_in, verdict_of};
 ghost use Rattle.id_instr.specs.Ports.{two_ports};
 ghost use Rattle.id_match.specs.Waiting.{Store, offer_after, offer_answer, pair_of};
@@ -208,55 +206,9 @@ fn met(op: Op, token: &PlainToken, partner: Plain) -> Reacted
     }
 }
 
-/// What an operator of one port fires on a plain token in small numbers, where it does.
-#[inline(always)]
-pub fn fires_one(op: Op, token: &PlainToken) -> Option<PlainFired>
-    requires port { two_ports op ≡ false }
-    requires iteration { token.now.iteration < 2 ^ 32 - 1 }
-    ensures { IfSome result (λ p. (w : Store) → IsReaction op w w token.now (reacted.Plain p)) }
-{
-    fire_one(op, token.iteration, token.value)
-}
-
-/// What an operator of two ports fires on these plain operands, of which the token is one, in small numbers, where it
-/// does.
-#[inline(always)]
-pub fn fires_two(op: Op, token: &PlainToken, left: Plain, right: Plain) -> Option<PlainFired>
-    requires { two_ports op ≡ true }
-    ensures { IfSome result (λ p. (w later : Store)
-        → IsReaction op w later token.now (reacted.Fires (operands.Two left right))
-        → IsReaction op w later token.now (reacted.Plain p)) }
-{
-    fire_two(op, left, right)
-}
-
-/// Offers a plain token at an operator of two ports to what waits, in short where that is in reach. After an error
-/// nothing has changed.
-#[inline(always)]
-pub fn offer(waiting: &mut Waiting, op: Op, token: &PlainToken) -> Result<Met, AllocError>
-    requires { two_ports op ≡ true }
-    ensures met { IfOk result (IsMet op waiting.old waiting.new token.now) }
-    ensures err { OnErr result (waiting.new ≡ waiting.old) }
-{
-    match waiting.offer_plain(token)? {
-        Met::Kept => Ok(Met::Kept),
-        Met::Partner(partner) => Ok(Met::Partner(partner)),
-        Met::Apart => Ok(Met::Apart),
-    }
-}
-
-/// The operand of a plain token at an operator of one port.
-#[inline(always)]
-pub fn operand_of(op: Op, token: &PlainToken) -> PlainOperands
-    requires { two_ports op ≡ false }
-    ensures { (w : Store) → IsReaction op w w token.now (reacted.Fires result) }
-{
-    PlainOperands::One(token.value)
-}
-
 /// The two values by port, of which `value` came to this port.
 #[inline(always)]
-pub fn by_port(port: Port, value: Plain, partner: Plain) -> (Plain, Plain)
+fn by_port(port: Port, value: Plain, partner: Plain) -> (Plain, Plain)
     ensures { Pair (whole result.0) (whole result.1) ≡ pair_of port (whole value) (whole partner) }
 {
     match port {

@@ -13,15 +13,14 @@ ghost use Rattle.id_element.specs.Takes.{IsForAt};
 
 use crate::gate::Gate;
 use crate::near::Near;
-use crate::outcome::{Mark, by_port, fires_one, fires_two, offer, operand_of, send_near};
-use crate::step::{PlainOperands, Short, Shot, TakeError, Taken};
+use crate::outcome::{Mark, react_plain, send_near};
+use crate::step::{PlainOperands, Reacted, Short, Shot, TakeError, Taken};
 use crate::storage::Storage;
 use id_flight::Queue;
-use id_instr::{Dyadic, Graph, Instr, Op};
-use id_match::Met;
+use id_instr::{Graph, Instr};
 use id_ops::PlainFired;
 use id_record::PlainFiring;
-use id_tag::{Plain, PlainToken};
+use id_tag::PlainToken;
 
 /// How a stretch ended.
 #[derive(Clone, Copy)]
@@ -185,7 +184,7 @@ impl<'a> Storage<'a> {
     ghost use Rattle.id_element.specs.Firings.{IsBound, IsReaction, most_sent};
     ghost use Rattle.id_element.specs.Handled.{IsRecorded, outputs_at, token_outcome, token_sends};
     ghost use Rattle.id_element.specs.Steps.{allocated_by, next_stamp};
-    ghost use Rattle.id_element.specs.Stretches.{AllStays, Became, IsReady, MayGoOn, MayMake, Shoots};
+    ghost use Rattle.id_element.specs.Stretches.{Became, IsReady, MayGoOn, MayMake, Shoots};
     ghost use Rattle.id_element.specs.Stretches.{far_after, near_after, with_next};
 
     /// Handles the token at hand as `take_near` does, and where nothing takes its place, the last of what is near does.
@@ -247,16 +246,12 @@ impl<'a> Storage<'a> {
             return Taken::Memory;
         }
         let instr = &graph.instrs()[token.instr as usize];
-        if instr.op.two_ports() {
-            self.take_second(instr, token, stamp as u32, near, list, gate)
-        } else {
-            self.take_one(instr, token, stamp as u32, near, list, gate)
-        }
+        self.take_at(instr, token, stamp as u32, near, list, gate)
     }
 
-    /// The same at an instruction of one port, at this stamp, which is the next. There is room for it.
+    /// The same at its instruction and at this stamp, which is the next. There is room for it.
     #[inline(always)]
-    fn take_one<G: Gate>(
+    fn take_at<G: Gate>(
         &mut self,
         instr: &Instr,
         token: &mut PlainToken,
@@ -267,277 +262,51 @@ impl<'a> Storage<'a> {
     ) -> Taken
         requires ready { IsReady self.old instr.now token.old stamp near.old list.old }
         requires makes { MayMake self.old }
-        requires port { two_ports instr.now.op ≡ false }
 
         ensures became { Became result (element_at self.old) (element_at self.new) near.old.messages near.new.messages
             list.old.messages list.new.messages token.old token.new }
         ensures room { length near.new.messages ≤ list.new.room }
         ensures spare { result ≢ taken.Failed → result ≢ taken.Went → length near.new.messages < list.new.room }
     {
-        let shot = self.arms_of_one(instr, token, stamp, near, list, gate);
-        match shot {
-            Shot::Next => Taken::Next,
-            Shot::Went => Taken::Went,
-            Shot::Full => {
-                let operand = operand_of(instr.op, token);
-                self.take_full(instr, token, stamp, operand, near, list, gate)
+        match react_plain(&mut self.waiting, instr.op, token) {
+            Ok(Reacted::Plain(fired)) => {
+                self.take_fired(instr, token, stamp, fired, near, list, gate)
             }
-        }
-    }
-
-    /// The same at an instruction of two ports: the token waits for its partner, or has met it.
-    #[inline(always)]
-    fn take_second<G: Gate>(
-        &mut self,
-        instr: &Instr,
-        token: &mut PlainToken,
-        stamp: u32,
-        near: &mut Near,
-        list: &mut Queue,
-        gate: &G,
-    ) -> Taken
-        requires ready { IsReady self.old instr.now token.old stamp near.old list.old }
-        requires makes { MayMake self.old }
-        requires port { two_ports instr.now.op ≡ true }
-
-        ensures became { Became result (element_at self.old) (element_at self.new) near.old.messages near.new.messages
-            list.old.messages list.new.messages token.old token.new }
-        ensures room { length near.new.messages ≤ list.new.room }
-        ensures spare { result ≢ taken.Failed → result ≢ taken.Went → length near.new.messages < list.new.room }
-    {
-        match offer(&mut self.waiting, instr.op, token) {
-            Ok(Met::Kept) => self.keep(instr, token, stamp, near, list, gate),
-            Ok(Met::Partner(partner)) => {
-                let (left, right) = by_port(token.port, token.value, partner);
-                self.take_pair(instr, token, stamp, left, right, near, list, gate)
+            Ok(Reacted::Fires(operands)) => {
+                self.take_full(instr, token, stamp, operands, near, list, gate)
             }
-            Ok(Met::Apart) => Taken::Apart,
+            Ok(Reacted::Apart) => Taken::Apart,
             Err(_) => Taken::Memory,
         }
     }
 
-    /// The same of a token that waits from now on, at an element where these waited before.
+    /// The same of a token that fired this in small numbers, nothing where it waits from now on, at an element where
+    /// these waited before.
     #[inline(always)]
-    fn keep<G: Gate>(
+    fn take_fired<G: Gate>(
         &mut self,
         instr: &Instr,
         token: &mut PlainToken,
         stamp: u32,
+        fired: PlainFired,
         near: &mut Near,
         list: &mut Queue,
         gate: &G,
     ) -> Taken
         requires ready { IsReady self.old instr.now token.old stamp near.old list.old }
-        requires came { (w : Store) × IsReaction instr.now.op w self.old.waiting token.old (reacted.Plain Nothing) }
+        requires came { (w : Store) × IsReaction instr.now.op w self.old.waiting token.old (reacted.Plain fired) }
 
-        ensures became { (w : Store) → IsReaction instr.now.op w self.old.waiting token.old (reacted.Plain Nothing)
+        ensures became { (w : Store) → IsReaction instr.now.op w self.old.waiting token.old (reacted.Plain fired)
             → Became result (record (element_at self.old) { state = record (state_of self.old) { waiting = w } })
             (element_at self.new) near.old.messages near.new.messages list.old.messages list.new.messages token.old
             token.new }
         ensures room { length near.new.messages ≤ list.new.room }
         ensures spare { result ≢ taken.Failed → result ≢ taken.Went → length near.new.messages < list.new.room }
     {
-        match self.conclude_near(instr, token, stamp, PlainFired::Nothing, near, list, gate) {
+        match self.conclude_near(instr, token, stamp, fired, near, list, gate) {
             Shot::Next => Taken::Next,
             Shot::Went => Taken::Went,
             Shot::Full => unreachable!(),
-        }
-    }
-
-    /// The same of a token that has met its partner: these are the operands.
-    #[inline(always)]
-    fn take_pair<G: Gate>(
-        &mut self,
-        instr: &Instr,
-        token: &mut PlainToken,
-        stamp: u32,
-        left: Plain,
-        right: Plain,
-        near: &mut Near,
-        list: &mut Queue,
-        gate: &G,
-    ) -> Taken
-        requires ready { IsReady self.old instr.now token.old stamp near.old list.old }
-        requires makes { MayMake self.old }
-        requires port { two_ports instr.now.op ≡ true }
-        requires came { (w : Store)
-            × IsReaction instr.now.op w self.old.waiting token.old (reacted.Fires (plain.Two left right)) }
-
-        ensures became { (w : Store)
-            → IsReaction instr.now.op w self.old.waiting token.old (reacted.Fires (plain.Two left right))
-            → Became result (record (element_at self.old) { state = record (state_of self.old) { waiting = w } })
-            (element_at self.new) near.old.messages near.new.messages list.old.messages list.new.messages token.old
-            token.new }
-        ensures room { length near.new.messages ≤ list.new.room }
-        ensures spare { result ≢ taken.Failed → result ≢ taken.Went → length near.new.messages < list.new.room }
-    {
-        let shot = self.arms_of_two(instr, token, stamp, left, right, near, list, gate);
-        match shot {
-            Shot::Next => Taken::Next,
-            Shot::Went => Taken::Went,
-            Shot::Full => {
-                let operands = PlainOperands::Two(left, right);
-                self.take_full(instr, token, stamp, operands, near, list, gate)
-            }
-        }
-    }
-
-    /// The arms of operators of one port: fires that of an instruction on the token, where that is in small numbers.
-    #[inline(always)]
-    fn arms_of_one<G: Gate>(
-        &mut self,
-        instr: &Instr,
-        token: &mut PlainToken,
-        stamp: u32,
-        near: &mut Near,
-        list: &mut Queue,
-        gate: &G,
-    ) -> Shot
-        requires ready { IsReady self.old instr.now token.old stamp near.old list.old }
-        requires port { two_ports instr.now.op ≡ false }
-
-        ensures shoots { result ≢ shot.Full → (w : Store)
-            → IsReaction instr.now.op w self.old.waiting token.old (reacted.Fires (plain.One token.old.value))
-            → Shoots result (record (element_at self.old) { state = record (state_of self.old) { waiting = w } })
-            (element_at self.new) near.old.messages near.new.messages list.old.messages list.new.messages token.old
-            token.new }
-        ensures full { result ≡ shot.Full
-            → AllStays self.old self.new near.old near.new list.old list.new token.old token.new }
-        ensures room { length near.new.messages ≤ list.new.room }
-        ensures spare { result ≡ shot.Next → length near.new.messages < list.new.room }
-    {
-        let op = instr.op;
-        match op {
-            Op::Const(_) => self.shoot_one(op, instr, token, stamp, near, list, gate),
-            Op::Unary(_) => self.shoot_one(op, instr, token, stamp, near, list, gate),
-            Op::Merge(_) => self.shoot_one(op, instr, token, stamp, near, list, gate),
-            Op::Next(_) => self.shoot_one(op, instr, token, stamp, near, list, gate),
-            Op::Reset(_) => self.shoot_one(op, instr, token, stamp, near, list, gate),
-            Op::Fetch { .. } => self.shoot_one(op, instr, token, stamp, near, list, gate),
-            _ => Shot::Full,
-        }
-    }
-
-    /// The arms of operators of two ports: fires that of an instruction on these operands, where that is in small
-    /// numbers.
-    #[inline(always)]
-    fn arms_of_two<G: Gate>(
-        &mut self,
-        instr: &Instr,
-        token: &mut PlainToken,
-        stamp: u32,
-        left: Plain,
-        right: Plain,
-        near: &mut Near,
-        list: &mut Queue,
-        gate: &G,
-    ) -> Shot
-        requires ready { IsReady self.old instr.now token.old stamp near.old list.old }
-        requires port { two_ports instr.now.op ≡ true }
-        requires came { (w : Store)
-            × IsReaction instr.now.op w self.old.waiting token.old (reacted.Fires (plain.Two left right)) }
-
-        ensures shoots { result ≢ shot.Full → (w : Store)
-            → IsReaction instr.now.op w self.old.waiting token.old (reacted.Fires (plain.Two left right))
-            → Shoots result (record (element_at self.old) { state = record (state_of self.old) { waiting = w } })
-            (element_at self.new) near.old.messages near.new.messages list.old.messages list.new.messages token.old
-            token.new }
-        ensures full { result ≡ shot.Full
-            → AllStays self.old self.new near.old near.new list.old list.new token.old token.new }
-        ensures room { length near.new.messages ≤ list.new.room }
-        ensures spare { result ≡ shot.Next → length near.new.messages < list.new.room }
-    {
-        let op = instr.op;
-        match op {
-            Op::Binary(Dyadic::Arithmetic(_)) => {
-                self.shoot_two(op, instr, token, stamp, left, right, near, list, gate)
-            }
-            Op::Binary(Dyadic::Comparison(_)) => {
-                self.shoot_two(op, instr, token, stamp, left, right, near, list, gate)
-            }
-            Op::Binary(Dyadic::Truth(_)) => {
-                self.shoot_two(op, instr, token, stamp, left, right, near, list, gate)
-            }
-            Op::Switch(_) => self.shoot_two(op, instr, token, stamp, left, right, near, list, gate),
-            Op::Send { .. } => self.shoot_two(
-                op, instr, token, stamp, left, right, near, list, gate,
-            ),
-            Op::Back(_) => self.shoot_two(op, instr, token, stamp, left, right, near, list, gate),
-            Op::Address { .. } => {
-                self.shoot_two(op, instr, token, stamp, left, right, near, list, gate)
-            }
-            Op::Store { .. } => self.shoot_two(
-                op, instr, token, stamp, left, right, near, list, gate,
-            ),
-            _ => Shot::Full,
-        }
-    }
-
-    /// Fires an operator of one port on the token, where that is in small numbers.
-    #[inline(always)]
-    fn shoot_one<G: Gate>(
-        &mut self,
-        op: Op,
-        instr: &Instr,
-        token: &mut PlainToken,
-        stamp: u32,
-        near: &mut Near,
-        list: &mut Queue,
-        gate: &G,
-    ) -> Shot
-        requires ready { IsReady self.old instr.now token.old stamp near.old list.old }
-        requires op { op ≡ instr.now.op }
-        requires port { two_ports op ≡ false }
-
-        ensures shoots { result ≢ shot.Full → (w : Store)
-            → IsReaction op w self.old.waiting token.old (reacted.Fires (plain.One token.old.value))
-            → Shoots result (record (element_at self.old) { state = record (state_of self.old) { waiting = w } })
-            (element_at self.new) near.old.messages near.new.messages list.old.messages list.new.messages token.old
-            token.new }
-        ensures full { result ≡ shot.Full
-            → AllStays self.old self.new near.old near.new list.old list.new token.old token.new }
-        ensures room { length near.new.messages ≤ list.new.room }
-        ensures spare { result ≡ shot.Next → length near.new.messages < list.new.room }
-    {
-        match fires_one(op, token) {
-            Some(fired) => self.conclude_near(instr, token, stamp, fired, near, list, gate),
-            None => Shot::Full,
-        }
-    }
-
-    /// Fires an operator of two ports on these operands, where that is in small numbers.
-    #[inline(always)]
-    fn shoot_two<G: Gate>(
-        &mut self,
-        op: Op,
-        instr: &Instr,
-        token: &mut PlainToken,
-        stamp: u32,
-        left: Plain,
-        right: Plain,
-        near: &mut Near,
-        list: &mut Queue,
-        gate: &G,
-    ) -> Shot
-        requires ready { IsReady self.old instr.now token.old stamp near.old list.old }
-        requires op { op ≡ instr.now.op }
-        requires port { two_ports op ≡ true }
-        requires came { (w : Store)
-            × IsReaction op w self.old.waiting token.old (reacted.Fires (plain.Two left right)) }
-
-        ensures shoots { result ≢ shot.Full → (w : Store)
-            → IsReaction op w self.old.waiting token.old (reacted.Fires (plain.Two left right))
-            → Shoots result (record (element_at self.old) { state = record (state_of self.old) { waiting = w } })
-            (element_at self.new) near.old.messages near.new.messages list.old.messages list.new.messages token.old
-            token.new }
-        ensures full { result ≡ shot.Full
-            → AllStays self.old self.new near.old near.new list.old list.new token.old token.new }
-        ensures room { length near.new.messages ≤ list.new.room }
-        ensures spare { result ≡ shot.Next → length near.new.messages < list.new.room }
-    {
-        match fires_two(op, token, left, right) {
-            Some(fired) => self.conclude_near(instr, token, stamp, fired, near, list, gate),
-            None => Shot::Full,
         }
     }
 
