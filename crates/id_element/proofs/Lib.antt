@@ -1,3 +1,4 @@
+pub mod ArmsLemmas
 pub mod FiringsLemmas
 pub mod ElementsLemmas
 pub mod EventsLemmas

@@ -8,9 +8,9 @@ use Rattle.id_match.specs.Waiting.{Store}
 use Rattle.id_ops.specs.Operators.{fired}
 use Rattle.id_ops.specs.PlainFired.{fired_of}
 use Rattle.id_record.specs.declared.step.Verdict.TheVariants as verdict
-use Rattle.id_element.specs.declared.step.Reacted.{Reacted}
-use Rattle.id_element.specs.declared.step.Reacted.TheVariants as reacted
-use Rattle.id_element.specs.Firings.{IsBound, IsReaction, operands_in}
+use Rattle.id_element.specs.declared.step.PlainOperands.{PlainOperands}
+use Rattle.id_ops.specs.declared.plain_fired.PlainFired.{PlainFired}
+use Rattle.id_element.specs.Firings.{IsBound, IsFiring, IsPlainFiring, operands_in}
 use Rattle.id_element.specs.declared.storage.Storage.{Storage}
 use Rattle.id_element.specs.Storage.{IsShort}
 use Rattle.id_element.proofs.FiringsLemmas.{IsStepBy, fires_outcome, plain_outcome, short_outcome, step_by}
@@ -19,27 +19,17 @@ use Rattle.id_tag.specs.Plains.{message_of, tag_in}
 use Rattle.id_element.specs.Fits.{Fits}
 use Rattle.id_element.specs.Steps.{State, fired_verdict, next_numbers}
 
--- the element step on a plain token at this instruction of which this came, where these wait afterwards
-abbrev pub IsStepOn : Parts → ℕ → State → PlainToken → Instr → Store → Reacted → Type 0
-IsStepOn g e s t i later (reacted.Plain sent) =
-    IsStepBy g e s (message_of t) (plain_outcome i t later s.cells (fired_of (tag_in t) sent) verdict.Went)
-IsStepOn g e s t i later (reacted.Fires o) =
-    let f = fired i.op (tag_in t) (operands_in o) (next_numbers e s) in
-    IsStepBy g e s (message_of t) (plain_outcome i t later s.cells f (fired_verdict f))
-IsStepOn g e s t i later reacted.Apart = Unit {0}
+-- the element step on a plain token at its instruction that fires this in small numbers
+pub step_plain : (g : Parts) (e : ℕ) (s : State) (t : PlainToken) (i : Instr) (later : Store) (p : PlainFired) → slice_get g.instrs t.instr ≡ Some i
+    → IsPlainFiring i.op s.waiting later t p
+    → IsStepBy g e s (message_of t) (plain_outcome i t later s.cells (fired_of (tag_in t) p) verdict.Went)
+step_plain g e s t i later p there comes = step_by g e s (message_of t) _ (short_outcome g (next_numbers e s) s.waiting later s.cells t i p there comes)
 
-step_at : (g : Parts) (e : ℕ) (s : State) (t : PlainToken) (i : Instr) (later : Store) (r : Reacted) → slice_get g.instrs t.instr ≡ Some i
-    → IsReaction i.op s.waiting later t r → IsStepOn g e s t i later r
-step_at g e s t i later (reacted.Plain sent) there comes =
-    step_by g e s (message_of t) _ (short_outcome g (next_numbers e s) s.waiting later s.cells t i sent there comes)
-step_at g e s t i later (reacted.Fires o) there comes =
-    step_by g e s (message_of t) _ (fires_outcome g (next_numbers e s) s.waiting later s.cells t i o there comes)
-step_at g e s t i later reacted.Apart there comes = tt
-
--- it is that, where what came is known
-pub step_on : (g : Parts) (e : ℕ) (s : State) (t : PlainToken) (i : Instr) (later : Store) (r q : Reacted) → slice_get g.instrs t.instr ≡ Some i
-    → IsReaction i.op s.waiting later t r → r ≡ q → IsStepOn g e s t i later q
-step_on g e s t i later r q there comes for = step_at g e s t i later q there (subst (λ x. IsReaction i.op s.waiting later t x) for comes)
+-- and on one that fires these operands
+pub step_full : (g : Parts) (e : ℕ) (s : State) (t : PlainToken) (i : Instr) (later : Store) (o : PlainOperands) → slice_get g.instrs t.instr ≡ Some i
+    → IsFiring i.op s.waiting later t o
+    → (let f = fired i.op (tag_in t) (operands_in o) (next_numbers e s) in IsStepBy g e s (message_of t) (plain_outcome i t later s.cells f (fired_verdict f)))
+step_full g e s t i later o there comes = step_by g e s (message_of t) _ (fires_outcome g (next_numbers e s) s.waiting later s.cells t i o there comes)
 
 -- what an error says nothing of
 pub if_err : {A E : Type 0} → (P : A → Type 0) (r : Result A E) → IsErr r → IfOk r P

@@ -15,15 +15,18 @@ use Rattle.id_tag.specs.Plains.{whole}
 use Rattle.id_tag.specs.Plains.{tag_in}
 use Rattle.id_tag.specs.declared.plain.PlainToken.{PlainToken}
 use Rattle.id_instr.specs.declared.instr.Op.{Op}
-use Rattle.id_match.specs.Waiting.{Store}
+use Rattle.id_match.specs.Waiting.{Store, pair_of}
+use Rattle.id_match.specs.declared.meeting.Met.{Met}
+use Rattle.id_match.specs.declared.meeting.Met.TheVariants.{Kept, Partner, Apart}
+use Rattle.id_match.specs.declared.meeting.Offered.TheVariants.{Pair}
+use Rattle.id_tag.specs.declared.plain.Plain.{Plain}
+use Rattle.id_ops.specs.declared.plain_fired.PlainFired.TheVariants as fired
 use Rattle.id_ops.specs.declared.Operands.{Operands}
 use Rattle.id_ops.specs.declared.Operands.TheVariants.{One, Two}
 use Rattle.id_ops.specs.declared.plain_fired.PlainFired.{PlainFired}
 use Rattle.id_ops.specs.PlainFired.{MakesNone, fired_of}
 use Rattle.id_element.specs.declared.step.PlainOperands.{PlainOperands}
 use Rattle.id_element.specs.declared.step.PlainOperands.TheVariants as plain
-use Rattle.id_element.specs.declared.step.Reacted.{Reacted}
-use Rattle.id_element.specs.declared.step.Reacted.TheVariants as reacted
 use Rattle.id_element.specs.Steps.{allocated_by, arrival, fired_verdict, waiting_after}
 
 -- no message at the instruction sends more than this: it sends to each destination on a side, and what starts a block,
@@ -77,8 +80,10 @@ pub record IsFiring (op : Op) (w later : Store) (t : PlainToken) (o : PlainOpera
   pub fires : arrival_in op w t ≡ Fires (operands_in o)
   pub waits : later ≡ waiting_after op w (tag_in t) t.port (whole t.value)
 
--- this comes of a plain token, and these wait afterwards
-abbrev pub IsReaction : Op → Store → Store → PlainToken → Reacted → Type 0
-IsReaction op w later t (reacted.Plain p) = IsPlainFiring op w later t p
-IsReaction op w later t (reacted.Fires o) = IsFiring op w later t o
-IsReaction op w later t reacted.Apart = later ≡ w
+-- what became of a plain token that was offered at an operator of two ports, and these wait afterwards: it waits, or
+-- fires the operator with its partner, each at its port, or nothing has changed
+abbrev pub IsMet : Op → Store → Store → PlainToken → Met → Type 0
+IsMet op w later t Kept = IsPlainFiring op w later t fired.Nothing
+IsMet op w later t (Partner v) = (l r : Plain) → Pair (whole l) (whole r) ≡ pair_of t.port (whole t.value) (whole v)
+    → IsFiring op w later t (plain.Two l r)
+IsMet op w later t Apart = later ≡ w

@@ -3,7 +3,7 @@
 use Rattle.std.specs.Prelude.{◌≡◌, ◌<◌, ◌≤◌, ◌+◌, ◌-◌, ◌++◌, ◌∷◌, [], ℕ, All, Bool, List, OnOk, Result, Ok, Err}
 use Rattle.std.specs.Prelude.{◌^◌, Some, true, false, length, slice_get, take}
 use Rattle.std.specs.List.{flat_map, remove, sum_by}
-use Rattle.id_instr.specs.Graph.{IsGraph, Parts}
+use Rattle.id_instr.specs.Graph.{IsGraph, Parts, arcs_on}
 use Rattle.id_instr.specs.declared.instr.Instr.{Instr}
 use Rattle.id_valid.specs.Validator.{IsValid}
 use Rattle.id_tag.specs.declared.Message.{Message}
@@ -16,19 +16,22 @@ use Rattle.id_record.specs.Events.{AllWent, EventView}
 use Rattle.id_element.specs.declared.step.TakeError.{TakeError}
 use Rattle.id_element.specs.declared.stretch.Ran.{Ran}
 use Rattle.id_element.specs.declared.stretch.Ran.TheVariants as ran
-use Rattle.id_element.specs.declared.step.Shot.{Shot}
-use Rattle.id_element.specs.declared.step.Shot.TheVariants as shot
+use Rattle.id_element.specs.declared.step.PlainOperands.{PlainOperands}
 use Rattle.id_element.specs.declared.step.Taken.{Taken}
 use Rattle.id_element.specs.declared.step.Taken.TheVariants as taken
 use Rattle.id_element.specs.declared.storage.Storage.{Storage}
 use Rattle.id_flight.specs.Queues.{QueueView}
 use Rattle.id_tag.specs.declared.plain.PlainToken.{PlainToken}
-use Rattle.id_tag.specs.Plains.{message_of}
+use Rattle.id_tag.specs.Plains.{cell_of, message_of, whole}
+use Rattle.id_tag.specs.declared.plain.Plain.{Plain}
+use Rattle.id_tag.specs.declared.Value.TheVariants.{Address}
+use Rattle.id_instr.specs.declared.dests.Dest.{Dest}
+use Rattle.id_match.specs.Waiting.{Store}
 use Rattle.id_record.specs.declared.step.Step.TheVariants.{Went}
-use Rattle.id_element.specs.Firings.{IsBound, most_sent}
+use Rattle.id_element.specs.Firings.{IsBound, IsFiring, IsPlainFiring, most_sent}
 use Rattle.id_element.specs.Fits.{Fits}
 use Rattle.id_element.specs.Steps.{next_stamp}
-use Rattle.id_element.specs.Storage.{IsShort, state_of}
+use Rattle.id_element.specs.Storage.{IsShort, element_at, state_of}
 use Rattle.id_element.specs.Replays.{ElementView}
 use Rattle.id_element.specs.Takes.{IsForAt, Takes}
 
@@ -131,16 +134,10 @@ pub record MayMake (d : Storage) : Type 0 where
   pub counted : d.contexts + 1 < 2 ^ 64
   pub numbered : d.structures + 1 < 2 ^ 64
 
--- what is near with what stands in the token's place
-abbrev pub with_next : Shot → List Message → PlainToken → List Message
-with_next shot.Next near t = near ++ message_of t ∷ []
-with_next shot.Went near t = near
-with_next shot.Full near t = near
-
--- the token at hand was fired in small numbers and has left its place; to be fired in full it would have stayed
-abbrev pub Shoots : Shot → ElementView → ElementView → List Message → List Message → List Message → List Message
-    → PlainToken → PlainToken → Type 0
-Shoots s e e' near near' list list' t t' = TakesNear e e' (message_of t) near (with_next s near' t') list list' Went
+-- what is near with what stands in the token's place, if something does
+abbrev pub with_next : Bool → List Message → PlainToken → List Message
+with_next true near t = near ++ message_of t ∷ []
+with_next false near t = near
 
 -- what became of the token at hand
 abbrev pub Became : Taken → ElementView → ElementView → List Message → List Message → List Message → List Message
@@ -173,6 +170,37 @@ far_after (Sent t v) list sent = list ++ sent
 far_after (Addressed c) list sent = list
 far_after (Asked c i) list sent = list ++ sent
 far_after (Stored c v) list sent = list ++ sent
+
+-- the element at a storage where these waited before
+abbrev pub element_with : Storage → Store → ElementView
+element_with d w = record (element_at d) { state = record (state_of d) { waiting = w } }
+
+-- the token at hand fires this in small numbers, where what waits has changed before
+abbrev pub HasFired : Storage → Instr → PlainToken → PlainFired → Type 0
+HasFired d i t p = (w : Store) × IsPlainFiring i.op w d.waiting t p
+
+-- what became of it
+abbrev pub Fired : Taken → PlainFired → Storage → Storage → Instr → List Message → List Message → List Message
+    → List Message → PlainToken → PlainToken → Type 0
+Fired a p d d' i near near' list list' t t' = (w : Store) → IsPlainFiring i.op w d.waiting t p
+    → Became a (element_with d w) (element_at d') near near' list list' t t'
+
+-- it fires its instruction with these operands, where what waits has changed before
+abbrev pub HasMet : Storage → Instr → PlainToken → PlainOperands → Type 0
+HasMet d i t o = (w : Store) × IsFiring i.op w d.waiting t o
+
+-- what became of it
+abbrev pub FiredFull : Taken → PlainOperands → Storage → Storage → Instr → List Message → List Message → List Message
+    → List Message → PlainToken → PlainToken → Type 0
+FiredFull a o d d' i near near' list list' t t' = (w : Store) → IsFiring i.op w d.waiting t o
+    → Became a (element_with d w) (element_at d') near near' list list' t t'
+
+-- of what was fired this value goes under the tag to these destinations
+abbrev pub PutsTo : PlainFired → Instr → List Dest → Plain → Type 0
+PutsTo (Out v) i ds u = (ds ≡ i.dests) × (u ≡ v)
+PutsTo (Side b v) i ds u = (ds ≡ arcs_on b i) × (u ≡ v)
+PutsTo (Addressed c) i ds u = (ds ≡ i.dests) × (whole u ≡ Address (cell_of c))
+PutsTo p i ds u = ⊥
 
 -- so many events at the most, and one at least
 pub record Ends (most : ℕ) (e e' : ElementView) (list list' : List Message) (well : Bool) : Type 0 where

@@ -139,12 +139,11 @@ impl<'a> Element<'a> {
         requires for_it { IsForAt self.old list.old.messages position }
         ensures { HandlesAt position self.old self.new list.old.messages list.new.messages result }
     {
-        let tag = tag_of(&list.message(position).payload);
-        match self.take_short(list, position, gate)? {
-            Short::Went => Ok(Step::Went),
-            Short::Failed(fault) => Ok(Step::Fault(Fault::Operator { fault, tag })),
-            Short::Apart => self.take_whole(list, position, gate),
-        }
+        let message = list.message(position);
+        self.open(list, position, message.stamp)?;
+        let step = self.take_held(&message, list, gate)?;
+        list.remove(position);
+        Ok(step)
     }
 
     /// Handles the message at a position of a list, from 0, which is for this element, and what follows from it under
@@ -232,56 +231,14 @@ impl<'a> Element<'a> {
         requires for_it { IsForAt self.old list.old.messages position }
         ensures { GoesAt position self.old self.new list.old.messages list.new.messages result }
     {
-        match self.take_whole(list, position, gate)? {
+        match self.take_at(list, position, gate)? {
             Step::Went => Ok(true),
             Step::Fault(_) | Step::Stuck => Ok(false),
         }
     }
 
-    /// Handles the message at a position of a list in full, as `take_at` does.
-    #[inline(never)]
-    fn take_whole<G: Gate>(
-        &mut self,
-        list: &mut Queue,
-        position: usize,
-        gate: &G,
-    ) -> Result<Step, TakeError>
-        requires there { position < length list.old.messages }
-        requires for_it { IsForAt self.old list.old.messages position }
-        ensures { HandlesAt position self.old self.new list.old.messages list.new.messages result }
-    {
-        let message = list.message(position);
-        self.open(list, position, message.stamp)?;
-        let step = self.take_held(&message, list, gate)?;
-        list.remove(position);
-        Ok(step)
-    }
-
-    /// Handles the message at a position of a list as `take_at` does, where that is short, and says what became of it.
-    #[inline(always)]
-    fn take_short<G: Gate>(
-        &mut self,
-        list: &mut Queue,
-        position: usize,
-        gate: &G,
-    ) -> Result<Short, TakeError>
-        requires there { position < length list.old.messages }
-        requires for_it { IsForAt self.old list.old.messages position }
-        ensures { HandlesShortAt position self.old self.new list.old.messages list.new.messages result }
-    {
-        let token = match list.token(position) {
-            Some(token) => *token,
-            None => return self.take_other(list, position, gate),
-        };
-        self.open(list, position, u64::from(token.stamp))?;
-        let short = self.take_plain(&token, list, gate)?;
-        if !matches!(short, Short::Apart) {
-            list.remove(position);
-        }
-        Ok(short)
-    }
-
-    /// The same of what is no plain token.
+    /// Handles the message at a position of a list as `take_at` does, where it is a read or a write in small numbers, and
+    /// says what became of it.
     #[inline(never)]
     fn take_other<G: Gate>(
         &mut self,
@@ -318,27 +275,6 @@ impl<'a> Element<'a> {
         }
         list.open(position)?;
         Ok(())
-    }
-
-    /// Handles a plain token that is for this element, as `take_held` does, where that is short, and says what became
-    /// of it. Where it is not short, the gate was not called.
-    #[inline(always)]
-    fn take_plain<G: Gate>(
-        &mut self,
-        token: &PlainToken,
-        outputs: &mut Queue,
-        gate: &G,
-    ) -> Result<Short, TakeError>
-        requires { IsFor self.old.graph self.old.count self.old.number (message_of token.now) }
-        ensures becomes { Becomes self.old self.new (message_of token.now) outputs.old.messages outputs.old.messages
-            outputs.new.messages (came_short (tag_in token.now) result) }
-        ensures fits { All (Fits self.old.graph)
-            (outputs_of self.old.graph self.old.number self.old.state (message_of token.now)) }
-        ensures end { (result ≡ Err StampEnd) ↔ IsTrue (is_ended self.old.state (message_of token.now)) }
-    {
-        let graph = self.storage.log.graph();
-        self.storage
-            .take_plain(graph.graph(), token, self.most, outputs, gate)
     }
 
     /// The same of a read or a write of a cell.

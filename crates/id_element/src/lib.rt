@@ -14,6 +14,7 @@ mod fitting;
 mod gate;
 mod near;
 mod outcome;
+mod sending;
 mod step;
 mod storage;
 mod stretch;

@@ -7,8 +7,6 @@ ghost use Rattle.id_bank.specs.Cells.{Cells};
 ghost use Rattle.id_element.specs.Steps.{allocated_by, answer_fired, arrival, at_instr, fill_verdict, fresh_numbers};
 ghost use Rattle.id_element.specs.Steps.{fired_verdict, made_by, waiting_after};
 ghost use Rattle.id_element.specs.Shorts.{short_step};
-ghost use Rattle.id_element.specs.Stretches.{far_after, near_after, with_next};
-ghost use Rattle.id_element.specs.declared.step.Shot.TheVariants as shot;
 ghost use Rattle.id_record.specs.Sends.{HasSecond, count_started, sent, started, numbered, replies, token_to};
 ghost use Rattle.id_tag.specs.declared.Sender.TheVariants.{Element};
 ghost use Rattle.id_tag.specs.declared.Payload.TheVariants.{Token};
@@ -16,7 +14,8 @@ ghost use Rattle.id_record.specs.declared.step.Verdict.TheVariants as verdict;
 ghost use Rattle.id_record.specs.Events.{full_step};
 ghost use Rattle.id_tag.specs.Tags.{same_tag};
 ghost use Rattle.id_element.specs.declared.step.Arrival.TheVariants.{Fires};
-ghost use Rattle.id_element.specs.Firings.{IsBound, IsMost, IsReaction};
+ghost use Rattle.id_element.specs.Firings.{IsBound, IsFiring, IsMet, IsMost, IsPlainFiring};
+ghost use Rattle.id_element.specs.declared.step.PlainOperands.TheVariants as operands;
 ghost use Rattle.id_element.specs.Firings.{firing_of, most_sent, operands_in, verdict_of};
 ghost use Rattle.id_instr.specs.Ports.{two_ports};
 ghost use Rattle.id_match.specs.Waiting.{Store, offer_after, offer_answer, pair_of};
@@ -34,9 +33,8 @@ ghost use Rattle.id_ops.specs.declared.Fired.TheVariants.{Entered};
 ghost use Rattle.id_instr.specs.Graph.{arcs_on};
 ghost use Rattle.id_ops.specs.Operators.{side_of, tag_within};
 
-use crate::gate::{Gate, Handling};
-use crate::near::Near;
-use crate::step::{Arrival, PlainOperands, Reacted, Short, Shot, TakeError};
+use crate::sending::send_plain;
+use crate::step::{Arrival, PlainOperands, Short, TakeError};
 use id_bank::{ReadAnswer, WriteAnswer};
 use id_flight::Queue;
 use id_instr::{Dest, Graph, Instr, Op, Port};
@@ -158,57 +156,54 @@ pub fn react_operands(instr: &Instr, next: Fresh, tag: Tag, operands: PlainOpera
     react_full(instr, next, tag, &arrival)
 }
 
-/// Lets a plain token come to its instruction, in short where that is in reach: where it waits for its partner, and
-/// where the operands are plain.
+/// What an operator of one port fires on a plain token, where that is in small numbers. Takes no memory.
 #[inline(always)]
-pub fn react_plain(waiting: &mut Waiting, op: Op, token: &PlainToken) -> Result<Reacted, AllocError>
-    requires { token.now.iteration < 2 ^ 32 - 1 }
-    ensures reaction { IfOk result (IsReaction op waiting.old waiting.new token.now) }
-    ensures err { OnErr result (waiting.new ≡ waiting.old) }
-{
-    if !op.two_ports() {
-        return Ok(fires(op, token));
-    }
-    match waiting.offer_plain(token)? {
-        Met::Kept => Ok(Reacted::Plain(PlainFired::Nothing)),
-        Met::Apart => Ok(Reacted::Apart),
-        Met::Partner(partner) => Ok(met(op, token, partner)),
-    }
-}
-
-/// What comes of a plain token at an operator of one port.
-#[inline(always)]
-fn fires(op: Op, token: &PlainToken) -> Reacted
+pub fn fires_one(op: Op, token: &PlainToken) -> Option<PlainFired>
     requires port { two_ports op ≡ false }
     requires iteration { token.now.iteration < 2 ^ 32 - 1 }
-    ensures { (w : Store) → IsReaction op w w token.now result }
+    ensures { IfSome result (λ p. (w : Store) → IsPlainFiring op w w token.now p) }
 {
-    match fire_one(op, token.iteration, token.value) {
-        Some(fired) => Reacted::Plain(fired),
-        None => Reacted::Fires(PlainOperands::One(token.value)),
+    fire_one(op, token.iteration, token.value)
+}
+
+/// What an operator of two ports fires on these plain values, of which a plain token is one, where that is in small
+/// numbers. Takes no memory.
+#[inline(always)]
+pub fn fires_two(op: Op, token: &PlainToken, left: Plain, right: Plain) -> Option<PlainFired>
+    requires { two_ports op ≡ true }
+    ensures { IfSome result (λ p. (w later : Store)
+        → IsFiring op w later token.now (operands.Two left right) → IsPlainFiring op w later token.now p) }
+{
+    fire_two(op, left, right)
+}
+
+/// Offers a plain token at an operator of two ports to what waits, in short where that is in reach. After an error
+/// nothing has changed.
+#[inline(always)]
+pub fn offer(waiting: &mut Waiting, op: Op, token: &PlainToken) -> Result<Met, AllocError>
+    requires { two_ports op ≡ true }
+    ensures met { IfOk result (IsMet op waiting.old waiting.new token.now) }
+    ensures err { OnErr result (waiting.new ≡ waiting.old) }
+{
+    match waiting.offer_plain(token)? {
+        Met::Kept => Ok(Met::Kept),
+        Met::Partner(partner) => Ok(Met::Partner(partner)),
+        Met::Apart => Ok(Met::Apart),
     }
 }
 
-/// What comes of a plain token that met its partner.
+/// The operand of a plain token at an operator of one port. Takes no memory.
 #[inline(always)]
-fn met(op: Op, token: &PlainToken, partner: Plain) -> Reacted
-    requires { two_ports op ≡ true }
-    ensures { (w later : Store)
-        → offer_answer w (tag_in token.now) token.now.port (whole token.now.value)
-        ≡ pair_of token.now.port (whole token.now.value) (whole partner)
-        → later ≡ offer_after w (tag_in token.now) token.now.port (whole token.now.value)
-        → IsReaction op w later token.now result }
+pub fn operand_of(op: Op, token: &PlainToken) -> PlainOperands
+    requires { two_ports op ≡ false }
+    ensures { (w : Store) → IsFiring op w w token.now result }
 {
-    let (left, right) = by_port(token.port, token.value, partner);
-    match fire_two(op, left, right) {
-        Some(fired) => Reacted::Plain(fired),
-        None => Reacted::Fires(PlainOperands::Two(left, right)),
-    }
+    PlainOperands::One(token.value)
 }
 
 /// The two values by port, of which `value` came to this port.
 #[inline(always)]
-fn by_port(port: Port, value: Plain, partner: Plain) -> (Plain, Plain)
+pub fn by_port(port: Port, value: Plain, partner: Plain) -> (Plain, Plain)
     ensures { Pair (whole result.0) (whole result.1) ≡ pair_of port (whole value) (whole partner) }
 {
     match port {
@@ -469,301 +464,6 @@ fn envelope_of(like: &PlainToken) -> Envelope
         number: u32::from(like.sender),
         position: like.position as usize,
         stamp: u64::from(like.stamp),
-    }
-}
-
-/// Lets the gate hold this handling, and appends the outputs of a firing in small numbers, for which there is room:
-/// each is like this token. Takes no memory.
-///
-/// That it calls the gate makes it, and what it is called from, a function for each gate, with one caller (docs/
-/// DECISIONS.md, "The short way").
-#[inline(always)]
-pub fn send_plain_fired<G: Gate>(
-    instr: &Instr,
-    like: &PlainToken,
-    fired: PlainFired,
-    outputs: &mut Queue,
-    at: &Handling,
-    gate: &G,
-)
-    requires room { most_sent instr.now ≤ outputs.old.room }
-    requires few { most_sent instr.now ≤ 256 }
-    ensures { outputs.new.messages ≡ outputs.old.messages
-        ++ numbered like.now.sender like.now.position like.now.stamp 0
-        (sent (Some instr.now.op) (arcs_on (side_of (fired_of (tag_in like.now) fired)) instr.now) (tag_in like.now)
-        (fired_of (tag_in like.now) fired)) }
-{
-    gate.hold(at);
-    let dests = instr.dests.as_slice();
-    match fired {
-        PlainFired::Nothing => {}
-        PlainFired::Out(value) | PlainFired::Side(true, value) => {
-            send_plain(dests, &with_value(like, value), outputs)
-        }
-        PlainFired::Side(false, value) => {
-            let others = instr.others.as_slice();
-            send_plain(others, &with_value(like, value), outputs)
-        }
-        PlainFired::Sent(target, value) => send_to(target, &with_value(like, value), outputs),
-        PlainFired::Moved(iteration, value) => {
-            send_plain(
-                dests,
-                &PlainToken {
-                    value,
-                    iteration,
-                    ..*like
-                },
-                outputs,
-            )
-        }
-        PlainFired::Addressed(cell) => {
-            send_plain(dests, &with_value(like, cell.address()), outputs)
-        }
-        PlainFired::Asked(cell, instr) => outputs.push_read_reserved(
-            &PlainToken {
-                instr,
-                output: 0,
-                ..*like
-            },
-            cell,
-        ),
-        PlainFired::Stored(cell, value) => {
-            outputs.push_write_reserved(&PlainToken { output: 0, ..*like }, cell, value)
-        }
-    }
-}
-
-/// Where a message was sent: by which event, of which element, at which stamp.
-#[derive(Clone, Copy)]
-pub struct Mark {
-    pub position: u32,
-    pub stamp: u32,
-    pub sender: u8,
-}
-
-/// Sends what was fired in small numbers on a plain token, for which there is room, each message with this mark: those
-/// that stay under the tag's context and iteration come near, the last of them in the token's place, and the others to
-/// the end of a list. Takes no memory.
-#[inline(always)]
-pub fn send_near(
-    instr: &Instr,
-    mark: Mark,
-    fired: PlainFired,
-    token: &mut PlainToken,
-    near: &mut Near,
-    list: &mut Queue,
-) -> Shot
-    requires room { length near.old.messages + most_sent instr.now < list.old.room }
-    requires room_near { most_sent instr.now ≤ near.old.room }
-    requires few { most_sent instr.now ≤ 256 }
-    ensures near { with_next result near.new.messages token.new ≡ near_after fired near.old.messages
-        (numbered mark.sender mark.position mark.stamp 0
-        (sent (Some instr.now.op) (arcs_on (side_of (fired_of (tag_in token.old) fired)) instr.now) (tag_in token.old)
-        (fired_of (tag_in token.old) fired))) }
-    ensures far { list.new.messages ≡ far_after fired list.old.messages
-        (numbered mark.sender mark.position mark.stamp 0
-        (sent (Some instr.now.op) (arcs_on (side_of (fired_of (tag_in token.old) fired)) instr.now) (tag_in token.old)
-        (fired_of (tag_in token.old) fired))) }
-    ensures short { result ≢ shot.Full }
-    ensures room { length near.new.messages ≤ list.new.room }
-    ensures spare { result ≡ shot.Next → length near.new.messages < list.new.room }
-{
-    let dests = instr.dests.as_slice();
-    match fired {
-        PlainFired::Nothing => Shot::Went,
-        PlainFired::Out(value) | PlainFired::Side(true, value) => {
-            put_near(dests, value, mark, token, near)
-        }
-        PlainFired::Side(false, value) => {
-            put_near(instr.others.as_slice(), value, mark, token, near)
-        }
-        PlainFired::Addressed(cell) => put_near(dests, cell.address(), mark, token, near),
-        PlainFired::Sent(target, value) => {
-            send_to(target, &like(token, value, mark), list);
-            Shot::Went
-        }
-        PlainFired::Moved(iteration, value) => {
-            send_plain(
-                dests,
-                &PlainToken {
-                    iteration,
-                    ..like(token, value, mark)
-                },
-                list,
-            );
-            Shot::Went
-        }
-        PlainFired::Asked(cell, instr) => {
-            list.push_read_reserved(
-                &PlainToken {
-                    instr,
-                    ..like(token, token.value, mark)
-                },
-                cell,
-            );
-            Shot::Went
-        }
-        PlainFired::Stored(cell, value) => {
-            list.push_write_reserved(&like(token, token.value, mark), cell, value);
-            Shot::Went
-        }
-    }
-}
-
-/// A plain token with this value and this mark and with number 0, and else like this one.
-#[inline(always)]
-fn like(token: &PlainToken, value: Plain, mark: Mark) -> PlainToken
-    ensures { result ≡ record token.now {
-      value = value;
-      position = mark.position;
-      stamp = mark.stamp;
-      sender = mark.sender;
-      output = 0;
-    } }
-{
-    PlainToken {
-        value,
-        position: mark.position,
-        stamp: mark.stamp,
-        sender: mark.sender,
-        output: 0,
-        ..*token
-    }
-}
-
-/// Adds one plain token with this value for each destination, in order, under a token's tag and with this mark, to what
-/// is near, the last of them in the token's place, if there is one.
-#[inline(always)]
-fn put_near(
-    dests: &[Dest],
-    value: Plain,
-    mark: Mark,
-    token: &mut PlainToken,
-    near: &mut Near,
-) -> Shot
-    requires room { length dests.now ≤ near.old.room }
-    requires few { length dests.now ≤ 256 }
-    ensures messages { with_next result near.new.messages token.new ≡ near.old.messages
-        ++ numbered mark.sender mark.position mark.stamp 0
-        (map (token_to (tag_in token.old) (whole value)) dests.now) }
-    ensures short { result ≢ shot.Full }
-    ensures len { length near.new.messages ≤ length near.old.messages + length dests.now }
-{
-    let len = dests.len();
-    if len == 0 {
-        return Shot::Went;
-    }
-    let last = len - 1;
-    for number in 0..last {
-        near.push_reserved(&plain_under(token, value, mark, dests[number], number));
-    }
-    put_next(dests[last], value, mark, last, token);
-    Shot::Next
-}
-
-/// A plain token for a destination, with this value, this mark and this number, under the tag of another one.
-#[inline(always)]
-fn plain_under(
-    token: &PlainToken,
-    value: Plain,
-    mark: Mark,
-    dest: Dest,
-    number: usize,
-) -> PlainToken
-    requires { number < 256 }
-    ensures { message_of result ≡ record {
-      payload = token_to (tag_in token.now) (whole value) dest;
-      sender = Element mark.sender;
-      position = mark.position;
-      output = number;
-      stamp = mark.stamp;
-    } }
-{
-    plain_to(&like(token, value, mark), dest, number)
-}
-
-/// Puts a plain token for a destination, with this value, this mark and this number, in the place of the token under
-/// whose tag it is. What stays as it is is not written again.
-#[inline(always)]
-fn put_next(dest: Dest, value: Plain, mark: Mark, number: usize, token: &mut PlainToken)
-    requires { number < 256 }
-    ensures { message_of token.new ≡ record {
-      payload = token_to (tag_in token.old) (whole value) dest;
-      sender = Element mark.sender;
-      position = mark.position;
-      output = number;
-      stamp = mark.stamp;
-    } }
-{
-    token.value = value;
-    token.instr = dest.instr;
-    token.port = dest.port;
-    token.position = mark.position;
-    token.stamp = mark.stamp;
-    token.sender = mark.sender;
-    token.output = number as u8;
-}
-
-/// A plain token with this value, and else like this one.
-#[inline(always)]
-fn with_value(like: &PlainToken, value: Plain) -> PlainToken
-    ensures { result ≡ record like.now { value = value } }
-{
-    PlainToken { value, ..*like }
-}
-
-/// Appends a token for port 0 of a tag, else like this plain one.
-#[inline(always)]
-fn send_to(target: Target, like: &PlainToken, outputs: &mut Queue)
-    requires room { 0 < outputs.old.room }
-    ensures messages { outputs.new.messages ≡ outputs.old.messages
-        ++ numbered like.now.sender like.now.position like.now.stamp 0
-        (Token (target_tag target) Zero (whole like.now.value) ∷ []) }
-    ensures room { outputs.old.room ≤ outputs.new.room + 1 }
-{
-    outputs.push_plain_reserved(&PlainToken {
-        serial: target.serial,
-        iteration: target.iteration,
-        instr: target.instr,
-        element: target.element,
-        port: Port::Zero,
-        output: 0,
-        ..*like
-    });
-}
-
-/// Appends one plain token for each destination, in order, each like this one.
-#[inline(always)]
-fn send_plain(dests: &[Dest], like: &PlainToken, outputs: &mut Queue)
-    requires room { length dests.now ≤ outputs.old.room }
-    requires few { length dests.now ≤ 256 }
-    ensures messages { outputs.new.messages ≡ outputs.old.messages
-        ++ numbered like.now.sender like.now.position like.now.stamp 0
-        (map (token_to (tag_in like.now) (whole like.now.value)) dests.now) }
-    ensures room { outputs.old.room ≤ outputs.new.room + length dests.now }
-{
-    for (number, dest) in dests.iter().enumerate() {
-        outputs.push_plain_reserved(&plain_to(like, *dest, number));
-    }
-}
-
-/// A plain token for a destination, with this number, and else like this one.
-#[inline(always)]
-fn plain_to(like: &PlainToken, dest: Dest, number: usize) -> PlainToken
-    requires { number < 256 }
-    ensures { message_of result ≡ record {
-      payload = token_to (tag_in like.now) (whole like.now.value) dest;
-      sender = Element like.now.sender;
-      position = like.now.position;
-      output = number;
-      stamp = like.now.stamp;
-    } }
-{
-    PlainToken {
-        instr: dest.instr,
-        port: dest.port,
-        output: number as u8,
-        ..*like
     }
 }
 

@@ -1,6 +1,6 @@
 //! What becomes of a message, and why a message is not handled (docs/MACHINE.md, "Element step").
 
-use id_ops::{Operands, PlainFired};
+use id_ops::Operands;
 use id_tag::Plain;
 use id_value::FaultKind;
 use std::alloc::{AllocError, AllocFailed};
@@ -57,17 +57,6 @@ pub enum PlainOperands {
     Two(Plain, Plain),
 }
 
-/// What comes of a plain token at its instruction.
-#[derive(Clone, Copy)]
-pub enum Reacted {
-    /// This is fired in small numbers: nothing where it waits for its partner.
-    Plain(PlainFired),
-    /// It fires its instruction, and these operands have something else come of them.
-    Fires(PlainOperands),
-    /// Something else comes of it, and nothing has changed yet.
-    Apart,
-}
-
 /// What became of a plain token.
 #[derive(Clone, Copy)]
 pub enum Short {
@@ -77,17 +66,6 @@ pub enum Short {
     Failed(FaultKind),
     /// It was not handled, and nothing has changed: it is to be handled as any message.
     Apart,
-}
-
-/// What firing in small numbers came to.
-#[derive(Clone, Copy)]
-pub enum Shot {
-    /// It was recorded and sent, and the last of what goes on stands in the token's place.
-    Next,
-    /// It was recorded and sent, and nothing stands in the token's place.
-    Went,
-    /// Nothing has changed: it is to be fired in full.
-    Full,
 }
 
 /// What became of a plain token at hand.

@@ -5,10 +5,10 @@ ghost use Rattle.std.specs.Prelude.{◌≡◌};
 
 use crate::gate::Gate;
 use crate::outcome::{
-    allocated_by, fresh_numbers, made_by, most_sent, next_stamp, react, react_operands,
-    react_plain, send, send_like, send_plain_fired, short_of,
+    allocated_by, fresh_numbers, made_by, most_sent, react, react_operands, send, send_like,
+    short_of,
 };
-use crate::step::{PlainOperands, Reacted, Short, TakeError};
+use crate::step::{PlainOperands, Short, TakeError};
 use id_bank::Bank;
 use id_flight::Queue;
 use id_instr::{Graph, Instr, Port};
@@ -49,7 +49,7 @@ impl<'a> Storage<'a> {
     ghost use Rattle.id_record.specs.Sends.{sent};
     ghost use Rattle.id_element.specs.declared.step.TakeError.TheVariants.{StampEnd};
     ghost use Rattle.id_element.specs.Storage.{IsShort, IsToken, Treats, TreatsFrom, element_at, fired_by, state_of};
-    ghost use Rattle.id_element.specs.Firings.{IsBound, IsReaction, most_sent};
+    ghost use Rattle.id_element.specs.Firings.{IsBound, most_sent};
     ghost use Rattle.id_element.specs.Fits.{Fits};
     ghost use Rattle.id_element.specs.Handled.{IsRecorded, IsSent, token_outcome, token_sends};
     ghost use Rattle.id_element.specs.Shorts.{came_full, came_short, short_step};
@@ -160,136 +160,6 @@ impl<'a> Storage<'a> {
         Ok(reaction)
     }
 
-    /// Handles a plain token that fits the graph, where that is short, and says what became of it: the element step. No
-    /// instruction sends more than the most, which is large too where the number of the element is.
-    #[inline(always)]
-    pub fn take_plain<G: Gate>(
-        &mut self,
-        graph: &Graph,
-        token: &PlainToken,
-        most: usize,
-        outputs: &mut Queue,
-        gate: &G,
-    ) -> Result<Short, TakeError>
-        requires own { graph.now ≡ self.old.log.graph }
-        requires valid { IsValid graph.now }
-        requires bound { IsBound graph.now self.old.log.element most }
-        requires counted { self.old.contexts ≤ self.old.stamp }
-        requires numbered { self.old.structures ≤ self.old.stamp }
-        requires fits { Fits graph.now (message_of token.now) }
-
-        ensures treats { Treats self.old self.new (message_of token.now) outputs.old.messages outputs.new.messages
-            (came_short (tag_in token.now) result) }
-        ensures end { (result ≡ Err StampEnd) ↔ IsTrue (is_ended (state_of self.old) (message_of token.now)) }
-    {
-        let stamp = next_stamp(self.stamp, u64::from(token.stamp))?;
-        let instr = &graph.instrs()[token.instr as usize];
-        let Some(room) = self.short_bound(graph, instr, most, token, stamp) else {
-            return Ok(Short::Apart);
-        };
-        self.take_short(instr, token, room, stamp as u32, outputs, gate)
-    }
-
-    /// Handles a plain token at its instruction and at this stamp, which is the next, where all numbers of its event,
-    /// which sends at most so many messages, are small: the element step.
-    #[inline(always)]
-    fn take_short<G: Gate>(
-        &mut self,
-        instr: &Instr,
-        token: &PlainToken,
-        most: usize,
-        stamp: u32,
-        outputs: &mut Queue,
-        gate: &G,
-    ) -> Result<Short, TakeError>
-        requires own { slice_get self.old.log.graph.instrs token.now.instr ≡ Some instr.now }
-        requires stamp { stamp ≡ next_stamp (state_of self.old) (message_of token.now) }
-        requires few { most_sent instr.now ≤ most }
-        requires short { IsShort self.old most token.now stamp }
-        requires graph { IsGraph self.old.log.graph }
-        requires valid { IsValid self.old.log.graph }
-        requires counted { self.old.contexts + 1 < 2 ^ 64 }
-        requires numbered { self.old.structures + 1 < 2 ^ 64 }
-
-        ensures treats { Treats self.old self.new (message_of token.now) outputs.old.messages outputs.new.messages
-            (came_short (tag_in token.now) result) }
-        ensures memory { IfErr result (λ e. e ≡ TakeError.Memory) }
-    {
-        self.reserve(most, 0, outputs)?;
-        let reacted = react_plain(&mut self.waiting, instr.op, token)?;
-        Ok(self.conclude_reacted(instr, token, stamp, reacted, outputs, gate))
-    }
-
-    /// Lets the gate hold what came of a plain token, sends it, and records the event, unless it is to be handled
-    /// apart: the element step at this stamp, which is the next, where what waited before is known. There is room for
-    /// it. Takes no memory.
-    #[inline(always)]
-    fn conclude_reacted<G: Gate>(
-        &mut self,
-        instr: &Instr,
-        token: &PlainToken,
-        stamp: u32,
-        reacted: Reacted,
-        outputs: &mut Queue,
-        gate: &G,
-    ) -> Short
-        requires room { 0 < self.old.log.room }
-        requires own { slice_get self.old.log.graph.instrs token.now.instr ≡ Some instr.now }
-        requires stamp { stamp ≡ next_stamp (state_of self.old) (message_of token.now) }
-        requires short { IsShort self.old (most_sent instr.now) token.now stamp }
-        requires came { (w : Store) × IsReaction instr.now.op w self.old.waiting token.now reacted }
-        requires room_in_outputs { most_sent instr.now ≤ outputs.old.room }
-        requires graph { IsGraph self.old.log.graph }
-        requires valid { IsValid self.old.log.graph }
-        requires counted { self.old.contexts + 1 < 2 ^ 64 }
-        requires numbered { self.old.structures + 1 < 2 ^ 64 }
-
-        ensures { (w : Store) → IsReaction instr.now.op w self.old.waiting token.now reacted
-            → TreatsFrom w self.old self.new (message_of token.now) outputs.old.messages outputs.new.messages
-            (short_step (tag_in token.now) result) }
-    {
-        match reacted {
-            Reacted::Plain(fired) => {
-                self.conclude_short(instr, token, stamp, fired, outputs, gate);
-                Short::Went
-            }
-            Reacted::Fires(operands) => {
-                self.hold(gate);
-                self.conclude_full(instr, token, stamp, operands, outputs)
-            }
-            Reacted::Apart => Short::Apart,
-        }
-    }
-
-    /// A bound on what the event of a token that fits the graph sends, where all its numbers are small: the most, or
-    /// what its instruction sends, where another one's messages are many.
-    #[inline(always)]
-    fn short_bound(
-        &self,
-        graph: &Graph,
-        instr: &Instr,
-        most: usize,
-        token: &PlainToken,
-        stamp: u64,
-    ) -> Option<usize>
-        requires bound { IsBound graph.now self.now.log.element most }
-        requires few { most_sent instr.now ≤ most }
-        requires fits { Fits graph.now (message_of token.now) }
-        requires above { token.now.stamp < stamp }
-        ensures few { IfSome result (λ m. most_sent instr.now ≤ m) }
-        ensures short { IfSome result (λ m. IsShort self.now m token.now stamp) }
-    {
-        if self.is_short_in(graph, most, token, stamp) {
-            return Some(most);
-        }
-        let own = most_sent(instr);
-        if most > 0x100 && self.is_short(own, token, stamp) {
-            Some(own)
-        } else {
-            None
-        }
-    }
-
     /// Whether all numbers of this event are small, which sends at most so many messages.
     #[inline(always)]
     pub fn is_short(&self, most: usize, token: &PlainToken, stamp: u64) -> bool
@@ -303,20 +173,8 @@ impl<'a> Storage<'a> {
             & (most <= 0x100)
     }
 
-    /// The same of a token that fits the graph, at a stamp above its own, where the most is large too unless the number
-    /// of the element is small: that the iteration is small follows.
-    #[inline(always)]
-    pub fn is_short_in(&self, graph: &Graph, most: usize, token: &PlainToken, stamp: u64) -> bool
-        requires bound { IsBound graph.now self.now.log.element most }
-        requires fits { Fits graph.now (message_of token.now) }
-        requires above { token.now.stamp < stamp }
-        ensures { IsTrue result → IsShort self.now most token.now stamp }
-    {
-        // What has 32 bits alike is asked at once: nearly all of it has.
-        ((stamp | self.log.len() as u64) <= 0xffff_ffff) & (most <= 0x100)
-    }
-
-    /// The same at the stamp after this one, which is not below the token's.
+    /// The same of a token that fits the graph, at the stamp after this one, which is not below the token's, where the
+    /// most is large too unless the number of the element is small: that the iteration is small follows.
     #[inline(always)]
     pub fn is_short_after(&self, graph: &Graph, most: usize, token: &PlainToken, last: u64) -> bool
         requires bound { IsBound graph.now self.now.log.element most }
@@ -325,6 +183,7 @@ impl<'a> Storage<'a> {
         ensures small { IsTrue result → last < 2 ^ 32 - 1 }
         ensures short { IsTrue result → IsShort self.now most token.now (last + 1) }
     {
+        // What has 32 bits alike is asked at once: nearly all of it has.
         ((last | self.log.len() as u64) < 0xffff_ffff) & (most <= 0x100)
     }
 
@@ -405,45 +264,6 @@ impl<'a> Storage<'a> {
         self.stamp = stamp;
         self.contexts += made_by(&reaction.fired);
         self.structures += allocated_by(instr.op, &reaction.fired);
-    }
-
-    /// Lets the gate hold what was fired in small numbers, sends it, and records the event. There is room for it. Takes
-    /// no memory.
-    #[inline(always)]
-    fn conclude_short<G: Gate>(
-        &mut self,
-        instr: &Instr,
-        token: &PlainToken,
-        stamp: u32,
-        fired: PlainFired,
-        outputs: &mut Queue,
-        gate: &G,
-    )
-        requires room { 0 < self.old.log.room }
-        requires short { IsShort self.old (most_sent instr.now) token.now stamp }
-        requires makes_none { MakesNone fired token.now.value }
-        requires takes_none { allocated_by instr.now.op (fired_of (tag_in token.now) fired) ≡ 0 }
-        requires own { slice_get self.old.log.graph.instrs token.now.instr ≡ Some instr.now }
-        requires room_in_outputs { most_sent instr.now ≤ outputs.old.room }
-
-        ensures recorded { IsRecorded self.old self.new (message_of token.now) stamp
-            (token_outcome self.old instr.now (tag_in token.now) (fired_of (tag_in token.now) fired) Went) }
-        ensures sent { IsSent self.old outputs.old.messages outputs.new.messages stamp
-            (token_sends instr.now (tag_in token.now) (fired_of (tag_in token.now) fired)) }
-    {
-        let sample = PlainToken {
-            position: self.log.len() as u32,
-            stamp,
-            sender: self.log.element() as u8,
-            ..*token
-        };
-        send_plain_fired(instr, &sample, fired, outputs, &self.handling(), gate);
-        self.log.push_plain(PlainFiring {
-            token,
-            stamp,
-            fired,
-        });
-        self.stamp = u64::from(stamp);
     }
 
     /// Fires the operands of which a plain token is one, sends what comes of them, and records the event. There is room

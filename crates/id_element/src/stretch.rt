@@ -1,6 +1,7 @@
 //! A stretch of events: a plain token of a list, and what follows from it under its context and iteration, one after
-//! another. This is the loop in which an element spends its time (docs/PIPELINE.md): an arm for each operator, which
-//! sends by itself, and the last of what it sends under the same tag takes the token's place.
+//! another. This is the loop in which an element spends its time (docs/PIPELINE.md): an arm for each operator
+//! (`take_one`, `take_two`), which fires, records and sends by itself, and the last of what it sends under the same tag
+//! takes the token's place.
 
 ghost use Rattle.std.specs.Prelude.{◌≡◌, ◌<◌, ◌≤◌, ◌+◌, ◌++◌, ◌∷◌, [], All, IsTrue, Some, false, length, slice_get};
 ghost use Rattle.std.specs.List.{remove};
@@ -13,14 +14,16 @@ ghost use Rattle.id_element.specs.Takes.{IsForAt};
 
 use crate::gate::Gate;
 use crate::near::Near;
-use crate::outcome::{Mark, react_plain, send_near};
-use crate::step::{PlainOperands, Reacted, Short, Shot, TakeError, Taken};
+use crate::outcome::{by_port, fires_one, fires_two, offer, operand_of};
+use crate::sending::{Mark, like, put_near, send_plain, send_to};
+use crate::step::{PlainOperands, Short, TakeError, Taken};
 use crate::storage::Storage;
 use id_flight::Queue;
-use id_instr::{Graph, Instr};
-use id_ops::PlainFired;
+use id_instr::{Dest, Graph, Instr, Op};
+use id_match::Met;
+use id_ops::{PlainFired, Target};
 use id_record::PlainFiring;
-use id_tag::PlainToken;
+use id_tag::{Plain, PlainCell, PlainToken};
 
 /// How a stretch ended.
 #[derive(Clone, Copy)]
@@ -166,26 +169,20 @@ fn leave(near: &mut Near, list: &mut Queue, token: &PlainToken)
 }
 
 impl<'a> Storage<'a> {
-    ghost use Rattle.std.specs.Prelude.{◌≡◌, ◌≢◌, ◌+◌, ◌^◌, ◌<◌, ◌≤◌, Some, [], false, length, slice_get, true};
-    ghost use Rattle.id_instr.specs.Graph.{IsGraph};
+    ghost use Rattle.std.specs.Prelude.{◌≡◌, ◌≢◌, ◌<◌, ◌≤◌, Some, [], false, length, slice_get, true};
     ghost use Rattle.id_instr.specs.Ports.{two_ports};
-    ghost use Rattle.id_valid.specs.Validator.{IsValid};
     ghost use Rattle.id_tag.specs.Plains.{message_of, tag_in};
-    ghost use Rattle.id_match.specs.Waiting.{Store};
-    ghost use Rattle.id_instr.specs.declared.instr.Instr.{Instr};
     ghost use Rattle.id_ops.specs.PlainFired.{MakesNone, fired_of};
-    ghost use Rattle.id_ops.specs.declared.plain_fired.PlainFired.TheVariants.{Nothing};
+    ghost use Rattle.id_ops.specs.declared.plain_fired.PlainFired.TheVariants as fired;
     ghost use Rattle.id_record.specs.declared.step.Step.TheVariants.{Went};
     ghost use Rattle.id_element.specs.declared.step.Taken.TheVariants as taken;
-    ghost use Rattle.id_element.specs.declared.step.Shot.TheVariants as shot;
-    ghost use Rattle.id_element.specs.declared.step.PlainOperands.TheVariants as plain;
-    ghost use Rattle.id_element.specs.declared.step.Reacted.TheVariants as reacted;
-    ghost use Rattle.id_element.specs.Storage.{IsShort, element_at, state_of};
-    ghost use Rattle.id_element.specs.Firings.{IsBound, IsReaction, most_sent};
-    ghost use Rattle.id_element.specs.Handled.{IsRecorded, outputs_at, token_outcome, token_sends};
-    ghost use Rattle.id_element.specs.Steps.{allocated_by, next_stamp};
-    ghost use Rattle.id_element.specs.Stretches.{Became, IsReady, MayGoOn, MayMake, Shoots};
-    ghost use Rattle.id_element.specs.Stretches.{far_after, near_after, with_next};
+    ghost use Rattle.id_element.specs.declared.step.PlainOperands.TheVariants as operands;
+    ghost use Rattle.id_element.specs.Storage.{IsShort, element_at};
+    ghost use Rattle.id_element.specs.Firings.{most_sent};
+    ghost use Rattle.id_element.specs.Handled.{IsRecorded, token_outcome};
+    ghost use Rattle.id_element.specs.Steps.{allocated_by};
+    ghost use Rattle.id_element.specs.Stretches.{Became, Fired, FiredFull, HasFired, HasMet, IsReady, MayGoOn, MayMake};
+    ghost use Rattle.id_element.specs.Stretches.{PutsTo};
 
     /// Handles the token at hand as `take_near` does, and where nothing takes its place, the last of what is near does.
     #[inline(always)]
@@ -268,100 +265,357 @@ impl<'a> Storage<'a> {
         ensures room { length near.new.messages ≤ list.new.room }
         ensures spare { result ≢ taken.Failed → result ≢ taken.Went → length near.new.messages < list.new.room }
     {
-        match react_plain(&mut self.waiting, instr.op, token) {
-            Ok(Reacted::Plain(fired)) => {
-                self.take_fired(instr, token, stamp, fired, near, list, gate)
-            }
-            Ok(Reacted::Fires(operands)) => {
-                self.take_full(instr, token, stamp, operands, near, list, gate)
-            }
-            Ok(Reacted::Apart) => Taken::Apart,
-            Err(_) => Taken::Memory,
+        if instr.op.two_ports() {
+            self.take_second(instr, token, stamp, near, list, gate)
+        } else {
+            self.take_one(instr, token, stamp, near, list, gate)
         }
     }
 
-    /// The same of a token that fired this in small numbers, nothing where it waits from now on, at an element where
-    /// these waited before.
+    /// The arms of the operators of one port: each fires the token and sends what comes of it, or has it fired in full.
     #[inline(always)]
-    fn take_fired<G: Gate>(
+    fn take_one<G: Gate>(
         &mut self,
         instr: &Instr,
         token: &mut PlainToken,
         stamp: u32,
-        fired: PlainFired,
         near: &mut Near,
         list: &mut Queue,
         gate: &G,
     ) -> Taken
         requires ready { IsReady self.old instr.now token.old stamp near.old list.old }
-        requires came { (w : Store) × IsReaction instr.now.op w self.old.waiting token.old (reacted.Plain fired) }
+        requires makes { MayMake self.old }
+        requires port { two_ports instr.now.op ≡ false }
 
-        ensures became { (w : Store) → IsReaction instr.now.op w self.old.waiting token.old (reacted.Plain fired)
-            → Became result (record (element_at self.old) { state = record (state_of self.old) { waiting = w } })
-            (element_at self.new) near.old.messages near.new.messages list.old.messages list.new.messages token.old
-            token.new }
+        ensures became { Became result (element_at self.old) (element_at self.new) near.old.messages near.new.messages
+            list.old.messages list.new.messages token.old token.new }
         ensures room { length near.new.messages ≤ list.new.room }
         ensures spare { result ≢ taken.Failed → result ≢ taken.Went → length near.new.messages < list.new.room }
     {
-        match self.conclude_near(instr, token, stamp, fired, near, list, gate) {
-            Shot::Next => Taken::Next,
-            Shot::Went => Taken::Went,
-            Shot::Full => unreachable!(),
+        let op = instr.op;
+        match op {
+            // A value goes out under the tag.
+            Op::Const(_) | Op::Unary(_) | Op::Merge(_) => {
+                if let Some(PlainFired::Out(value)) = fires_one(op, token) {
+                    let fired = PlainFired::Out(value);
+                    let dests = instr.dests.as_slice();
+                    return self.put_out(instr, token, stamp, fired, dests, value, near, list, gate);
+                }
+            }
+            // It goes on at another iteration.
+            Op::Next(_) | Op::Reset(_) => {
+                if let Some(PlainFired::Moved(iteration, value)) = fires_one(op, token) {
+                    return self.move_to(instr, token, stamp, iteration, value, near, list, gate);
+                }
+            }
+            // A cell is asked for its value.
+            Op::Fetch { .. } => {
+                if let Some(PlainFired::Asked(cell, reply)) = fires_one(op, token) {
+                    return self.ask(instr, token, stamp, cell, reply, near, list, gate);
+                }
+            }
+            _ => {}
+        }
+        let operands = operand_of(op, token);
+        self.take_full(instr, token, stamp, operands, near, list, gate)
+    }
+
+    /// The same at an instruction of two ports: the token waits for its partner, or has met it.
+    #[inline(always)]
+    fn take_second<G: Gate>(
+        &mut self,
+        instr: &Instr,
+        token: &mut PlainToken,
+        stamp: u32,
+        near: &mut Near,
+        list: &mut Queue,
+        gate: &G,
+    ) -> Taken
+        requires ready { IsReady self.old instr.now token.old stamp near.old list.old }
+        requires makes { MayMake self.old }
+        requires port { two_ports instr.now.op ≡ true }
+
+        ensures became { Became result (element_at self.old) (element_at self.new) near.old.messages near.new.messages
+            list.old.messages list.new.messages token.old token.new }
+        ensures room { length near.new.messages ≤ list.new.room }
+        ensures spare { result ≢ taken.Failed → result ≢ taken.Went → length near.new.messages < list.new.room }
+    {
+        match offer(&mut self.waiting, instr.op, token) {
+            Ok(Met::Kept) => self.keep(instr, token, stamp, near, list, gate),
+            Ok(Met::Partner(partner)) => {
+                let (left, right) = by_port(token.port, token.value, partner);
+                self.take_two(instr, token, stamp, left, right, near, list, gate)
+            }
+            Ok(Met::Apart) => Taken::Apart,
+            Err(_) => Taken::Memory,
         }
     }
 
-    /// Lets the gate hold what was fired in small numbers, records the event, and sends it. There is room for it. Takes
-    /// no memory.
+    /// The arms of the operators of two ports, on these operands.
     #[inline(always)]
-    fn conclude_near<G: Gate>(
+    fn take_two<G: Gate>(
         &mut self,
         instr: &Instr,
         token: &mut PlainToken,
         stamp: u32,
-        fired: PlainFired,
+        left: Plain,
+        right: Plain,
         near: &mut Near,
         list: &mut Queue,
         gate: &G,
-    ) -> Shot
+    ) -> Taken
         requires ready { IsReady self.old instr.now token.old stamp near.old list.old }
-        requires came { (w : Store) × IsReaction instr.now.op w self.old.waiting token.old (reacted.Plain fired) }
+        requires makes { MayMake self.old }
+        requires port { two_ports instr.now.op ≡ true }
+        requires came { HasMet self.old instr.now token.old (operands.Two left right) }
 
-        ensures shoots { (w : Store) → IsReaction instr.now.op w self.old.waiting token.old (reacted.Plain fired)
-            → Shoots result (record (element_at self.old) { state = record (state_of self.old) { waiting = w } })
-            (element_at self.new) near.old.messages near.new.messages list.old.messages list.new.messages token.old
-            token.new }
-        ensures short { result ≢ shot.Full }
+        ensures comes { FiredFull result (operands.Two left right) self.old self.new instr.now near.old.messages near.new.messages
+            list.old.messages list.new.messages token.old token.new }
         ensures room { length near.new.messages ≤ list.new.room }
-        ensures spare { result ≡ shot.Next → length near.new.messages < list.new.room }
+        ensures spare { result ≢ taken.Failed → result ≢ taken.Went → length near.new.messages < list.new.room }
     {
-        self.conclude_plain(instr, token, stamp, fired, near, list, gate)
+        let op = instr.op;
+        match op {
+            // A value goes out under the tag.
+            Op::Binary(_) => {
+                if let Some(PlainFired::Out(value)) = fires_two(op, token, left, right) {
+                    let fired = PlainFired::Out(value);
+                    let dests = instr.dests.as_slice();
+                    return self.put_out(instr, token, stamp, fired, dests, value, near, list, gate);
+                }
+            }
+            // It goes to one of two sides.
+            Op::Switch(_) => {
+                if let Some(PlainFired::Side(side, value)) = fires_two(op, token, left, right) {
+                    let fired = PlainFired::Side(side, value);
+                    let dests = if side {
+                        instr.dests.as_slice()
+                    } else {
+                        instr.others.as_slice()
+                    };
+                    return self.put_out(instr, token, stamp, fired, dests, value, near, list, gate);
+                }
+            }
+            // The address of a cell does.
+            Op::Address { .. } => {
+                if let Some(PlainFired::Addressed(cell)) = fires_two(op, token, left, right) {
+                    let fired = PlainFired::Addressed(cell);
+                    let dests = instr.dests.as_slice();
+                    let value = cell.address();
+                    return self.put_out(instr, token, stamp, fired, dests, value, near, list, gate);
+                }
+            }
+            // It goes into another context, or back from it.
+            Op::Send { .. } | Op::Back(_) => {
+                if let Some(PlainFired::Sent(target, value)) = fires_two(op, token, left, right) {
+                    return self.send_on(instr, token, stamp, target, value, near, list, gate);
+                }
+            }
+            // It goes to a cell.
+            Op::Store { .. } => {
+                if let Some(PlainFired::Stored(cell, value)) = fires_two(op, token, left, right) {
+                    return self.fill(instr, token, stamp, cell, value, near, list, gate);
+                }
+            }
+            _ => {}
+        }
+        let operands = PlainOperands::Two(left, right);
+        self.take_full(instr, token, stamp, operands, near, list, gate)
     }
 
-    /// The same of what is recorded and sent.
+    /// The same of a token that waits from now on.
     #[inline(always)]
-    fn conclude_plain<G: Gate>(
+    fn keep<G: Gate>(
+        &mut self,
+        instr: &Instr,
+        token: &mut PlainToken,
+        stamp: u32,
+        near: &mut Near,
+        list: &mut Queue,
+        gate: &G,
+    ) -> Taken
+        requires ready { IsReady self.old instr.now token.old stamp near.old list.old }
+        requires came { HasFired self.old instr.now token.old fired.Nothing }
+
+        ensures comes { Fired result fired.Nothing self.old self.new instr.now near.old.messages near.new.messages
+            list.old.messages list.new.messages token.old token.new }
+        ensures room { length near.new.messages ≤ list.new.room }
+        ensures spare { result ≢ taken.Failed → result ≢ taken.Went → length near.new.messages < list.new.room }
+    {
+        self.note_fired(instr, token, stamp, PlainFired::Nothing, gate);
+        Taken::Went
+    }
+
+    /// The same of one of which this value goes under its tag to these destinations.
+    #[inline(always)]
+    fn put_out<G: Gate>(
         &mut self,
         instr: &Instr,
         token: &mut PlainToken,
         stamp: u32,
         fired: PlainFired,
+        dests: &[Dest],
+        value: Plain,
         near: &mut Near,
         list: &mut Queue,
         gate: &G,
-    ) -> Shot
+    ) -> Taken
         requires ready { IsReady self.old instr.now token.old stamp near.old list.old }
-        requires makes_none { MakesNone fired token.old.value }
-        requires takes_none { allocated_by instr.now.op (fired_of (tag_in token.old) fired) ≡ 0 }
+        requires came { HasFired self.old instr.now token.old fired }
+        requires puts { PutsTo fired instr.now dests.now value }
 
-        ensures recorded { IsRecorded self.old self.new (message_of token.old) stamp
-            (token_outcome self.old instr.now (tag_in token.old) (fired_of (tag_in token.old) fired) Went) }
-        ensures near { with_next result near.new.messages token.new ≡ near_after fired near.old.messages
-            (outputs_at self.old stamp (token_sends instr.now (tag_in token.old) (fired_of (tag_in token.old) fired))) }
-        ensures far { list.new.messages ≡ far_after fired list.old.messages (outputs_at self.old stamp
-            (token_sends instr.now (tag_in token.old) (fired_of (tag_in token.old) fired))) }
-        ensures short { result ≢ shot.Full }
+        ensures comes { Fired result fired self.old self.new instr.now near.old.messages near.new.messages
+            list.old.messages list.new.messages token.old token.new }
         ensures room { length near.new.messages ≤ list.new.room }
-        ensures spare { result ≡ shot.Next → length near.new.messages < list.new.room }
+        ensures spare { result ≢ taken.Failed → result ≢ taken.Went → length near.new.messages < list.new.room }
+    {
+        let mark = self.note_fired(instr, token, stamp, fired, gate);
+        if put_near(dests, value, mark, token, near) {
+            Taken::Next
+        } else {
+            Taken::Went
+        }
+    }
+
+    /// The same of one that goes on at this iteration with this value.
+    #[inline(always)]
+    fn move_to<G: Gate>(
+        &mut self,
+        instr: &Instr,
+        token: &mut PlainToken,
+        stamp: u32,
+        iteration: u32,
+        value: Plain,
+        near: &mut Near,
+        list: &mut Queue,
+        gate: &G,
+    ) -> Taken
+        requires ready { IsReady self.old instr.now token.old stamp near.old list.old }
+        requires came { HasFired self.old instr.now token.old (fired.Moved iteration value) }
+
+        ensures comes { Fired result (fired.Moved iteration value) self.old self.new instr.now near.old.messages near.new.messages
+            list.old.messages list.new.messages token.old token.new }
+        ensures room { length near.new.messages ≤ list.new.room }
+        ensures spare { result ≢ taken.Failed → result ≢ taken.Went → length near.new.messages < list.new.room }
+    {
+        let mark = self.note_fired(
+            instr,
+            token,
+            stamp,
+            PlainFired::Moved(iteration, value),
+            gate,
+        );
+        let moved = PlainToken {
+            iteration,
+            ..like(token, value, mark)
+        };
+        send_plain(instr.dests.as_slice(), &moved, list);
+        Taken::Went
+    }
+
+    /// The same of one of which this value goes to another tag.
+    #[inline(always)]
+    fn send_on<G: Gate>(
+        &mut self,
+        instr: &Instr,
+        token: &mut PlainToken,
+        stamp: u32,
+        target: Target,
+        value: Plain,
+        near: &mut Near,
+        list: &mut Queue,
+        gate: &G,
+    ) -> Taken
+        requires ready { IsReady self.old instr.now token.old stamp near.old list.old }
+        requires came { HasFired self.old instr.now token.old (fired.Sent target value) }
+
+        ensures comes { Fired result (fired.Sent target value) self.old self.new instr.now near.old.messages near.new.messages
+            list.old.messages list.new.messages token.old token.new }
+        ensures room { length near.new.messages ≤ list.new.room }
+        ensures spare { result ≢ taken.Failed → result ≢ taken.Went → length near.new.messages < list.new.room }
+    {
+        let mark = self.note_fired(instr, token, stamp, PlainFired::Sent(target, value), gate);
+        send_to(target, &like(token, value, mark), list);
+        Taken::Went
+    }
+
+    /// The same of one that asks a cell, with the reply to this instruction.
+    #[inline(always)]
+    fn ask<G: Gate>(
+        &mut self,
+        instr: &Instr,
+        token: &mut PlainToken,
+        stamp: u32,
+        cell: PlainCell,
+        reply: u32,
+        near: &mut Near,
+        list: &mut Queue,
+        gate: &G,
+    ) -> Taken
+        requires ready { IsReady self.old instr.now token.old stamp near.old list.old }
+        requires came { HasFired self.old instr.now token.old (fired.Asked cell reply) }
+
+        ensures comes { Fired result (fired.Asked cell reply) self.old self.new instr.now near.old.messages near.new.messages
+            list.old.messages list.new.messages token.old token.new }
+        ensures room { length near.new.messages ≤ list.new.room }
+        ensures spare { result ≢ taken.Failed → result ≢ taken.Went → length near.new.messages < list.new.room }
+    {
+        let mark = self.note_fired(instr, token, stamp, PlainFired::Asked(cell, reply), gate);
+        let asks = PlainToken {
+            instr: reply,
+            ..like(token, token.value, mark)
+        };
+        list.push_read_reserved(&asks, cell);
+        Taken::Went
+    }
+
+    /// The same of one of which this value goes to a cell.
+    #[inline(always)]
+    fn fill<G: Gate>(
+        &mut self,
+        instr: &Instr,
+        token: &mut PlainToken,
+        stamp: u32,
+        cell: PlainCell,
+        value: Plain,
+        near: &mut Near,
+        list: &mut Queue,
+        gate: &G,
+    ) -> Taken
+        requires ready { IsReady self.old instr.now token.old stamp near.old list.old }
+        requires came { HasFired self.old instr.now token.old (fired.Stored cell value) }
+
+        ensures comes { Fired result (fired.Stored cell value) self.old self.new instr.now near.old.messages near.new.messages
+            list.old.messages list.new.messages token.old token.new }
+        ensures room { length near.new.messages ≤ list.new.room }
+        ensures spare { result ≢ taken.Failed → result ≢ taken.Went → length near.new.messages < list.new.room }
+    {
+        let mark = self.note_fired(instr, token, stamp, PlainFired::Stored(cell, value), gate);
+        list.push_write_reserved(&like(token, token.value, mark), cell, value);
+        Taken::Went
+    }
+
+    /// Lets the gate hold what was fired in small numbers, records the event, and says where it sends from. There is
+    /// room for it. Takes no memory.
+    #[inline(always)]
+    fn note_fired<G: Gate>(
+        &mut self,
+        _instr: &Instr,
+        token: &PlainToken,
+        stamp: u32,
+        fired: PlainFired,
+        gate: &G,
+    ) -> Mark
+        requires room { 0 < self.old.log.room }
+        requires short { IsShort self.old (most_sent _instr.now) token.now stamp }
+        requires own { slice_get self.old.log.graph.instrs token.now.instr ≡ Some _instr.now }
+        requires makes_none { MakesNone fired token.now.value }
+        requires takes_none { allocated_by _instr.now.op (fired_of (tag_in token.now) fired) ≡ 0 }
+
+        ensures recorded { IsRecorded self.old self.new (message_of token.now) stamp
+            (token_outcome self.old _instr.now (tag_in token.now) (fired_of (tag_in token.now) fired) Went) }
+        ensures mark { result
+            ≡ record { position = length self.old.log.events; stamp = stamp; sender = self.old.log.element } }
     {
         let mark = Mark {
             position: self.log.len() as u32,
@@ -375,7 +629,7 @@ impl<'a> Storage<'a> {
             fired,
         });
         self.stamp = u64::from(stamp);
-        send_near(instr, mark, fired, token, near, list)
+        mark
     }
 
     /// Lets the gate hold what these operands fire in full, sends it behind what is near, and records the event. There
@@ -393,12 +647,10 @@ impl<'a> Storage<'a> {
     ) -> Taken
         requires ready { IsReady self.old instr.now token.now stamp near.old list.old }
         requires makes { MayMake self.old }
-        requires came { (w : Store) × IsReaction instr.now.op w self.old.waiting token.now (reacted.Fires operands) }
+        requires came { HasMet self.old instr.now token.now operands }
 
-        ensures became { (w : Store) → IsReaction instr.now.op w self.old.waiting token.now (reacted.Fires operands)
-            → Became result (record (element_at self.old) { state = record (state_of self.old) { waiting = w } })
-            (element_at self.new) near.old.messages near.new.messages list.old.messages list.new.messages token.now
-            token.now }
+        ensures comes { FiredFull result operands self.old self.new instr.now near.old.messages near.new.messages
+            list.old.messages list.new.messages token.now token.now }
         ensures room { length near.new.messages ≤ list.new.room }
         ensures spare { result ≢ taken.Failed → result ≢ taken.Went → length near.new.messages < list.new.room }
     {

@@ -2,7 +2,7 @@
 use Rattle.std.proofs.Common.{◌≡◌, append_assoc, sym, ap, ◌∙◌, arith}
 use Rattle.id_tag.specs.Plains.{message_of, tag_in, whole}
 use Rattle.id_record.proofs.SendsLemmas.{numbered-more, numbered_as}
-use Rattle.id_element.proofs.outcome.send_plain.Goals as goal
+use Rattle.id_element.proofs.sending.send_plain.Goals as goal
 
 pub loop-number-preserved : goal.loop-number-preserved
 loop-number-preserved c =

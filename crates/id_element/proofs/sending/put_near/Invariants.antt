@@ -2,7 +2,7 @@
 use Rattle.std.proofs.Common.{◌≡◌, ◌+◌, ◌++◌, length, map, take}
 use Rattle.id_tag.specs.Plains.{tag_in, whole}
 use Rattle.id_record.specs.Sends.{numbered, token_to}
-use Rattle.id_element.proofs.outcome.put_near.Given as goal
+use Rattle.id_element.proofs.sending.put_near.Given as goal
 
 abbrev pub invariant-loop-number : goal.invariant-loop-number
 invariant-loop-number l =

@@ -4,7 +4,7 @@ use Rattle.id_record.specs.Sends.{numbered, token_to}
 use Rattle.std.proofs.lemmas.Grind.{common_steps}
 use Rattle.id_tag.specs.Plains.{message_of, tag_in, whole}
 use Rattle.id_record.proofs.SendsLemmas.{numbered-more, numbered_as}
-use Rattle.id_element.proofs.outcome.put_near.Goals as goal
+use Rattle.id_element.proofs.sending.put_near.Goals as goal
 
 pub loop-number-preserved : goal.loop-number-preserved
 loop-number-preserved c =
