@@ -1,5 +1,6 @@
 -- Lemmas on what arms fire, record and send: it is the element step, by what came of the token where this waited before.
-use Rattle.std.proofs.Common.{◌≡◌, ◌<◌, ◌^◌, ◌++◌, [], ℕ, List, Some, map, refl}
+use Rattle.std.proofs.Common.{◌≡◌, ◌<◌, ◌+◌, ◌^◌, ◌++◌, [], arith, ℕ, List, Some, false, length, map, refl, sym, ap, subst, ◌∙◌}
+use Rattle.std.proofs.lemmas.List.{length-map}
 use Rattle.std.specs.Prelude.{slice_get}
 use Rattle.id_instr.specs.Graph.{arcs_on}
 use Rattle.id_instr.specs.declared.dests.Dest.{Dest}
@@ -8,22 +9,31 @@ use Rattle.id_tag.specs.Plains.{message_of, tag_in, whole}
 use Rattle.id_tag.specs.declared.Message.{Message}
 use Rattle.id_tag.specs.declared.plain.Plain.{Plain}
 use Rattle.id_tag.specs.declared.plain.PlainToken.{PlainToken}
+use Rattle.id_tag.specs.declared.Context.{Context}
+use Rattle.id_tag.specs.declared.Value.TheVariants as value
+use Rattle.id_instr.specs.Ports.{two_ports}
+use Rattle.id_instr.specs.declared.instr.Op.{Op}
 use Rattle.id_match.specs.Waiting.{Store}
-use Rattle.id_ops.specs.Operators.{side_of}
+use Rattle.id_ops.specs.declared.Fired.TheVariants.{Entered}
+use Rattle.id_ops.specs.declared.Fresh.{Fresh}
+use Rattle.id_ops.specs.Operators.{fired, side_of}
+use Rattle.id_element.specs.declared.step.PlainOperands.TheVariants as operands
 use Rattle.id_ops.specs.PlainFired.{fired_of}
 use Rattle.id_ops.specs.declared.plain_fired.PlainFired.{PlainFired}
 use Rattle.id_ops.specs.declared.plain_fired.PlainFired.TheVariants.{Nothing, Out, Side, Moved, Sent, Addressed, Asked, Stored}
-use Rattle.id_record.specs.Sends.{numbered, token_to}
+use Rattle.id_record.specs.Sends.{numbered, started, token_to}
+use Rattle.id_record.proofs.SendsLemmas.{numbered-append}
 use Rattle.id_record.specs.declared.step.Step.TheVariants as step
 use Rattle.id_record.specs.declared.step.Verdict.TheVariants.{Went}
-use Rattle.id_element.specs.Firings.{IsPlainFiring}
+use Rattle.id_element.specs.Firings.{Enters, IsFiring, IsPlainFiring, operands_in}
 use Rattle.id_element.specs.Handled.{IsRecorded, outputs_at, token_outcome, token_sends}
-use Rattle.id_element.specs.Steps.{next_stamp}
+use Rattle.id_element.specs.Steps.{fired_verdict, fresh_numbers, next_numbers, next_stamp}
 use Rattle.id_element.specs.Storage.{element_at, state_of}
-use Rattle.id_element.specs.Stretches.{PutsTo, TakesNear, element_with, far_after, near_after}
+use Rattle.id_element.specs.Stretches.{PutsTo, Spreads, TakesNear, element_with, far_after, near_after}
 use Rattle.id_element.specs.declared.storage.Storage.{Storage}
-use Rattle.id_element.proofs.ShortLemmas.{step_plain}
-use Rattle.id_element.proofs.StretchesLemmas.{spreads_plain}
+use Rattle.id_element.proofs.FiringsLemmas.{IsStepBy, plain_outcome}
+use Rattle.id_element.proofs.ShortLemmas.{step_full, step_plain}
+use Rattle.id_element.proofs.StretchesLemmas.{numbered_beside, spreads_both, spreads_plain}
 use Rattle.id_element.proofs.TakesLemmas.{treats}
 
 -- what the event of a plain token that fires this at its instruction sends
@@ -67,3 +77,39 @@ puts_none (Moved j v) i ds u list xs is = absurd is
 puts_none (Sent r v) i ds u list xs is = absurd is
 puts_none (Asked c r) i ds u list xs is = absurd is
 puts_none (Stored c v) i ds u list xs is = absurd is
+
+-- ---- a block that is entered
+
+one_fires : (op : Op) (w : Store) (t : PlainToken) → two_ports op ≡ false → IsFiring op w w t (operands.One t.value)
+one_fires op w t one = record { fires = rw one refl; waits = rw one refl }
+
+enters_fires : (op : Op) (t : PlainToken) (block reply : ℕ) (n : Fresh) → Enters op t block reply → fired op (tag_in t) (operands_in (operands.One t.value)) n ≡ Entered n.context
+enters_fires op t block reply n is = rw (is.enters, is.signal) refl
+
+-- what starts the block comes to the end of the list, and its context to what is near
+pub took_entered : (d d' : Storage) (i : Instr) (t : PlainToken) (stamp block reply : ℕ) (x : Context) (near near' list list' : List Message)
+    → slice_get d.log.graph.instrs t.instr ≡ Some i → stamp ≡ next_stamp (state_of d) (message_of t) → stamp < 2 ^ 32
+    → two_ports i.op ≡ false → Enters i.op t block reply → (fresh_numbers d.log.element d.contexts d.structures).context ≡ x
+    → IsRecorded d d' (message_of t) stamp (token_outcome d i (tag_in t) (Entered x) step.Went)
+    → near' ≡ near ++ outputs_at d stamp (map (token_to (tag_in t) (value.Context x)) i.dests)
+    → list' ≡ list ++ numbered d.log.element (length d.log.events) stamp (length i.dests) (started (Some i.op) (tag_in t) x)
+    → TakesNear (element_at d) (element_at d') (message_of t) near near' list list' step.Went
+took_entered d d' i t stamp block reply x near near' list list' own next small one enters new done near_is list_is =
+    let ds = map (token_to (tag_in t) (value.Context x)) i.dests in
+    let ss = started (Some i.op) (tag_in t) x in
+    let first = outputs_at d stamp ds in
+    let second = numbered d.log.element (length d.log.events) stamp (length i.dests) ss in
+    let many : 0 + length ds ≡ length i.dests = omega (arith, length-map i.dests (token_to (tag_in t) (value.Context x))) in
+    let apart : outputs_at d stamp (ds ++ ss) ≡ first ++ second =
+    numbered-append d.log.element (length d.log.events) stamp 0 ds ss
+    ∙ ap (λ k. first ++ numbered d.log.element (length d.log.events) stamp k ss) many in
+    let fires = enters_fires i.op t block reply (next_numbers d.log.element (state_of d)) enters ∙ ap Entered new in
+    record {
+      sent = outputs_at d stamp (ds ++ ss);
+      takes = treats d.waiting d d' t i (Entered x) Went stamp [] (outputs_at d stamp (ds ++ ss))
+          (subst (λ f. IsStepBy d.log.graph d.log.element (state_of d) (message_of t) (plain_outcome i t d.waiting d.cells f (fired_verdict f))) fires
+          (step_full d.log.graph d.log.element (state_of d) t i d.waiting (operands.One t.value) own (one_fires i.op d.waiting t one))) next small done refl;
+      spreads = subst (λ xs. Spreads (message_of t) near near' list list' xs) (sym apart)
+          (spreads_both (message_of t) (tag_in t) near near' list list' first second (λ count. refl) near_is list_is
+          (numbered_beside d.log.element (length d.log.events) stamp 0 (tag_in t) (value.Context x) i.dests));
+    }

@@ -6,7 +6,7 @@ use Rattle.std.proofs.lemmas.Bool.{false≢true}
 use Rattle.std.proofs.lemmas.Grind.{flat_map-append}
 use Rattle.std.proofs.lemmas.List.Edits.{length-remove}
 use Rattle.std.proofs.lemmas.List.{drop_all, get_or_push, length-take, length_push, take-append-le, take_all}
-use Rattle.std.proofs.lemmas.List.Elements.{All-append, All-cons, All-drop, All-nil, All-pop, All-push, All-take}
+use Rattle.std.proofs.lemmas.List.Elements.{All-append, All-cons, All-drop, All-head, All-nil, All-pop, All-push, All-tail, All-take}
 use Rattle.std.proofs.lemmas.List.Sums.{sum_by-append, sum_by-cons, sum_by-remove, sum_by_push}
 use Rattle.std.proofs.lemmas.Option.{get_or_from_slice_get, slice_get_read, slice_get_within}
 use Rattle.std.proofs.Math.Seq.{take-append_seam}
@@ -209,7 +209,7 @@ abbrev IsBeside : Tag → Message → Type 0
 IsBeside t x = (count : ℕ) → route_of x.payload count ≡ tag_route t count
 
 -- what goes to destinations under a tag goes where the tag goes
-numbered_beside : (n position stamp k : ℕ) (t : Tag) (v : Value) (ds : List Dest)
+pub numbered_beside : (n position stamp k : ℕ) (t : Tag) (v : Value) (ds : List Dest)
     → All (IsBeside t) (numbered n position stamp k (map (token_to t v) ds))
 numbered_beside n position stamp k t v [] = All-nil (IsBeside t)
 numbered_beside n position stamp k t v (d ∷ ds) = All-cons (IsBeside t) _ _ (λ count. refl) (numbered_beside n position stamp (k + 1) t v ds)
@@ -243,6 +243,33 @@ spreads_far m near near' list list' sent near_is list_is = record {
   fit_near = λ g nears sents. subst (All (Fits g)) (sym near_is) nears;
   fit = λ g nears lists sents. subst (All (Fits g)) (sym list_is) (All-append (Fits g) list sent lists sents);
   routed = λ count nears. subst (All (λ (x : Message). route_of x.payload count ≡ route_of m.payload count)) (sym near_is) nears;
+}
+
+all_first : (P : Message → Type 0) (xs ys : List Message) → All P (xs ++ ys) → All P xs
+all_first P [] ys all = All-nil P
+all_first P (x ∷ xs) ys all = All-cons P x xs (All-head P x (xs ++ ys) all) (all_first P xs ys (All-tail P x (xs ++ ys) all))
+
+all_second : (P : Message → Type 0) (xs ys : List Message) → All P (xs ++ ys) → All P ys
+all_second P [] ys all = all
+all_second P (x ∷ xs) ys all = all_second P xs ys (All-tail P x (xs ++ ys) all)
+
+-- a part of it comes near, and the rest to the end of the list
+pub spreads_both : (m : Message) (t : Tag) (near near' list list' first second : List Message) → ((count : ℕ) → route_of m.payload count ≡ tag_route t count)
+    → near' ≡ near ++ first → list' ≡ list ++ second → All (IsBeside t) first → Spreads m near near' list list' (first ++ second)
+spreads_both m t near near' list list' first second at near_is list_is beside = record {
+  more = second;
+  behind = list_is;
+  weight = λ f.
+      let a : sum_by f near' ≡ sum_by f (near ++ first) = ap (sum_by f) near_is in
+      let b : sum_by f list' ≡ sum_by f (list ++ second) = ap (sum_by f) list_is in
+      omega (arith, a, b, sum_by-append f near first, sum_by-append f list second, sum_by-append f first second);
+  fit_near = λ g nears sents.
+      subst (All (Fits g)) (sym near_is) (All-append (Fits g) near first nears (all_first (Fits g) first second sents));
+  fit = λ g nears lists sents.
+      subst (All (Fits g)) (sym list_is) (All-append (Fits g) list second lists (all_second (Fits g) first second sents));
+  routed = λ count nears.
+      let P : Message → Type 0 = λ x. route_of x.payload count ≡ route_of m.payload count in
+      subst (All P) (sym near_is) (All-append P near first nears (λ k d lt. beside k d lt count ∙ sym (at count)));
 }
 
 -- it comes there behind what was near

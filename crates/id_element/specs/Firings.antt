@@ -20,6 +20,8 @@ use Rattle.id_match.specs.declared.meeting.Met.{Met}
 use Rattle.id_match.specs.declared.meeting.Met.TheVariants.{Kept, Partner, Apart}
 use Rattle.id_match.specs.declared.meeting.Offered.TheVariants.{Pair}
 use Rattle.id_tag.specs.declared.plain.Plain.{Plain}
+use Rattle.id_tag.specs.declared.plain.Plain.TheVariants.{Signal}
+use Rattle.id_instr.specs.declared.instr.Op.TheVariants.{Enter}
 use Rattle.id_ops.specs.declared.plain_fired.PlainFired.TheVariants as fired
 use Rattle.id_ops.specs.declared.Operands.{Operands}
 use Rattle.id_ops.specs.declared.Operands.TheVariants.{One, Two}
@@ -87,3 +89,8 @@ IsMet op w later t Kept = IsPlainFiring op w later t fired.Nothing
 IsMet op w later t (Partner v) = (l r : Plain) → Pair (whole l) (whole r) ≡ pair_of t.port (whole t.value) (whole v)
     → IsFiring op w later t (plain.Two l r)
 IsMet op w later t Apart = later ≡ w
+
+-- a plain token enters a block: it is a signal, and the operator enters this one, which replies to this instruction
+pub record Enters (op : Op) (t : PlainToken) (block reply : ℕ) : Type 0 where
+  pub enters : op ≡ Enter block reply
+  pub signal : t.value ≡ Signal

@@ -180,9 +180,9 @@ abbrev pub HasFired : Storage → Instr → PlainToken → PlainFired → Type 0
 HasFired d i t p = (w : Store) × IsPlainFiring i.op w d.waiting t p
 
 -- what became of it
-abbrev pub Fired : Taken → PlainFired → Storage → Storage → Instr → List Message → List Message → List Message
+abbrev pub Shoots : Taken → PlainFired → Storage → Storage → Instr → List Message → List Message → List Message
     → List Message → PlainToken → PlainToken → Type 0
-Fired a p d d' i near near' list list' t t' = (w : Store) → IsPlainFiring i.op w d.waiting t p
+Shoots a p d d' i near near' list list' t t' = (w : Store) → IsPlainFiring i.op w d.waiting t p
     → Became a (element_with d w) (element_at d') near near' list list' t t'
 
 -- it fires its instruction with these operands, where what waits has changed before
@@ -190,9 +190,9 @@ abbrev pub HasMet : Storage → Instr → PlainToken → PlainOperands → Type 
 HasMet d i t o = (w : Store) × IsFiring i.op w d.waiting t o
 
 -- what became of it
-abbrev pub FiredFull : Taken → PlainOperands → Storage → Storage → Instr → List Message → List Message → List Message
+abbrev pub ShootsFull : Taken → PlainOperands → Storage → Storage → Instr → List Message → List Message → List Message
     → List Message → PlainToken → PlainToken → Type 0
-FiredFull a o d d' i near near' list list' t t' = (w : Store) → IsFiring i.op w d.waiting t o
+ShootsFull a o d d' i near near' list list' t t' = (w : Store) → IsFiring i.op w d.waiting t o
     → Became a (element_with d w) (element_at d') near near' list list' t t'
 
 -- of what was fired this value goes under the tag to these destinations

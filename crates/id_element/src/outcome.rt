@@ -14,7 +14,7 @@ ghost use Rattle.id_record.specs.declared.step.Verdict.TheVariants as verdict;
 ghost use Rattle.id_record.specs.Events.{full_step};
 ghost use Rattle.id_tag.specs.Tags.{same_tag};
 ghost use Rattle.id_element.specs.declared.step.Arrival.TheVariants.{Fires};
-ghost use Rattle.id_element.specs.Firings.{IsBound, IsFiring, IsMet, IsMost, IsPlainFiring};
+ghost use Rattle.id_element.specs.Firings.{Enters, IsBound, IsFiring, IsMet, IsMost, IsPlainFiring};
 ghost use Rattle.id_element.specs.declared.step.PlainOperands.TheVariants as operands;
 ghost use Rattle.id_element.specs.Firings.{firing_of, most_sent, operands_in, verdict_of};
 ghost use Rattle.id_instr.specs.Ports.{two_ports};
@@ -33,7 +33,6 @@ ghost use Rattle.id_ops.specs.declared.Fired.TheVariants.{Entered};
 ghost use Rattle.id_instr.specs.Graph.{arcs_on};
 ghost use Rattle.id_ops.specs.Operators.{side_of, tag_within};
 
-use crate::sending::send_plain;
 use crate::step::{Arrival, PlainOperands, Short, TakeError};
 use id_bank::{ReadAnswer, WriteAnswer};
 use id_flight::Queue;
@@ -142,13 +141,6 @@ pub fn react_operands(instr: &Instr, next: Fresh, tag: Tag, operands: PlainOpera
     ensures fired { result.fired ≡ firing_of instr.now tag next (Fires (operands_in operands)) }
     ensures verdict { result.verdict ≡ verdict_of (Fires (operands_in operands)) result.fired }
 {
-    // Calls are many, so what enters a block is told here.
-    if let (Op::Enter { .. }, PlainOperands::One(Plain::Signal)) = (instr.op, operands) {
-        return Reaction {
-            fired: Fired::Entered(next.context),
-            verdict: Verdict::Went,
-        };
-    }
     let arrival = Arrival::Fires(match operands {
         PlainOperands::One(value) => Operands::One(value.value()),
         PlainOperands::Two(left, right) => Operands::Two(left.value(), right.value()),
@@ -175,6 +167,18 @@ pub fn fires_two(op: Op, token: &PlainToken, left: Plain, right: Plain) -> Optio
         → IsFiring op w later token.now (operands.Two left right) → IsPlainFiring op w later token.now p) }
 {
     fire_two(op, left, right)
+}
+
+/// The block that the operator enters and the instruction to which that replies, where a plain token is a signal at an
+/// operator that enters one. Takes no memory.
+#[inline(always)]
+pub fn enters(op: Op, token: &PlainToken) -> Option<(u32, u32)>
+    ensures { IfSome result (λ b. Enters op token.now b.0 b.1) }
+{
+    match (op, token.value) {
+        (Op::Enter { block, reply }, Plain::Signal) => Some((block, reply)),
+        _ => None,
+    }
 }
 
 /// Offers a plain token at an operator of two ports to what waits, in short where that is in reach. After an error
@@ -378,92 +382,6 @@ pub fn send(instr: &Instr, tag: Tag, fired: &Fired, envelope: Envelope, outputs:
             outputs.push_back_reserved(message(envelope, 0, write));
         }
         Fired::Failed(_) | Fired::Nothing => {}
-    }
-}
-
-/// Appends the outputs of a firing on a plain token, for which there is room: each is like this one. Takes no memory.
-pub fn send_like(instr: &Instr, like: &PlainToken, fired: &Fired, outputs: &mut Queue)
-    requires room { most_sent instr.now ≤ outputs.old.room }
-    requires few { most_sent instr.now ≤ 256 }
-    requires second { HasSecond (Some instr.now.op) }
-    ensures { outputs.new.messages ≡ outputs.old.messages
-        ++ numbered like.now.sender like.now.position like.now.stamp 0
-        (sent (Some instr.now.op) (arcs_on (side_of fired.now) instr.now) (tag_in like.now) fired.now) }
-{
-    match *fired {
-        Fired::Entered(context) => send_entered(instr, like, context, outputs),
-        _ => send(instr, like.tag(), fired, envelope_of(like), outputs),
-    }
-}
-
-/// Appends the outputs of a firing on a plain token that entered a context, for which there is room.
-fn send_entered(instr: &Instr, like: &PlainToken, context: Context, outputs: &mut Queue)
-    requires room { most_sent instr.now ≤ outputs.old.room }
-    requires few { most_sent instr.now ≤ 256 }
-    requires second { HasSecond (Some instr.now.op) }
-    ensures { outputs.new.messages ≡ outputs.old.messages
-        ++ numbered like.now.sender like.now.position like.now.stamp 0
-        (sent (Some instr.now.op) (arcs_on (side_of (Entered context)) instr.now) (tag_in like.now) (Entered context)) }
-{
-    let name = name_of(context.element, context.serial);
-    let own = name_of(u32::from(like.element), u64::from(like.serial));
-    match (instr.op, name, own) {
-        (Op::Enter { block, reply }, Some(name), Some(own)) => {
-            let dests = instr.dests.as_slice();
-            let value = Plain::Context(name);
-            send_plain(dests, &PlainToken { value, ..*like }, outputs);
-            let number = dests.len();
-            let first = plain_within(like, name, block, Plain::Signal, number);
-            outputs.push_plain_reserved(&first);
-            let caller = Plain::Continuation(own, like.iteration, reply);
-            let second = plain_within(like, name, block + 1, caller, number + 1);
-            outputs.push_plain_reserved(&second);
-        }
-        _ => send(
-            instr,
-            like.tag(),
-            &Fired::Entered(context),
-            envelope_of(like),
-            outputs,
-        ),
-    }
-}
-
-/// A plain token for port 0 of an instruction in the context of this name, with this value and this number, and else
-/// like this one.
-fn plain_within(like: &PlainToken, name: u32, instr: u32, value: Plain, number: usize) -> PlainToken
-    requires { number < 256 }
-    ensures { message_of result ≡ record {
-      payload = Token (tag_within (context_of name) instr) Zero (whole value);
-      sender = Element like.now.sender;
-      position = like.now.position;
-      output = number;
-      stamp = like.now.stamp;
-    } }
-{
-    let output = number as u8;
-    PlainToken {
-        value,
-        serial: serial_of(name),
-        iteration: 0,
-        instr,
-        element: element_of(name),
-        port: Port::Zero,
-        output,
-        ..*like
-    }
-}
-
-/// What messages like this one have in common.
-fn envelope_of(like: &PlainToken) -> Envelope
-    ensures number { result.number ≡ like.now.sender }
-    ensures position { result.position ≡ like.now.position }
-    ensures stamp { result.stamp ≡ like.now.stamp }
-{
-    Envelope {
-        number: u32::from(like.sender),
-        position: like.position as usize,
-        stamp: u64::from(like.stamp),
     }
 }
 

@@ -1,11 +1,13 @@
 //! What is sent for a plain token (docs/MACHINE.md, "Element step"): under its tag, where the last of it takes the
 //! token's place, or to the end of a list.
 
-ghost use Rattle.std.specs.Prelude.{◌≡◌, ◌≤◌, ◌<◌, ◌+◌, ◌++◌, ◌∷◌, [], length, map};
+ghost use Rattle.std.specs.Prelude.{◌≡◌, ◌≤◌, ◌<◌, ◌+◌, ◌^◌, ◌++◌, ◌∷◌, [], length, map};
 ghost use Rattle.id_record.specs.Sends.{numbered, token_to};
 ghost use Rattle.id_tag.specs.declared.Sender.TheVariants.{Element};
 ghost use Rattle.id_tag.specs.declared.Payload.TheVariants.{Token};
-ghost use Rattle.id_tag.specs.Plains.{message_of, tag_in, whole};
+ghost use Rattle.id_tag.specs.Plains.{context_of, message_of, tag_in, whole};
+ghost use Rattle.id_tag.specs.declared.Value.TheVariants.{Signal};
+ghost use Rattle.id_ops.specs.Operators.{tag_within};
 ghost use Rattle.id_instr.specs.declared.dests.Port.TheVariants.{Zero};
 ghost use Rattle.id_ops.specs.PlainFired.{target_tag};
 ghost use Rattle.id_element.specs.Stretches.{with_next};
@@ -14,7 +16,7 @@ use crate::near::Near;
 use id_flight::Queue;
 use id_instr::{Dest, Port};
 use id_ops::Target;
-use id_tag::{Plain, PlainToken};
+use id_tag::{Plain, PlainToken, element_of, serial_of};
 
 /// Where a message was sent: by which event, of which element, at which stamp.
 #[derive(Clone, Copy)]
@@ -168,6 +170,50 @@ fn plain_to(like: &PlainToken, dest: Dest, number: usize) -> PlainToken
         instr: dest.instr,
         port: dest.port,
         output: number as u8,
+        ..*like
+    }
+}
+
+/// Appends what starts this block in the context of this name: a signal, and behind it what goes to the next
+/// instruction, which is like this token, with numbers from this one on.
+#[inline(always)]
+pub fn send_start(like: &PlainToken, name: u32, block: u32, number: usize, outputs: &mut Queue)
+    requires room { 2 ≤ outputs.old.room }
+    requires number { number + 1 < 256 }
+    requires second { block + 1 < 2 ^ 32 }
+    ensures messages { outputs.new.messages ≡ outputs.old.messages
+        ++ numbered like.now.sender like.now.position like.now.stamp number
+        (Token (tag_within (context_of name) block) Zero Signal
+        ∷ Token (tag_within (context_of name) (block + 1)) Zero (whole like.now.value) ∷ []) }
+    ensures room { outputs.old.room ≤ outputs.new.room + 2 }
+{
+    let first = plain_within(like, name, block, Plain::Signal, number);
+    outputs.push_plain_reserved(&first);
+    let second = plain_within(like, name, block + 1, like.value, number + 1);
+    outputs.push_plain_reserved(&second);
+}
+
+/// A plain token for port 0 of an instruction in the context of this name, with this value and this number, and else
+/// like this one.
+fn plain_within(like: &PlainToken, name: u32, instr: u32, value: Plain, number: usize) -> PlainToken
+    requires { number < 256 }
+    ensures { message_of result ≡ record {
+      payload = Token (tag_within (context_of name) instr) Zero (whole value);
+      sender = Element like.now.sender;
+      position = like.now.position;
+      output = number;
+      stamp = like.now.stamp;
+    } }
+{
+    let output = number as u8;
+    PlainToken {
+        value,
+        serial: serial_of(name),
+        iteration: 0,
+        instr,
+        element: element_of(name),
+        port: Port::Zero,
+        output,
         ..*like
     }
 }

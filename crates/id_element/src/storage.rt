@@ -5,8 +5,7 @@ ghost use Rattle.std.specs.Prelude.{◌≡◌};
 
 use crate::gate::Gate;
 use crate::outcome::{
-    allocated_by, fresh_numbers, made_by, most_sent, react, react_operands, send, send_like,
-    short_of,
+    allocated_by, fresh_numbers, made_by, most_sent, react, react_operands, send, short_of,
 };
 use crate::step::{PlainOperands, Short, TakeError};
 use id_bank::Bank;
@@ -245,7 +244,7 @@ impl<'a> Storage<'a> {
 
     /// Records the event of a token at the instruction, and counts what it made. There is room for it. Takes no memory.
     #[inline(always)]
-    fn note(&mut self, instr: &Instr, message: &Message, stamp: u64, reaction: &Reaction)
+    pub fn note(&mut self, instr: &Instr, message: &Message, stamp: u64, reaction: &Reaction)
         requires room { 0 < self.old.log.room }
         requires own { slice_get self.old.log.graph.instrs (tag_of message.now.payload).instr ≡ Some instr.now }
         requires counted { self.old.contexts + 1 < 2 ^ 64 }
@@ -325,13 +324,12 @@ impl<'a> Storage<'a> {
     {
         let next = fresh_numbers(self.log.element(), self.contexts, self.structures);
         let reaction = react_operands(instr, next, token.tag(), operands);
-        let sample = PlainToken {
-            position: self.log.len() as u32,
-            stamp,
-            sender: self.log.element() as u8,
-            ..*token
+        let envelope = Envelope {
+            number: self.log.element(),
+            position: self.log.len(),
+            stamp: u64::from(stamp),
         };
-        send_like(instr, &sample, &reaction.fired, outputs);
+        send(instr, token.tag(), &reaction.fired, envelope, outputs);
         reaction
     }
 }

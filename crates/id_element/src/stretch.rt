@@ -14,16 +14,16 @@ ghost use Rattle.id_element.specs.Takes.{IsForAt};
 
 use crate::gate::Gate;
 use crate::near::Near;
-use crate::outcome::{by_port, fires_one, fires_two, offer, operand_of};
-use crate::sending::{Mark, like, put_near, send_plain, send_to};
+use crate::outcome::{by_port, enters, fires_one, fires_two, fresh_numbers, offer, operand_of};
+use crate::sending::{Mark, like, put_near, send_plain, send_start, send_to};
 use crate::step::{PlainOperands, Short, TakeError, Taken};
 use crate::storage::Storage;
 use id_flight::Queue;
 use id_instr::{Dest, Graph, Instr, Op};
 use id_match::Met;
-use id_ops::{PlainFired, Target};
-use id_record::PlainFiring;
-use id_tag::{Plain, PlainCell, PlainToken};
+use id_ops::{Fired, PlainFired, Target};
+use id_record::{PlainFiring, Reaction, Verdict};
+use id_tag::{Plain, PlainCell, PlainToken, name_of};
 
 /// How a stretch ended.
 #[derive(Clone, Copy)]
@@ -178,11 +178,11 @@ impl<'a> Storage<'a> {
     ghost use Rattle.id_element.specs.declared.step.Taken.TheVariants as taken;
     ghost use Rattle.id_element.specs.declared.step.PlainOperands.TheVariants as operands;
     ghost use Rattle.id_element.specs.Storage.{IsShort, element_at};
-    ghost use Rattle.id_element.specs.Firings.{most_sent};
+    ghost use Rattle.id_element.specs.Firings.{Enters, most_sent};
     ghost use Rattle.id_element.specs.Handled.{IsRecorded, token_outcome};
     ghost use Rattle.id_element.specs.Steps.{allocated_by};
-    ghost use Rattle.id_element.specs.Stretches.{Became, Fired, FiredFull, HasFired, HasMet, IsReady, MayGoOn, MayMake};
-    ghost use Rattle.id_element.specs.Stretches.{PutsTo};
+    ghost use Rattle.id_element.specs.Stretches.{Became, HasFired, HasMet, IsReady, MayGoOn, MayMake};
+    ghost use Rattle.id_element.specs.Stretches.{PutsTo, Shoots, ShootsFull};
 
     /// Handles the token at hand as `take_near` does, and where nothing takes its place, the last of what is near does.
     #[inline(always)]
@@ -314,6 +314,12 @@ impl<'a> Storage<'a> {
                     return self.ask(instr, token, stamp, cell, reply, near, list, gate);
                 }
             }
+            // A block is entered, in a context of its own.
+            Op::Enter { .. } => {
+                if let Some((block, reply)) = enters(op, token) {
+                    return self.enter(instr, token, stamp, block, reply, near, list, gate);
+                }
+            }
             _ => {}
         }
         let operands = operand_of(op, token);
@@ -369,7 +375,7 @@ impl<'a> Storage<'a> {
         requires port { two_ports instr.now.op ≡ true }
         requires came { HasMet self.old instr.now token.old (operands.Two left right) }
 
-        ensures comes { FiredFull result (operands.Two left right) self.old self.new instr.now near.old.messages near.new.messages
+        ensures comes { ShootsFull result (operands.Two left right) self.old self.new instr.now near.old.messages near.new.messages
             list.old.messages list.new.messages token.old token.new }
         ensures room { length near.new.messages ≤ list.new.room }
         ensures spare { result ≢ taken.Failed → result ≢ taken.Went → length near.new.messages < list.new.room }
@@ -437,7 +443,7 @@ impl<'a> Storage<'a> {
         requires ready { IsReady self.old instr.now token.old stamp near.old list.old }
         requires came { HasFired self.old instr.now token.old fired.Nothing }
 
-        ensures comes { Fired result fired.Nothing self.old self.new instr.now near.old.messages near.new.messages
+        ensures comes { Shoots result fired.Nothing self.old self.new instr.now near.old.messages near.new.messages
             list.old.messages list.new.messages token.old token.new }
         ensures room { length near.new.messages ≤ list.new.room }
         ensures spare { result ≢ taken.Failed → result ≢ taken.Went → length near.new.messages < list.new.room }
@@ -464,7 +470,7 @@ impl<'a> Storage<'a> {
         requires came { HasFired self.old instr.now token.old fired }
         requires puts { PutsTo fired instr.now dests.now value }
 
-        ensures comes { Fired result fired self.old self.new instr.now near.old.messages near.new.messages
+        ensures comes { Shoots result fired self.old self.new instr.now near.old.messages near.new.messages
             list.old.messages list.new.messages token.old token.new }
         ensures room { length near.new.messages ≤ list.new.room }
         ensures spare { result ≢ taken.Failed → result ≢ taken.Went → length near.new.messages < list.new.room }
@@ -493,7 +499,7 @@ impl<'a> Storage<'a> {
         requires ready { IsReady self.old instr.now token.old stamp near.old list.old }
         requires came { HasFired self.old instr.now token.old (fired.Moved iteration value) }
 
-        ensures comes { Fired result (fired.Moved iteration value) self.old self.new instr.now near.old.messages near.new.messages
+        ensures comes { Shoots result (fired.Moved iteration value) self.old self.new instr.now near.old.messages near.new.messages
             list.old.messages list.new.messages token.old token.new }
         ensures room { length near.new.messages ≤ list.new.room }
         ensures spare { result ≢ taken.Failed → result ≢ taken.Went → length near.new.messages < list.new.room }
@@ -529,7 +535,7 @@ impl<'a> Storage<'a> {
         requires ready { IsReady self.old instr.now token.old stamp near.old list.old }
         requires came { HasFired self.old instr.now token.old (fired.Sent target value) }
 
-        ensures comes { Fired result (fired.Sent target value) self.old self.new instr.now near.old.messages near.new.messages
+        ensures comes { Shoots result (fired.Sent target value) self.old self.new instr.now near.old.messages near.new.messages
             list.old.messages list.new.messages token.old token.new }
         ensures room { length near.new.messages ≤ list.new.room }
         ensures spare { result ≢ taken.Failed → result ≢ taken.Went → length near.new.messages < list.new.room }
@@ -555,7 +561,7 @@ impl<'a> Storage<'a> {
         requires ready { IsReady self.old instr.now token.old stamp near.old list.old }
         requires came { HasFired self.old instr.now token.old (fired.Asked cell reply) }
 
-        ensures comes { Fired result (fired.Asked cell reply) self.old self.new instr.now near.old.messages near.new.messages
+        ensures comes { Shoots result (fired.Asked cell reply) self.old self.new instr.now near.old.messages near.new.messages
             list.old.messages list.new.messages token.old token.new }
         ensures room { length near.new.messages ≤ list.new.room }
         ensures spare { result ≢ taken.Failed → result ≢ taken.Went → length near.new.messages < list.new.room }
@@ -585,7 +591,7 @@ impl<'a> Storage<'a> {
         requires ready { IsReady self.old instr.now token.old stamp near.old list.old }
         requires came { HasFired self.old instr.now token.old (fired.Stored cell value) }
 
-        ensures comes { Fired result (fired.Stored cell value) self.old self.new instr.now near.old.messages near.new.messages
+        ensures comes { Shoots result (fired.Stored cell value) self.old self.new instr.now near.old.messages near.new.messages
             list.old.messages list.new.messages token.old token.new }
         ensures room { length near.new.messages ≤ list.new.room }
         ensures spare { result ≢ taken.Failed → result ≢ taken.Went → length near.new.messages < list.new.room }
@@ -593,6 +599,58 @@ impl<'a> Storage<'a> {
         let mark = self.note_fired(instr, token, stamp, PlainFired::Stored(cell, value), gate);
         list.push_write_reserved(&like(token, token.value, mark), cell, value);
         Taken::Went
+    }
+
+    /// The same of a signal that enters this block, which is to reply to this instruction, at an operator of one port:
+    /// in full where the names of the contexts are not small.
+    #[inline(never)]
+    fn enter<G: Gate>(
+        &mut self,
+        instr: &Instr,
+        token: &mut PlainToken,
+        stamp: u32,
+        block: u32,
+        reply: u32,
+        near: &mut Near,
+        list: &mut Queue,
+        gate: &G,
+    ) -> Taken
+        requires ready { IsReady self.old instr.now token.old stamp near.old list.old }
+        requires makes { MayMake self.old }
+        requires port { two_ports instr.now.op ≡ false }
+        requires enters { Enters instr.now.op token.old block reply }
+
+        ensures became { Became result (element_at self.old) (element_at self.new) near.old.messages near.new.messages
+            list.old.messages list.new.messages token.old token.new }
+        ensures room { length near.new.messages ≤ list.new.room }
+        ensures spare { result ≢ taken.Failed → result ≢ taken.Went → length near.new.messages < list.new.room }
+    {
+        let context = fresh_numbers(self.log.element(), self.contexts, self.structures).context;
+        let name = name_of(context.element, context.serial);
+        let own = name_of(u32::from(token.element), u64::from(token.serial));
+        let (Some(name), Some(own)) = (name, own) else {
+            let operands = operand_of(instr.op, token);
+            return self.take_full(instr, token, stamp, operands, near, list, gate);
+        };
+        let mark = Mark {
+            position: self.log.len() as u32,
+            stamp,
+            sender: self.log.element() as u8,
+        };
+        self.hold(gate);
+        let reaction = Reaction {
+            fired: Fired::Entered(context),
+            verdict: Verdict::Went,
+        };
+        self.note(instr, &token.message(), u64::from(stamp), &reaction);
+        let dests = instr.dests.as_slice();
+        let caller = Plain::Continuation(own, token.iteration, reply);
+        send_start(&like(token, caller, mark), name, block, dests.len(), list);
+        if put_near(dests, Plain::Context(name), mark, token, near) {
+            Taken::Next
+        } else {
+            Taken::Went
+        }
     }
 
     /// Lets the gate hold what was fired in small numbers, records the event, and says where it sends from. There is
@@ -649,7 +707,7 @@ impl<'a> Storage<'a> {
         requires makes { MayMake self.old }
         requires came { HasMet self.old instr.now token.now operands }
 
-        ensures comes { FiredFull result operands self.old self.new instr.now near.old.messages near.new.messages
+        ensures comes { ShootsFull result operands self.old self.new instr.now near.old.messages near.new.messages
             list.old.messages list.new.messages token.now token.now }
         ensures room { length near.new.messages ≤ list.new.room }
         ensures spare { result ≢ taken.Failed → result ≢ taken.Went → length near.new.messages < list.new.room }

@@ -4,7 +4,7 @@ use Rattle.std.specs.Prelude.{Some, option_map}
 use Rattle.id_record.proofs.SendsLemmas.{HasSecond-valid}
 use Rattle.id_element.proofs.storage.Storage.fire_full.Goals as goal
 
-pub send_like-requires-clause-second : goal.send_like-requires-clause-second
-send_like-requires-clause-second c =
+pub send-requires-clause-second : goal.send-requires-clause-second
+send-requires-clause-second c =
     HasSecond-valid c.args.self.now.log.graph c.args.token.now.instr (Some c.args.instr.now.op) c.requires.graph c.requires.valid
     (ap (option_map (λ i. i.op)) c.requires.own)
