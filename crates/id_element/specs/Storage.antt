@@ -1,5 +1,7 @@
 -- The state of an element, as its storage holds it, and which events are small.
-use Rattle.std.specs.Prelude.{◌-◌, ◌<◌, ◌^◌, ◌≤◌, ℕ, List, Option, length}
+use Rattle.std.specs.Prelude.{◌≡◌, ◌+◌, ◌-◌, ◌<◌, ◌^◌, ◌≤◌, ℕ, List, Option, Some, length, slice_get}
+use Rattle.id_instr.specs.Graph.{IsGraph}
+use Rattle.id_valid.specs.Validator.{IsValid}
 use Rattle.id_instr.specs.declared.instr.Instr.{Instr}
 use Rattle.id_tag.specs.declared.plain.PlainToken.{PlainToken}
 use Rattle.id_tag.specs.Plains.{tag_in}
@@ -66,3 +68,19 @@ pub record IsShort (d : Storage) (most : ℕ) (t : PlainToken) (stamp : ℕ) : T
 abbrev pub fired_by : Storage → Instr → PlainToken → PlainOperands → Fired
 fired_by d i t o =
     fired i.op (tag_in t) (operands_in o) (fresh_numbers d.log.element d.contexts d.structures)
+
+-- its graph is valid, and it may make one more context and one more structure
+pub record MayMake (d : Storage) : Type 0 where
+  pub graph : IsGraph d.log.graph
+  pub valid : IsValid d.log.graph
+  pub counted : d.contexts + 1 < 2 ^ 64
+  pub numbered : d.structures + 1 < 2 ^ 64
+
+-- it may record an event of the instruction of this number, for which there is room
+pub record MayRecord (d : Storage) (i : Instr) (n : ℕ) : Type 0 where
+  pub room : 0 < d.log.room
+  pub own : slice_get d.log.graph.instrs n ≡ Some i
+  pub graph : IsGraph d.log.graph
+  pub valid : IsValid d.log.graph
+  pub counted : d.contexts + 1 < 2 ^ 64
+  pub numbered : d.structures + 1 < 2 ^ 64

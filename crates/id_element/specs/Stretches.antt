@@ -1,6 +1,6 @@
 -- A stretch of an element's events: those of a message of a list and of what follows from it (docs/MACHINE.md, "Element
 -- step").
-use Rattle.std.specs.Prelude.{◌≡◌, ◌<◌, ◌≤◌, ◌+◌, ◌-◌, ◌++◌, ◌∷◌, [], ℕ, All, Bool, List, OnOk, Result, Ok, Err}
+use Rattle.std.specs.Prelude.{◌≡◌, ◌≢◌, ◌<◌, ◌≤◌, ◌+◌, ◌-◌, ◌++◌, ◌∷◌, [], ℕ, All, Bool, List, OnOk, Result, Ok, Err}
 use Rattle.std.specs.Prelude.{◌^◌, Some, true, false, length, slice_get, take}
 use Rattle.std.specs.List.{flat_map, remove, sum_by}
 use Rattle.id_instr.specs.Graph.{IsGraph, Parts, arcs_on}
@@ -127,12 +127,10 @@ pub record IsReady (d : Storage) (i : Instr) (t : PlainToken) (stamp : ℕ) (nea
   pub room_in_list : length near.messages + most_sent i < list.room
   pub room_near : most_sent i ≤ near.room
 
--- its graph is valid, and it may make one more context and one more structure
-pub record MayMake (d : Storage) : Type 0 where
-  pub graph : IsGraph d.log.graph
-  pub valid : IsValid d.log.graph
-  pub counted : d.contexts + 1 < 2 ^ 64
-  pub numbered : d.structures + 1 < 2 ^ 64
+-- after a step there is room in the list for what is near, and where it goes on, for one more
+abbrev pub LeavesRoom : Taken → QueueView → QueueView → Type 0
+LeavesRoom a near list = (length near.messages ≤ list.room)
+    × (a ≢ taken.Failed → a ≢ taken.Went → length near.messages < list.room)
 
 -- what is near with what stands in the token's place, if something does
 abbrev pub with_next : Bool → List Message → PlainToken → List Message

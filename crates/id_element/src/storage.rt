@@ -47,7 +47,7 @@ impl<'a> Storage<'a> {
     ghost use Rattle.id_record.specs.Events.{full_step, tag_of};
     ghost use Rattle.id_record.specs.Sends.{sent};
     ghost use Rattle.id_element.specs.declared.step.TakeError.TheVariants.{StampEnd};
-    ghost use Rattle.id_element.specs.Storage.{IsShort, IsToken, Treats, TreatsFrom, element_at, fired_by, state_of};
+    ghost use Rattle.id_element.specs.Storage.{IsShort, IsToken, MayRecord, Treats, TreatsFrom, element_at, fired_by, state_of};
     ghost use Rattle.id_element.specs.Firings.{IsBound, most_sent};
     ghost use Rattle.id_element.specs.Fits.{Fits};
     ghost use Rattle.id_element.specs.Handled.{IsRecorded, IsSent, token_outcome, token_sends};
@@ -217,14 +217,9 @@ impl<'a> Storage<'a> {
         reaction: &Reaction,
         outputs: &mut Queue,
     ) -> Verdict
-        requires room { 0 < self.old.log.room }
-        requires own { slice_get self.old.log.graph.instrs (tag_of message.now.payload).instr ≡ Some instr.now }
+        requires ready { MayRecord self.old instr.now (tag_of message.now.payload).instr }
         requires tag { tag ≡ tag_of message.now.payload }
         requires room_in_outputs { most_sent instr.now ≤ outputs.old.room }
-        requires graph { IsGraph self.old.log.graph }
-        requires valid { IsValid self.old.log.graph }
-        requires counted { self.old.contexts + 1 < 2 ^ 64 }
-        requires numbered { self.old.structures + 1 < 2 ^ 64 }
 
         ensures verdict { result ≡ reaction.now.verdict }
         ensures recorded { IsRecorded self.old self.new message.now stamp (token_outcome self.old instr.now
@@ -245,10 +240,7 @@ impl<'a> Storage<'a> {
     /// Records the event of a token at the instruction, and counts what it made. There is room for it. Takes no memory.
     #[inline(always)]
     pub fn note(&mut self, instr: &Instr, message: &Message, stamp: u64, reaction: &Reaction)
-        requires room { 0 < self.old.log.room }
-        requires own { slice_get self.old.log.graph.instrs (tag_of message.now.payload).instr ≡ Some instr.now }
-        requires counted { self.old.contexts + 1 < 2 ^ 64 }
-        requires numbered { self.old.structures + 1 < 2 ^ 64 }
+        requires ready { MayRecord self.old instr.now (tag_of message.now.payload).instr }
 
         ensures { IsRecorded self.old self.new message.now stamp (token_outcome self.old instr.now
             (tag_of message.now.payload) reaction.now.fired
@@ -276,14 +268,9 @@ impl<'a> Storage<'a> {
         operands: PlainOperands,
         outputs: &mut Queue,
     ) -> Short
-        requires room { 0 < self.old.log.room }
-        requires own { slice_get self.old.log.graph.instrs token.now.instr ≡ Some instr.now }
+        requires ready { MayRecord self.old instr.now token.now.instr }
         requires short { IsShort self.old (most_sent instr.now) token.now stamp }
         requires room_in_outputs { most_sent instr.now ≤ outputs.old.room }
-        requires graph { IsGraph self.old.log.graph }
-        requires valid { IsValid self.old.log.graph }
-        requires counted { self.old.contexts + 1 < 2 ^ 64 }
-        requires numbered { self.old.structures + 1 < 2 ^ 64 }
 
         ensures step { short_step (tag_in token.now) result ≡ Some (full_step
             (message_of token.now).payload (fired_verdict (fired_by self.old instr.now token.now operands))) }
@@ -309,13 +296,9 @@ impl<'a> Storage<'a> {
         operands: PlainOperands,
         outputs: &mut Queue,
     ) -> Reaction
-        requires own { slice_get self.now.log.graph.instrs token.now.instr ≡ Some instr.now }
+        requires ready { MayRecord self.now instr.now token.now.instr }
         requires short { IsShort self.now (most_sent instr.now) token.now stamp }
         requires room_in_outputs { most_sent instr.now ≤ outputs.old.room }
-        requires graph { IsGraph self.now.log.graph }
-        requires valid { IsValid self.now.log.graph }
-        requires counted { self.now.contexts + 1 < 2 ^ 64 }
-        requires numbered { self.now.structures + 1 < 2 ^ 64 }
 
         ensures fired { result.fired ≡ fired_by self.now instr.now token.now operands }
         ensures verdict { result.verdict ≡ fired_verdict (fired_by self.now instr.now token.now operands) }

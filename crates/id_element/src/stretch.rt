@@ -177,11 +177,11 @@ impl<'a> Storage<'a> {
     ghost use Rattle.id_record.specs.declared.step.Step.TheVariants.{Went};
     ghost use Rattle.id_element.specs.declared.step.Taken.TheVariants as taken;
     ghost use Rattle.id_element.specs.declared.step.PlainOperands.TheVariants as operands;
-    ghost use Rattle.id_element.specs.Storage.{IsShort, element_at};
+    ghost use Rattle.id_element.specs.Storage.{IsShort, MayMake, element_at};
     ghost use Rattle.id_element.specs.Firings.{Enters, most_sent};
     ghost use Rattle.id_element.specs.Handled.{IsRecorded, token_outcome};
     ghost use Rattle.id_element.specs.Steps.{allocated_by};
-    ghost use Rattle.id_element.specs.Stretches.{Became, HasFired, HasMet, IsReady, MayGoOn, MayMake};
+    ghost use Rattle.id_element.specs.Stretches.{Became, HasFired, HasMet, IsReady, LeavesRoom, MayGoOn};
     ghost use Rattle.id_element.specs.Stretches.{PutsTo, Shoots, ShootsFull};
 
     /// Handles the token at hand as `take_near` does, and where nothing takes its place, the last of what is near does.
@@ -200,8 +200,7 @@ impl<'a> Storage<'a> {
 
         ensures became { Became result (element_at self.old) (element_at self.new) near.old.messages near.new.messages
             list.old.messages list.new.messages token.old token.new }
-        ensures room { length near.new.messages ≤ list.new.room }
-        ensures spare { result ≢ taken.Failed → result ≢ taken.Went → length near.new.messages < list.new.room }
+        ensures left { LeavesRoom result near.new list.new }
         ensures empty { result ≡ taken.Went → near.new.messages ≡ [] }
     {
         let taken = self.take_near(graph, token, most, near, list, gate);
@@ -231,8 +230,7 @@ impl<'a> Storage<'a> {
 
         ensures became { Became result (element_at self.old) (element_at self.new) near.old.messages near.new.messages
             list.old.messages list.new.messages token.old token.new }
-        ensures room { length near.new.messages ≤ list.new.room }
-        ensures spare { result ≢ taken.Failed → result ≢ taken.Went → length near.new.messages < list.new.room }
+        ensures left { LeavesRoom result near.new list.new }
     {
         let last = self.stamp.max(u64::from(token.stamp));
         if !self.is_short_after(graph, most, token, last) {
@@ -262,8 +260,7 @@ impl<'a> Storage<'a> {
 
         ensures became { Became result (element_at self.old) (element_at self.new) near.old.messages near.new.messages
             list.old.messages list.new.messages token.old token.new }
-        ensures room { length near.new.messages ≤ list.new.room }
-        ensures spare { result ≢ taken.Failed → result ≢ taken.Went → length near.new.messages < list.new.room }
+        ensures left { LeavesRoom result near.new list.new }
     {
         if instr.op.two_ports() {
             self.take_second(instr, token, stamp, near, list, gate)
@@ -289,8 +286,7 @@ impl<'a> Storage<'a> {
 
         ensures became { Became result (element_at self.old) (element_at self.new) near.old.messages near.new.messages
             list.old.messages list.new.messages token.old token.new }
-        ensures room { length near.new.messages ≤ list.new.room }
-        ensures spare { result ≢ taken.Failed → result ≢ taken.Went → length near.new.messages < list.new.room }
+        ensures left { LeavesRoom result near.new list.new }
     {
         let op = instr.op;
         match op {
@@ -343,8 +339,7 @@ impl<'a> Storage<'a> {
 
         ensures became { Became result (element_at self.old) (element_at self.new) near.old.messages near.new.messages
             list.old.messages list.new.messages token.old token.new }
-        ensures room { length near.new.messages ≤ list.new.room }
-        ensures spare { result ≢ taken.Failed → result ≢ taken.Went → length near.new.messages < list.new.room }
+        ensures left { LeavesRoom result near.new list.new }
     {
         match offer(&mut self.waiting, instr.op, token) {
             Ok(Met::Kept) => self.keep(instr, token, stamp, near, list, gate),
@@ -377,8 +372,7 @@ impl<'a> Storage<'a> {
 
         ensures comes { ShootsFull result (operands.Two left right) self.old self.new instr.now near.old.messages near.new.messages
             list.old.messages list.new.messages token.old token.new }
-        ensures room { length near.new.messages ≤ list.new.room }
-        ensures spare { result ≢ taken.Failed → result ≢ taken.Went → length near.new.messages < list.new.room }
+        ensures left { LeavesRoom result near.new list.new }
     {
         let op = instr.op;
         match op {
@@ -445,8 +439,7 @@ impl<'a> Storage<'a> {
 
         ensures comes { Shoots result fired.Nothing self.old self.new instr.now near.old.messages near.new.messages
             list.old.messages list.new.messages token.old token.new }
-        ensures room { length near.new.messages ≤ list.new.room }
-        ensures spare { result ≢ taken.Failed → result ≢ taken.Went → length near.new.messages < list.new.room }
+        ensures left { LeavesRoom result near.new list.new }
     {
         self.note_fired(instr, token, stamp, PlainFired::Nothing, gate);
         Taken::Went
@@ -472,8 +465,7 @@ impl<'a> Storage<'a> {
 
         ensures comes { Shoots result fired self.old self.new instr.now near.old.messages near.new.messages
             list.old.messages list.new.messages token.old token.new }
-        ensures room { length near.new.messages ≤ list.new.room }
-        ensures spare { result ≢ taken.Failed → result ≢ taken.Went → length near.new.messages < list.new.room }
+        ensures left { LeavesRoom result near.new list.new }
     {
         let mark = self.note_fired(instr, token, stamp, fired, gate);
         if put_near(dests, value, mark, token, near) {
@@ -501,8 +493,7 @@ impl<'a> Storage<'a> {
 
         ensures comes { Shoots result (fired.Moved iteration value) self.old self.new instr.now near.old.messages near.new.messages
             list.old.messages list.new.messages token.old token.new }
-        ensures room { length near.new.messages ≤ list.new.room }
-        ensures spare { result ≢ taken.Failed → result ≢ taken.Went → length near.new.messages < list.new.room }
+        ensures left { LeavesRoom result near.new list.new }
     {
         let mark = self.note_fired(
             instr,
@@ -537,8 +528,7 @@ impl<'a> Storage<'a> {
 
         ensures comes { Shoots result (fired.Sent target value) self.old self.new instr.now near.old.messages near.new.messages
             list.old.messages list.new.messages token.old token.new }
-        ensures room { length near.new.messages ≤ list.new.room }
-        ensures spare { result ≢ taken.Failed → result ≢ taken.Went → length near.new.messages < list.new.room }
+        ensures left { LeavesRoom result near.new list.new }
     {
         let mark = self.note_fired(instr, token, stamp, PlainFired::Sent(target, value), gate);
         send_to(target, &like(token, value, mark), list);
@@ -563,8 +553,7 @@ impl<'a> Storage<'a> {
 
         ensures comes { Shoots result (fired.Asked cell reply) self.old self.new instr.now near.old.messages near.new.messages
             list.old.messages list.new.messages token.old token.new }
-        ensures room { length near.new.messages ≤ list.new.room }
-        ensures spare { result ≢ taken.Failed → result ≢ taken.Went → length near.new.messages < list.new.room }
+        ensures left { LeavesRoom result near.new list.new }
     {
         let mark = self.note_fired(instr, token, stamp, PlainFired::Asked(cell, reply), gate);
         let asks = PlainToken {
@@ -593,8 +582,7 @@ impl<'a> Storage<'a> {
 
         ensures comes { Shoots result (fired.Stored cell value) self.old self.new instr.now near.old.messages near.new.messages
             list.old.messages list.new.messages token.old token.new }
-        ensures room { length near.new.messages ≤ list.new.room }
-        ensures spare { result ≢ taken.Failed → result ≢ taken.Went → length near.new.messages < list.new.room }
+        ensures left { LeavesRoom result near.new list.new }
     {
         let mark = self.note_fired(instr, token, stamp, PlainFired::Stored(cell, value), gate);
         list.push_write_reserved(&like(token, token.value, mark), cell, value);
@@ -622,8 +610,7 @@ impl<'a> Storage<'a> {
 
         ensures became { Became result (element_at self.old) (element_at self.new) near.old.messages near.new.messages
             list.old.messages list.new.messages token.old token.new }
-        ensures room { length near.new.messages ≤ list.new.room }
-        ensures spare { result ≢ taken.Failed → result ≢ taken.Went → length near.new.messages < list.new.room }
+        ensures left { LeavesRoom result near.new list.new }
     {
         let context = fresh_numbers(self.log.element(), self.contexts, self.structures).context;
         let name = name_of(context.element, context.serial);
@@ -709,8 +696,7 @@ impl<'a> Storage<'a> {
 
         ensures comes { ShootsFull result operands self.old self.new instr.now near.old.messages near.new.messages
             list.old.messages list.new.messages token.now token.now }
-        ensures room { length near.new.messages ≤ list.new.room }
-        ensures spare { result ≢ taken.Failed → result ≢ taken.Went → length near.new.messages < list.new.room }
+        ensures left { LeavesRoom result near.new list.new }
     {
         self.hold(gate);
         near.give_back(list);
