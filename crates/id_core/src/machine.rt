@@ -13,7 +13,7 @@ ghost use Rattle.id_core.specs.Machines.{input_messages, start_message, start_me
 ghost use Rattle.id_observe.specs.Observed.{main_tag};
 
 use crate::counts::Count;
-use id_element::{Element, Gate, Handling, TakeError};
+use id_element::{Element, Open, TakeError};
 use id_flight::Queue;
 use id_instr::Port;
 use id_observe::{
@@ -58,15 +58,6 @@ impl<T: Drop> From<AllocFailed<T>> for MachineError {
     fn from(_error: AllocFailed<T>) -> MachineError {
         MachineError::Memory
     }
-}
-
-/// The gate of a delivery: it holds nothing. It is a type of its own, so that what a worker calls for each message has
-/// no other caller in a program, and stands where it is called.
-struct Delivery;
-
-impl Gate for Delivery {
-    #[inline(always)]
-    fn hold(&self, _at: &Handling) {}
 }
 
 /// A machine: 1 to 64 elements of one graph, each of which keeps so much of its events, and the messages in flight, in
@@ -225,7 +216,7 @@ impl<'a> Machine<'a> {
     {
         let message = self.flight.message(position);
         let number = route(&message, self.elements.len() as u32) as usize;
-        self.elements[number].take_at(&mut self.flight, position, &Delivery)
+        self.elements[number].take_at(&mut self.flight, position, &Open)
     }
 
     /// Gives back the memory of what is in flight and of what waits at each element, where nothing is or does: it shows
