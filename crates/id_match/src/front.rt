@@ -14,7 +14,6 @@ ghost use Rattle.std.specs.Map.{lookup};
 ghost use Rattle.id_tag.specs.Plains.{tag_in, whole};
 ghost use Rattle.id_tag.specs.Tags.{same_tag};
 ghost use Rattle.id_match.specs.declared.meeting.Half.{Half};
-ghost use Rattle.id_match.specs.Halves.{answer_at, half_after};
 ghost use Rattle.id_match.specs.Meetings.{told};
 ghost use Rattle.id_match.specs.Waiting.{entry_at};
 ghost use Rattle.id_match.specs.Front.{IsPlaced, Meets, Puts, empty_pair, front_entries, front_half, held};
