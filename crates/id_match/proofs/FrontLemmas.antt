@@ -25,7 +25,7 @@ use Rattle.id_match.specs.declared.front.Slot.{Slot}
 use Rattle.id_match.specs.declared.front.Behind.{Behind}
 use Rattle.id_match.specs.declared.front.Behind.TheVariants.{Nothing, One, Many}
 use Rattle.id_match.specs.Front.{mark_at, slot_half, slot_tag, slot_entry, held, pair_half, pair_entries, empty_pair}
-use Rattle.id_match.specs.Front.{place_of, place, front_entries, front_half, IsPlaced, IsSingle, IsKept, Puts, PutsIn}
+use Rattle.id_match.specs.Front.{place_in, place, front_entries, front_half, IsPlaced, IsSingle, IsKept, Puts, PutsIn}
 use Rattle.id_match.specs.Front.{Meets, MeetsIn, MarksSame, HoldsSame, IsMarked, all_entries}
 use Rattle.id_match.specs.Halves.{answer_at, half_after}
 use Rattle.id_match.specs.Ports.{same_port}
@@ -226,7 +226,7 @@ pub apart_places : (t u : Tag) (n : ℕ) → place u n ≢ place t n → same_ta
 apart_places t u n away = apart_by_place t u n away (same_tag t u) refl
 
 pub place_below : (t : Tag) (n : ℕ) → 0 < n → place t n < n
-unfolding place_of
+unfolding place_in
 place_below t n some = omega (arith, and_le_r)
 
 module _ (f : List Pair) (t : Tag) (q : Pair) (o : Option Half) (some : 0 < length f)

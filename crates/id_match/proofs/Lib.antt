@@ -1,6 +1,7 @@
 pub mod BehindLemmas
 pub mod CallLemmas
 pub mod FrontLemmas
+pub mod SlotLemmas
 pub mod WaitingLemmas
 pub mod KeyedLemmas
 pub mod EntriesLemmas

@@ -2,11 +2,11 @@
 use Rattle.std.specs.Prelude.{◌≡◌, ◌≢◌, ℕ, ◌+◌, ◌-◌, ◌*◌, ◌/◌, ◌%◌, ◌^◌, ◌<◌}
 use Rattle.std.specs.Prelude.{if◌then◌else◌, false}
 use Rattle.std.specs.Prelude.{Option, Some, None, IsSome, List, [], ◌∷◌, ◌++◌, length, bit_and}
-use Rattle.std.specs.Prelude.{slice_index_or, true}
+use Rattle.std.specs.Prelude.{slice_index_or, true, ◌==◌}
 use Rattle.std.specs.Option.{option_map, option_or}
 use Rattle.std.specs.List.{filter_map, flat_map}
 use Rattle.std.specs.Map.{lookup}
-use Rattle.id_instr.specs.declared.dests.Port.TheVariants.{Zero}
+use Rattle.id_instr.specs.declared.dests.Port.TheVariants as port
 use Rattle.id_tag.specs.declared.Tag.{Tag}
 use Rattle.id_tag.specs.declared.Value.{Value}
 use Rattle.id_tag.specs.declared.plain.Plain.TheVariants.{Signal}
@@ -24,16 +24,24 @@ use Rattle.id_match.specs.Halves.{answer_at, half_after}
 
 -- the value that a slot keeps, if it keeps one
 abbrev pub slot_value : Slot → Option Value
-slot_value s = if s.is_full then Some (whole s.value) else None
+slot_value s = if s.state == 0 then None else Some (whole s.value)
+
+-- the state of a slot that keeps a value of a context of this element at this port, and the port of a slot
+abbrev pub state_of : ℕ → Port → ℕ
+state_of element port.Zero = element * 4 + 2
+state_of element port.One = element * 4 + 3
+
+abbrev pub slot_port : Slot → Port
+slot_port s = if s.state % 2 == 0 then port.Zero else port.One
 
 -- what waits in a slot, and its tag
 abbrev pub slot_half : Slot → Option Half
-slot_half s = option_map (λ v. record { port = s.port; value = v }) (slot_value s)
+slot_half s = option_map (λ v. record { port = slot_port s; value = v }) (slot_value s)
 
 abbrev pub slot_tag : Slot → Tag
 slot_tag s = record {
-  context = record { element = s.element; serial = s.serial };
-  iteration = s.iteration;
+  context = record { element = s.state / 4; serial = s.key % 2 ^ 32 };
+  iteration = s.key / 2 ^ 32;
   instr = s.instr;
 }
 
@@ -48,12 +56,9 @@ held s t = if same_tag t (slot_tag s) then slot_half s else None
 abbrev pub empty_slot : Slot
 empty_slot = record {
   value = Signal;
-  serial = 0;
-  iteration = 0;
+  key = 0;
   instr = 0;
-  element = 0;
-  port = Zero;
-  is_full = false;
+  state = 0;
   behind = Nothing;
 }
 
@@ -72,15 +77,18 @@ IsSingle p = (t : Tag) → IsSome (held p.first t) → held p.second t ≡ None
 abbrev pub empty_pair : Pair
 empty_pair = record { first = empty_slot; second = empty_slot }
 
--- the place of a tag's numbers among n pairs: neighbouring instructions of an iteration stand side by side, the next
--- iteration's 31 places further, and those of a context begin where its number, scrambled, says
-unfoldable pub place_of : ℕ → ℕ → ℕ → ℕ → ℕ
-place_of serial iteration instr n =
-    bit_and ((serial * 11_400_714_819_323_198_485 % 2 ^ 64 / 2 ^ 32 + iteration * 31 + instr) % 2 ^ 64) (n - 1)
+-- the key of a context with this serial number and an iteration, as a number of 64 bits
+abbrev pub key_of : ℕ → ℕ → ℕ
+key_of serial iteration = (iteration * 2 ^ 32 + serial) % 2 ^ 64
+
+-- the place of an instruction under a key among n pairs: neighbouring instructions of an iteration stand side by side,
+-- the next iteration's 41 places further, and those of a context begin where its number, scrambled, says
+unfoldable pub place_in : ℕ → ℕ → ℕ → ℕ
+place_in key instr n = bit_and (key * 11_400_714_817_187_610_665 % 2 ^ 64 / 2 ^ 32 + instr) (n - 1)
 
 -- the place of a tag
 abbrev pub place : Tag → ℕ → ℕ
-place t n = place_of t.context.serial t.iteration t.instr n
+place t n = place_in (key_of t.context.serial t.iteration) t.instr n
 
 -- what the pairs hold, in their order
 abbrev pub front_entries : List Pair → List (Tag × Half)

@@ -7,18 +7,18 @@ ghost use Rattle.std.specs.Prelude.{◌≡◌, ◌≢◌, ◌<◌, ◌↔◌, �
 ghost use Rattle.std.specs.Prelude.{None, IfSome, is_some};
 ghost use Rattle.std.specs.Prelude.{IsSome, IfOk, OnOk, List, [], ◌∷◌, ◌++◌, length, replicate};
 ghost use Rattle.std.specs.Prelude.{map as map_list};
-ghost use Rattle.std.specs.Prelude.{slice_index_or};
+ghost use Rattle.std.specs.Prelude.{slice_index_or, ◌%◌, ◌/◌, ◌^◌};
 ghost use Rattle.std.specs.List.{filter_map};
 ghost use Rattle.std.specs.Option.{option_map, option_or};
 ghost use Rattle.std.specs.Map.{lookup};
 ghost use Rattle.id_tag.specs.Plains.{tag_in, whole};
 ghost use Rattle.id_tag.specs.Tags.{same_tag};
 ghost use Rattle.id_match.specs.declared.meeting.Half.{Half};
-ghost use Rattle.id_match.specs.Halves.{answer_at, half_after};
 ghost use Rattle.id_match.specs.Meetings.{told};
 ghost use Rattle.id_match.specs.Waiting.{entry_at};
 ghost use Rattle.id_match.specs.Front.{IsPlaced, Meets, Puts, empty_pair, front_entries, front_half, held};
-ghost use Rattle.id_match.specs.Front.{place, place_of, slot_entry, slot_half, slot_tag};
+ghost use Rattle.id_match.specs.Front.{key_of, place, place_in, slot_entry, slot_half, slot_port, slot_tag, state_of};
+ghost use Rattle.id_match.specs.Ports.{other_port};
 ghost use Rattle.id_match.specs.Front.{IsSingle, MeetsIn, PutsIn, pair_entries, pair_half};
 ghost use Rattle.id_match.specs.Front.{HoldsSame, IsKept, IsMarked, MarksSame, OthersSame, half_entry, mark_at};
 ghost use Rattle.id_match.specs.Front.{one_less, one_more};
@@ -65,12 +65,11 @@ impl Behind {
 #[derive(Clone, Copy)]
 pub struct Slot {
     value: Plain,
-    serial: u32,
-    iteration: u32,
+    // The iteration and the serial number of the tag's context, which are compared at once.
+    key: u64,
     instr: u32,
-    element: u8,
-    port: Port,
-    is_full: bool,
+    // The element of the tag's context and the port, which are compared at once, or 0 where it keeps nothing.
+    state: u16,
     behind: Behind,
 }
 
@@ -86,12 +85,9 @@ const _: () = prove!(size_of::<Pair>() == 64);
 /// The slot that keeps nothing, with nothing behind.
 const EMPTY: Slot = Slot {
     value: Plain::Signal,
-    serial: 0,
-    iteration: 0,
+    key: 0,
     instr: 0,
-    element: 0,
-    port: Port::Zero,
-    is_full: false,
+    state: 0,
     behind: Behind::Nothing,
 };
 
@@ -101,26 +97,53 @@ const EMPTY_PAIR: Pair = Pair {
     second: EMPTY,
 };
 
-/// How many places further the next iteration stands: near, where memory is at hand still. It is odd, so that an
-/// instruction's values of as many iterations as there are places stand at a place each.
-const ITERATION: u64 = 31;
+/// By what a key is scrambled, to 64 bits of which the upper half tells where the places of its context and iteration
+/// begin. The upper half of this one is that of 2^64 by the golden ratio, so that those of contexts that follow one
+/// another lie evenly apart. The lower half tells how many places further the next iteration stands: near, where memory
+/// is at hand still. It is odd, so that an instruction's values of as many iterations as there are places stand at a
+/// place each.
+const SCRAMBLE: u64 = 0x9e37_79b9_0000_0029;
 
-/// By what the number of a context is scrambled, to 64 bits of which the upper half tells where its places begin: 2^64
-/// by the golden ratio, so that those of contexts that follow one another lie evenly apart.
-const SCRAMBLE: u64 = 0x9e37_79b9_7f4a_7c15;
-
-/// The place of a tag's numbers among so many pairs.
+/// The place of an instruction under a key among so many pairs.
 #[inline(always)]
-fn place_of(serial: u64, iteration: u64, instr: u32, len: usize) -> usize
+fn place_in(key: u64, instr: u32, len: usize) -> usize
     requires { 0 < len }
-    ensures exact { result ≡ place_of serial iteration instr len }
+    ensures exact { result ≡ place_in key instr len }
     ensures below { result < len }
 {
-    let begin = serial.wrapping_mul(SCRAMBLE) >> 32;
-    let at = begin
-        .wrapping_add(iteration.wrapping_mul(ITERATION))
-        .wrapping_add(u64::from(instr));
-    (at & (len as u64 - 1)) as usize
+    let begin = key.wrapping_mul(SCRAMBLE) >> 32;
+    ((begin + u64::from(instr)) & (len as u64 - 1)) as usize
+}
+
+/// The place of a tag among so many pairs.
+fn place_of(tag: Tag, len: usize) -> usize
+    requires { 0 < len }
+    ensures exact { result ≡ place tag len }
+    ensures below { result < len }
+{
+    let key = tag
+        .iteration
+        .wrapping_mul(0x1_0000_0000)
+        .wrapping_add(tag.context.serial);
+    place_in(key, tag.instr, len)
+}
+
+/// The key of a context with this serial number and an iteration.
+#[inline(always)]
+fn key_of(serial: u32, iteration: u32) -> u64
+    ensures exact { result ≡ key_of serial iteration }
+    ensures serial { result % 2 ^ 32 ≡ serial }
+    ensures iteration { result / 2 ^ 32 ≡ iteration }
+{
+    u64::from(iteration) * 0x1_0000_0000 + u64::from(serial)
+}
+
+/// The state of a slot that keeps a value at this port, in a context of this element.
+#[inline(always)]
+fn state_of(element: u8, port: Port) -> u16
+    ensures { result ≡ state_of element port }
+{
+    u16::from(element) * 4 + 2 + port as u16
 }
 
 impl Slot {
@@ -131,11 +154,22 @@ impl Slot {
     {
         Tag {
             context: Context {
-                element: u32::from(self.element),
-                serial: u64::from(self.serial),
+                element: u32::from(self.state / 4),
+                serial: self.key % 0x1_0000_0000,
             },
-            iteration: u64::from(self.iteration),
+            iteration: self.key / 0x1_0000_0000,
             instr: self.instr,
+        }
+    }
+
+    /// The port of what it keeps.
+    fn port(&self) -> Port
+        ensures { result ≡ slot_port self.now }
+    {
+        if self.state % 2 == 0 {
+            Port::Zero
+        } else {
+            Port::One
         }
     }
 
@@ -143,13 +177,13 @@ impl Slot {
     fn half(&self) -> Option<Half>
         ensures { result ≡ slot_half self.now }
     {
-        if self.is_full {
+        if self.is_empty() {
+            None
+        } else {
             Some(Half {
-                port: self.port,
+                port: self.port(),
                 value: self.value.value(),
             })
-        } else {
-            None
         }
     }
 
@@ -161,15 +195,31 @@ impl Slot {
     }
 
     /// Whether it keeps a value under this tag.
-    #[inline(always)]
     fn holds(&self, tag: Tag) -> bool
         ensures { result ≡ is_some (held self.now tag) }
     {
-        self.is_full
-            && u64::from(self.serial) == tag.context.serial
-            && u64::from(self.iteration) == tag.iteration
-            && self.instr == tag.instr
-            && u32::from(self.element) == tag.context.element
+        !self.is_empty() && tag == self.tag()
+    }
+
+    /// Whether it keeps the partner of the token.
+    #[inline(always)]
+    fn is_partner(&self, token: &PlainToken) -> bool
+        ensures { IsTrue result → held self.now (tag_in token.now)
+            ≡ Some (record { port = other_port token.now.port; value = whole self.now.value }) }
+    {
+        self.state == state_of(token.element, token.port) ^ 1
+            && self.instr == token.instr
+            && self.key == key_of(token.serial, token.iteration)
+    }
+
+    /// Whether it keeps nothing under the tag of the token, as its numbers tell but the element.
+    #[inline(always)]
+    fn is_other(&self, token: &PlainToken) -> bool
+        ensures { IsTrue result → held self.now (tag_in token.now) ≡ None }
+    {
+        self.instr != token.instr
+            || self.key != key_of(token.serial, token.iteration)
+            || self.is_empty()
     }
 
     /// Whether it keeps nothing.
@@ -177,7 +227,7 @@ impl Slot {
     pub fn is_empty(&self) -> bool
         ensures { IsTrue result ↔ (slot_half self.now ≡ None) }
     {
-        !self.is_full
+        self.state == 0
     }
 
     /// What it keeps, as an entry.
@@ -192,21 +242,28 @@ impl Slot {
         })
     }
 
-    /// Offers the token whose tag's value it keeps.
+    /// Keeps the token's value.
     #[inline(always)]
-    fn meet(&mut self, token: &PlainToken) -> Met
-        ensures met { IsSome (held self.old (tag_in token.now)) → IfSome (told result token.now) (λ a.
-            (a ≡ answer_at (held self.old (tag_in token.now)) token.now.port (whole token.now.value))
-            × (half_after (held self.old (tag_in token.now)) token.now.port (whole token.now.value) ≡ None)
-            × (slot_half self.new ≡ None)) }
-        ensures apart { told result token.now ≡ None → self.new ≡ self.old }
+    fn keep(&mut self, token: &PlainToken)
+        ensures tag { slot_tag self.new ≡ tag_in token.now }
+        ensures half { slot_half self.new ≡ Some (record { port = token.now.port; value = whole token.now.value }) }
         ensures mark { self.new.behind ≡ self.old.behind }
     {
-        if self.port == token.port {
-            return Met::Apart;
-        }
-        self.is_full = false;
-        Met::Partner(self.value)
+        self.value = token.value;
+        self.key = key_of(token.serial, token.iteration);
+        self.instr = token.instr;
+        self.state = state_of(token.element, token.port);
+    }
+
+    /// Lets the value leave that it keeps.
+    #[inline(always)]
+    fn leave(&mut self) -> Plain
+        ensures value { result ≡ self.old.value }
+        ensures empty { slot_half self.new ≡ None }
+        ensures mark { self.new.behind ≡ self.old.behind }
+    {
+        self.state = 0;
+        self.value
     }
 }
 
@@ -239,9 +296,9 @@ impl Pair {
         ensures mark { self.new.first.behind ≡ self.old.first.behind }
     {
         if self.first.holds(tag) {
-            self.first.is_full = false;
+            self.first.state = 0;
         } else if self.second.holds(tag) {
-            self.second.is_full = false;
+            self.second.state = 0;
         }
     }
 
@@ -284,7 +341,29 @@ impl Pair {
         }
     }
 
-    /// Offers the token, where that is short: it keeps the tag's value, or room for it, and nothing stands behind.
+    /// Whether the first slot is to keep a token's value: it keeps nothing, the second has nothing under the tag, and
+    /// nothing stands behind.
+    #[inline(always)]
+    fn is_first_free(&self, token: &PlainToken) -> bool
+        ensures empty { IsTrue result → slot_half self.now.first ≡ None }
+        ensures other { IsTrue result → held self.now.second (tag_in token.now) ≡ None }
+        ensures alone { IsTrue result → self.now.first.behind ≡ Nothing }
+    {
+        self.first.is_empty() && self.first.behind == Behind::Nothing && self.second.is_other(token)
+    }
+
+    /// Whether the second slot is to keep a token's value, as the first one.
+    #[inline(always)]
+    fn is_second_free(&self, token: &PlainToken) -> bool
+        ensures empty { IsTrue result → slot_half self.now.second ≡ None }
+        ensures other { IsTrue result → held self.now.first (tag_in token.now) ≡ None }
+        ensures alone { IsTrue result → self.now.first.behind ≡ Nothing }
+    {
+        self.second.is_empty() && self.first.behind == Behind::Nothing && self.first.is_other(token)
+    }
+
+    /// Offers the token, where that is short: it keeps the partner, or has room for the value, and nothing stands
+    /// behind. That nothing waits in the first slot is asked first, since half of the tokens find that.
     #[inline(always)]
     fn meet(&mut self, token: &PlainToken) -> Option<Met>
         ensures met { IsSingle self.old → IfSome result (λ met. IfSome (told met token.now) (λ a.
@@ -295,12 +374,15 @@ impl Pair {
         ensures none { result ≡ None → self.new ≡ self.old }
         ensures mark { self.new.first.behind ≡ self.old.first.behind }
     {
-        let tag = token.tag();
-        if self.first.holds(tag) {
-            Some(self.first.meet(token))
-        } else if self.second.holds(tag) {
-            Some(self.second.meet(token))
-        } else if self.first.behind == Behind::Nothing && self.put(slot_in(token)) {
+        if self.is_first_free(token) {
+            self.first.keep(token);
+            Some(Met::Kept)
+        } else if self.first.is_partner(token) {
+            Some(Met::Partner(self.first.leave()))
+        } else if self.second.is_partner(token) {
+            Some(Met::Partner(self.second.leave()))
+        } else if self.is_second_free(token) {
+            self.second.keep(token);
             Some(Met::Kept)
         } else {
             None
@@ -315,12 +397,9 @@ pub fn slot_for(tag: Tag, port: Port, value: Value) -> Option<Slot>
 {
     Some(Slot {
         value: plain_of(&value)?,
-        serial: small(tag.context.serial)?,
-        iteration: small(tag.iteration)?,
+        key: key_of(small(tag.context.serial)?, small(tag.iteration)?),
         instr: tag.instr,
-        element: tiny(tag.context.element)?,
-        port,
-        is_full: true,
+        state: state_of(tiny(tag.context.element)?, port),
         behind: Behind::Nothing,
     })
 }
@@ -333,12 +412,9 @@ pub fn slot_in(token: &PlainToken) -> Slot
 {
     Slot {
         value: token.value,
-        serial: token.serial,
-        iteration: token.iteration,
+        key: key_of(token.serial, token.iteration),
         instr: token.instr,
-        element: token.element,
-        port: token.port,
-        is_full: true,
+        state: state_of(token.element, token.port),
         behind: Behind::Nothing,
     }
 }
@@ -358,12 +434,8 @@ pub fn meet(front: &mut Vec<Pair>, token: &PlainToken) -> Option<Met>
     if front.is_empty() {
         return None;
     }
-    let at = place_of(
-        u64::from(token.serial),
-        u64::from(token.iteration),
-        token.instr,
-        front.len(),
-    );
+    let key = key_of(token.serial, token.iteration);
+    let at = place_in(key, token.instr, front.len());
     front[at].meet(token)
 }
 
@@ -379,7 +451,7 @@ pub fn take(front: &mut Vec<Pair>, tag: Tag, port: Port, value: Value) -> Option
     if front.is_empty() {
         return None;
     }
-    let at = place_of(tag.context.serial, tag.iteration, tag.instr, front.len());
+    let at = place_of(tag, front.len());
     front[at].take(tag, port, value)
 }
 
@@ -390,7 +462,7 @@ pub fn has(front: &[Pair], tag: Tag) -> bool
     if front.is_empty() {
         return false;
     }
-    front[place_of(tag.context.serial, tag.iteration, tag.instr, front.len())].holds(tag)
+    front[place_of(tag, front.len())].holds(tag)
 }
 
 /// Puts the slot into its pair, if there is room, and nothing waits under its tag in the front.
@@ -403,13 +475,9 @@ pub fn put(front: &mut Vec<Pair>, slot: Slot) -> bool
     if front.is_empty() {
         return false;
     }
-    let at = place_of(
-        u64::from(slot.serial),
-        u64::from(slot.iteration),
-        slot.instr,
-        front.len(),
-    );
-    !front[at].holds(slot.tag()) && front[at].put(slot)
+    let tag = slot.tag();
+    let at = place_of(tag, front.len());
+    !front[at].holds(tag) && front[at].put(slot)
 }
 
 /// What stands behind the pair of a tag.
@@ -419,9 +487,7 @@ pub fn stands_behind(front: &[Pair], tag: Tag) -> Behind
     if front.is_empty() {
         return Behind::Many;
     }
-    front[place_of(tag.context.serial, tag.iteration, tag.instr, front.len())]
-        .first
-        .behind
+    front[place_of(tag, front.len())].first.behind
 }
 
 /// Whether the pair of a tag has room for one more value.
@@ -429,8 +495,7 @@ pub fn has_room(front: &[Pair], tag: Tag) -> bool
     ensures { IsTrue result ↔ (0 < length front.now)
         × (length (pair_entries (slice_index_or front.now (place tag (length front.now)) empty_pair)) < 2) }
 {
-    !front.is_empty()
-        && front[place_of(tag.context.serial, tag.iteration, tag.instr, front.len())].count() < 2
+    !front.is_empty() && front[place_of(tag, front.len())].count() < 2
 }
 
 /// Tells the pair of a tag that a value comes to stand behind it.
@@ -442,7 +507,7 @@ pub fn step_behind(front: &mut Vec<Pair>, tag: Tag)
     if front.is_empty() {
         return;
     }
-    let at = place_of(tag.context.serial, tag.iteration, tag.instr, front.len());
+    let at = place_of(tag, front.len());
     front[at].first.behind = front[at].first.behind.more();
 }
 
@@ -455,7 +520,7 @@ pub fn leave_behind(front: &mut Vec<Pair>, tag: Tag)
     if front.is_empty() {
         return;
     }
-    let at = place_of(tag.context.serial, tag.iteration, tag.instr, front.len());
+    let at = place_of(tag, front.len());
     front[at].first.behind = front[at].first.behind.less();
 }
 

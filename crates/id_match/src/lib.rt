@@ -42,8 +42,8 @@ use rear::{Rear, sort_by_tag};
 use std::alloc::{AllocError, Global};
 use std::marker::Model;
 
-/// Below so many pairs a front is small: one of a mebibyte is not.
-const SMALL: usize = 0x4000;
+/// Below so many pairs a front is small: one of two mebibytes is not.
+const SMALL: usize = 0x8000;
 
 /// The values that wait for their partner, by tag and port.
 #[derive(Drop)]

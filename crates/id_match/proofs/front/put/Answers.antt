@@ -10,10 +10,11 @@ returns-then-not-holds-clause-put c = λ free.
     let f = c.args.front.now.items in
     let within : c.place_of-at.result < length f = omega arith in
     let at : get_or f c.place_of-at.result empty_pair ≡ c.index_mut.result.now = read_at f _ _ within c.index_mut.ensures.value in
-    let there : c.place_of-at.result ≡ place (slot_tag c.args.slot) (length f) = c.place_of-at.ensures.exact ∙ (cc) in
+    let there : c.place_of-at.result ≡ place (slot_tag c.args.slot) (length f) = c.place_of-at.ensures.exact
+    ∙ ap (λ t. place t c.len.result) c.tag-tag.ensures ∙ (cc) in
     let one : get_or f c.place_of-at.result empty_pair ≡ c.index.result.now = read_at f _ _ within c.index.ensures in
     let none : pair_half c.index_mut.result.now (slot_tag c.args.slot) ≡ None =
-    ap (λ p. pair_half p (slot_tag c.args.slot)) (sym at ∙ one) ∙ ap (pair_half c.index.result.now) (sym c.tag.ensures)
+    ap (λ p. pair_half p (slot_tag c.args.slot)) (sym at ∙ one) ∙ ap (pair_half c.index.result.now) (sym c.tag-tag.ensures)
     ∙ none_from_test _ (sym c.if-not-holds.ensures) in
     puts_here f (slot_tag c.args.slot) (omega arith) c.place_of-at.result there c.index_mut.result.now at c.put.new.self _ (c.put.ensures.put none free)
 
@@ -21,9 +22,10 @@ pub returns-then-not-holds-clause-free : goal.returns-then-not-holds-clause-free
 returns-then-not-holds-clause-free c = λ _.
     let f = c.args.front.now.items in
     let within : c.place_of-at.result < length f = omega arith in
-    let there : c.place_of-at.result ≡ place (slot_tag c.args.slot) (length f) = c.place_of-at.ensures.exact ∙ (cc) in
+    let there : c.place_of-at.result ≡ place (slot_tag c.args.slot) (length f) = c.place_of-at.ensures.exact
+    ∙ ap (λ t. place t c.len.result) c.tag-tag.ensures ∙ (cc) in
     here_is f (slot_tag c.args.slot) (omega arith) c.place_of-at.result there c.index.result.now (read_at f _ _ within c.index.ensures) c.put.new.self
-    ∙ ap (pair_half c.index.result.now) (sym c.tag.ensures) ∙ none_from_test _ (sym c.if-not-holds.ensures)
+    ∙ ap (pair_half c.index.result.now) (sym c.tag-tag.ensures) ∙ none_from_test _ (sym c.if-not-holds.ensures)
 
 pub returns-then-not-holds-clause-full : goal.returns-then-not-holds-clause-full
 returns-then-not-holds-clause-full c = λ full.
