@@ -5,7 +5,7 @@
 //!     finite map.
 //! Errors: want of memory alone, and then nothing has changed.
 //! Read first: `specs/Cells.antt`, `specs/Slots.antt`, then `read` and `write`.
-//! Not here: addresses and their bounds (`id_ops`), who sends the replies (`id_element`).
+//! Not here: addresses and their bounds (`id_ops`), who sends the replies (`id_step`).
 #![tactic(auto)]
 
 ghost use Rattle.std.specs.Prelude.{◌≡◌, ◌↔◌, ◌++◌, ◌<◌, length, All, IsTrue, IfOk, OnOk, OnErr};

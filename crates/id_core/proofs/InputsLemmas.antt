@@ -12,10 +12,10 @@ use Rattle.id_tag.specs.declared.Value.{Value}
 use Rattle.id_tag.specs.declared.Payload.TheVariants.{Token}
 use Rattle.id_tag.specs.declared.Message.{Message}
 use Rattle.id_tag.specs.Kinds.{kind_of}
-use Rattle.id_element.specs.Fits.{Fits, TokenFits, AddressFits, ContinuationFits}
+use Rattle.id_step.specs.Fits.{Fits, TokenFits, AddressFits, ContinuationFits}
 use Rattle.id_observe.specs.Observed.{main_tag}
 use Rattle.id_core.specs.Machines.{start_message, input_messages, AreTaken}
-use Rattle.id_element.proofs.SentLemmas.{kind_at_op}
+use Rattle.id_step.proofs.SentLemmas.{kind_at_op}
 
 -- the message that brings this value to the entry of this number, with its number
 abbrev pub input_message : ℕ → ℕ → Value → Message

@@ -22,14 +22,14 @@ use Rattle.id_tag.specs.declared.Value.TheVariants as value
 use Rattle.id_tag.specs.declared.Message.{Message}
 use Rattle.id_valid.specs.Roles.{has_main_place, IsMain}
 use Rattle.id_valid.specs.Validator.{IsMainBlock}
-use Rattle.id_element.specs.Fits.{Fits, TokenFits}
-use Rattle.id_element.specs.Fits.{IsFor}
-use Rattle.id_element.specs.Takes.{Handles}
-use Rattle.id_element.specs.Steps.{fresh, outputs_of, event_of, state_after, step_of, is_ended}
-use Rattle.id_element.specs.declared.step.TakeError.{TakeError}
-use Rattle.id_element.specs.declared.step.TakeError.TheVariants.{StampEnd}
-use Rattle.id_element.specs.declared.step.Short.TheVariants.{Apart}
-use Rattle.id_element.specs.Replays.{ElementView}
+use Rattle.id_step.specs.Fits.{Fits, TokenFits}
+use Rattle.id_step.specs.Fits.{IsFor}
+use Rattle.id_step.specs.Takes.{Handles}
+use Rattle.id_step.specs.Steps.{fresh, outputs_of, event_of, state_after, step_of, is_ended}
+use Rattle.id_step.specs.declared.step.TakeError.{TakeError}
+use Rattle.id_step.specs.declared.step.TakeError.TheVariants.{StampEnd}
+use Rattle.id_step.specs.declared.step.Short.TheVariants.{Apart}
+use Rattle.id_step.specs.Replays.{ElementView}
 use Rattle.id_record.specs.declared.step.Step.{Step}
 use Rattle.id_core.specs.Machines.{world_of, taken_from, given_to, routed_to, delivered, event_of_given}
 use Rattle.id_core.specs.Machines.{event_of_routed, event_at, start_message, input_messages, block_messages, AreTaken}
@@ -38,7 +38,7 @@ use Rattle.id_record.specs.declared.kept.Keeps.{Keeps}
 use Rattle.id_record.specs.declared.kept.Keeps.TheVariants as kept
 use Rattle.id_observe.specs.Elements.{AreOf, KeepAll, KeepNames}
 use Rattle.id_observe.specs.Observed.{main_tag}
-use Rattle.id_element.proofs.SentLemmas.{kind_at_op}
+use Rattle.id_step.proofs.SentLemmas.{kind_at_op}
 use Rattle.id_core.proofs.InputsLemmas.{inputs_fit}
 
 -- what holds of each image holds of what it is the image of

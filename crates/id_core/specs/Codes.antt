@@ -3,9 +3,9 @@ use Rattle.std.specs.Prelude.{ℕ, List, refl}
 use Rattle.std.specs.Coded.{Coded, code_by, coded×, coded_ℕ, coded_list}
 use Rattle.id_instr.specs.Graph.{Parts}
 use Rattle.id_tag.specs.declared.Message.{Message}
-use Rattle.id_element.specs.Steps.{State}
+use Rattle.id_step.specs.Steps.{State}
 use Rattle.id_record.specs.declared.kept.Keeps.{Keeps}
-use Rattle.id_element.specs.Codes.{coded_graph, coded_keeps, coded_message, coded_state}
+use Rattle.id_step.specs.Codes.{coded_graph, coded_keeps, coded_message, coded_state}
 use Rattle.id_core.specs.Machines.{World, MachineView}
 
 -- a machine's world as the pair of its fields

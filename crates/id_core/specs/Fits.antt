@@ -1,3 +1,3 @@
--- Which messages fit a graph (docs/MACHINE.md, "Element step"): the definitions of `id_element`.
-pub use Rattle.id_element.specs.Fits.{TakesReturn, ContinuationFits, IsCell, AddressFits, TokenFits}
-pub use Rattle.id_element.specs.Fits.{ReplyFits, ReadFits, WriteFits, PayloadFits, Fits, IsFor}
+-- Which messages fit a graph (docs/MACHINE.md, "Element step"): the definitions of `id_step`.
+pub use Rattle.id_step.specs.Fits.{TakesReturn, ContinuationFits, IsCell, AddressFits, TokenFits}
+pub use Rattle.id_step.specs.Fits.{ReplyFits, ReadFits, WriteFits, PayloadFits, Fits, IsFor}

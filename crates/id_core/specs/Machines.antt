@@ -20,9 +20,9 @@ use Rattle.id_tag.specs.Routes.{route_of}
 use Rattle.id_valid.specs.Roles.{has_main_place, op_at, IsMain}
 use Rattle.id_record.specs.Events.{EventView, AllWent}
 use Rattle.id_record.specs.declared.kept.Keeps.{Keeps}
-use Rattle.id_element.specs.Fits.{Fits}
-use Rattle.id_element.specs.Replays.{ElementView}
-use Rattle.id_element.specs.Steps.{State, fresh, is_ended, outputs_of, event_of, state_after}
+use Rattle.id_step.specs.Fits.{Fits}
+use Rattle.id_step.specs.Replays.{ElementView}
+use Rattle.id_step.specs.Steps.{State, fresh, is_ended, outputs_of, event_of, state_after}
 
 -- the states of the elements, in order of their numbers, and the messages in flight
 pub record World : Type 0 where

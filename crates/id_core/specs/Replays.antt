@@ -1,2 +1,2 @@
--- The record of an element leads to its state (docs/MACHINE.md, "The record"): the definitions of `id_element`.
-pub use Rattle.id_element.specs.Replays.{after_all, messages, IsReplayed, IsLegal, ElementView, WaitingFits, Replays}
+-- The record of an element leads to its state (docs/MACHINE.md, "The record"): the definitions of `id_step`.
+pub use Rattle.id_step.specs.Replays.{after_all, messages, IsReplayed, IsLegal, ElementView, WaitingFits, Replays}

@@ -4,10 +4,10 @@ ghost use Rattle.std.specs.Prelude.{◌≡◌, ◌↔◌, IsTrue, length};
 ghost use Rattle.id_instr.specs.declared.instr.Op.TheVariants.{Merge};
 ghost use Rattle.id_core.specs.Machines.{AreTaken, TakesInputs};
 
-use id_element::op_at;
 use id_instr::{Graph, Op, PortKind};
 use id_ops::value_of;
 use id_source::Inputs;
+use id_step::op_at;
 use id_valid::Valid;
 use id_value::Constant;
 

@@ -4,7 +4,7 @@
 //! was sent.
 //! Errors: `TakeError` and `MachineError`; after each of them nothing has changed.
 //! Read first: `specs/Machines.antt`, then `Machine::deliver`.
-//! Not here: elements (`id_element`), records (`id_record`), what they show (`id_observe`): their names are handed on.
+//! Not here: elements (`id_step`), records (`id_record`), what they show (`id_observe`): their names are handed on.
 #![tactic(auto)]
 
 mod counts;
@@ -13,7 +13,7 @@ mod machine;
 
 pub use counts::{Count, MAX_ELEMENTS};
 pub use entering::takes_inputs;
-pub use id_element::{Element, Gate, Handling, Open, TakeError, fits};
 pub use id_observe::{CellValue, Holdings, Merged, Observed, merge_records, observe_records};
 pub use id_record::{Event, Events, Fault, Keeps, Outputs, Step};
+pub use id_step::{Element, Gate, Handling, Open, TakeError, fits};
 pub use machine::{Machine, MachineError, fresh_elements, start_flight};

@@ -6,14 +6,13 @@ ghost use Rattle.std.specs.Prelude.{IsTrue};
 ghost use Rattle.id_instr.specs.declared.dests.Port.TheVariants.{Zero};
 ghost use Rattle.id_tag.specs.declared.Payload.TheVariants.{Token};
 ghost use Rattle.id_record.specs.Events.{AllWent};
-ghost use Rattle.id_element.specs.Fits.{Fits};
-ghost use Rattle.id_element.specs.Steps.{fresh};
+ghost use Rattle.id_step.specs.Fits.{Fits};
+ghost use Rattle.id_step.specs.Steps.{fresh};
 ghost use Rattle.id_core.specs.Machines.{AllKeep, AreElements, TakesInputs};
 ghost use Rattle.id_core.specs.Machines.{input_messages, start_message, start_messages};
 ghost use Rattle.id_observe.specs.Observed.{main_tag};
 
 use crate::counts::Count;
-use id_element::{Element, Open, TakeError};
 use id_flight::Queue;
 use id_instr::Port;
 use id_observe::{
@@ -23,6 +22,7 @@ use id_observe::{
 use id_ops::value_of;
 use id_record::{Keeps, Step};
 use id_source::{Inputs, NameValue, SourceFault, SourceValue};
+use id_step::{Element, Open, TakeError};
 use id_tag::{Message, Payload, Sender, Value, route};
 use id_valid::Valid;
 use id_value::Constant;
@@ -96,8 +96,8 @@ impl<'a> Machine<'a> {
     ghost use Rattle.std.specs.List.Sorted.{IsStrictlyIncreasing};
     ghost use Rattle.id_core.specs.Firsts.{IsFirstFault};
     ghost use Rattle.id_core.specs.declared.machine.MachineError.TheVariants.{BadElements};
-    ghost use Rattle.id_element.specs.declared.step.TakeError.TheVariants.{StampEnd};
-    ghost use Rattle.id_element.specs.Fits.{Fits};
+    ghost use Rattle.id_step.specs.declared.step.TakeError.TheVariants.{StampEnd};
+    ghost use Rattle.id_step.specs.Fits.{Fits};
     ghost use Rattle.id_core.specs.Observed.{answer, asks, cell_values, cells, faults, names, structures, waiting};
     ghost use Rattle.id_record.specs.declared.kept.Keeps.TheVariants as keeps;
     ghost use Rattle.id_core.specs.Machines.{AllKeep, AreElements, IsMachine, IsQuiet, TakesInputs};

@@ -15,7 +15,7 @@ use Rattle.id_record.specs.declared.step.Step.TheVariants.{Went}
 use Rattle.id_core.specs.Events.{EventView, AllWent}
 use Rattle.id_core.specs.Steps.{State, event_of, is_ended, outputs_of, state_after}
 use Rattle.id_core.specs.Machines.{World, MachineView, delivered, event_at, event_of_given, event_of_routed, given_to, routed_to, taken_from, world_of}
-use Rattle.id_element.specs.Replays.{ElementView}
+use Rattle.id_step.specs.Replays.{ElementView}
 use Rattle.id_value.proofs.PlacesLemmas.{set-here, set-elsewhere, slice_get-image}
 use Rattle.id_runs.specs.Accounts.{IsAccounted}
 use Rattle.id_elements.specs.Runs.{AreHeldBefore, GoesOn, HasWent, IsFree, IsHeldBack, StopAtFaults}

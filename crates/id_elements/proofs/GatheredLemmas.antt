@@ -8,8 +8,8 @@ use Rattle.id_flight.specs.Queues.{QueueView}
 use Rattle.id_inbox.specs.Doors.{DoorView}
 use Rattle.id_inbox.specs.Hands.{weight_in}
 use Rattle.id_record.specs.declared.kept.Keeps.{Keeps}
-use Rattle.id_element.specs.Steps.{State}
-use Rattle.id_element.specs.Replays.{ElementView}
+use Rattle.id_step.specs.Steps.{State}
+use Rattle.id_step.specs.Replays.{ElementView}
 use Rattle.id_runs.specs.Accounts.{sent_of, taken_of}
 use Rattle.id_elements.specs.Doors.{IsCut, IsMerged}
 use Rattle.id_elements.specs.Gathered.{AreGathered, IsGathered, IsWhole}

@@ -14,7 +14,7 @@ use Rattle.id_tag.specs.Routes.{route_of}
 use Rattle.id_tag.specs.declared.Message.{Message}
 use Rattle.id_flight.specs.Queues.{QueueView}
 use Rattle.id_inbox.specs.Hands.{weight_in}
-use Rattle.id_element.specs.Fits.{Fits}
+use Rattle.id_step.specs.Fits.{Fits}
 use Rattle.id_elements.specs.Passing.{AreRouted, IsGoalAt, IsLastMoved, IsLastSent, IsSentOn}
 
 -- ---- lists

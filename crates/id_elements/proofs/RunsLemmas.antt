@@ -19,9 +19,9 @@ use Rattle.id_record.specs.declared.step.Step.TheVariants as steps
 use Rattle.id_record.specs.declared.step.Step.TheVariants.{Stuck}
 use Rattle.id_record.specs.Tellings.{any_stuck, is_stuck}
 use Rattle.id_core.specs.Events.{AllWent, EventView}
-use Rattle.id_element.specs.Fits.{Fits}
+use Rattle.id_step.specs.Fits.{Fits}
 use Rattle.id_core.specs.Steps.{State}
-use Rattle.id_element.specs.Replays.{ElementView, Replays}
+use Rattle.id_step.specs.Replays.{ElementView, Replays}
 use Rattle.id_core.specs.Machines.{AllKeep, AreElements, IsElement, IsMachine, MachineView, World, start_messages, world_of}
 use Rattle.id_core.specs.Observed.{events_of}
 use Rattle.id_runs.specs.Accounts.{IsAccounted}

@@ -22,10 +22,10 @@ use Rattle.id_match.specs.contracts.rear.Frame as the_frame
 use Rattle.id_match.specs.contracts.rear.Name as the_name
 use Rattle.id_tag.specs.contracts.near.NearHasher as the_hasher
 use Rattle.id_bank.specs.contracts.slot.Slot as the_slot
-use Rattle.id_element.specs.contracts.storage.Storage as the_storage
-use Rattle.id_element.specs.contracts.element.Element.TheInside as the_inside
+use Rattle.id_step.specs.contracts.storage.Storage as the_storage
+use Rattle.id_step.specs.contracts.element.Element.TheInside as the_inside
 use Rattle.id_bank.specs.contracts.Bank as the_bank
-use Rattle.id_element.specs.contracts.element.Element as the_element
+use Rattle.id_step.specs.contracts.element.Element as the_element
 use Rattle.id_instr.specs.contracts.graph.Graph as the_graph
 use Rattle.id_instr.specs.contracts.instr.Block as the_block
 use Rattle.id_instr.specs.contracts.instr.Instr as the_instr

@@ -23,12 +23,12 @@ use Rattle.id_inbox.specs.Hands.{sending, weight_in}
 use Rattle.id_record.specs.declared.kept.Keeps.{Keeps}
 use Rattle.id_record.specs.declared.step.Step.TheVariants.{Went}
 use Rattle.id_record.specs.Events.{AllWent, EventView}
-use Rattle.id_element.specs.Fits.{Fits}
-use Rattle.id_element.specs.Steps.{State, event_of, outputs_of, state_after}
-use Rattle.id_element.specs.Replays.{ElementView}
+use Rattle.id_step.specs.Fits.{Fits}
+use Rattle.id_step.specs.Steps.{State, event_of, outputs_of, state_after}
+use Rattle.id_step.specs.Replays.{ElementView}
 use Rattle.id_elements.specs.Doors.{HaveParts, queues_of}
-use Rattle.id_element.specs.Stretches.{GoesOn, IsBehind, is_well, sent_by, taken_by}
-use Rattle.id_element.specs.declared.step.TakeError.{TakeError}
+use Rattle.id_step.specs.Stretches.{GoesOn, IsBehind, is_well, sent_by, taken_by}
+use Rattle.id_step.specs.declared.step.TakeError.{TakeError}
 use Rattle.id_elements.specs.Passing.{AreFor, AreRouted, IsSentOn}
 use Rattle.id_elements.specs.Workers.{AreWorkers, IsKept, IsSame, IsSameWithin, IsWorker, StopsAtFault, WorkerView, sent_in, weight_taken}
 use Rattle.id_elements.proofs.DoorsLemmas.{parts_set, queues_set, sent_by-set, taken_by-set}

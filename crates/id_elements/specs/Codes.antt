@@ -4,8 +4,8 @@ use Rattle.std.specs.Coded.{Coded, code_by, coded×, coded_bool, coded_list}
 use Rattle.id_tag.specs.declared.Message.{Message}
 use Rattle.id_inbox.specs.Doors.{DoorView}
 use Rattle.id_inbox.specs.contracts.door.Door as door
-use Rattle.id_element.specs.Replays.{ElementView}
-use Rattle.id_element.specs.Codes.{coded_element, coded_message}
+use Rattle.id_step.specs.Replays.{ElementView}
+use Rattle.id_step.specs.Codes.{coded_element, coded_message}
 use Rattle.id_elements.specs.Workers.{WorkerView}
 
 -- a door has the code of its type

@@ -5,9 +5,9 @@ use Rattle.id_instr.specs.Graph.{Parts}
 use Rattle.id_tag.specs.declared.Message.{Message}
 use Rattle.id_inbox.specs.Doors.{DoorView}
 use Rattle.id_record.specs.declared.kept.Keeps.{Keeps}
-use Rattle.id_element.specs.Fits.{Fits}
-use Rattle.id_element.specs.Steps.{State}
-use Rattle.id_element.specs.Replays.{ElementView}
+use Rattle.id_step.specs.Fits.{Fits}
+use Rattle.id_step.specs.Steps.{State}
+use Rattle.id_step.specs.Replays.{ElementView}
 use Rattle.id_core.specs.Machines.{IsElement}
 use Rattle.id_runs.specs.Accounts.{sent_of, taken_of}
 use Rattle.id_elements.specs.Doors.{sent_by, taken_by}

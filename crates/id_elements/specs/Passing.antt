@@ -8,8 +8,8 @@ use Rattle.id_tag.specs.declared.Message.{Message}
 use Rattle.id_tag.specs.Routes.{route_of}
 use Rattle.id_flight.specs.Queues.{QueueView}
 use Rattle.id_inbox.specs.Hands.{weight_in}
-use Rattle.id_element.specs.Fits.{Fits, IsFor}
-use Rattle.id_element.specs.Replays.{ElementView}
+use Rattle.id_step.specs.Fits.{Fits, IsFor}
+use Rattle.id_step.specs.Replays.{ElementView}
 
 -- these messages are for the element
 abbrev pub AreFor : ElementView → List Message → Type 0

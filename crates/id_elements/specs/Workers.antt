@@ -9,9 +9,9 @@ use Rattle.id_tag.specs.declared.Message.{Message}
 use Rattle.id_inbox.specs.Doors.{DoorView}
 use Rattle.id_record.specs.declared.kept.Keeps.{Keeps}
 use Rattle.id_record.specs.Events.{AllWent, EventView}
-use Rattle.id_element.specs.Fits.{Fits}
-use Rattle.id_element.specs.Steps.{State, fresh}
-use Rattle.id_element.specs.Replays.{ElementView}
+use Rattle.id_step.specs.Fits.{Fits}
+use Rattle.id_step.specs.Steps.{State, fresh}
+use Rattle.id_step.specs.Replays.{ElementView}
 use Rattle.id_core.specs.Machines.{IsElement}
 use Rattle.id_elements.specs.Doors.{HaveParts, queues_of, sent_by, taken_by}
 use Rattle.id_elements.specs.Passing.{AreFor}

@@ -4,7 +4,7 @@ ghost use Rattle.std.specs.Prelude.{◌≡◌, ◌<◌, ◌≤◌, ◌+◌, ◌�
 ghost use Rattle.std.specs.Prelude.{length, vec_len, OnOk};
 ghost use Rattle.id_tag.specs.declared.Message.{Message};
 ghost use Rattle.std.specs.List.{sum_by};
-ghost use Rattle.id_element.specs.Steps.{State};
+ghost use Rattle.id_step.specs.Steps.{State};
 ghost use Rattle.id_inbox.specs.Hands.{sending};
 ghost use Rattle.id_elements.specs.Doors.{AreUnused, HaveParts, IsCut, IsDrained, IsMerged, queues_of};
 ghost use Rattle.id_elements.specs.Gathered.{IsWhole};

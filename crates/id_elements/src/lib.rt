@@ -4,7 +4,7 @@
 //! Keeps: no message is lost between workers, and a run has come to its end.
 //! Errors: `RunError`.
 //! Read first: `specs/Runs.antt`, then `run`, `run_limited` and `run_in_order`; docs/THREADS.md.
-//! Not here: inboxes (`id_inbox`), the element step (`id_element`), the law that what is accounted for is a run
+//! Not here: inboxes (`id_inbox`), the element step (`id_step`), the law that what is accounted for is a run
 //! (`id_runs`), what is printed of a run (`id_print`).
 #![tactic(auto)]
 

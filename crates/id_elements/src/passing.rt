@@ -8,8 +8,8 @@ ghost use Rattle.id_elements.specs.Passing.{AreFor, IsFirstMoved, IsLastMoved, I
 
 use crate::goals::{first_for_others, goal_at};
 use crate::home::{Home, Near};
-use id_element::{Element, fits};
 use id_flight::Queue;
+use id_step::{Element, fits};
 use std::alloc::AllocError;
 
 /// Moves the messages of a letter that came out of an element's inbox: to its own, where they are for the element and

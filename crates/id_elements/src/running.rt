@@ -8,7 +8,7 @@ ghost use denote.Param.Send.{IsSend};
 ghost use Rattle.id_inbox.specs.Hands.{weight_in};
 ghost use Rattle.id_inbox.specs.contracts.door.Door as the_door;
 ghost use Rattle.id_tag.specs.declared.Message.{Message};
-ghost use Rattle.id_element.specs.Fits.{Fits};
+ghost use Rattle.id_step.specs.Fits.{Fits};
 ghost use Rattle.id_core.specs.Machines.{TakesInputs, start_messages};
 ghost use Rattle.id_runs.specs.Accounts.{IsAccounted};
 ghost use Rattle.id_runs.specs.Orders.{AreReplayed};

@@ -3,7 +3,7 @@
 //! Keeps: each message in the queue, whole and in order.
 //! Errors: want of memory alone, and then the messages are the same.
 //! Read first: `Queue`, then `specs/Parcels.antt`.
-//! Not here: the element that a message goes to (`id_tag`), what it makes of a message (`id_element`), which message
+//! Not here: the element that a message goes to (`id_tag`), what it makes of a message (`id_step`), which message
 //! comes next (`id_core`, `id_elements`).
 #![tactic(auto)]
 

@@ -4,7 +4,7 @@ use Rattle.std.proofs.lemmas.List.Sums.{sum_by-append, sum_by-cons, sum_by-swap_
 use Rattle.std.proofs.lemmas.Option.{get_or_from_slice_get, slice_get_within}
 use Rattle.id_value.specs.List.{Among}
 use Rattle.id_tag.specs.declared.Message.{Message}
-use Rattle.id_element.specs.Codes.{coded_message}
+use Rattle.id_step.specs.Codes.{coded_message}
 use Rattle.id_runs.specs.Legal.{InSomeOrder}
 use Rattle.id_runs.proofs.Weights.{Tells, among_weight, in_some_order, is, tells, weighs, weight_among}
 

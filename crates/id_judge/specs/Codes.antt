@@ -4,7 +4,7 @@ use Rattle.std.specs.Coded.{Coded, code_by, coded×, coded_list}
 use Rattle.id_instr.specs.Graph.{Parts}
 use Rattle.id_tag.specs.declared.Message.{Message}
 use Rattle.id_record.specs.declared.kept.Keeps.{Keeps}
-use Rattle.id_element.specs.Codes.{coded_element, coded_graph, coded_keeps, coded_message}
+use Rattle.id_step.specs.Codes.{coded_element, coded_graph, coded_keeps, coded_message}
 use Rattle.id_core.specs.Replays.{ElementView}
 use Rattle.id_judge.specs.Benches.{BenchView}
 

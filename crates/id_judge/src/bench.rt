@@ -2,8 +2,8 @@
 
 ghost use Rattle.std.specs.Prelude.{◌≡◌, ◌<◌, ◌≤◌, ◌++◌, [], length, map, replicate, slice_get};
 ghost use Rattle.std.specs.Prelude.{Some, None, Ok, Err, IfOk, IfSome, OnOk};
-ghost use Rattle.id_element.specs.declared.step.TakeError.TheVariants.{StampEnd};
-ghost use Rattle.id_element.specs.Steps.{fresh};
+ghost use Rattle.id_step.specs.declared.step.TakeError.TheVariants.{StampEnd};
+ghost use Rattle.id_step.specs.Steps.{fresh};
 ghost use Rattle.id_record.specs.declared.kept.Keeps.TheVariants as kept;
 ghost use Rattle.id_core.specs.Machines.{AllKeep, AreElements, TakesInputs, start};
 ghost use Rattle.id_record.specs.Events.{EventView};

@@ -23,7 +23,7 @@ pub struct Given {
 
 impl Model for Given {
     ghost use Rattle.id_record.specs.Events.{EventView};
-    ghost use Rattle.id_element.specs.Codes.{coded_event};
+    ghost use Rattle.id_step.specs.Codes.{coded_event};
 
     ghost Value = { EventView };
 

@@ -5,7 +5,7 @@
 //! Errors: `MachineError`, and `LogFault` of a log; nothing is left of a judge then.
 //! Read first: `specs/Verdicts.antt`, then `judge_events`; `specs/Lines.antt`, `specs/Judging.antt`, then `Judge`;
 //! `specs/Listening.antt`, then `hear`.
-//! Not here: the machine's step (`id_element`), legal lists and their laws (`id_runs`), the lines (`id_trace`), logs
+//! Not here: the machine's step (`id_step`), legal lists and their laws (`id_runs`), the lines (`id_trace`), logs
 //! (`id_log`).
 #![tactic(auto)]
 

@@ -3,7 +3,7 @@ use Rattle.std.proofs.Common.{◌≡◌, ℕ, suc, ◌+◌, Option, Some, None, 
 use Rattle.std.specs.Prelude.{true, false, is_some, slice_get}
 use Rattle.std.proofs.lemmas.List.Elements.{filter_map-append}
 use Rattle.id_tag.specs.declared.Value.{Value}
-use Rattle.id_element.specs.Replays.{ElementView}
+use Rattle.id_step.specs.Replays.{ElementView}
 use Rattle.id_observe.specs.Paths.{events_of, answers}
 use Rattle.id_observe.specs.Observed.{first_value}
 use Rattle.id_observe.proofs.WalksLemmas.{events-split, events-next}

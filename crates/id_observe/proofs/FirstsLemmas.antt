@@ -26,8 +26,8 @@ use Rattle.id_record.specs.declared.telling.Faulted.{Faulted}
 use Rattle.id_record.specs.Events.{EventView}
 use Rattle.id_record.specs.Tellings.{fault_in, first_fault}
 use Rattle.id_record.proofs.EachLemmas.{each-get, each-weaker}
-use Rattle.id_element.specs.Steps.{State}
-use Rattle.id_element.specs.Replays.{ElementView, Replays}
+use Rattle.id_step.specs.Steps.{State}
+use Rattle.id_step.specs.Replays.{ElementView, Replays}
 use Rattle.id_observe.specs.Merged.{by_moment}
 use Rattle.id_observe.specs.Paths.{events_of, path_in, structure_in}
 use Rattle.id_observe.specs.Sourced.{fault_of, faults_in}

@@ -19,7 +19,7 @@ use Rattle.id_observe.specs.declared.merge.Candidate.{Candidate}
 use Rattle.id_observe.specs.declared.merge.Head.{Head}
 use Rattle.id_observe.specs.declared.merge.Place.{Place}
 use Rattle.id_record.specs.Events.{EventView}
-use Rattle.id_element.specs.Replays.{ElementView}
+use Rattle.id_step.specs.Replays.{ElementView}
 use Rattle.id_observe.specs.Merged.{by_moment, event_at_place, events_at, head_of, AreMerged, AreRecords, IsAfter}
 use Rattle.id_observe.specs.Merged.{IsBelow, IsEarliest, IsFrom, IsMerge, IsPlace, earlier_of}
 use Rattle.id_record.proofs.EachLemmas.{each-append, each-weaker, each-get}

@@ -14,7 +14,7 @@ use Rattle.id_tag.specs.declared.Tag.{Tag}
 use Rattle.id_tag.specs.Tags.{cell_cmp}
 use Rattle.id_bank.specs.Cells.{Cells, CellState, cells_of, deferred_of, filled_at, readers_at}
 use Rattle.id_record.specs.Events.{EventView, tag_of}
-use Rattle.id_element.specs.Replays.{ElementView}
+use Rattle.id_step.specs.Replays.{ElementView}
 use Rattle.id_source.specs.declared.Path.{Path}
 use Rattle.id_observe.specs.Paths.{is_alloc}
 use Rattle.id_observe.specs.Observed.{HaveNoCells, MakesNone, ask_of, cells_in}

@@ -16,7 +16,7 @@ use Rattle.id_tag.specs.declared.Payload.{Payload}
 use Rattle.id_bank.specs.declared.cell.Filled.{Filled}
 use Rattle.id_bank.specs.declared.cell.Reader.{Reader}
 use Rattle.id_record.specs.Events.{EventView, tag_of}
-use Rattle.id_element.specs.Replays.{ElementView}
+use Rattle.id_step.specs.Replays.{ElementView}
 use Rattle.id_observe.specs.Observed.{ask_of, asks_of, cell_value, cell_value_of, label_marks, reader_in, shape_at, shape_of, shapes_of, structures_in}
 use Rattle.id_observe.specs.Observed.{is_label, is_label_of, put_of}
 use Rattle.id_observe.specs.Sourced.{source_value}

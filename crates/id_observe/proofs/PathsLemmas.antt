@@ -13,7 +13,7 @@ use Rattle.id_tag.specs.declared.Tag.{Tag}
 use Rattle.id_tag.specs.declared.Structure.{Structure}
 use Rattle.id_tag.specs.Tags.{same_context, same_structure}
 use Rattle.id_record.specs.Events.{EventView}
-use Rattle.id_element.specs.Replays.{ElementView}
+use Rattle.id_step.specs.Replays.{ElementView}
 use Rattle.id_value.specs.List.{Among}
 use Rattle.id_observe.specs.declared.records.Paths.{Paths}
 use Rattle.id_observe.specs.Paths.{events_of, name_by, structure_by}

@@ -9,8 +9,8 @@ use Rattle.id_tag.specs.declared.Message.{Message}
 use Rattle.id_instr.specs.Graph.{Parts}
 use Rattle.id_record.specs.Events.{EventView}
 use Rattle.id_observe.specs.Merged.{by_moment, AreRecords, IsBelow}
-use Rattle.id_element.specs.Replays.{ElementView, Replays, after_all, messages}
-use Rattle.id_element.specs.Steps.{State, fresh, state_after, event_of, next_stamp}
+use Rattle.id_step.specs.Replays.{ElementView, Replays, after_all, messages}
+use Rattle.id_step.specs.Steps.{State, fresh, state_after, event_of, next_stamp}
 use Rattle.id_observe.proofs.MergedLemmas.{earlier_stamp}
 use Rattle.id_record.proofs.EachLemmas.{each-append, each-weaker}
 use Rattle.id_observe.proofs.OrderedLemmas.{sorted-push}

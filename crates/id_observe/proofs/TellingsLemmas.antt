@@ -30,9 +30,9 @@ use Rattle.id_bank.specs.declared.cell.ReadAnswer.TheVariants.{Now, Deferred}
 use Rattle.id_bank.specs.Cells.{read_answer}
 use Rattle.id_source.specs.declared.Path.{Path}
 use Rattle.id_source.specs.declared.Site.{Site}
-use Rattle.id_element.specs.Replays.{ElementView, Replays, after_all, messages}
-use Rattle.id_element.specs.Steps.{Outcome, State, answer_fired, event_of, fresh, next_numbers, next_stamp, outcome, state_after}
-use Rattle.id_element.proofs.TellingsLemmas.{Enters, alloc-number, enter-enters}
+use Rattle.id_step.specs.Replays.{ElementView, Replays, after_all, messages}
+use Rattle.id_step.specs.Steps.{Outcome, State, answer_fired, event_of, fresh, next_numbers, next_stamp, outcome, state_after}
+use Rattle.id_step.proofs.TellingsLemmas.{Enters, alloc-number, enter-enters}
 use Rattle.id_record.specs.declared.telling.Telling.{Telling}
 use Rattle.id_record.specs.declared.telling.Told.{Told}
 use Rattle.id_record.specs.declared.telling.Told.TheVariants.{Entered, Made, Came}

@@ -7,8 +7,8 @@ use Rattle.std.proofs.lemmas.List.Elements.{filter_map-append}
 use Rattle.std.proofs.lemmas.Grind.{flat_map-append}
 use Rattle.std.proofs.lemmas.Option.{slice_get_within, get_or_from_slice_get}
 use Rattle.std.proofs.Math.Seq.{drop-cons}
-use Rattle.id_element.specs.Steps.{State}
-use Rattle.id_element.specs.Replays.{ElementView}
+use Rattle.id_step.specs.Steps.{State}
+use Rattle.id_step.specs.Replays.{ElementView}
 use Rattle.id_observe.specs.Paths.{events_of}
 
 -- what is so of each element is so of the one at a position

@@ -2,7 +2,7 @@
 use Rattle.std.specs.Prelude.{◌≡◌, ◌≢◌, All, List}
 use Rattle.id_instr.specs.Graph.{Parts}
 use Rattle.id_record.specs.declared.kept.Keeps.TheVariants as keeps
-use Rattle.id_element.specs.Replays.{ElementView}
+use Rattle.id_step.specs.Replays.{ElementView}
 
 -- the elements are of this graph
 abbrev pub AreOf : Parts → List ElementView → Type 0

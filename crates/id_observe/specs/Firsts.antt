@@ -11,7 +11,7 @@ use Rattle.id_record.specs.declared.step.Step.TheVariants as steps
 use Rattle.id_record.specs.declared.telling.Faulted.{Faulted}
 use Rattle.id_record.specs.Events.{EventView}
 use Rattle.id_record.specs.Tellings.{first_fault}
-use Rattle.id_element.specs.Steps.{State}
+use Rattle.id_step.specs.Steps.{State}
 use Rattle.id_observe.specs.Merged.{by_moment}
 use Rattle.id_observe.specs.Paths.{events_of, path_in, structure_in}
 use Rattle.id_observe.specs.Sourced.{fault_of}

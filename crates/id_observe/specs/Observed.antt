@@ -30,8 +30,8 @@ use Rattle.id_bank.specs.declared.cell.Filled.{Filled}
 use Rattle.id_bank.specs.declared.cell.Reader.{Reader}
 use Rattle.id_bank.specs.Cells.{cells_of, deferred_of}
 use Rattle.id_record.specs.Events.{EventView, tag_of}
-use Rattle.id_element.specs.Steps.{State}
-use Rattle.id_element.specs.Replays.{ElementView}
+use Rattle.id_step.specs.Steps.{State}
+use Rattle.id_step.specs.Replays.{ElementView}
 pub use Rattle.id_observe.specs.Paths.{place_of, path_of, made, maker_in}
 pub use Rattle.id_observe.specs.Paths.{main_tag, events_of, brought, answers, path_in}
 pub use Rattle.id_observe.specs.Paths.{site_at, name_by, structure_in, structure_by}

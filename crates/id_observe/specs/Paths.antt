@@ -30,7 +30,7 @@ use Rattle.std.specs.List.{flat_map}
 use Rattle.id_tag.specs.declared.Value.{Value}
 use Rattle.id_tag.specs.Tags.{same_tag}
 use Rattle.id_source.specs.declared.Site.{Site}
-use Rattle.id_element.specs.Steps.{State}
+use Rattle.id_step.specs.Steps.{State}
 
 -- the place of the instruction of this number
 abbrev pub place_of : Parts → ℕ → ℕ

@@ -22,7 +22,7 @@ use Rattle.id_record.specs.declared.step.Step.{Step}
 use Rattle.id_record.specs.declared.step.Step.TheVariants.{Went, Fault, Stuck}
 use Rattle.id_record.specs.declared.step.Fault.TheVariants.{Operator, SecondStore}
 use Rattle.id_record.specs.Events.{EventView}
-use Rattle.id_element.specs.Steps.{State}
+use Rattle.id_step.specs.Steps.{State}
 pub use Rattle.id_observe.specs.Paths.{place_of, path_of, made, maker_in}
 pub use Rattle.id_observe.specs.Paths.{main_tag, events_of, brought, answers, path_in}
 pub use Rattle.id_observe.specs.Paths.{site_at, name_by, structure_in, structure_by}

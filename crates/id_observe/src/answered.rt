@@ -9,9 +9,9 @@ ghost use Rattle.id_observe.specs.Tellings.{value_told};
 
 use crate::paths::value_by;
 use crate::records::{Paths, Records};
-use id_element::Element;
 use id_record::Tellings;
 use id_source::{Site, SourceValue};
+use id_step::Element;
 use id_tag::{Structure, Value};
 use std::alloc::{AllocError, Global};
 

@@ -8,9 +8,9 @@ ghost use Rattle.id_record.specs.declared.kept.Keeps.TheVariants as keeps;
 
 use crate::records::{Paths, Whole};
 use crate::sourced::source_fault;
-use id_element::Element;
 use id_record::Events;
 use id_source::SourceFault;
+use id_step::Element;
 use std::alloc::{AllocError, Global};
 
 /// The faults that the records show.

@@ -3,16 +3,16 @@
 ghost use Rattle.std.specs.Prelude.{◌≡◌, [], map, All, IfOk, MatchOption};
 ghost use Rattle.std.specs.List.Sorted.{IsStrictlyIncreasing};
 ghost use Rattle.id_record.specs.declared.step.Step.TheVariants as steps;
-ghost use Rattle.id_element.specs.Replays.{Replays};
+ghost use Rattle.id_step.specs.Replays.{Replays};
 ghost use Rattle.id_observe.specs.Firsts.{IsFirstFault, earlier_of, earliest_in};
 ghost use Rattle.id_observe.specs.Paths.{path_in, structure_in};
 ghost use Rattle.id_observe.specs.Sourced.{fault_of, faults_in};
 
 use crate::records::{Paths, Records};
 use crate::sourced::source_fault;
-use id_element::Element;
 use id_record::{Fault, Faulted, Step};
 use id_source::SourceFault;
+use id_step::Element;
 use std::alloc::{AllocError, Global};
 
 /// The first fault of all events of these elements, whose numbers rise, by stamp and then by element, if there is one.

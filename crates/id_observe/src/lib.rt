@@ -4,7 +4,7 @@
 //! Errors: want of memory alone.
 //! Read first: `specs/Paths.antt` (the path of each tag), `specs/Merged.antt` (records as one list, by stamp, then by
 //! element), `specs/Observed.antt`, then `merge_records`, `observe_records` and `observe_holdings`.
-//! Not here: the records (`id_record`), the elements (`id_element`), how what is shown is printed (`id_print`).
+//! Not here: the records (`id_record`), the elements (`id_step`), how what is shown is printed (`id_print`).
 #![tactic(auto)]
 
 mod answered;

@@ -9,8 +9,8 @@ ghost use Rattle.id_record.specs.Events.{EventView};
 ghost use Rattle.id_observe.specs.Elements.{KeepAll};
 ghost use Rattle.id_observe.specs.Merged.{by_moment, AreRecords, AreMerged, IsEarliest, IsMerge, earlier_of, head_of};
 
-use id_element::Element;
 use id_record::{Event, Events};
+use id_step::Element;
 use std::alloc::{AllocError, Global};
 use std::marker::Model;
 

@@ -13,10 +13,10 @@ ghost use Rattle.id_observe.specs.Paths.{is_alloc, is_enter};
 ghost use Rattle.id_observe.specs.Tellings.{AddsOne, AddsTold, entered_told, made_told, value_told};
 
 use crate::records::{Paths, Records};
-use id_element::{Element, op_at};
 use id_instr::{Graph, Op};
 use id_record::{Telling, Tellings, Told};
 use id_source::{Path, PathStep, Site};
+use id_step::{Element, op_at};
 use id_tag::{Context, NearHasher, Structure, Tag, Value};
 use id_value::Sequence;
 use std::alloc::{AllocError, Global};

@@ -4,8 +4,8 @@ ghost use Rattle.std.proofs.Props.{props};
 ghost use Rattle.id_observe.specs.Elements.{AreOf, KeepAll};
 
 use crate::paths::Making;
-use id_element::Element;
 use id_instr::Graph;
+use id_step::Element;
 use id_tag::{Context, NearHasher, Structure, Tag, Value};
 use std::collections::HashMap;
 

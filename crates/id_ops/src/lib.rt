@@ -4,7 +4,7 @@
 //! Errors: none; nothing here takes memory.
 //! Read first: `specs/Operators.antt`, then `fire`.
 //! Not here: what operators give (`id_value`), matching operands (`id_match`), sending outputs (`id_record`,
-//! `id_element`).
+//! `id_step`).
 #![tactic(auto)]
 
 ghost use Rattle.std.specs.Prelude.{◌≡◌, ◌≢◌, ◌<◌, ◌-◌, ◌^◌};

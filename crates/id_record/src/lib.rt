@@ -4,7 +4,7 @@
 //! answer, and the first fault, and as far as it is asked for what came to merges, or all events.
 //! Errors: want of memory alone, and then nothing has changed.
 //! Read first: `specs/Events.antt`, then `Record`; `specs/Tellings.antt`, then `Kept`; `History`.
-//! Not here: handling a message (`id_element`), the records of several elements as one (`id_observe`).
+//! Not here: handling a message (`id_step`), the records of several elements as one (`id_observe`).
 #![tactic(auto)]
 
 mod cell_event;

@@ -21,7 +21,7 @@ use Rattle.id_tag.specs.Routes.{cell_route}
 use Rattle.id_bank.specs.declared.cell.Filled.{Filled}
 use Rattle.id_bank.specs.declared.cell.Reader.{Reader}
 use Rattle.id_bank.specs.Cells.{Cells, CellState, Present, Deferred, filled_at, readers_at, cells_of, deferred_of}
-use Rattle.id_element.specs.Steps.{State}
+use Rattle.id_step.specs.Steps.{State}
 use Rattle.id_core.specs.Machines.{World}
 use Rattle.id_value.specs.declared.Constant.{Constant}
 use Rattle.id_value.specs.List.{Among, AllDiffer}

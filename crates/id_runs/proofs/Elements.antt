@@ -4,8 +4,8 @@ use Rattle.std.proofs.Common.{length, slice_get, refl, ap, ◌∙◌, subst, ari
 use Rattle.std.specs.List.{AllByRecursion}
 use Rattle.std.specs.Prelude.{All, slice_index_or}
 use Rattle.id_instr.specs.Graph.{Parts}
-use Rattle.id_element.specs.Steps.{State}
-use Rattle.id_element.specs.Replays.{ElementView, IsLegal, IsReplayed, Replays}
+use Rattle.id_step.specs.Steps.{State}
+use Rattle.id_step.specs.Replays.{ElementView, IsLegal, IsReplayed, Replays}
 use Rattle.id_core.specs.Machines.{AreElements, IsElement}
 use Rattle.id_runs.specs.Orders.{AreReplayed}
 

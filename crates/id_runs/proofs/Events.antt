@@ -40,8 +40,8 @@ use Rattle.id_record.specs.declared.step.Step.TheVariants.{Stuck, Fault}
 use Rattle.id_record.specs.declared.step.Fault.TheVariants.{SecondStore}
 use Rattle.id_record.specs.declared.step.Verdict.TheVariants as verdict
 use Rattle.id_record.specs.Events.{full_step}
-use Rattle.id_element.specs.Steps.{State, Outcome, arrival_of, arrival, waiting_after, fired_step, made_by}
-use Rattle.id_element.specs.Steps.{allocated_by, next_numbers, arriving, at_instr, outcome, fill_verdict}
+use Rattle.id_step.specs.Steps.{State, Outcome, arrival_of, arrival, waiting_after, fired_step, made_by}
+use Rattle.id_step.specs.Steps.{allocated_by, next_numbers, arriving, at_instr, outcome, fill_verdict}
 use Rattle.id_runs.specs.Events.{Arrival, Waits, Blocked, Fires, Event, Took, Looked, Wrote, payload_of, sent_on}
 use Rattle.id_runs.specs.Events.{sends_of, fired_on, fired_in, step_on, came_to}
 use Rattle.id_runs.specs.Runs.{fires_on, offered_to, arrival_at, happens}

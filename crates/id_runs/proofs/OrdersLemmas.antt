@@ -17,7 +17,7 @@ use Rattle.id_tag.specs.Routes.{route_of}
 use Rattle.id_value.specs.declared.Constant.{Constant}
 use Rattle.id_value.specs.List.{Among}
 use Rattle.id_record.specs.Events.{EventView}
-use Rattle.id_element.specs.Steps.{State, event_of, fresh, state_after}
+use Rattle.id_step.specs.Steps.{State, event_of, fresh, state_after}
 use Rattle.id_core.specs.Machines.{World, start_messages}
 use Rattle.id_record.proofs.EachLemmas.{each-append, each-weaker}
 use Rattle.id_observe.specs.Paths.{events_of}

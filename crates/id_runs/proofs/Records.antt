@@ -12,8 +12,8 @@ use Rattle.id_tag.specs.declared.Payload.{Payload}
 use Rattle.id_tag.specs.Routes.{route_of}
 use Rattle.id_record.specs.Events.{EventView}
 use Rattle.id_record.specs.Sends.{numbered}
-use Rattle.id_element.specs.Steps.{State, event_of, fresh, is_ended, next_stamp, outcome_of, state_after}
-use Rattle.id_element.specs.Replays.{IsLegal, IsReplayed, after_all, messages}
+use Rattle.id_step.specs.Steps.{State, event_of, fresh, is_ended, next_stamp, outcome_of, state_after}
+use Rattle.id_step.specs.Replays.{IsLegal, IsReplayed, after_all, messages}
 use Rattle.id_record.proofs.EachLemmas.{each-weaker}
 use Rattle.id_observe.specs.Merged.{by_moment}
 use Rattle.id_observe.proofs.MergedLemmas.{earlier_stamp}

@@ -29,7 +29,7 @@ use Rattle.id_match.specs.Waiting.{Store, offer_answer}
 use Rattle.id_match.specs.declared.meeting.Offered.{Offered}
 use Rattle.id_match.specs.declared.meeting.Offered.TheVariants.{Kept, Pair, Taken}
 use Rattle.id_instr.specs.Ports.{two_ports}
-use Rattle.id_element.specs.Steps.{State, made_by, next_numbers, state_after}
+use Rattle.id_step.specs.Steps.{State, made_by, next_numbers, state_after}
 use Rattle.id_core.specs.Machines.{World, taken_from}
 use Rattle.id_value.specs.declared.Constant.{Constant}
 use Rattle.id_value.specs.List.{Among}

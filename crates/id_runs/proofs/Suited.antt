@@ -23,10 +23,10 @@ use Rattle.id_ops.specs.declared.Fired.{Fired}
 use Rattle.id_ops.specs.Operators.{fired, side_of}
 use Rattle.id_ops.specs.Operands.{Suits}
 use Rattle.id_ops.proofs.OperandsLemmas.{fires-from_Suits}
-use Rattle.id_element.specs.Fits.{Fits, PayloadFits, TokenFits}
-use Rattle.id_element.proofs.FitsLemmas.{TokenFits-later}
-use Rattle.id_element.proofs.OutcomeLemmas.{one_port}
-use Rattle.id_element.proofs.SentLemmas.{OperandsFit, fired_fits, kind_at_op, reply_fits, sent_fits}
+use Rattle.id_step.specs.Fits.{Fits, PayloadFits, TokenFits}
+use Rattle.id_step.proofs.FitsLemmas.{TokenFits-later}
+use Rattle.id_step.proofs.OutcomeLemmas.{one_port}
+use Rattle.id_step.proofs.SentLemmas.{OperandsFit, fired_fits, kind_at_op, reply_fits, sent_fits}
 use Rattle.id_core.specs.Steps.{sent}
 use Rattle.id_core.specs.Machines.{World, TakesInputs, block_messages, run, start}
 use Rattle.id_core.proofs.MachinesLemmas.{start_fits}

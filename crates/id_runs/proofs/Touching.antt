@@ -20,7 +20,7 @@ use Rattle.id_tag.proofs.TagsLemmas.{cells_total, exact_cells}
 use Rattle.id_bank.specs.declared.cell.ReadAnswer.{ReadAnswer}
 use Rattle.id_bank.specs.declared.cell.WriteAnswer.{WriteAnswer}
 use Rattle.id_bank.specs.Cells.{CellState, Cells, read_answer, state_read, write_answer, state_written}
-use Rattle.id_element.specs.Steps.{State, fresh, state_after}
+use Rattle.id_step.specs.Steps.{State, fresh, state_after}
 use Rattle.id_core.specs.Machines.{World, start, taken_from}
 use Rattle.id_value.specs.declared.Constant.{Constant}
 use Rattle.id_value.proofs.PlacesLemmas.{slice_get-set, set-here, set-elsewhere}

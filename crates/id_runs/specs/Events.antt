@@ -25,7 +25,7 @@ use Rattle.id_record.specs.declared.step.Step.TheVariants as steps
 use Rattle.id_record.specs.Events.{full_step}
 use Rattle.id_record.specs.Records.{dests_at}
 use Rattle.id_core.specs.Steps.{sent, fired_step}
-use Rattle.id_element.specs.Steps.{answer_fired, answer_sends, fill_sends, fill_verdict}
+use Rattle.id_step.specs.Steps.{answer_fired, answer_sends, fill_sends, fill_verdict}
 use Rattle.id_value.specs.List.{Among}
 
 -- what came of a token: it waits for its partner, its port was filled already, or its instruction fired

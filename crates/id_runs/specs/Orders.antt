@@ -8,7 +8,7 @@ use Rattle.id_value.specs.List.{Among}
 use Rattle.id_core.specs.Events.{EventView}
 use Rattle.id_core.specs.Steps.{State}
 use Rattle.id_core.specs.Machines.{World, start, start_messages}
-use Rattle.id_element.specs.Replays.{IsLegal, IsReplayed}
+use Rattle.id_step.specs.Replays.{IsLegal, IsReplayed}
 use Rattle.id_observe.specs.Paths.{events_of}
 use Rattle.id_observe.specs.Firsts.{AreMergedOf}
 use Rattle.id_runs.specs.Legal.{InSomeOrder, LeadTo, IsRunOf}

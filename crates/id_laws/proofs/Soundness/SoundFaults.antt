@@ -25,7 +25,7 @@ use Rattle.id_record.specs.declared.step.Step.TheVariants.{Went, Stuck, Fault}
 use Rattle.id_record.specs.declared.step.Fault.TheVariants.{Operator, SecondStore}
 use Rattle.id_record.specs.declared.step.Verdict.TheVariants as verdict
 use Rattle.id_record.specs.Events.{full_step}
-use Rattle.id_element.specs.Steps.{fill_verdict}
+use Rattle.id_step.specs.Steps.{fill_verdict}
 use Rattle.id_core.specs.Events.{EventView}
 use Rattle.id_core.specs.Steps.{fired_step}
 use Rattle.id_core.specs.Machines.{World}

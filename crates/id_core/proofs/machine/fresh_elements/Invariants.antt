@@ -1,6 +1,6 @@
 -- The elements so far have their numbers and are fresh, and there is room for the rest.
 use Rattle.std.proofs.Common.{◌≡◌, ◌≤◌, length, map, replicate, vec_len, vec_capacity}
-use Rattle.id_element.specs.Steps.{fresh}
+use Rattle.id_step.specs.Steps.{fresh}
 use Rattle.id_core.specs.Machines.{AllKeep, AreElements}
 use Rattle.id_core.proofs.machine.fresh_elements.Given as goal
 

@@ -2,7 +2,7 @@ use Rattle.std.proofs.Common.{◌≡◌, ℕ, ◌<◌, List, vec_len, slice_inde
 use Rattle.std.specs.List.{sum_by}
 use Rattle.id_tag.specs.declared.Message.{Message}
 use Rattle.id_inbox.specs.Doors.{DoorView}
-use Rattle.id_element.specs.Steps.{State}
+use Rattle.id_step.specs.Steps.{State}
 use Rattle.id_elements.specs.Doors.{HaveParts}
 use Rattle.id_elements.specs.Gathered.{IsWhole}
 use Rattle.id_elements.proofs.doors.drain_all.Given as goal

@@ -3,7 +3,7 @@ use Rattle.id_elements.specs.Doors.{HaveParts, queues_of}
 use Rattle.id_elements.specs.Gathered.{AreGathered}
 use Rattle.id_elements.specs.Workers.{AreWorkers, sent_in}
 use Rattle.id_instr.specs.Graph.{Parts}
-use Rattle.id_element.specs.Fits.{Fits}
+use Rattle.id_step.specs.Fits.{Fits}
 use Rattle.id_core.specs.Machines.{IsElement}
 use Rattle.id_elements.proofs.GatheredLemmas.{gathered_more}
 use Rattle.id_elements.proofs.WorkersLemmas.{workers_less}

@@ -2,7 +2,7 @@ use Rattle.std.proofs.Common.{◌≤◌, List, All, length, subst, sym}
 use Rattle.id_tag.specs.declared.Message.{Message}
 use Rattle.id_core.specs.Machines.{MachineView}
 use Rattle.id_core.specs.Steps.{State}
-use Rattle.id_element.specs.Fits.{Fits}
+use Rattle.id_step.specs.Fits.{Fits}
 use Rattle.id_runs.specs.Accounts.{IsAccounted}
 use Rattle.id_elements.specs.Gathered.{states_of}
 use Rattle.id_elements.specs.Runs.{StopAtFaults}

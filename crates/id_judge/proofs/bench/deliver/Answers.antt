@@ -3,7 +3,7 @@ use Rattle.std.proofs.Common.{◌≡◌, ◌<◌, ◌++◌, Some, get_or, length
 use Rattle.id_tag.specs.Routes.{route_of}
 use Rattle.id_core.specs.Steps.{is_ended, outputs_of}
 use Rattle.id_core.proofs.MachinesLemmas.{taken}
-use Rattle.id_element.specs.declared.step.TakeError.TheVariants.{StampEnd}
+use Rattle.id_step.specs.declared.step.TakeError.TheVariants.{StampEnd}
 use Rattle.id_judge.specs.Benches.{BenchView, Delivers, IsBench, number_for}
 use Rattle.id_judge.proofs.DeliverLemmas.{done, element_there, left_ok, other_err}
 use Rattle.id_judge.proofs.bench.deliver.Goals as goal

@@ -8,7 +8,7 @@ use Rattle.id_observe.specs.Observed.{asks_of}
 use Rattle.id_observe.proofs.ObservedLemmas.{asks_of-records}
 use Rattle.id_observe.proofs.WalksLemmas.{all-get}
 use Rattle.id_record.specs.declared.kept.Keeps.TheVariants as keeps
-use Rattle.id_element.proofs.ShortLemmas.{if_err}
+use Rattle.id_step.proofs.ShortLemmas.{if_err}
 use Rattle.id_observe.proofs.asks.all_asks.Goals as goal
 
 pub events-requires : goal.events-requires

@@ -8,7 +8,7 @@ use Rattle.id_observe.specs.Sourced.{fault_of, faults_of}
 use Rattle.id_observe.specs.Paths.{path_by}
 use Rattle.id_observe.proofs.WalksLemmas.{all-get, walk-next}
 use Rattle.id_record.specs.declared.kept.Keeps.TheVariants as keeps
-use Rattle.id_element.proofs.ShortLemmas.{if_err}
+use Rattle.id_step.proofs.ShortLemmas.{if_err}
 use Rattle.id_observe.proofs.faults.all_faults.Goals as goal
 
 pub add_element_faults-requires : goal.add_element_faults-requires

@@ -5,7 +5,7 @@ use Rattle.std.proofs.lemmas.List.{take_all}
 use Rattle.std.proofs.lemmas.List.Elements.{All-push, All-same}
 use Rattle.std.proofs.lemmas.Option.{slice_get_read}
 use Rattle.id_record.specs.Tellings.{first_fault}
-use Rattle.id_element.specs.Replays.{Replays}
+use Rattle.id_step.specs.Replays.{Replays}
 use Rattle.id_observe.specs.Firsts.{earlier_of, earliest_in}
 use Rattle.id_observe.proofs.FirstsLemmas.{earliest-next}
 use Rattle.id_observe.proofs.WalksLemmas.{take-next}

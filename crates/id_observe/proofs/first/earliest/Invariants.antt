@@ -1,7 +1,7 @@
 -- The first fault of the elements so far is found, and each of them replays.
 use Rattle.std.proofs.Common.{◌≡◌, map, take}
 use Rattle.std.specs.List.{All}
-use Rattle.id_element.specs.Replays.{Replays}
+use Rattle.id_step.specs.Replays.{Replays}
 use Rattle.id_observe.specs.Firsts.{earliest_in}
 use Rattle.id_observe.proofs.first.earliest.Given as goal
 

@@ -6,7 +6,7 @@ use Rattle.std.proofs.lemmas.Map.Keys.{sorted_from_strictly_increasing}
 use Rattle.std.proofs.lemmas.Result.{IfOk-weaker}
 use Rattle.id_source.specs.declared.SourceFault.{SourceFault}
 use Rattle.id_record.specs.declared.step.Step.TheVariants as steps
-use Rattle.id_element.specs.Replays.{Replays}
+use Rattle.id_step.specs.Replays.{Replays}
 use Rattle.id_observe.specs.Firsts.{IsFirstFault}
 use Rattle.id_observe.specs.Paths.{path_in, structure_in}
 use Rattle.id_observe.specs.Sourced.{fault_of, faults_in}

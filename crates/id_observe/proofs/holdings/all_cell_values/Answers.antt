@@ -8,7 +8,7 @@ use Rattle.id_bank.specs.Cells.{cells_of}
 use Rattle.id_observe.specs.Observed.{cell_value_of}
 use Rattle.id_observe.specs.Paths.{structure_by}
 use Rattle.id_observe.proofs.WalksLemmas.{walk-next}
-use Rattle.id_element.proofs.ShortLemmas.{if_err}
+use Rattle.id_step.proofs.ShortLemmas.{if_err}
 use Rattle.id_observe.proofs.holdings.all_cell_values.Goals as goal
 
 pub loop-element-preserved : goal.loop-element-preserved

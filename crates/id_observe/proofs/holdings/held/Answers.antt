@@ -9,7 +9,7 @@ use Rattle.id_observe.specs.Paths.{answers, events_of, path_in, structure_by, st
 use Rattle.id_observe.specs.Paths.{path_by}
 use Rattle.id_observe.proofs.ObservedLemmas.{cell_values-from_puts}
 use Rattle.id_observe.proofs.ObservedLemmas.{structures-from_makings}
-use Rattle.id_element.proofs.ShortLemmas.{if_err}
+use Rattle.id_step.proofs.ShortLemmas.{if_err}
 use Rattle.id_observe.proofs.holdings.held.Goals as goal
 
 -- the structures that were made are those of their events

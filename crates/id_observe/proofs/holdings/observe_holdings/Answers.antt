@@ -2,7 +2,7 @@
 use Rattle.std.proofs.Common.{◌∙◌, ap, map, sym}
 use Rattle.id_observe.specs.Observed.{cell_value}
 use Rattle.id_observe.proofs.NothingLemmas.{cells-none, structures-none, waiting-none}
-use Rattle.id_element.proofs.ShortLemmas.{if_err}
+use Rattle.id_step.proofs.ShortLemmas.{if_err}
 use Rattle.id_observe.proofs.holdings.observe_holdings.Goals as goal
 
 pub returns-then-hold_nothing-clause-structures : goal.returns-then-hold_nothing-clause-structures

@@ -8,10 +8,10 @@ use Rattle.std.proofs.lemmas.List.{map_push, take_more, take_all}
 use Rattle.std.proofs.lemmas.List.Elements.{All-push, recursion_from_All, All-same}
 use Rattle.std.proofs.lemmas.Map.Keys.{sorted_from_strictly_increasing}
 use Rattle.id_observe.specs.Merged.{AreRecords}
-use Rattle.id_element.specs.Replays.{Replays}
+use Rattle.id_step.specs.Replays.{Replays}
 use Rattle.id_observe.proofs.RecordsLemmas.{AreRecords-from}
 use Rattle.id_observe.proofs.WalksLemmas.{all-get}
-use Rattle.id_element.proofs.ShortLemmas.{if_err}
+use Rattle.id_step.proofs.ShortLemmas.{if_err}
 use Rattle.id_observe.proofs.merge.records_of.Goals as goal
 
 pub events-requires : goal.events-requires

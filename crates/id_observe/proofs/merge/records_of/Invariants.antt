@@ -1,7 +1,7 @@
 -- The records so far are there, those of elements that replay, and there is room for the rest.
 use Rattle.std.proofs.Common.{◌≡◌, ◌≤◌, length, map, take, vec_len, vec_capacity}
 use Rattle.std.specs.List.{All}
-use Rattle.id_element.specs.Replays.{Replays}
+use Rattle.id_step.specs.Replays.{Replays}
 use Rattle.id_observe.proofs.merge.records_of.Given as goal
 
 abbrev pub invariant-loop-element : goal.invariant-loop-element

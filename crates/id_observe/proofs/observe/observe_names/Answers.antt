@@ -2,7 +2,7 @@
 use Rattle.std.proofs.Common.{◌≡◌, IfOk, ap, map, subst, ◌∙◌}
 use Rattle.id_observe.specs.Observed.{names_of}
 use Rattle.id_observe.specs.Paths.{events_of, path_by, path_in, structure_by}
-use Rattle.id_element.proofs.ShortLemmas.{if_err}
+use Rattle.id_step.proofs.ShortLemmas.{if_err}
 use Rattle.id_observe.proofs.observe.observe_names.Goals as goal
 
 pub returns-in_err-paths : goal.returns-in_err-paths

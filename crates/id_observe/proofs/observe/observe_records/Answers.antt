@@ -8,7 +8,7 @@ use Rattle.id_observe.specs.Sourced.{faults_of, source_value}
 use Rattle.id_observe.specs.Paths.{answers, events_of, path_in, structure_by, structure_in}
 use Rattle.id_observe.specs.Paths.{path_by}
 use Rattle.id_observe.proofs.ObservedLemmas.{structures-from_makings}
-use Rattle.id_element.proofs.ShortLemmas.{if_err}
+use Rattle.id_step.proofs.ShortLemmas.{if_err}
 use Rattle.id_observe.proofs.observe.observe_records.Goals as goal
 
 pub returns-clause-structures : goal.returns-clause-structures

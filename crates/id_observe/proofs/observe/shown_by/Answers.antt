@@ -1,5 +1,5 @@
 -- An error shows nothing.
-use Rattle.id_element.proofs.ShortLemmas.{if_err}
+use Rattle.id_step.proofs.ShortLemmas.{if_err}
 use Rattle.id_observe.proofs.observe.shown_by.Goals as goal
 
 pub returns-in_err-told : goal.returns-in_err-told

@@ -9,7 +9,7 @@ use Rattle.id_observe.specs.Paths.{enter_in, maker_in, making_of, makings_of}
 use Rattle.id_observe.specs.Paths.{answers, brought, events_of}
 use Rattle.id_observe.proofs.WalksLemmas.{all-get, walk-next}
 use Rattle.id_observe.proofs.PathsLemmas.{enter_in-last, last-next, maker_in-last}
-use Rattle.id_element.proofs.ShortLemmas.{if_err}
+use Rattle.id_step.proofs.ShortLemmas.{if_err}
 use Rattle.id_observe.proofs.paths.all_records.Goals as goal
 
 pub loop-element-init : goal.loop-element-init

@@ -9,7 +9,7 @@ use Rattle.id_observe.specs.Observed.{put_of}
 use Rattle.id_observe.specs.Paths.{structure_by}
 use Rattle.id_observe.proofs.WalksLemmas.{walk-next}
 use Rattle.id_observe.specs.Paths.{path_by}
-use Rattle.id_element.proofs.ShortLemmas.{if_err}
+use Rattle.id_step.proofs.ShortLemmas.{if_err}
 use Rattle.id_observe.proofs.shown.all_cells.Goals as goal
 
 pub loop-element-preserved : goal.loop-element-preserved

@@ -5,8 +5,8 @@ use Rattle.std.specs.List.{remove}
 use Rattle.std.proofs.lemmas.Option.{slice_get_read}
 use Rattle.id_tag.specs.declared.Message.{Message}
 use Rattle.id_tag.specs.Routes.{route_of}
-use Rattle.id_element.specs.Fits.{IsFor}
-use Rattle.id_element.specs.Takes.{Handles}
+use Rattle.id_step.specs.Fits.{IsFor}
+use Rattle.id_step.specs.Takes.{Handles}
 use Rattle.id_core.proofs.MachinesLemmas.{IsGiven, IsMachine-given, is_for, told-given}
 use Rattle.id_core.proofs.machine.Machine.deliver.Goals as goal
 use Rattle.id_core.proofs.machine.Machine.deliver.Goals.{After-index_mut}

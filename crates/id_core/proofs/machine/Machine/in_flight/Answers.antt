@@ -1,7 +1,7 @@
 -- What the fields keep is said of the view.
 use Rattle.std.proofs.Common.{subst}
 use Rattle.std.specs.Prelude.{All}
-use Rattle.id_element.specs.Fits.{Fits}
+use Rattle.id_step.specs.Fits.{Fits}
 use Rattle.id_core.specs.Machines.{MachineView}
 use Rattle.id_core.proofs.machine.Machine.in_flight.Goals as goal
 

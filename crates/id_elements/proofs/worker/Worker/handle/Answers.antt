@@ -1,5 +1,5 @@
 use Rattle.std.proofs.Common.{◌≡◌, ◌-◌, ◌<◌, ◌∙◌, Ok, Err, length, subst, sym, arith}
-use Rattle.id_element.proofs.StretchesLemmas.{behind_long}
+use Rattle.id_step.proofs.StretchesLemmas.{behind_long}
 use Rattle.id_elements.specs.declared.home.Home.{Home}
 use Rattle.id_elements.specs.Passing.{IsSentOn}
 use Rattle.id_elements.proofs.WorkersLemmas.{fits_for, IsKept-alone, IsKept-failed, IsKept-sent, IsKept-unsent, count_given, number_given}

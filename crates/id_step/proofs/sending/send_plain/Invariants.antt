@@ -1,0 +1,11 @@
+-- The destinations so far have their tokens, in order, and there is room for the rest.
+use Rattle.std.proofs.Common.{◌≡◌, ◌≤◌, ◌+◌, ◌++◌, map, take}
+use Rattle.id_tag.specs.Plains.{tag_in, whole}
+use Rattle.id_record.specs.Sends.{numbered, token_to}
+use Rattle.id_step.proofs.sending.send_plain.Given as goal
+
+abbrev pub invariant-loop-number : goal.invariant-loop-number
+invariant-loop-number l =
+    (l.fn.outputs.room ≤ l.outputs.room + l.number)
+    × (l.outputs.messages ≡ l.fn.outputs.messages ++ numbered l.like.sender l.like.position l.like.stamp 0
+    (map (token_to (tag_in l.like) (whole l.like.value)) (take l.number l.dests)))
