@@ -192,9 +192,8 @@ fn find_columns(alloc: Global, rows: &Rows<'_>) -> Result<Columns, AllocError>
     ensures first { IfOk result (λ c. IsFirstOf c.first (causes (list_of rows.now)
         (λ i. get_or c.binders.items i None) (λ i. get_or c.kinds.items i None))) }
 {
-    let items = rows.table.rows.as_slice();
-    let found = find_binders(alloc, items, rows.table.names.as_slice().len())?;
-    let kinds = find_kinds(alloc, items, found.binders.as_slice())?;
+    let found = find_binders(alloc, rows)?;
+    let kinds = find_kinds(alloc, rows, found.binders.as_slice())?;
     let numbers = find_numbers(alloc, rows)?;
     Ok(with_first(rows, found, kinds, numbers))
 }

@@ -1,13 +1,13 @@
 -- One step along a chain, and the kind that is given to the rows on it.
 use Rattle.std.proofs.Common.{◌≡◌, ◌≢◌, ◌⊎◌, inl, inr, ◌+◌, ◌<◌, ◌≤◌, ℕ, List, [], ◌∷◌, ◌++◌, Option, get_or, set, length, refl, ap, sym, ◌∙◌, subst, arith}
-use Rattle.std.specs.Prelude.{None, Some, Bool, if◌then◌else◌, not, true, false}
-use Rattle.std.proofs.lemmas.Bool.{cases_eq, cases_lt, false≢true}
+use Rattle.std.specs.Prelude.{None, Some, Bool, if◌then◌else◌, true, false}
+use Rattle.std.proofs.lemmas.Bool.{cases_eq, cases_lt}
 use Rattle.std.proofs.lemmas.List.{map-append, same_from_push, length_push, get_or_append_left, get_or_push, length-set, get_or-set_same, get_or-set_other}
 use Rattle.id_value.specs.declared.Kind.{Kind}
 use Rattle.id_value.specs.declared.Kind.TheVariants.{Int}
 use Rattle.id_scope.specs.Kinds.{Link, Fixed, To, Within, Nowhere, EndsIn, in_kind, in_nothing, further, within, kind_within}
 use Rattle.id_value.specs.List.{Among}
-use Rattle.id_scope.specs.Chains.{IsKind, ends, endless, IsEnd, IsFilling, IsFound, IsGoing, IsPassing, IsState, IsTrail, begun, goes_on, goes_to, is_going_on, kind_of, link_of_pass, link_through, link_within, rows_of}
+use Rattle.id_scope.specs.Chains.{IsKind, ends, endless, IsEnd, IsFilling, IsFound, IsGoing, IsPassing, IsState, IsTrail, begun, goes_on, goes_to, kind_of, link_of_pass, link_through, link_within, rows_of}
 use Rattle.id_scope.specs.declared.kinds.Pass.{Pass}
 use Rattle.id_value.proofs.AmongLemmas.{Among-left, Among-right, Among-either, Among-one}
 
@@ -265,13 +265,6 @@ IsKind-once (ends g) (ends h) = ends_once g h
 IsKind-once (ends g) (endless h) = absurd (h _ g)
 IsKind-once (endless h) (ends g) = absurd (h _ g)
 IsKind-once (endless g) (endless h) = refl
-
--- a link that does not go on is the end
-pub IsEnd-from : (k : Link) → not (is_going_on k) ≡ true → IsEnd k
-IsEnd-from (Fixed k) e = tt
-IsEnd-from (To j) e = absurd (false≢true e)
-IsEnd-from (Within j) e = absurd (false≢true e)
-IsEnd-from Nowhere e = tt
 
 -- what a chain comes to in one step, if that is known
 pub IsState-after : (l : ℕ → Link) (i j : ℕ) (x k : Link) (b : Bool) → l i ≡ x

@@ -1,8 +1,8 @@
 -- A list is written from one number on: each element below has its new value, and each other its old one. Or it grows
 -- by one element, and each has its value.
-use Rattle.std.proofs.Common.{◌≡◌, ◌⊎◌, inl, inr, ◌+◌, ◌<◌, ◌≤◌, ℕ, List, [], ◌∷◌, ◌++◌, length, get_or, set, ap, ◌∙◌, sym, subst, arith}
+use Rattle.std.proofs.Common.{◌≡◌, ◌⊎◌, inl, inr, ◌+◌, ◌<◌, ◌≤◌, ℕ, List, length, get_or, set, ap, ◌∙◌, sym, subst, arith}
 use Rattle.std.proofs.lemmas.Bool.{cases_lt}
-use Rattle.std.proofs.lemmas.List.{get_or-set_same, get_or-set_other, get_or_append_left, get_or_push}
+use Rattle.std.proofs.lemmas.List.{get_or-set_same, get_or-set_other}
 
 pub fill_done : {A : Type 0} (d : A) (F : ℕ → A) (xs : List A) (b n : ℕ) (y : A) → length xs ≡ n → b < n → y ≡ F b →
     ((i : ℕ) → i < b → i < n → get_or xs i d ≡ F i)
@@ -18,14 +18,3 @@ fill_done d F xs b n y long less e h i c k = at (cases_lt i b)
 pub fill_rest : {A : Type 0} (d : A) (G : ℕ → A) (xs : List A) (b n : ℕ) (y : A) → ((i : ℕ) → b ≤ i → i < n → get_or xs i d ≡ G i)
     → (i : ℕ) → b + 1 ≤ i → i < n → get_or (set xs b y) i d ≡ G i
 fill_rest d G xs b n y h i c k = get_or-set_other xs b i y d (λ z. omega arith) ∙ h i (omega arith) k
-
-pub pushed_each : {A : Type 0} (d : A) (F : ℕ → A) (xs ys : List A) (y : A) (n : ℕ) → length xs ≡ n → ys ≡ xs ++ y ∷ [] → y ≡ F n →
-    ((i : ℕ) → i < n → get_or xs i d ≡ F i)
-    → (i : ℕ) → i < n + 1 → get_or ys i d ≡ F i
-pushed_each d F xs ys y n long e g h i less = subst (λ zs. get_or zs i d ≡ F i) (sym e) (at (cases_lt i n))
-  where
-    at : (i < n) ⊎ (n ≤ i) → get_or (xs ++ y ∷ []) i d ≡ F i
-    at (inl c) = get_or_append_left xs (y ∷ []) d i (omega arith) ∙ h i c
-    at (inr c) =
-        let same : i ≡ n = omega arith in
-        get_or_push xs y d i (omega arith) ∙ (g ∙ ap F (sym same))

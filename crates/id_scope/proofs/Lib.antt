@@ -2,6 +2,7 @@ pub mod BindLemmas
 pub mod FirstsLemmas
 pub mod NoneLemmas
 pub mod OpenLemmas
+pub mod PassingLemmas
 pub mod ScopesLemmas
 pub mod TakingLemmas
 pub mod WaitingLemmas

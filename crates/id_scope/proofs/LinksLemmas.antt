@@ -9,7 +9,6 @@ use Rattle.id_table.specs.declared.row.Node.TheVariants.{Fetch, Address, Store}
 use Rattle.id_table.specs.declared.row.Node.TheVariants as node
 use Rattle.id_table.specs.Rows.{at}
 use Rattle.id_table.specs.Tables.{HasPart, IsFormed}
-use Rattle.id_scope.specs.Causes.{callee, head_in}
 use Rattle.id_scope.specs.Scopes.{user_of}
 use Rattle.id_scope.specs.Kinds.{link_at, link_of, link_of_name}
 use Rattle.id_scope.specs.Chains.{goes_to}
@@ -81,15 +80,3 @@ link_below R β t within i j less e = of (at R i).node refl e
     of (Fetch t i) s f = part (Fetch t i) t s (inl refl) f
     of (Address t i) s f = part (Address t i) t s (inl refl) f
     of (Store a v) s f = let d : None ≡ Some j = f in cc
-
--- the head of a definition that a row has as its binder is a row
-pub head_below : (R : List Row) → IsFormed R → (o : Option ℕ) → ((b : ℕ) → o ≡ Some b → b < length R) → (h : ℕ) → callee R o ≡ Some h → h < length R
-head_below R t None f h e = let d : None ≡ Some h = e in cc
-head_below R t (Some b) f h e = of (at R b).node refl e
-  where
-    of : (n : Node) → (at R b).node ≡ n → head_in n ≡ Some h → h < length R
-    of (Def x g k y) s q = let z : g ≡ h = same g q in subst (λ k. k < length R) z (part_of g t (f b refl) s (inl refl))
-      where
-        same : (g : ℕ) → Some g ≡ Some h → g ≡ h
-        same g q = cc
-    of _ s q = let d : None ≡ Some h = q in cc

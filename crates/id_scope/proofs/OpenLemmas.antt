@@ -110,3 +110,11 @@ open_more R n t ps h = record {
         let l = long in
         let same : n ≡ b = omega arith in
         (length ps, omega arith, last (length ps) refl ∙ same)
+
+-- before any row is passed there is none
+pub open_none : (R : List Row) → IsOpen R 0 0 []
+open_none R = record {
+  below = λ j c. absurd (omega arith);
+  order = λ i j c d. absurd (omega arith);
+  all = λ b c d e. absurd (omega arith);
+}

@@ -9,12 +9,12 @@ use Rattle.std.proofs.lemmas.List.{get_or_default, get_or_past, length-set}
 use Rattle.id_table.specs.declared.row.Row.{Row}
 use Rattle.id_table.specs.Rows.{at}
 use Rattle.id_scope.specs.declared.scope.Bound.{Bound}
-use Rattle.id_scope.specs.Scopes.{binder_at, binder_in, binds, bound_name, confines, held, is_free, is_name, keeps, sees, sees_own, used_name}
+use Rattle.id_scope.specs.Scopes.{binder_at, binder_in, binds, bound_name, confines, held, is_free, is_name, is_scope, keeps, sees, sees_own, used_name}
 use Rattle.id_scope.specs.Causes.{repeated, second, seconds}
 use Rattle.id_scope.specs.Names.{AreBound, AreHeld, AreNames, AreTaken, IsBinding, IsFresh, IsOpen, IsTaking, again, in_scope, newly, seen}
 use Rattle.id_scope.proofs.FillsLemmas.{fill_done, fill_rest}
 use Rattle.id_scope.proofs.ScopesLemmas.{binder_at-step, binder_in-open, binder_in-shut, binds_open, binds_none}
-use Rattle.id_scope.proofs.ScopesLemmas.{binds_shut, keeps_below, confines_none, keeps_behind, keeps_own, name_same}
+use Rattle.id_scope.proofs.ScopesLemmas.{binds_shut, keeps_below, keeps_no_scope, confines_none, keeps_behind, keeps_own, name_same}
 use Rattle.id_scope.proofs.ScopesLemmas.{or_false, or_first, or_none, or_true, second-open, seconds-shut}
 
 -- ---- it begins
@@ -44,6 +44,17 @@ taking_end R s bs os h = (
   record { each = λ x t c. h.later x t (omega arith) },
   subst (λ n. AreBound R n os) (sym (add-one s)) (record { long = h.binders.long; each = λ i c. h.binders.each i c ∙ sym (binder_at-step R s i) }),
 )
+
+-- one scope more is passed
+pub taking_next : (R : List Row) (s : ℕ) (bs : List (Option Bound)) (os : List (Option ℕ)) → IsTaking R s s bs os → IsTaking R (s + 1) 0 bs os
+taking_next R s bs os h = let end = taking_end R s bs os h in taking_start R (s + 1) bs os end.0 end.1
+
+-- what is bound where a scope begins
+pub taking_bound : (R : List Row) (s : ℕ) (bs : List (Option Bound)) (os : List (Option ℕ)) → IsTaking R s 0 bs os → AreBound R s os
+taking_bound R s bs os h = record {
+  long = h.binders.long;
+  each = λ i c. h.binders.each i c ∙ or_none (binder_at R s i) (seen R s 0 i (used_name (at R i).node)) (seen-none R s i (used_name (at R i).node));
+}
 
 -- ---- a row that the scope does not take
 
@@ -83,6 +94,12 @@ taking_gap R s n (suc m) bs os less u h = by (cases_lt m n) (λ c. taking_gap R 
     by : (m < n) ⊎ (n ≤ m) → (n ≤ m → IsTaking R s m bs os) → IsTaking R s (suc m) bs os
     by (inl c) r = let e : n ≡ suc m = omega arith in subst (λ k. IsTaking R s k bs os) e h
     by (inr c) r = taking_shut R s m bs os (u m c (omega arith)).binds (r c)
+
+-- a row that is no scope takes nothing
+pub taking_none : (R : List Row) (s : ℕ) (bs : List (Option Bound)) (os : List (Option ℕ)) → is_scope (at R s).node ≡ false → IsTaking R s 0 bs os
+    → IsTaking R (s + 1) 0 bs os
+taking_none R s bs os e h =
+    taking_next R s bs os (taking_gap R s 0 s bs os (omega arith) (λ b c d. shut_kept R s b (keeps_no_scope R s b e)) h)
 
 pub seconds_gap : (R : List Row) (s n m : ℕ) → n ≤ m → ((b : ℕ) → n ≤ b → b < m → IsShut R s b) → seconds R s m ≡ seconds R s n
 seconds_gap R s n zero less u = let e : n ≡ zero = omega arith in ap (seconds R s) (sym e)
@@ -161,10 +178,6 @@ shut_next R s k ps o less = (
         omega arith
 
 -- ---- a row that the scope takes
-
--- what binds a name that is bound already, or another one, gives nothing new
-binder_in-bound : (R : List Row) (s x b a : ℕ) → binder_in R s x b ≡ Some a → binder_in R s x (suc b) ≡ binder_in R s x b
-binder_in-bound R s x b a e = ap (λ o. option_or o (if binds R s x b then Some b else None)) e ∙ sym e
 
 is_name-not : (x y : ℕ) → y ≢ x → is_name y (Some x) ≡ false
 is_name-not x y e = grind (arith, nat_tests)

@@ -6,3 +6,4 @@ pub mod Causes
 pub mod Chains
 pub mod Firsts
 pub mod Names
+pub mod Passing

@@ -3,20 +3,19 @@
 ghost use Rattle.std.specs.Prelude.{◌≡◌, ◌<◌, ◌≤◌, ◌+◌, ◌^◌, ◌⊎◌, ℕ, [], not, get_or};
 ghost use Rattle.std.specs.Prelude.{length, IfOk};
 ghost use Rattle.std.specs.Prelude.{IfSome, OnOk, Some, None};
+ghost use Rattle.std.proofs.Props.{props};
 ghost use Rattle.id_value.specs.List.{Among};
-ghost use Rattle.id_table.specs.Tables.{HasPart, IsFormed};
+ghost use Rattle.id_table.specs.Lent.{list_of};
+ghost use Rattle.id_table.specs.Tables.{HasPart};
 ghost use Rattle.id_scope.specs.Kinds as kinds;
 ghost use Rattle.id_scope.specs.Kinds.{AreKinds, Nowhere};
 ghost use Rattle.id_scope.specs.Chains as chains;
 ghost use Rattle.id_scope.specs.Chains.{IsGoing, IsFilling, IsState};
 
 use crate::rows::{user_of, wide};
-use id_table::{Node, Row};
+use id_table::{Node, Rows};
 use id_tree::{BinaryOp, Constant, Kind, UnaryOp};
 use std::alloc::{AllocError, Global};
-
-/// The most rows whose kinds are looked for. No text comes near it.
-const MOST: usize = 0xffff_ffff;
 
 /// Where the chain of a row goes on: it ends in a kind; it goes on to another row, or to an array, of whose elements it
 /// has the kind; or it ends without a kind.
@@ -35,22 +34,30 @@ pub struct Pass {
     pub within: bool,
 }
 
+/// The rows of a program, lent, with the binders of their names.
+#[derive(Clone, Copy)]
+pub struct Bindings<'t> {
+    pub rows: &'t Rows<'t>,
+    pub binders: &'t [Option<u32>],
+    pub ghost within: { (i b : ℕ) → i < length (list_of rows.now) → get_or binders.now i None ≡ Some b
+        → b < length (list_of rows.now) } by { Prim.hlevel props },
+}
+
 /// The kind of each row, if it has one; these are the binders of the names.
 #[inline(never)]
 pub fn find_kinds(
     alloc: Global,
-    rows: &[Row],
+    rows: &Rows<'_>,
     binders: &[Option<u32>],
 ) -> Result<Vec<Option<Kind>>, AllocError>
-    requires formed { IsFormed rows.now }
-    requires binders { length binders.now ≡ length rows.now }
-    requires within { (i b : ℕ) → i < length rows.now → get_or binders.now i None ≡ Some b
-        → b < length rows.now }
-    ensures long { IfOk result (λ v. length v.items ≡ length rows.now) }
+    requires { (i b : ℕ) → i < length (list_of rows.now) → get_or binders.now i None ≡ Some b
+        → b < length (list_of rows.now) }
+    ensures long { IfOk result (λ v. length v.items ≡ length (list_of rows.now)) }
     ensures kinds { IfOk result (λ v.
-        AreKinds rows.now (λ i. get_or binders.now i None) (λ i. get_or v.items i None)) }
+        AreKinds (list_of rows.now) (λ i. get_or binders.now i None) (λ i. get_or v.items i None)) }
 {
-    let mut links = find_links(alloc, rows, binders)?;
+    let bindings = Bindings { rows, binders };
+    let mut links = bindings.find_links(alloc)?;
     let mut passed = Vec::new(alloc);
     let mut kinds = Vec::with_capacity(alloc, rows.len())?;
     for i in 0..rows.len() {
@@ -60,24 +67,40 @@ pub fn find_kinds(
     Ok(kinds)
 }
 
-/// Where the chain of each row goes on, or what it comes to, where that is known from the rows before.
-fn find_links(alloc: Global, rows: &[Row], binders: &[Option<u32>]) -> Result<Vec<Link>, AllocError>
-    requires formed { IsFormed rows.now }
-    requires binders { length binders.now ≡ length rows.now }
-    requires within { (i b : ℕ) → i < length rows.now → get_or binders.now i None ≡ Some b
-        → b < length rows.now }
-    ensures { IfOk result (λ v.
-        IsGoing (kinds.link_at rows.now (λ k. get_or binders.now k None)) (length rows.now) 0 v.items) }
-{
-    if rows.len() > MOST {
-        return Err(AllocError);
+impl Bindings<'_> {
+    /// Where the chain of each row goes on, or what it comes to, where that is known from the rows before.
+    fn find_links(&self, alloc: Global) -> Result<Vec<Link>, AllocError>
+        ensures { IfOk result (λ v. IsGoing
+            (kinds.link_at (list_of self.now.rows.now) (λ k. get_or self.now.binders.now k None))
+            (length (list_of self.now.rows.now)) 0 v.items) }
+    {
+        let mut links = Vec::with_capacity(alloc, self.rows.len())?;
+        for i in 0..self.rows.len() {
+            let link = self.link_at(i);
+            links.push(follow(links.as_slice(), link))?;
+        }
+        Ok(links)
     }
-    let mut links = Vec::with_capacity(alloc, rows.len())?;
-    for i in 0..rows.len() {
-        let link = link_at(rows, binders, i);
-        links.push(follow(links.as_slice(), link))?;
+
+    /// Where the chain of the row goes on.
+    fn link_at(&self, i: usize) -> Link
+        requires { i < length (list_of self.now.rows.now) }
+        ensures { result ≡ kinds.link_at (list_of self.now.rows.now) (λ k. get_or self.now.binders.now k None) i }
+    {
+        let node = self.rows.at(i).node;
+        link_of(self.binder_at(user_of(i, node)), node)
     }
-    Ok(links)
+
+    /// The binder of the name at the row, if it has one.
+    fn binder_at(&self, i: usize) -> Option<usize>
+        ensures { result ≡ get_or self.now.binders.now i None }
+    {
+        if i < self.binders.len() {
+            wide(self.binders[i])
+        } else {
+            None
+        }
+    }
 }
 
 /// What the link comes to, if that is known from these rows, or the link itself. Takes no memory.
@@ -142,28 +165,6 @@ fn is_end(link: Link) -> bool
         Link::Fixed(_) | Link::Nowhere => true,
         Link::To(_) | Link::Within(_) => false,
     }
-}
-
-/// Where the chain of the row goes on.
-fn link_at(rows: &[Row], binders: &[Option<u32>], i: usize) -> Link
-    requires few { length rows.now ≤ MOST }
-    requires formed { IsFormed rows.now }
-    requires binders { length binders.now ≡ length rows.now }
-    requires within { (i b : ℕ) → i < length rows.now → get_or binders.now i None ≡ Some b
-        → b < length rows.now }
-    requires row { i < length rows.now }
-    ensures { result ≡ kinds.link_at rows.now (λ k. get_or binders.now k None) i }
-{
-    let node = rows[i].node;
-    link_of(binder_at(binders, user_of(i, node)), node)
-}
-
-/// The binder of the row.
-pub fn binder_at(binders: &[Option<u32>], i: usize) -> Option<usize>
-    requires { i < length binders.now }
-    ensures { result ≡ get_or binders.now i None }
-{
-    wide(binders[i])
 }
 
 /// Finds the kind that the chain of the row comes to, and gives it to all rows on the way. A chain that comes back to

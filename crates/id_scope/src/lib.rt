@@ -1,6 +1,7 @@
 //! Which binder each use of a name has, and of what the kind of each row comes.
 //!
-//! Keeps: nothing beyond its values.
+//! Keeps: which rows are held, and which uses wait, as far as the rows are passed (`Scopes`); that a binder is a row
+//! (`Bindings`).
 //! Errors: `CheckCause`, the refusals 7 to 13 or want of memory: the first of those found stays.
 //! Read first: `specs/Scopes.antt`, `specs/Kinds.antt`, `specs/Causes.antt`, docs/LANGUAGE.md ("Names", "Kinds").
 //! Not here: the table of parts (`id_table`), whether each row has the kind that is wanted of it (`id_check`).
@@ -12,6 +13,6 @@ mod rows;
 mod scope;
 
 pub use cause::{CheckCause, CheckError, note};
-pub use kinds::{Link, binder_at, find_kinds, unary_kind};
-pub use rows::{bound_name, closes, is_scope, sees_own, takes, user_of, wide};
-pub use scope::{Bound, Found, Uses, find_binders};
+pub use kinds::{Link, find_kinds, unary_kind};
+pub use rows::{user_of, wide};
+pub use scope::{Found, find_binders};

@@ -1,6 +1,7 @@
 use Rattle.std.proofs.Common.{◌≡◌, ◌+◌, ◌<◌, ℕ, Option, None, ap, sym, ◌∙◌, subst, get_or, length, arith}
 use Rattle.std.proofs.lemmas.List.{get_or_default, length_push}
 use Rattle.std.proofs.lemmas.Result.{IfOk-from_err}
+use Rattle.id_table.specs.Lent.{list_of}
 use Rattle.id_scope.specs.Kinds.{Link, Nowhere, link_at}
 use Rattle.id_scope.specs.Chains.{IsKind, ends, endless, IsGoing, kind_of}
 use Rattle.id_scope.proofs.ChainsLemmas.{IsKind-once, IsKind-push, kind_settled, targets_state}
@@ -9,7 +10,7 @@ use Rattle.id_scope.proofs.kinds.find_kinds.Goals as goal
 
 pub loop-i-init : goal.loop-i-init
 loop-i-init c =
-    let R = c.args.rows.now in
+    let R = list_of c.args.rows.now in
     let β : ℕ → Option ℕ = λ i. get_or c.args.binders.now i None in
     let going = c.in_ok-links.ensures in
     record {
@@ -17,7 +18,7 @@ loop-i-init c =
       targets = λ i j b e.
           let less = subst (λ n. i < n) going.long b in
           subst (λ n. j < n) (sym going.long)
-          (link_below R β c.requires.formed c.requires.within i j less
+          (link_below R β c.args.rows.now.table.now.formed c.requires i j less
           (targets_state (link_at R β) 0 i j (get_or c.in_ok-links.links.items i Nowhere) (going.states i less) e));
       going = going;
       long = ap length c.in_ok-kinds.ensures.items;
@@ -26,14 +27,14 @@ loop-i-init c =
 
 pub loop-i-preserved : goal.loop-i-preserved
 loop-i-preserved c =
-    let R = c.args.rows.now in
+    let R = list_of c.args.rows.now in
     let l : ℕ → Link = link_at R (λ i. get_or c.args.binders.now i None) in
     let i = c.loop-i.i in
     let h = c.loop-i.invariant in
     let long = h.going.long in
     let step = c.in_ok-settle.ensures in
     let ks = c.settle.new.links.items in
-    let less = c.loop-i-test.true in
+    let less = subst (λ n. i < n) c.len-i-end.ensures c.loop-i-test.true in
     let going : IsGoing l (length R) (i + 1) ks =
     subst (λ n. IsGoing l n (i + 1) ks) long (step.going l (subst (λ n. IsGoing l n i c.loop-i.links.items) (sym long) h.going)) in
     let read : c.index.result.now ≡ get_or ks i Nowhere = c.index.ensures ∙
@@ -50,7 +51,7 @@ loop-i-preserved c =
 
 pub returns-clause-kinds : goal.returns-clause-kinds
 returns-clause-kinds c =
-    let R = c.args.rows.now in
+    let R = list_of c.args.rows.now in
     let l : ℕ → Link = link_at R (λ i. get_or c.args.binders.now i None) in
     let h = c.loop-i.invariant in
     let end : c.loop-i.i ≡ length R = omega (arith, c.loop-i.auto.i-end, c.loop-i-test.false) in
@@ -80,15 +81,6 @@ returns-in_err-push-clause-long c = IfOk-from_err _ _ c.from_residual-in_err-pus
 
 pub returns-in_err-push-clause-kinds : goal.returns-in_err-push-clause-kinds
 returns-in_err-push-clause-kinds c = IfOk-from_err _ _ c.from_residual-in_err-push.ensures.0
-
-pub find_links-requires-clause-formed : goal.find_links-requires-clause-formed
-find_links-requires-clause-formed c = c.requires.formed
-
-pub find_links-requires-clause-binders : goal.find_links-requires-clause-binders
-find_links-requires-clause-binders c = c.requires.binders
-
-pub find_links-requires-clause-within : goal.find_links-requires-clause-within
-find_links-requires-clause-within c = c.requires.within
 
 pub settle-requires-clause-passed : goal.settle-requires-clause-passed
 settle-requires-clause-passed c = c.loop-i.invariant.passed

@@ -1,8 +1,0 @@
-use Rattle.std.proofs.Common.{get_or}
-use Rattle.std.specs.Prelude.{None}
-use Rattle.id_scope.specs.Kinds.{link_at}
-use Rattle.id_scope.specs.Chains.{IsGoing}
-use Rattle.id_scope.proofs.kinds.find_links.Given as goal
-
-abbrev pub invariant-loop-i : goal.invariant-loop-i
-invariant-loop-i l = IsGoing (link_at l.rows (λ j. get_or l.binders j None)) l.i 0 l.links.items
