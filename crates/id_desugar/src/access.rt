@@ -44,13 +44,23 @@ pub fn binder_at(checked: &Checked, n: usize) -> Option<usize>
 
 /// The binder of the value that a row uses, if it uses one: a procedure's name is none of a value. First values of the
 /// loop with the head `own`, if one is given, do not count.
-pub fn used_at(checked: &Checked, own: Option<usize>, n: usize) -> Option<usize>
+pub fn used_at(checked: &Checked, own: Option<usize>, n: usize) -> Option<u32>
     ensures { result ≡ used_in checked.now own n }
 {
     match row_at(checked, n).node {
-        Node::Name { .. } => binder_at(checked, n),
-        Node::NextUse { .. } if !is_own(checked, own, n) => binder_at(checked, n),
+        Node::Name { .. } => noted_at(checked, n),
+        Node::NextUse { .. } if !is_own(checked, own, n) => noted_at(checked, n),
         _ => None,
+    }
+}
+
+/// The binder of the name at a row, if a name stands there, as it is noted.
+fn noted_at(checked: &Checked, n: usize) -> Option<u32>
+    ensures { result ≡ programs.binder checked.now n }
+{
+    match checked.binders.get(n) {
+        Some(binder) => *binder,
+        None => None,
     }
 }
 

@@ -6,10 +6,10 @@ ghost use Rattle.id_desugar.specs.Ends.{AreEnds, AreNexts};
 ghost use Rattle.id_desugar.specs.Regions.{all_imports, loop_heads, order_of};
 
 use crate::column::Column;
-use crate::ends::{EndsAndNexts, find_ends_and_nexts};
+use crate::ends::{Ends, EndsAndNexts, find_ends_and_nexts};
 use crate::imports::all_imports;
 use crate::list::AllImports;
-use crate::order::{loop_heads, order_of};
+use crate::order::{Loops, find_loops, order_of};
 use id_check::Checked;
 use std::alloc::{AllocError, Global};
 
@@ -37,15 +37,18 @@ pub struct Kernel<'a> {
 pub fn regions<'a>(alloc: Global, checked: &'a Checked) -> Result<Kernel<'a>, AllocError>
     ensures { IfOk result (λ k. k.checked.now ≡ checked.now) }
 {
-    let loops = loop_heads(alloc, checked)?;
-    let order = order_of(alloc, checked, loops.as_slice())?;
-    let EndsAndNexts { ends, nexts } = find_ends_and_nexts(alloc, checked)?;
-    let imports = all_imports(alloc, checked, &ends, &nexts)?;
+    let loops = find_loops(alloc, checked)?;
+    let order = order_of(alloc, &loops)?;
+    let spans = find_ends_and_nexts(alloc, checked)?;
+    let imports = all_imports(alloc, &spans)?;
+    let Loops { heads, .. } = loops;
+    let EndsAndNexts { ends, nexts } = spans;
+    let Ends { column, .. } = ends;
     Ok(Kernel {
         checked,
         order,
-        loops,
-        ends,
+        loops: heads,
+        ends: column,
         nexts,
         imports,
     })
