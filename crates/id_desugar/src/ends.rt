@@ -50,22 +50,22 @@ impl EndsAndNexts<'_> {
     }
 }
 
-/// For each row the row where what begins there ends, if something does.
-pub fn find_ends(alloc: Global, checked: &Checked) -> Result<Column, AllocError>
-    ensures { IfOk result (AreEnds checked.now) }
+/// The program with where what begins at its rows ends.
+pub fn find_ends<'t>(alloc: Global, checked: &'t Checked) -> Result<Ends<'t>, AllocError>
+    ensures { IfOk result (λ e. e.checked.now ≡ checked.now) }
 {
     let count = checked.table.rows.len();
     if count > MOST {
         return Err(AllocError);
     }
-    let mut ends = Column::none(alloc, count)?;
+    let mut column = Column::none(alloc, count)?;
     for n in 0..count {
-        note(&mut ends, n as u32, begun_at(row_at(checked, n).node));
+        note(&mut column, n as u32, begun_at(row_at(checked, n).node));
     }
-    Ok(ends)
+    Ok(Ends { checked, column })
 }
 
-/// The ends and the `next`s, found in one pass over the rows.
+/// Both, found in one pass over the rows.
 pub fn find_ends_and_nexts<'t>(
     alloc: Global,
     checked: &'t Checked,

@@ -2,7 +2,7 @@
 
 ghost use Rattle.std.specs.Prelude.{◌≡◌, IfOk};
 ghost use Rattle.std.proofs.Props.{props};
-ghost use Rattle.id_desugar.specs.Ends.{AreEnds, AreNexts};
+ghost use Rattle.id_desugar.specs.Ends.{AreEnds, AreNexts, end_of, next_of};
 ghost use Rattle.id_desugar.specs.Regions.{all_imports, loop_heads, order_of};
 
 use crate::column::Column;
@@ -31,6 +31,22 @@ pub struct Kernel<'a> {
     pub ghost ended: { AreEnds checked.now ends } by { Prim.hlevel props },
     pub ghost nexted: { AreNexts checked.now nexts } by { Prim.hlevel props },
     pub ghost imported: { imports ≡ all_imports checked.now } by { Prim.hlevel props },
+}
+
+impl Kernel<'_> {
+    /// The row where what begins at a row ends, or 0. Takes no memory.
+    pub fn end_of(&self, head: usize) -> usize
+        ensures { result ≡ end_of self.now.checked.now head }
+    {
+        self.ends.get_or_first(head) as usize
+    }
+
+    /// The row of the `next` of the variable at a row, or 0. Takes no memory.
+    pub fn next_of(&self, variable: usize) -> u32
+        ensures { result ≡ next_of self.now.checked.now variable }
+    {
+        self.nexts.get_or_first(variable)
+    }
 }
 
 /// The program with its regions (docs/GRAPH.md, "Imports").

@@ -17,8 +17,8 @@ mod kernel;
 mod list;
 mod order;
 
-pub use access::{binder_at, carried_count, end_of, first_variable, has_index, next_of, row_at};
+pub use access::{binder_at, carried_count, first_variable, has_index, row_at};
 pub use column::{Column, MOST};
-pub use ends::find_ends;
+pub use ends::{Ends, find_ends};
 pub use kernel::{Kernel, regions};
 pub use list::AllImports;

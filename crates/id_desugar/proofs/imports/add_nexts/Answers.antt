@@ -1,13 +1,13 @@
 -- One more variable, or none.
-use Rattle.std.proofs.Common.{◌≡◌, ℕ, List, ◌+◌, ◌-◌, ◌<◌, ◌∷◌, ◌++◌, true, false, [], length, ap, refl, sym, ◌∙◌, arith, append_assoc, append-nil}
+use Rattle.std.proofs.Common.{◌≡◌, ℕ, List, ◌+◌, ◌-◌, ◌<◌, ◌∷◌, ◌++◌, true, false, [], length, ap, sym, ◌∙◌, arith, append_assoc, append-nil}
 use Rattle.id_check.specs.declared.checked.Checked.{Checked}
 use Rattle.id_check.specs.Programs.{rows}
 use Rattle.id_table.specs.declared.row.Row.{Row}
 use Rattle.id_table.specs.Rows.{at}
 use Rattle.id_table.specs.Tables.{is_variable}
 use Rattle.id_desugar.specs.Ends.{next_of}
-use Rattle.id_desugar.specs.Regions.{first_variable, is_loop_head, nexts_from, nexts_of}
-use Rattle.id_desugar.proofs.EndsLemmas.{no_variable, nexts-next, nexts-none, row_inside}
+use Rattle.id_desugar.specs.Regions.{first_variable, nexts_from, nexts_of}
+use Rattle.id_desugar.proofs.EndsLemmas.{no_variable, nexts-next, nexts-none}
 use Rattle.id_desugar.proofs.imports.add_nexts.Goals as goal
 
 -- all are added where no variable stands at the row
@@ -55,6 +55,3 @@ loop-row-init c =
     let start = c.first_variable-row.ensures in
     ap (λ z. c.args.list.now.items ++ nexts_from P z (v + length (rows P) - z)) start
     ∙ ap (λ z. c.args.list.now.items ++ nexts_from P v z) all
-
-pub first_variable-row-requires : goal.first_variable-row-requires
-first_variable-row-requires c = row_inside (rows c.args.spans.now.ends.checked.now) c.args.head is_loop_head refl c.requires

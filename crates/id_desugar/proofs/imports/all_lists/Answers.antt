@@ -1,5 +1,5 @@
 -- At first the lists are those of uses, and at last those of imports.
-use Rattle.std.proofs.Common.{refl, arith, length, ◌∙◌, ◌+◌}
+use Rattle.std.proofs.Common.{refl, arith, length, ◌+◌}
 use Rattle.id_check.specs.Programs.{rows}
 use Rattle.id_desugar.proofs.FilledLemmas.{AreTurned-none, turned_all}
 use Rattle.id_desugar.proofs.NotesLemmas.{AreBelow-zeros, AreMarks-more}

@@ -1,5 +1,5 @@
 -- At first no list is filled, and at last all are.
-use Rattle.std.proofs.Common.{arith, ◌≡◌, ◌∙◌, ◌+◌, length, subst}
+use Rattle.std.proofs.Common.{arith, ◌≡◌, ◌+◌, length, subst}
 use Rattle.id_desugar.proofs.FilledLemmas.{AreFilled-none}
 use Rattle.id_check.specs.Programs.{rows}
 use Rattle.id_desugar.specs.Gathering.{AreFilled}

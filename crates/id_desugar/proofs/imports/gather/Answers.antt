@@ -1,5 +1,5 @@
 -- At first nothing is noted.
-use Rattle.std.proofs.Common.{◌≡◌, ◌-◌, refl, ap, sym, ◌∙◌, subst, arith}
+use Rattle.std.proofs.Common.{◌≡◌, ◌-◌, ap, sym, ◌∙◌, subst, arith}
 use Rattle.id_desugar.specs.Gathering.{AreMarked, used_in}
 use Rattle.id_desugar.specs.Regions.{imports_by}
 use Rattle.id_desugar.proofs.NotesLemmas.{AreMarked-none}

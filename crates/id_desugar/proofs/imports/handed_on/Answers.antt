@@ -18,13 +18,6 @@ add_nexts-requires c =
     let here = ap (λ (r : Row). r.block) c.row_at-head.ensures in
     subst (λ z. is_loop_head (at (rows P) z).node ≡ true) (sym here) (switches_head P c.args.switches c.requires.node).1
 
-pub has_index-requires : goal.has_index-requires
-has_index-requires c =
-    let P = c.args.spans.now.ends.checked.now in
-    let here = ap (λ (r : Row). r.block) c.row_at-head.ensures in
-    let within = row_inside (rows P) c.args.switches is_switches refl c.requires.node in
-    omega (arith, here, (switches_head P c.args.switches c.requires.node).0, within)
-
 pub overflow_add-head : goal.overflow_add-head
 overflow_add-head c =
     let P = c.args.spans.now.ends.checked.now in

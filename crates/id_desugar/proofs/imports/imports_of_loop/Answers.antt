@@ -1,5 +1,5 @@
 -- In the constructs of a loop each use counts.
-use Rattle.std.proofs.Common.{◌≡◌, ◌+◌, ◌∙◌, ap, arith, refl}
+use Rattle.std.proofs.Common.{◌+◌, ◌∙◌, ap, arith, refl}
 use Rattle.id_check.specs.Programs.{rows}
 use Rattle.id_desugar.specs.Regions.{imports, is_loop_head, used}
 use Rattle.id_desugar.proofs.EndsLemmas.{end_within, row_inside}
