@@ -16,6 +16,7 @@ use Rattle.id_instr.specs.declared.instr.Block.{Block}
 use Rattle.id_pieces.specs.Made.{number_by}
 use Rattle.id_desugar.specs.Ends.{end_of}
 use Rattle.id_desugar.specs.Regions.{carried, first_variable, has_index, is_loop_head, loop_heads, nexts_of}
+use Rattle.id_desugar.proofs.EndsLemmas.{row_inside}
 use Rattle.id_desugar.proofs.HeadsLemmas.{loop_heads-is}
 use Rattle.id_pieces.specs.Rows.{Entry, entries, entries_by, node, param_entry, variable_entries}
 use Rattle.id_pieces.specs.Schemas.{block_of}
@@ -52,6 +53,19 @@ none_before P h (suc n) l m =
     omega (arith, is, low)
     )) in
     rw no (none_before P h n l (omega arith))
+
+-- nor is a row one of a procedure with a head past the end of the table
+pub none_past : (P : Checked) (h n : ℕ) → length (rows P) ≤ h → params_below (rows P) h n ≡ []
+none_past P h zero l = refl
+none_past P h (suc n) l =
+    let no : takes P h n ≡ false = false_or (takes P h n) (λ t. (
+    let b = both (is_param (node P n)) (nat_eq (at (rows P) n).block h) t in
+    let is = eqb-true (at (rows P) n).block h b.1 in
+    let within = row_inside (rows P) n is_param refl b.0 in
+    let low = ((table_of P).block n (not_last (rows P) (table_of P) is_param refl n within b.0)).0 in
+    omega (arith, is, low, within, l)
+    )) in
+    rw no (none_past P h n l)
 
 -- nor is one from its definition on
 none_behind : (P : Checked) (h n : ℕ) → h < length (rows P) → node P h ≡ Head → end_of P h ≤ n → n ≤ length (rows P) →

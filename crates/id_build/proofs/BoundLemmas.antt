@@ -1,5 +1,5 @@
 -- A row makes no more instructions than by the number of rows in what begins at it.
-use Rattle.std.proofs.Common.{◌≡◌, ℕ, zero, suc, ◌+◌, ◌-◌, ◌*◌, ◌≤◌, ◌<◌, Bool, true, false, List, [], ◌∷◌, ◌++◌, Option, Some, None, length, ap, arith}
+use Rattle.std.proofs.Common.{◌≡◌, ℕ, zero, suc, ◌+◌, ◌-◌, ◌*◌, ◌≤◌, ◌<◌, Bool, true, false, List, [], ◌∷◌, ◌++◌, Option, Some, None, length, ap, arith, refl}
 use Rattle.std.specs.Prelude.{if◌then◌else◌, unwrap_or}
 use Rattle.std.specs.Option.{option_or}
 use Rattle.std.proofs.lemmas.List.{length_push, length-append}
@@ -13,7 +13,8 @@ use Rattle.id_check.proofs.ProgramsLemmas.{table_of}
 use Rattle.id_desugar.specs.Ends.{end_at, end_of, ends_what}
 use Rattle.id_desugar.specs.Regions.{bound_of, carried, first_variable, handed, has, has_index, imports_by, imports_of, is_loop_head, is_outside, nexts_of, taken, used, with_use}
 use Rattle.id_pieces.specs.Rows.{block, made, made_of, node}
-use Rattle.id_pieces.proofs.LoopsLemmas.{entries_are, head_inside, loop_rows, start_head, switches_high}
+use Rattle.id_pieces.proofs.LoopsLemmas.{entries_are, head_inside, loop_rows, start_head, start_inside, switches_high}
+use Rattle.id_desugar.proofs.EndsLemmas.{row_inside}
 use Rattle.id_build.proofs.SizeLemmas.{length-entries, length-split, length-start, length-switches, length-turn}
 
 -- what begins at a row ends at one of the rows
@@ -74,10 +75,10 @@ bound-length P h = by (has_index P h)
     by false = omega arith
 
 -- the marker of a loop stands in the block of its head
-pub block_head : (P : Checked) (n : ℕ) → n < length (rows P) → is_in_loop (node P n) ≡ true
+block_head : (P : Checked) (n : ℕ) → is_in_loop (node P n) ≡ true
     → (block P n < length (rows P)) × (node P (block P n) ≡ LoopHead (block P n - 1))
-block_head P n within is =
-    let c = (table_of P).loop_of n within is in
+block_head P n is =
+    let c = (table_of P).loop_of n (row_inside (rows P) n is_in_loop refl is) is in
     let head = ((table_of P).loop_is c.0 (block P n) c.1).before_test.head in
     (head_inside P (block P n) (ap is_loop_head head), head)
 
@@ -93,11 +94,11 @@ split-most P n t is =
     let imported : length (imports_of P n) ≡ length (taken P n) = ap (λ m. length (handed P n m)) is in
     omega (arith, same, imported, length-split P n (place P n) t, taken-length P n)
 
-pub switches-most : (P : Checked) (n t : ℕ) → n < length (rows P) → node P n ≡ Switches t
+pub switches-most : (P : Checked) (n t : ℕ) → node P n ≡ Switches t
     → length (made P n) ≤ 2 * (end_of P (block P n) - (block P n + 1)) + 2
-switches-most P n t within is =
+switches-most P n t is =
     let g = block P n in
-    let head = block_head P n within (ap is_in_loop is) in
+    let head = block_head P n (ap is_in_loop is) in
     let same : length (made P n) ≡ length (made_of P n (place P n) (Switches t)) = ap (λ m. length (made_of P n (place P n) m)) is in
     let imported : length (imports_of P n) ≡ length (bound_of P g ++ (nexts_of P g ++ taken P g)) = ap (λ m. length (handed P n m)) is in
     let variables = nexts-length P g (g - 1) head.0 head.1 in
@@ -113,22 +114,22 @@ switches-most P n t within is =
       variables,
     )
 
-pub start-most : (P : Checked) (n : ℕ) → n < length (rows P) → node P n ≡ Start → length (made P n) ≤ 2 * (end_of P (n + 1) - (n + 1 + 1)) + 4
-start-most P n within is =
-    let head = start_head P n within is in
+pub start-most : (P : Checked) (n : ℕ) → node P n ≡ Start → length (made P n) ≤ 2 * (end_of P (n + 1) - (n + 1 + 1)) + 4
+start-most P n is =
+    let head = start_head P n (start_inside P n is) is in
     let same : length (made P n) ≡ length (made_of P n (place P n) Start) = ap (λ m. length (made_of P n (place P n) m)) is in
     omega (arith, same, length-start P n (place P n), head-length P (n + 1) n head.1, nexts-length P (n + 1) n head.0 head.1, carried-length P (n + 1))
 
-pub entries-most : (P : Checked) (n : ℕ) → n < length (rows P) → node P n ≡ Entries → length (made P n) ≤ end_of P (block P n) - (block P n + 1)
-entries-most P n within is =
+pub entries-most : (P : Checked) (n : ℕ) → node P n ≡ Entries → length (made P n) ≤ end_of P (block P n) - (block P n + 1)
+entries-most P n is =
     let g = block P n in
-    let head = block_head P n within (ap is_in_loop is) in
+    let head = block_head P n (ap is_in_loop is) in
     let same : length (made P n) ≡ length (made_of P n (place P n) Entries) = ap (λ m. length (made_of P n (place P n) m)) is in
     omega (arith, same, length-entries P n (place P n), head-length P g (g - 1) head.1)
 
-pub turn-most : (P : Checked) (n : ℕ) → n < length (rows P) → node P n ≡ Turn → length (made P n) ≤ (end_of P (block P n) - (block P n + 1)) + 4
-turn-most P n within is =
+pub turn-most : (P : Checked) (n : ℕ) → node P n ≡ Turn → length (made P n) ≤ (end_of P (block P n) - (block P n + 1)) + 4
+turn-most P n is =
     let g = block P n in
-    let head = block_head P n within (ap is_in_loop is) in
+    let head = block_head P n (ap is_in_loop is) in
     let same : length (made P n) ≡ length (made_of P n (place P n) Turn) = ap (λ m. length (made_of P n (place P n) m)) is in
     omega (arith, same, length-turn P n (place P n), head-length P g (g - 1) head.1, carried-length P g)

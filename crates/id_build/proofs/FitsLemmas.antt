@@ -150,6 +150,15 @@ each_made P n e (Fetch a b) l is = (tt, ((l, omega (arith, ap (λ x. length (mad
 each_made P n e (Address a b) l is = (tt, tt)
 each_made P n e (Store a v) l is = (tt, tt)
 
+-- past the end of the table stands what passes for a head, which names no row
+each_row : (P : Checked) (n : ℕ) → Each P (made P n)
+each_row P n = elim (cases_lt n (length (rows P))) [
+  | inl l ↦ each_made P n (place P n) (node P n) l refl
+  | inr l ↦
+      let head : node P n ≡ Head = ap (λ (r : Row). r.node) (get_or-eq_default (rows P) no_row l) in
+      subst (λ x. Each P (made_of P n (place P n) x)) (sym head) (tt, (tt, tt))
+]
+
 -- what stands just behind the instructions of a row has no greater number than there are
 first_in-most : (P : Checked) (order : List ℕ) (m n : ℕ) → Among n order → first_in P m order n + length (made P n) ≤ m + length (pieces_in P order)
 first_in-most P [] m n h = absurd h
@@ -178,11 +187,11 @@ module _ (P : Checked) (order F : List ℕ) (o : IsOrder P order) (fs : AreFirst
   sent_fits (EnterAt h c) s = tt
 
   -- each `send` of a row names an entry so, and each `fetch` its reply
-  pub row_fits : (n : ℕ) → n < length (rows P) → All (λ (p : Piece). Fits F p.form) (made P n)
-  row_fits n within k d l =
+  pub row_fits : (n : ℕ) → All (λ (p : Piece). Fits F p.form) (made P n)
+  row_fits n k d l =
       let p = get_or (made P n) k d in
       let makes = slice_get-get_or (made P n) k d l in
-      sent_fits p.form (each_at P (made P n) k p (each_made P n (place P n) (node P n) within refl) makes)
+      sent_fits p.form (each_at P (made P n) k p (each_row P n) makes)
 
   -- and so does each block
   pub entries_fit : EntriesFit P F

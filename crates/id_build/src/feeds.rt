@@ -16,7 +16,7 @@ ghost use Rattle.id_pieces.specs.Made.{arc_to, is_of_loop};
 ghost use Rattle.id_build.specs.Passes.{arcs_of, firsts_of, program_of};
 
 use crate::origins::{name_in, origin, output, part_of, trigger_of};
-use id_desugar::{carried_count, end_of, has_index, next_of, row_at};
+use id_desugar::{carried_count, has_index, row_at};
 use id_instr::Port;
 use id_pieces::{Arc, Origin, Slots, first_binder, imports_at, nexts_at, number_at, turn_row};
 use id_table::{Node, Region, Row};
@@ -24,7 +24,6 @@ use std::alloc::AllocError;
 
 /// Adds the arcs to the instructions of the row n.
 pub fn push_feeds(slots: &Slots<'_>, n: usize, arcs: &mut Vec<Arc>) -> Result<(), AllocError>
-    requires { n < length (programs.rows (program_of slots.now)) }
     ensures { OnOk result (arcs.new.items
         ≡ arcs.old.items ++ arcs_of slots.now n (feeds (program_of slots.now) n)) }
 {
@@ -57,7 +56,6 @@ pub fn push_feeds(slots: &Slots<'_>, n: usize, arcs: &mut Vec<Arc>) -> Result<()
 /// Adds the arcs to the instructions of the row n, which is a marker and no thing of the text.
 #[inline(always)]
 fn push_marker(slots: &Slots<'_>, n: usize, row: Row, arcs: &mut Vec<Arc>) -> Result<(), AllocError>
-    requires within { n < length (programs.rows (program_of slots.now)) }
     requires row { row ≡ at (programs.rows (program_of slots.now)) n }
     requires marker { is_thing row.node ≡ false }
     ensures { OnOk result (arcs.new.items
@@ -92,7 +90,6 @@ fn push_of_loop(
     row: Row,
     arcs: &mut Vec<Arc>,
 ) -> Result<(), AllocError>
-    requires within { n < length (programs.rows (program_of slots.now)) }
     requires row { row ≡ at (programs.rows (program_of slots.now)) n }
     requires marker { is_of_loop row.node ≡ true }
     ensures { OnOk result (arcs.new.items
@@ -113,12 +110,11 @@ fn push_of_loop(
 
 /// Adds the arc from the last expression of the procedure with the head n to its way back.
 fn push_result(slots: &Slots<'_>, n: usize, arcs: &mut Vec<Arc>) -> Result<(), AllocError>
-    requires { n < length (programs.rows (program_of slots.now)) }
     ensures { let P = program_of slots.now in OnOk result (arcs.new.items ≡ arcs.old.items ++ arcs_of slots.now n
         (rows.feed (rows.origin P (body_of (rows.node P (end_of P n)))) 1 One ∷ [])) }
 {
     let checked = slots.kernel.checked;
-    let body = body_of(row_at(checked, end_of(checked, &slots.kernel.ends, n)).node);
+    let body = body_of(row_at(checked, slots.kernel.end_of(n)).node);
     let first = number_at(slots, n);
     push_arc(slots, origin(slots, body), first + 1, Port::One, arcs)
 }
@@ -256,8 +252,7 @@ fn push_start(
     region: Region,
     arcs: &mut Vec<Arc>,
 ) -> Result<(), AllocError>
-    requires within { n < length (programs.rows (program_of slots.now)) }
-    requires start { rows.node (program_of slots.now) n ≡ Start }
+    requires { rows.node (program_of slots.now) n ≡ Start }
     ensures { OnOk result (arcs.new.items
         ≡ arcs.old.items ++ arcs_of slots.now n (feeds_of (program_of slots.now) n region Start)) }
 {
@@ -313,8 +308,7 @@ fn push_carried(
     head: usize,
     arcs: &mut Vec<Arc>,
 ) -> Result<(), AllocError>
-    requires within { head < length (programs.rows (program_of slots.now)) }
-    requires few { n - head < 2 ^ 62 }
+    requires { n - head < 2 ^ 62 }
     ensures { OnOk result (arcs.new.items ≡ arcs.old.items ++ arcs_of slots.now n
         (rows.feed (rows.part_of (rows.turn_row (program_of slots.now) head) (n - head)) 0 Zero ∷ [])) }
 {
@@ -325,11 +319,10 @@ fn push_carried(
 /// Adds the arc to the entry at the row n, which is that of a variable.
 #[inline(always)]
 fn push_variable(slots: &Slots<'_>, n: usize, arcs: &mut Vec<Arc>) -> Result<(), AllocError>
-    requires { n < length (programs.rows (program_of slots.now)) }
     ensures { OnOk result (arcs.new.items ≡ arcs.old.items ++ arcs_of slots.now n
         (rows.feed (rows.output (next_of (program_of slots.now) n)) 0 Zero ∷ [])) }
 {
-    let next = next_of(slots.kernel.checked, &slots.kernel.nexts, n);
+    let next = slots.kernel.next_of(n);
     push_first(slots, output(next as usize), n, arcs)
 }
 
@@ -362,7 +355,6 @@ fn push_carried_turns(
     head: usize,
     arcs: &mut Vec<Arc>,
 ) -> Result<(), AllocError>
-    requires { head < length (programs.rows (program_of slots.now)) }
     ensures { OnOk result (arcs.new.items ≡ arcs.old.items
         ++ arcs_of slots.now n (carried_feeds (program_of slots.now) n region head)) }
 {
@@ -402,14 +394,13 @@ fn push_firsts(
 
 /// Adds the arcs to the trigger and to the way back of the loop with the head n.
 fn push_loop_head(slots: &Slots<'_>, n: usize, arcs: &mut Vec<Arc>) -> Result<(), AllocError>
-    requires { n < length (programs.rows (program_of slots.now)) }
     ensures { let P = program_of slots.now in OnOk result (arcs.new.items ≡ arcs.old.items ++ arcs_of slots.now n
         (rows.feed (rows.output (rows.turn_row P n)) 0 Zero ∷ rows.feed (rows.output (end_of P n - 2)) 1 One ∷ [])) }
 {
     let first = number_at(slots, n);
     let turn = turn_row(slots.kernel, n);
     push_arc(slots, output(turn), first, Port::Zero, arcs)?;
-    let reset = end_of(slots.kernel.checked, &slots.kernel.ends, n).saturating_sub(2);
+    let reset = slots.kernel.end_of(n).saturating_sub(2);
     push_arc(slots, output(reset), first + 1, Port::One, arcs)
 }
 
@@ -420,7 +411,6 @@ fn push_entries(
     head: usize,
     arcs: &mut Vec<Arc>,
 ) -> Result<(), AllocError>
-    requires { head < length (programs.rows (program_of slots.now)) }
     ensures { let P = program_of slots.now in OnOk result (arcs.new.items ≡ arcs.old.items ++ arcs_of slots.now n
         (entry_feeds (rows.turn_row P head) (1 + length (regions.carried P head)) 0
         (regions.imports_of P head))) }
@@ -448,7 +438,6 @@ fn push_turn(
     head: usize,
     arcs: &mut Vec<Arc>,
 ) -> Result<(), AllocError>
-    requires { head < length (programs.rows (program_of slots.now)) }
     ensures { let P = program_of slots.now in OnOk result (arcs.new.items ≡ arcs.old.items ++ arcs_of slots.now n
         (rows.feed (rows.trigger_of region) 0 Zero ∷ carried_feeds P n region head
         ++ turn_feeds P region (1 + length (regions.carried P head))

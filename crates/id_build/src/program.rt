@@ -19,7 +19,7 @@ ghost use Rattle.id_pieces.specs.Made.{instrs_from, number_by, pieces_in};
 use crate::feeds::push_feeds;
 use crate::joined::{connect_all, push_bare};
 use crate::size::made_count;
-use id_desugar::{Kernel, end_of, row_at};
+use id_desugar::{Kernel, row_at};
 use id_instr::{Block, Graph, Instr};
 use id_pieces::{
     Arc, BuildError, Piece, Slots, entries_row, find_slots, imports_at, is_param, number_at,
@@ -122,8 +122,7 @@ fn add_bare(
     pieces: &mut Vec<Piece>,
     instrs: &mut Vec<Instr>,
 ) -> Result<(), AllocError>
-    requires within { n < length (programs.rows (program_of slots.now)) }
-    requires empty { pieces.old.items ≡ [] }
+    requires { pieces.old.items ≡ [] }
     ensures empty { OnOk result (pieces.new.items ≡ []) }
     ensures bare { OnOk result (instrs.new.items
         ≡ instrs.old.items ++ instrs_from (firsts_of slots.now) 0 (made (program_of slots.now) n) []) }
@@ -159,7 +158,6 @@ fn connect_row(
     arcs: &mut Vec<Arc>,
     instrs: &mut Vec<Instr>,
 ) -> Result<(), AllocError>
-    requires within { n < length (programs.rows (program_of slots.now)) }
     requires few { length instrs.old.items < 2 ^ 32 }
     requires between { All (IsBetween (length instrs.old.items))
         (arcs_of slots.now n (feeds (program_of slots.now) n)) }
@@ -195,8 +193,7 @@ fn add_head(
     head: usize,
     blocks: &mut Vec<Block>,
 ) -> Result<(), AllocError>
-    requires within { head < length (programs.rows (program_of slots.now)) }
-    requires blocks { blocks.old.items
+    requires { blocks.old.items
         ≡ map (block_at slots.now) (heads_below (programs.rows (program_of slots.now)) head) }
     ensures { OnOk result (blocks.new.items
         ≡ map (block_at slots.now) (heads_below (programs.rows (program_of slots.now)) (head + 1))) }
@@ -215,8 +212,7 @@ fn add_procedure(
     head: usize,
     blocks: &mut Vec<Block>,
 ) -> Result<(), AllocError>
-    requires within { head < length (programs.rows (program_of slots.now)) }
-    requires head { tables.is_head (rows.node (program_of slots.now) head) ≡ true }
+    requires { tables.is_head (rows.node (program_of slots.now) head) ≡ true }
     ensures { OnOk result (blocks.new.items
         ≡ blocks.old.items ++ block_at slots.now head ∷ []) }
 {
@@ -244,8 +240,7 @@ fn add_loop(
     head: usize,
     blocks: &mut Vec<Block>,
 ) -> Result<(), AllocError>
-    requires within { head < length (programs.rows (program_of slots.now)) }
-    requires head { regions.is_loop_head (rows.node (program_of slots.now) head) ≡ true }
+    requires { regions.is_loop_head (rows.node (program_of slots.now) head) ≡ true }
     ensures { OnOk result (blocks.new.items
         ≡ blocks.old.items ++ block_at slots.now head ∷ []) }
 {
@@ -272,16 +267,18 @@ fn add_block(
 
 /// The numbers of the entries of the procedure with this head.
 fn params(alloc: Global, slots: &Slots<'_>, head: usize) -> Result<Vec<u32>, AllocError>
-    requires within { head < length (programs.rows (program_of slots.now)) }
-    requires head { tables.is_head (rows.node (program_of slots.now) head) ≡ true }
+    requires { tables.is_head (rows.node (program_of slots.now) head) ≡ true }
     ensures { IfOk result
         (λ v. v.items ≡ map (λ q. number_by (firsts_of slots.now) q.row q.part)
         (rows.entries (program_of slots.now) head)) }
 {
     let mut entries = Vec::new(alloc);
-    let checked = slots.kernel.checked;
-    for n in head + 1..end_of(checked, &slots.kernel.ends, head) {
-        if !is_param(row_at(checked, n).node) {
+    let end = slots.kernel.end_of(head);
+    if end <= head {
+        return Ok(entries);
+    }
+    for n in head + 1..end {
+        if !is_param(row_at(slots.kernel.checked, n).node) {
             break;
         }
         push_param(&mut entries, slots, n)?;
@@ -300,8 +297,7 @@ fn push_param(entries: &mut Vec<u32>, slots: &Slots<'_>, n: usize) -> Result<(),
 
 /// The numbers of the entries of the loop with this head: what it carries on, its variables, and then its imports.
 fn loop_entries(alloc: Global, slots: &Slots<'_>, head: usize) -> Result<Vec<u32>, AllocError>
-    requires within { head < length (programs.rows (program_of slots.now)) }
-    requires head { regions.is_loop_head (rows.node (program_of slots.now) head) ≡ true }
+    requires { regions.is_loop_head (rows.node (program_of slots.now) head) ≡ true }
     ensures { IfOk result
         (λ v. v.items ≡ map (λ q. number_by (firsts_of slots.now) q.row q.part)
         (rows.entries (program_of slots.now) head)) }
@@ -322,8 +318,7 @@ fn push_variables(
     imported: usize,
     entries: &mut Vec<u32>,
 ) -> Result<(), AllocError>
-    requires within { head < length (programs.rows (program_of slots.now)) }
-    requires imported { imported ≡ rows.entries_row (program_of slots.now) head }
+    requires { imported ≡ rows.entries_row (program_of slots.now) head }
     ensures { let P = program_of slots.now in OnOk result (entries.new.items ≡ entries.old.items
         ++ map (λ q. number_by (firsts_of slots.now) q.row q.part) (map param_entry (carried P head)
         ++ variable_entries (first_variable P head) (nexts_of P head))) }

@@ -5,24 +5,22 @@ ghost use Rattle.std.specs.Prelude.{IsTrue, IsSome, IfOk, IfSome, length};
 ghost use Rattle.std.proofs.Props.{props};
 ghost use Rattle.id_check.specs.declared.checked.Checked.{Checked};
 ghost use Rattle.id_check.specs.Programs as programs;
-ghost use Rattle.id_desugar.specs.Ends.{AreEnds, end_of};
+ghost use Rattle.id_desugar.specs.Ends.{end_of};
 ghost use Rattle.id_pieces.specs.Rows.{HasNoSplit, is_plain, made, made_of, size};
 
 use id_check::Checked;
-use id_desugar::{Column, Kernel, carried_count, end_of, find_ends, row_at};
+use id_desugar::{Ends, Kernel, carried_count, find_ends, row_at};
 use id_pieces::{imports_at, nexts_at};
 use id_table::Node;
 use std::alloc::{AllocError, Global};
 
 /// A program, lent, with what bounds its instructions without its regions.
 ///
-/// Keeps: there are at most 1,000,000 rows; for each row `ends` has where what begins there ends, if something does.
+/// Keeps: there are at most 1,000,000 rows.
 #[derive(Drop)]
 struct Spans<'t> {
-    checked: &'t Checked,
-    ends: Column,
-    ghost few: { length (programs.rows checked.now) ≤ 1000000 } by { Prim.hlevel props },
-    ghost ended: { AreEnds checked.now ends } by { Prim.hlevel props },
+    ends: Ends<'t>,
+    ghost few: { length (programs.rows ends.checked.now) ≤ 1000000 } by { Prim.hlevel props },
 }
 
 /// Whether the schemas give the program at most 1,000,000 instructions: `build` refuses it otherwise. Takes no memory.
@@ -66,10 +64,8 @@ pub fn is_surely_small(alloc: Global, checked: &Checked) -> Result<bool, AllocEr
     if checked.table.rows.len() > 1_000_000 {
         return Ok(false);
     }
-    let spans = Spans {
-        checked,
-        ends: find_ends(alloc, checked)?,
-    };
+    let ends = find_ends(alloc, checked)?;
+    let spans = Spans { ends };
     let mut most = 0usize;
     for n in 0..checked.table.rows.len() {
         most += most_made(&spans, n);
@@ -82,11 +78,10 @@ pub fn is_surely_small(alloc: Global, checked: &Checked) -> Result<bool, AllocEr
 
 /// How many instructions the row n makes at most. Takes no memory.
 fn most_made(spans: &Spans<'_>, n: usize) -> usize
-    requires { n < length (programs.rows spans.now.checked.now) }
-    ensures most { length (made spans.now.checked.now n) ≤ result }
+    ensures most { length (made spans.now.ends.checked.now n) ≤ result }
     ensures few { result ≤ 2000004 }
 {
-    let row = row_at(spans.checked, n);
+    let row = row_at(spans.ends.checked, n);
     match row.node {
         Node::Split { .. } => rows_in(spans, n) + 1,
         Node::Switches { .. } => 2 * rows_in(spans, row.block as usize) + 2,
@@ -99,17 +94,16 @@ fn most_made(spans: &Spans<'_>, n: usize) -> usize
 
 /// How many rows stand between this one and the one where what begins here ends. Takes no memory.
 fn rows_in(spans: &Spans<'_>, head: usize) -> usize
-    requires { head < length (programs.rows spans.now.checked.now) }
-    ensures rows { result ≡ end_of spans.now.checked.now head - (head + 1) }
+    ensures rows { result ≡ end_of spans.now.ends.checked.now head - (head + 1) }
     ensures few { result ≤ 1000000 }
 {
-    end_of(spans.checked, &spans.ends, head).saturating_sub(head + 1)
+    let end = spans.ends.end_of(head);
+    end.saturating_sub(head).saturating_sub(1)
 }
 
 /// How many instructions the row n makes. Takes no memory.
 #[inline(always)]
 pub fn made_count(kernel: &Kernel<'_>, n: usize) -> usize
-    requires { n < length (programs.rows kernel.now.checked.now) }
     ensures count { result ≡ length (made kernel.now.checked.now n) }
     ensures few { result < 2 ^ 63 }
 {

@@ -17,7 +17,7 @@ use Rattle.id_table.specs.Rows.{at, no_row}
 use Rattle.id_table.specs.Tables.{HasPart, is_variable}
 use Rattle.id_desugar.specs.Gathering.{EndsNothing, is_opening}
 use Rattle.id_desugar.specs.Regions.{nexts_from}
-use Rattle.id_desugar.specs.Ends.{AreFirst, IsNoted, begun_at, end_at, end_of, end_row, is_row, next_of}
+use Rattle.id_desugar.specs.Ends.{AreEnds, AreFirst, AreNexts, IsNoted, begun_at, end_at, end_of, end_row, is_row, next_at, next_of, variable_of}
 
 -- at first nothing is noted
 pub nothing-at : (n h : ℕ) → get_or {A = Option ℕ} (replicate n None) h None ≡ None
@@ -116,16 +116,85 @@ end_within P h l = by (end_row P h) refl
     by None e = omega (arith, l)
     by (Some e) is = (end_begins P h e is).0
 
+-- a row of a node that is none past the end is a row
+pub stands_inside : (P : Checked) (n : ℕ) (m : Node) → (at (rows P) n).node ≡ m → (Head ≡ m → ⊥) → n < length (rows P)
+stands_inside P n m is past = elim (cases_lt n (length (rows P))) [
+  | inl l ↦ l
+  | inr l ↦ absurd (past (sym (ap (λ (r : Row). r.node) (get_or_past (rows P) n no_row l)) ∙ is))
+]
+
+-- and so is one of a node that a test takes
+pub row_inside : (R : List Row) (i : ℕ) (f : Node → Bool) → f Head ≡ false → f (at R i).node ≡ true → i < length R
+row_inside R i f none e = elim (cases_lt i (length R)) [
+  | inl l ↦ l
+  | inr l ↦ absurd (false≢true (sym none ∙ ap (λ (r : Row). f r.node) (sym (get_or_past R i no_row l)) ∙ e))
+]
+
 -- the variable of a `next` is a row
-pub variable_within : (P : Checked) (n x k o v : ℕ) → n < length (rows P) → (at (rows P) n).node ≡ Next x k o v
+pub variable_within : (P : Checked) (n x k o v : ℕ) → (at (rows P) n).node ≡ Next x k o v
     → (at (rows P) n).block + 1 + k < length (rows P)
-variable_within P n x k o v l e = elim (cases_lt ((at (rows P) n).block + 1 + k) (length (rows P))) [
+variable_within P n x k o v e = elim (cases_lt ((at (rows P) n).block + 1 + k) (length (rows P))) [
   | inl m ↦ m
   | inr m ↦
       let w = (table_of P).next_in n (at (rows P) n).block k x (record { outer = o; value = v; within = l; block = refl; node = e }) in
       let past : Head ≡ Variable = sym (ap (λ (r : Row). r.node) (get_or_past (rows P) ((at (rows P) n).block + 1 + k) no_row m)) ∙ w.2.variable in
       absurd (false≢true (ap is_variable past))
 ]
+  where
+    l : n < length (rows P)
+    l = stands_inside P n (Next x k o v) e (λ bad. cc)
+
+-- ---- what is noted for any number
+
+-- what is noted for rows alone is noted for any number
+first_kept : (P : Checked) (f : ℕ → ℕ → Option ℕ) (es : List (Option ℕ)) (h : ℕ)
+    → AreFirst P f (length (rows P)) es
+    → ((n : ℕ) → first_of (f h) (length (rows P)) ≡ Some n → h < length (rows P))
+    → get_or es h None ≡ first_of (f h) (length (rows P))
+first_kept P f es h so inside = elim (cases_lt h (length (rows P))) [
+  | inl l ↦ so.each h l
+  | inr l ↦ get_or_past es h None (omega (arith, so.many, l)) ∙ none l (first_of (f h) (length (rows P))) refl
+]
+  where
+    none : length (rows P) ≤ h → (o : Option ℕ) → first_of (f h) (length (rows P)) ≡ o → None ≡ o
+    none l None e = refl
+    none l (Some n) e = absurd (omega (arith, inside n e, l))
+
+-- what ends begins at a row
+pub begun_inside : (P : Checked) (h : ℕ) → 0 < end_of P h → h < length (rows P)
+begun_inside P h l = by (end_row P h) refl l
+  where
+    by : (o : Option ℕ) → end_row P h ≡ o → 0 < unwrap_or o 0 → h < length (rows P)
+    by None is k = absurd (omega (arith, k))
+    by (Some e) is k = let low = end_behind P h e is in let within = (end_begins P h e is).0 in omega (arith, low, within)
+
+-- where what begins at any number ends
+pub end_of-kept : (P : Checked) (es : List (Option ℕ)) (h : ℕ) → AreEnds P es → unwrap_or (get_or es h None) 0 ≡ end_of P h
+end_of-kept P es h so = ap (λ o. unwrap_or o 0) (first_kept P (end_at P) es h so inside)
+  where
+    inside : (e : ℕ) → end_row P h ≡ Some e → h < length (rows P)
+    inside e is = let low = end_behind P h e is in let within = (end_begins P h e is).0 in omega (arith, low, within)
+
+-- the `next` of the variable at any number
+pub next_of-kept : (P : Checked) (ns : List (Option ℕ)) (v : ℕ) → AreNexts P ns → unwrap_or (get_or ns v None) 0 ≡ next_of P v
+next_of-kept P ns v so = ap (λ o. unwrap_or o 0) (first_kept P (next_at P) ns v so inside)
+  where
+    none_some : (a : ℕ) → None ≡ Some a → ⊥
+    none_some a i = cc
+
+    test : (i g : ℕ) (t : Bool) → (if t then Some i else None) ≡ Some g → t ≡ true
+    test i g true e = refl
+    test i g false e = absurd (none_some g e)
+
+    by : (i g : ℕ) (m : Node) → (at (rows P) i).node ≡ m
+        → (if is_row v (variable_of (at (rows P) i).block m) then Some i else None) ≡ Some g → v < length (rows P)
+    by i g (Next x k o u) e f =
+        let is : (at (rows P) i).block + 1 + k ≡ v = eqb-true ((at (rows P) i).block + 1 + k) v (test i g (nat_eq ((at (rows P) i).block + 1 + k) v) f) in
+        subst (λ z. z < length (rows P)) is (variable_within P i x k o u e)
+    by i g _ e f = absurd (none_some g f)
+
+    inside : (n : ℕ) → first_of (next_at P v) (length (rows P)) ≡ Some n → v < length (rows P)
+    inside n is = let w = first_of-some (next_at P v) (length (rows P)) n is in by w.0 n (at (rows P) w.0).node refl w.2
 
 -- ---- the `next`s of a loop
 

@@ -16,7 +16,7 @@ use Rattle.id_check.specs.Programs.{binder, rows}
 use Rattle.id_check.proofs.ProgramsLemmas.{binder_below}
 use Rattle.id_desugar.specs.Ends.{end_of, end_row}
 use Rattle.id_desugar.specs.Regions.{has, imports, imports_by, is_outside, used_by, with_use}
-use Rattle.id_desugar.specs.Gathering.{AllCount, AreBelow, AreGathered, AreMarked, IsInner, is_opening, is_own, used_in, uses_of, with_uses}
+use Rattle.id_desugar.specs.Gathering.{AllCount, AreBelow, AreGathered, AreMarked, AreMarks, IsInner, is_opening, is_own, used_in, uses_of, with_uses}
 use Rattle.id_desugar.proofs.UsesLemmas.{has_last, imports-same, inner_span}
 
 -- a list with one more behind it has no other besides what it had
@@ -55,6 +55,10 @@ AreMarked-noted s b M bs m less = record { below = λ k. up k (k == b) refl; mar
     mark k false e l =
         let there : get_or (slice_set M b s) k 0 ≡ get_or M k 0 = get_or-set_other M b k s 0 (apart k e) in
         ap (λ z. z == s) there ∙ m.marked k (omega (arith, long, l)) ∙ sym (has_other bs b k (apart k e))
+
+-- marks below one number are below a greater one
+pub AreMarks-more : (P : Checked) (s t : ℕ) (M : List ℕ) → s ≤ t → AreMarks P s M → AreMarks P t M
+AreMarks-more P s t M l m = record { many = m.many; below = λ b. let low = m.below b in omega (arith, l, low) }
 
 -- no binder is noted at first
 pub AreMarked-none : (s : ℕ) (M : List ℕ) → AreBelow s M → AreMarked s M []

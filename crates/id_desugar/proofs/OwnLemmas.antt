@@ -2,12 +2,11 @@
 use Rattle.std.proofs.Common.{◌≡◌, ◌≢◌, inl, inr, ℕ, ◌+◌, ◌-◌, ◌<◌, ◌≤◌, Bool, true, false, List, Some, None, refl, ap, sym, ◌∙◌, arith, length}
 use Rattle.std.specs.Prelude.{◌&&◌, ◌||◌, nat_eq}
 use Rattle.std.proofs.lemmas.Bool.{cases_lt, eqb-true, false≢true}
-use Rattle.std.proofs.lemmas.List.{get_or_past}
 use Rattle.id_table.specs.declared.row.Region.{Region}
 use Rattle.id_table.specs.declared.row.Row.{Row}
 use Rattle.id_table.specs.declared.row.Node.{Node}
 use Rattle.id_table.specs.declared.row.Node.TheVariants.{Head, Name, Split, If, Enter, Call, Def, LoopHead, Switches, NextUse, Loop}
-use Rattle.id_table.specs.Rows.{arm_at, at, no_row, top}
+use Rattle.id_table.specs.Rows.{arm_at, at, top}
 use Rattle.id_table.specs.Tables.{begins_block, is_split, is_switches, is_top}
 use Rattle.id_table.specs.Loops.{InSide, IsLoop, IsLoopOf, IsTurn, right, behind_count}
 use Rattle.id_table.specs.Regions.{Lies, here, in_arm, in_loop, in_side, IsIfOf}
@@ -20,14 +19,7 @@ use Rattle.id_check.proofs.ProgramsLemmas.{table_of}
 use Rattle.id_desugar.specs.Ends.{begun_at}
 use Rattle.id_desugar.specs.Regions.{is_loop_head, is_right_in, used, used_by}
 use Rattle.id_desugar.specs.Gathering.{AllCount, IsInner, used_in}
-use Rattle.id_desugar.proofs.EndsLemmas.{end_begins}
-
--- a row with a node that is none past the end is a row
-is_row : (R : List Row) (i : ℕ) (f : Node → Bool) → f Head ≡ false → f (at R i).node ≡ true → i < length R
-is_row R i f none e = elim (cases_lt i (length R)) [
-  | inl l ↦ l
-  | inr l ↦ absurd (false≢true (sym none ∙ ap (λ (r : Row). f r.node) (sym (get_or_past R i no_row l)) ∙ e))
-]
+use Rattle.id_desugar.proofs.EndsLemmas.{end_begins, row_inside}
 
 and_first : (a b : Bool) → (a && b) ≡ true → a ≡ true
 and_first true b e = refl
@@ -229,15 +221,15 @@ module _ (R : List Row) (t : IsTable R) where
       head_apart z = false≢true (sym (ap is_switches d.before_test.head) ∙ ap (λ y. is_switches (at R y).node) z ∙ own.switches)
 
 -- the switches of a loop stand behind its head, in its block
-pub switches_head : (P : Checked) (w : ℕ) → w < length (rows P) → is_switches (at (rows P) w).node ≡ true
+pub switches_head : (P : Checked) (w : ℕ) → is_switches (at (rows P) w).node ≡ true
     → ((at (rows P) w).block < w) × (is_loop_head (at (rows P) (at (rows P) w).block).node ≡ true)
-switches_head P w l e = by (at (rows P) w).node refl e
+switches_head P w e = by (at (rows P) w).node refl e
   where
     by : (n : Node) → (at (rows P) w).node ≡ n → is_switches n ≡ true → ((at (rows P) w).block < w)
         × (is_loop_head (at (rows P) (at (rows P) w).block).node ≡ true)
     by (Switches t) is f =
         let T = table_of P in
-        let v = T.switches_of w t l is in
+        let v = T.switches_of w t (row_inside (rows P) w is_switches refl e) is in
         let d = T.loop_is v.0 (at (rows P) w).block v.1 in
         (omega (arith, d.before_test.low, d.test.low, d.test.behind, v.2), ap is_loop_head d.before_test.head)
     by _ is f = absurd (false≢true f)
@@ -249,7 +241,7 @@ right_in P g i e =
     let switches = and_first (is_switches (at (rows P) w).node) (nat_eq (at (rows P) w).block g) e in
     record {
       head = refl;
-      within = is_row (rows P) w is_switches refl switches;
+      within = row_inside (rows P) w is_switches refl switches;
       switches = switches;
       block = eqb-true (at (rows P) w).block g (and_second (is_switches (at (rows P) w).node) (nat_eq (at (rows P) w).block g) e);
     }

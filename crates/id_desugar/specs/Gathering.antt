@@ -1,5 +1,5 @@
 -- How the order is made and the imports are gathered, from the innermost construct outwards.
-use Rattle.std.specs.Prelude.{◌≡◌, ◌≤◌, ◌<◌, ◌+◌, ◌==◌, ℕ, Bool, true, false}
+use Rattle.std.specs.Prelude.{◌≡◌, ◌≤◌, ◌<◌, ◌+◌, ◌-◌, ◌==◌, ℕ, Bool, true, false}
 use Rattle.std.specs.Prelude.{if◌then◌else◌, ◌||◌, nat_lt}
 use Rattle.std.specs.Prelude.{List, [], ◌∷◌, length, get_or, Option, None, Some}
 use Rattle.id_table.specs.declared.row.Node.{Node}
@@ -7,8 +7,10 @@ use Rattle.id_table.specs.Rows.{at}
 use Rattle.id_table.specs.Tables.{is_split, is_switches}
 use Rattle.id_check.specs.declared.checked.Checked.{Checked}
 use Rattle.id_check.specs.Programs.{rows, binder}
+use Rattle.id_desugar.specs.declared.imports.Span.{Span}
 use Rattle.id_desugar.specs.Ends.{end_of, end_row}
-use Rattle.id_desugar.specs.Regions.{has, imports, imports_of, in_block, is_loop_head, is_right_in, used_by, with_use}
+use Rattle.id_desugar.specs.Regions.{has, imports, imports_by, imports_of, in_block, is_loop_head, is_right_in, used_by}
+use Rattle.id_desugar.specs.Regions.{with_use}
 
 -- ---- the rows of blocks
 
@@ -88,10 +90,21 @@ pub record AllCount (P : Checked) (own : Option ℕ) (lo hi : ℕ) : Type 0 wher
 abbrev pub AreBelow : ℕ → List ℕ → Type 0
 AreBelow s M = (b : ℕ) → get_or M b 0 < s
 
+-- there is a mark for each row, each below s
+pub record AreMarks (P : Checked) (s : ℕ) (M : List ℕ) : Type 0 where
+  pub many : length M ≡ length (rows P)
+  pub below : AreBelow s M
+
 -- the mark s is that of the binders in the list
 pub record AreMarked (s : ℕ) (M bs : List ℕ) : Type 0 where
   pub below : AreBelow (s + 1) M
   pub marked : (b : ℕ) → b < length M → (get_or M b 0 == s) ≡ has bs b
+
+-- what the span's rows up to this one use is noted: there is a mark for each row, and the list has its imports so far
+pub record AreNotedTo (P : Checked) (s : Span) (row : ℕ) (M bs : List ℕ) : Type 0 where
+  pub many : length M ≡ length (rows P)
+  pub marked : AreMarked s.mark M bs
+  pub list : bs ≡ imports_by (used_in P s.own) s.lo s.hi (row - s.lo)
 
 -- the list with these binders, one after another
 abbrev pub with_uses : ℕ → ℕ → List ℕ → List ℕ → List ℕ

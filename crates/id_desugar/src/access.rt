@@ -1,14 +1,12 @@
 //! The columns of a checked program, read by row. Nothing here takes memory.
 
-ghost use Rattle.std.specs.Prelude.{◌≡◌, ◌<◌, ◌≤◌, length};
+ghost use Rattle.std.specs.Prelude.{◌≡◌, ◌≤◌, ◌+◌, true, length};
 ghost use Rattle.id_check.specs.Programs as programs;
 ghost use Rattle.id_table.specs.Rows as table;
 ghost use Rattle.id_table.specs.Tables.{is_variable};
-ghost use Rattle.id_desugar.specs.Ends.{AreEnds, AreNexts, end_of, next_of};
 ghost use Rattle.id_desugar.specs.Gathering.{is_own, is_opening, may_import, used_in};
 ghost use Rattle.id_desugar.specs.Regions.{carried, first_variable, has_index, is_loop_head, is_right_in};
 
-use crate::column::Column;
 use id_check::Checked;
 use id_table::{Node, Region, Row};
 
@@ -35,6 +33,16 @@ pub fn row_at(checked: &Checked, n: usize) -> Row
     }
 }
 
+/// The row behind the row `n`, `count` rows on.
+fn row_behind(checked: &Checked, n: usize, count: usize) -> Row
+    ensures { result ≡ table.at (programs.rows checked.now) (n + count) }
+{
+    match n.checked_add(count) {
+        Some(n) => row_at(checked, n),
+        None => NO_ROW,
+    }
+}
+
 /// The binder of the name at a row, if a name stands there.
 pub fn binder_at(checked: &Checked, n: usize) -> Option<usize>
     ensures { result ≡ programs.binder checked.now n }
@@ -44,13 +52,23 @@ pub fn binder_at(checked: &Checked, n: usize) -> Option<usize>
 
 /// The binder of the value that a row uses, if it uses one: a procedure's name is none of a value. First values of the
 /// loop with the head `own`, if one is given, do not count.
-pub fn used_at(checked: &Checked, own: Option<usize>, n: usize) -> Option<usize>
+pub fn used_at(checked: &Checked, own: Option<usize>, n: usize) -> Option<u32>
     ensures { result ≡ used_in checked.now own n }
 {
     match row_at(checked, n).node {
-        Node::Name { .. } => binder_at(checked, n),
-        Node::NextUse { .. } if !is_own(checked, own, n) => binder_at(checked, n),
+        Node::Name { .. } => noted_at(checked, n),
+        Node::NextUse { .. } if !is_own(checked, own, n) => noted_at(checked, n),
         _ => None,
+    }
+}
+
+/// The binder of the name at a row, if a name stands there, as it is noted.
+fn noted_at(checked: &Checked, n: usize) -> Option<u32>
+    ensures { result ≡ programs.binder checked.now n }
+{
+    match checked.binders.get(n) {
+        Some(binder) => *binder,
+        None => None,
     }
 }
 
@@ -88,15 +106,13 @@ pub fn is_variable(node: Node) -> bool
 
 /// Whether the loop with this head has an index.
 pub fn has_index(checked: &Checked, head: usize) -> bool
-    requires { head < length (programs.rows checked.now) }
     ensures { result ≡ has_index checked.now head }
 {
-    matches!(row_at(checked, head + 1).node, Node::Carried { .. })
+    matches!(row_behind(checked, head, 1).node, Node::Carried { .. })
 }
 
 /// How many entries the loop with this head carries on beside those of its variables: none, or three with an index.
 pub fn carried_count(checked: &Checked, head: usize) -> usize
-    requires { head < length (programs.rows checked.now) }
     ensures count { result ≡ length (carried checked.now head) }
     ensures few { result ≤ 3 }
 {
@@ -105,7 +121,7 @@ pub fn carried_count(checked: &Checked, head: usize) -> usize
 
 /// The row of the first variable of the loop with this head.
 pub fn first_variable(checked: &Checked, head: usize) -> usize
-    requires { head < length (programs.rows checked.now) }
+    requires { is_loop_head (table.at (programs.rows checked.now) head).node ≡ true }
     ensures { result ≡ first_variable checked.now head }
 {
     head + 1 + carried_count(checked, head)
@@ -123,30 +139,4 @@ pub fn may_import(node: Node) -> bool
     ensures { result ≡ may_import node }
 {
     is_opening(node) || matches!(node, Node::Switches { .. })
-}
-
-/// The row where what begins at a row ends. Takes no memory.
-pub fn end_of(checked: &Checked, ends: &Column, head: usize) -> usize
-    requires ends { AreEnds checked.now ends.now }
-    requires within { head < length (programs.rows checked.now) }
-    ensures { result ≡ end_of checked.now head }
-{
-    let _ = checked;
-    match ends.get(head) {
-        Some(end) => end as usize,
-        None => 0,
-    }
-}
-
-/// The row of the `next` of the variable at a row. Takes no memory.
-pub fn next_of(checked: &Checked, nexts: &Column, variable: usize) -> u32
-    requires nexts { AreNexts checked.now nexts.now }
-    requires within { variable < length (programs.rows checked.now) }
-    ensures { result ≡ next_of checked.now variable }
-{
-    let _ = checked;
-    match nexts.get(variable) {
-        Some(next) => next,
-        None => 0,
-    }
 }

@@ -1,6 +1,7 @@
 //! For each row another row, or none, in four bytes.
 
-ghost use Rattle.std.specs.Prelude.{◌≡◌, ◌<◌, ℕ, length, get_or, slice_set, replicate, IfOk, IfSome, None};
+ghost use Rattle.std.specs.Prelude.{◌≡◌, ◌<◌, ℕ, length, get_or, slice_set, replicate, unwrap_or, IfOk, IfSome};
+ghost use Rattle.std.specs.Prelude.{None};
 ghost use Rattle.id_desugar.specs.Lists.{row_of};
 
 use std::alloc::{AllocError, Global};
@@ -49,6 +50,16 @@ impl Column {
         match self.numbers.get(row) {
             Some(number) => row_of(*number),
             None => None,
+        }
+    }
+
+    /// What stands at a row, or 0. Takes no memory.
+    pub fn get_or_first(&self, row: usize) -> u32
+        ensures { result ≡ unwrap_or (get_or self.now row None) 0 }
+    {
+        match self.get(row) {
+            Some(other) => other,
+            None => 0,
         }
     }
 

@@ -2,24 +2,22 @@
 //! inner one is found before that of the one round it, which takes it over. A loop's own first values are among it,
 //! since what is round the loop uses them; they are no imports of the loop, which are gathered after that.
 
-ghost use Rattle.std.specs.Prelude.{◌≡◌, ◌↔◌, IsTrue, ◌≤◌, ◌<◌, ◌+◌, ◌-◌, ◌⊎◌};
+ghost use Rattle.std.specs.Prelude.{◌≡◌, ◌↔◌, IsTrue, ◌≤◌, ◌<◌, ◌+◌, ◌⊎◌};
 ghost use Rattle.std.specs.Prelude.{true, [], length, get_or};
 ghost use Rattle.std.specs.Prelude.{◌++◌, replicate, IfOk, IfSome, OnOk, Some, None};
 ghost use Rattle.id_check.specs.Programs as programs;
-ghost use Rattle.id_desugar.specs.Ends.{AreEnds, AreNexts, end_row};
-ghost use Rattle.id_desugar.specs.Regions.{all_imports, imports, imports_by, imports_of, nexts_of, taken, with_use};
-ghost use Rattle.id_desugar.specs.Gathering.{AllCount, AreBelow, AreFilled, AreGathered, AreMarked, AreTurned};
-ghost use Rattle.id_desugar.specs.Gathering.{EndsNothing, is_opening, used_in, with_uses};
+ghost use Rattle.id_desugar.specs.Ends.{end_row};
+ghost use Rattle.id_desugar.specs.Regions.{all_imports, imports, imports_of, is_loop_head, nexts_of, taken, with_use};
+ghost use Rattle.id_desugar.specs.Gathering.{AllCount, AreFilled, AreGathered, AreMarked, AreMarks, AreNotedTo};
+ghost use Rattle.id_desugar.specs.Gathering.{AreTurned, EndsNothing, is_opening, used_in, with_uses};
 ghost use Rattle.id_value.specs.List.{Among};
 ghost use Rattle.id_table.specs.Rows.{at};
 ghost use Rattle.id_table.specs.Tables as table;
 
 use crate::access::{
-    end_of, first_variable, has_index, is_opening, is_variable, may_import, next_of, row_at,
-    used_at,
+    first_variable, has_index, is_opening, is_variable, may_import, row_at, used_at,
 };
-use crate::column::{Column, MOST};
-use crate::ends::begun_at;
+use crate::ends::{Ends, EndsAndNexts, begun_at};
 use crate::list::{AllImports, Imports};
 use id_check::Checked;
 use id_table::Node;
@@ -36,20 +34,14 @@ struct Span {
 }
 
 /// The imports of each row: none but those of conditionals, loops and their switches.
-pub fn all_imports(
-    alloc: Global,
-    checked: &Checked,
-    ends: &Column,
-    nexts: &Column,
-) -> Result<AllImports, AllocError>
-    requires ends { AreEnds checked.now ends.now }
-    requires nexts { AreNexts checked.now nexts.now }
-    ensures { IfOk result (λ a. a ≡ all_imports checked.now) }
+pub fn all_imports(alloc: Global, spans: &EndsAndNexts<'_>) -> Result<AllImports, AllocError>
+    ensures { IfOk result (λ a. a ≡ all_imports spans.now.ends.checked.now) }
 {
+    let checked = spans.ends.checked;
     if import_nothing(checked) {
         return Ok(AllImports::none(checked.table.rows.len()));
     }
-    let lists = all_lists(alloc, checked, ends, nexts)?;
+    let lists = all_lists(alloc, spans)?;
     Ok(AllImports::new(lists))
 }
 
@@ -66,39 +58,27 @@ fn import_nothing(checked: &Checked) -> bool
 }
 
 /// The list of each row.
-fn all_lists(
-    alloc: Global,
-    checked: &Checked,
-    ends: &Column,
-    nexts: &Column,
-) -> Result<Vec<Imports>, AllocError>
-    requires ends { AreEnds checked.now ends.now }
-    requires nexts { AreNexts checked.now nexts.now }
-    ensures { IfOk result (λ v. v.items ≡ all_imports checked.now) }
+fn all_lists(alloc: Global, spans: &EndsAndNexts<'_>) -> Result<Vec<Imports>, AllocError>
+    ensures { IfOk result (λ v. v.items ≡ all_imports spans.now.ends.checked.now) }
 {
-    let count = checked.table.rows.len();
-    if count > MOST {
-        return Err(AllocError);
-    }
-    let mut lists = all_uses(alloc, checked, ends)?;
+    let count = spans.ends.checked.table.rows.len();
+    let mut lists = all_uses(alloc, &spans.ends)?;
     let mut marks = vec![in alloc; 0u32; count]?;
     for row in 0..count {
-        turn(alloc, checked, ends, nexts, &mut lists, &mut marks, row)?;
+        turn(alloc, spans, &mut lists, &mut marks, row)?;
     }
     Ok(lists)
 }
 
 /// What each construct uses from outside, by the row where it begins.
-fn all_uses(alloc: Global, checked: &Checked, ends: &Column) -> Result<Vec<Imports>, AllocError>
-    requires few { length (programs.rows checked.now) ≤ MOST }
-    requires ends { AreEnds checked.now ends.now }
-    ensures { IfOk result (λ v. AreFilled checked.now (length (programs.rows checked.now)) v.items) }
+fn all_uses(alloc: Global, ends: &Ends<'_>) -> Result<Vec<Imports>, AllocError>
+    ensures { let P = ends.now.checked.now in IfOk result (λ v. AreFilled P (length (programs.rows P)) v.items) }
 {
-    let count = checked.table.rows.len();
+    let count = ends.checked.table.rows.len();
     let mut lists = none_yet(alloc, count)?;
     let mut marks = vec![in alloc; 0u32; count]?;
     for end in 0..count {
-        fill(alloc, checked, ends, &mut lists, &mut marks, end)?;
+        fill(alloc, ends, &mut lists, &mut marks, end)?;
     }
     Ok(lists)
 }
@@ -117,30 +97,24 @@ fn none_yet(alloc: Global, count: usize) -> Result<Vec<Imports>, AllocError>
 /// Gives the construct that ends at a row what it uses.
 fn fill(
     alloc: Global,
-    checked: &Checked,
-    ends: &Column,
+    ends: &Ends<'_>,
     lists: &mut Vec<Imports>,
     marks: &mut Vec<u32>,
     end: usize,
 ) -> Result<(), AllocError>
-    requires ends { AreEnds checked.now ends.now }
-    requires few { length (programs.rows checked.now) ≤ MOST }
-    requires within { end < length (programs.rows checked.now) }
-    requires lists { AreFilled checked.now end lists.old.items }
-    requires long { length marks.old.items ≡ length (programs.rows checked.now) }
-    requires marks { AreBelow (end + 1) marks.old.items }
-    ensures lists { OnOk result (AreFilled checked.now (end + 1) lists.new.items) }
-    ensures long { length marks.new.items ≡ length marks.old.items }
-    ensures marks { OnOk result (AreBelow (end + 2) marks.new.items) }
+    requires lists { AreFilled ends.now.checked.now end lists.old.items }
+    requires marks { AreMarks ends.now.checked.now (end + 1) marks.old.items }
+    ensures lists { OnOk result (AreFilled ends.now.checked.now (end + 1) lists.new.items) }
+    ensures marks { OnOk result (AreMarks ends.now.checked.now (end + 2) marks.new.items) }
 {
-    if let Some(opening) = opening_ended(checked, ends, end) {
+    if let Some(opening) = opening_ended(ends, end) {
         let span = Span {
             lo: opening + 1,
             hi: end,
             own: None,
             mark: end as u32 + 1,
         };
-        let list = gather(alloc, checked, ends, lists.as_slice(), marks, span)?;
+        let list = gather(alloc, ends, lists.as_slice(), marks, span)?;
         let uses = Imports::new(alloc, list)?;
         lists[opening] = uses;
     }
@@ -148,29 +122,28 @@ fn fill(
 }
 
 /// The row where the construct begins that ends at a row, if one does. Takes no memory.
-fn opening_ended(checked: &Checked, ends: &Column, end: usize) -> Option<usize>
-    requires ends { AreEnds checked.now ends.now }
-    ensures some { IfSome result (λ s. (s < length (programs.rows checked.now)) × (end_row checked.now s ≡ Some end)
-        × is_opening (at (programs.rows checked.now) s).node ≡ true) }
-    ensures none { result ≡ None → EndsNothing checked.now end }
+fn opening_ended(ends: &Ends<'_>, end: usize) -> Option<usize>
+    ensures some { let P = ends.now.checked.now in
+        IfSome result (λ s. (s < length (programs.rows P)) × (end_row P s ≡ Some end)
+        × is_opening (at (programs.rows P) s).node ≡ true) }
+    ensures none { result ≡ None → EndsNothing ends.now.checked.now end }
 {
-    let begun = begun_at(row_at(checked, end).node);
+    let begun = begun_at(row_at(ends.checked, end).node);
     match begun {
-        Some(opening) if is_ended(checked, ends, opening, end) => Some(opening),
+        Some(opening) if is_ended(ends, opening, end) => Some(opening),
         _ => None,
     }
 }
 
 /// Whether a construct begins at a row and ends at the row `end`. Takes no memory.
-fn is_ended(checked: &Checked, ends: &Column, opening: usize, end: usize) -> bool
-    requires ends { AreEnds checked.now ends.now }
-    ensures { IsTrue result
-        ↔ (opening < length (programs.rows checked.now)) × (end_row checked.now opening ≡ Some end)
-        × is_opening (at (programs.rows checked.now) opening).node ≡ true }
+fn is_ended(ends: &Ends<'_>, opening: usize, end: usize) -> bool
+    ensures { let P = ends.now.checked.now in IsTrue result
+        ↔ (opening < length (programs.rows P)) × (end_row P opening ≡ Some end)
+        × is_opening (at (programs.rows P) opening).node ≡ true }
 {
-    opening < ends.len()
-        && is_row(ends.get(opening), end)
-        && is_opening(row_at(checked, opening).node)
+    opening < ends.column.len()
+        && is_row(ends.column.get(opening), end)
+        && is_opening(row_at(ends.checked, opening).node)
 }
 
 /// Whether it is the row.
@@ -187,33 +160,23 @@ fn is_row(row: Option<u32>, wanted: usize) -> bool
 /// switches.
 fn turn(
     alloc: Global,
-    checked: &Checked,
-    ends: &Column,
-    nexts: &Column,
+    spans: &EndsAndNexts<'_>,
     lists: &mut Vec<Imports>,
     marks: &mut Vec<u32>,
     row: usize,
 ) -> Result<(), AllocError>
-    requires ends { AreEnds checked.now ends.now }
-    requires nexts { AreNexts checked.now nexts.now }
-    requires few { length (programs.rows checked.now) ≤ MOST }
-    requires within { row < length (programs.rows checked.now) }
-    requires lists { AreTurned checked.now row lists.old.items }
-    requires long { length marks.old.items ≡ length (programs.rows checked.now) }
-    requires marks { AreBelow (row + 1) marks.old.items }
-    ensures lists { OnOk result (AreTurned checked.now (row + 1) lists.new.items) }
-    ensures long { length marks.new.items ≡ length marks.old.items }
-    ensures marks { OnOk result (AreBelow (row + 2) marks.new.items) }
+    requires lists { AreTurned spans.now.ends.checked.now row lists.old.items }
+    requires marks { AreMarks spans.now.ends.checked.now (row + 1) marks.old.items }
+    ensures lists { OnOk result (AreTurned spans.now.ends.checked.now (row + 1) lists.new.items) }
+    ensures marks { OnOk result (AreMarks spans.now.ends.checked.now (row + 2) marks.new.items) }
 {
-    let this = row_at(checked, row);
-    match this.node {
+    match row_at(spans.ends.checked, row).node {
         Node::LoopHead { .. } => {
-            let imports = imports_of_loop(alloc, checked, ends, lists.as_slice(), marks, row)?;
+            let imports = imports_of_loop(alloc, &spans.ends, lists.as_slice(), marks, row)?;
             lists[row] = imports;
         }
         Node::Switches { .. } => {
-            let head = this.block as usize;
-            let imports = handed_on(alloc, checked, nexts, lists.as_slice(), row, head)?;
+            let imports = handed_on(alloc, spans, lists.as_slice(), row)?;
             lists[row] = imports;
         }
         _ => {}
@@ -224,77 +187,62 @@ fn turn(
 /// The imports of the loop with this head.
 fn imports_of_loop(
     alloc: Global,
-    checked: &Checked,
-    ends: &Column,
+    ends: &Ends<'_>,
     lists: &[Imports],
     marks: &mut Vec<u32>,
     head: usize,
 ) -> Result<Imports, AllocError>
-    requires ends { AreEnds checked.now ends.now }
-    requires few { length (programs.rows checked.now) ≤ MOST }
-    requires within { head < length (programs.rows checked.now) }
-    requires lists { AreTurned checked.now head lists.now }
-    requires long { length marks.old.items ≡ length (programs.rows checked.now) }
-    requires marks { AreBelow (head + 1) marks.old.items }
-    ensures list { IfOk result (λ i. i ≡ taken checked.now head) }
-    ensures long { length marks.new.items ≡ length marks.old.items }
-    ensures marks { AreBelow (head + 2) marks.new.items }
+    requires head { is_loop_head (at (programs.rows ends.now.checked.now) head).node ≡ true }
+    requires lists { AreTurned ends.now.checked.now head lists.now }
+    requires marks { AreMarks ends.now.checked.now (head + 1) marks.old.items }
+    ensures list { IfOk result (λ i. i ≡ taken ends.now.checked.now head) }
+    ensures marks { OnOk result (AreMarks ends.now.checked.now (head + 2) marks.new.items) }
 {
     let span = Span {
         lo: head + 1,
-        hi: end_of(checked, ends, head),
+        hi: ends.end_of(head),
         own: Some(head),
         mark: head as u32 + 1,
     };
-    let list = gather(alloc, checked, ends, lists, marks, span)?;
-    Imports::new(alloc, list)
+    let list = gather(alloc, ends, lists, marks, span)?;
+    let imports = Imports::new(alloc, list)?;
+    Ok(imports)
 }
 
 /// What the switches of a loop hand on: the upper bound of its index, if it has one, its variables, and what its head
 /// imports.
 fn handed_on(
     alloc: Global,
-    checked: &Checked,
-    nexts: &Column,
+    spans: &EndsAndNexts<'_>,
     lists: &[Imports],
     switches: usize,
-    head: usize,
 ) -> Result<Imports, AllocError>
-    requires nexts { AreNexts checked.now nexts.now }
-    requires within { switches < length (programs.rows checked.now) }
-    requires lists { AreTurned checked.now switches lists.now }
-    requires node { table.is_switches (at (programs.rows checked.now) switches).node ≡ true }
-    requires head { head ≡ (at (programs.rows checked.now) switches).block }
-    requires low { head < switches }
-    requires few { length (programs.rows checked.now) ≤ MOST }
-    ensures { IfOk result (λ i. i ≡ imports_of checked.now switches) }
+    requires lists { AreTurned spans.now.ends.checked.now switches lists.now }
+    requires node { table.is_switches (at (programs.rows spans.now.ends.checked.now) switches).node ≡ true }
+    ensures { IfOk result (λ i. i ≡ imports_of spans.now.ends.checked.now switches) }
 {
+    let checked = spans.ends.checked;
+    let head = row_at(checked, switches).block as usize;
     let mut list = Vec::new(alloc);
     if has_index(checked, head) {
         list.push((head + 2) as u32)?;
     }
-    add_nexts(checked, nexts, &mut list, head)?;
+    add_nexts(spans, &mut list, head)?;
     list.extend_from_slice(lists[head].as_slice())?;
     Imports::new(alloc, list)
 }
 
 /// Adds the rows of the `next`s of the loop with this head, in order.
-fn add_nexts(
-    checked: &Checked,
-    nexts: &Column,
-    list: &mut Vec<u32>,
-    head: usize,
-) -> Result<(), AllocError>
-    requires nexts { AreNexts checked.now nexts.now }
-    requires few { length (programs.rows checked.now) ≤ MOST }
-    requires within { head < length (programs.rows checked.now) }
-    ensures { OnOk result (list.new.items ≡ list.old.items ++ nexts_of checked.now head) }
+fn add_nexts(spans: &EndsAndNexts<'_>, list: &mut Vec<u32>, head: usize) -> Result<(), AllocError>
+    requires { is_loop_head (at (programs.rows spans.now.ends.checked.now) head).node ≡ true }
+    ensures { OnOk result (list.new.items ≡ list.old.items ++ nexts_of spans.now.ends.checked.now head) }
 {
+    let checked = spans.ends.checked;
     for row in first_variable(checked, head)..checked.table.rows.len() {
         if !is_variable(row_at(checked, row).node) {
             break;
         }
-        list.push(next_of(checked, nexts, row))?;
+        list.push(spans.next_of(row))?;
     }
     Ok(())
 }
@@ -302,59 +250,45 @@ fn add_nexts(
 /// The binders outside the span that uses in it mean, each once, in order of first use.
 fn gather(
     alloc: Global,
-    checked: &Checked,
-    ends: &Column,
+    ends: &Ends<'_>,
     lists: &[Imports],
     marks: &mut Vec<u32>,
     span: Span,
 ) -> Result<Vec<u32>, AllocError>
-    requires ends { AreEnds checked.now ends.now }
-    requires few { length (programs.rows checked.now) ≤ MOST }
-    requires within { span.hi < length (programs.rows checked.now) }
-    requires lists { AreGathered checked.now span.lo span.hi lists.now }
-    requires count { AllCount checked.now span.own span.lo span.hi }
-    requires long { length marks.old.items ≡ length (programs.rows checked.now) }
-    requires marks { AreBelow span.mark marks.old.items }
-    ensures list { IfOk result (λ v. v.items ≡ imports (used_in checked.now span.own) span.lo span.hi) }
-    ensures long { length marks.new.items ≡ length marks.old.items }
-    ensures marks { AreBelow (span.mark + 1) marks.new.items }
+    requires within { span.hi < length (programs.rows ends.now.checked.now) }
+    requires lists { AreGathered ends.now.checked.now span.lo span.hi lists.now }
+    requires count { AllCount ends.now.checked.now span.own span.lo span.hi }
+    requires marks { AreMarks ends.now.checked.now span.mark marks.old.items }
+    ensures list { IfOk result (λ v. v.items ≡ imports (used_in ends.now.checked.now span.own) span.lo span.hi) }
+    ensures marks { OnOk result (AreMarks ends.now.checked.now (span.mark + 1) marks.new.items) }
 {
     let mut list = Vec::new(alloc);
     let mut row = span.lo;
     while row < span.hi {
-        row = note_row(checked, ends, lists, marks, &mut list, span, row)?;
+        row = note_row(ends, lists, marks, &mut list, span, row)?;
     }
     Ok(list)
 }
 
 /// Notes what a row of the span uses, and where an inner construct begins, what that uses. Gives the row to go on with.
 fn note_row(
-    checked: &Checked,
-    ends: &Column,
+    ends: &Ends<'_>,
     lists: &[Imports],
     marks: &mut Vec<u32>,
     list: &mut Vec<u32>,
     span: Span,
     row: usize,
 ) -> Result<usize, AllocError>
-    requires ends { AreEnds checked.now ends.now }
-    requires few { length (programs.rows checked.now) ≤ MOST }
-    requires within { span.hi < length (programs.rows checked.now) }
+    requires within { span.hi < length (programs.rows ends.now.checked.now) }
     requires row { (span.lo ≤ row) × (row < span.hi) }
-    requires lists { AreGathered checked.now span.lo span.hi lists.now }
-    requires count { AllCount checked.now span.own span.lo span.hi }
-    requires long { length marks.old.items ≡ length (programs.rows checked.now) }
-    requires marks { AreMarked span.mark marks.old.items list.old.items }
-    requires list { list.old.items ≡ imports_by (used_in checked.now span.own) span.lo span.hi (row - span.lo) }
+    requires lists { AreGathered ends.now.checked.now span.lo span.hi lists.now }
+    requires count { AllCount ends.now.checked.now span.own span.lo span.hi }
+    requires noted { AreNotedTo ends.now.checked.now span row marks.old.items list.old.items }
     ensures row { IfOk result (λ r. (row < r) × (r ≤ span.hi)) }
-    ensures list { IfOk result
-        (λ r. list.new.items ≡ imports_by (used_in checked.now span.own) span.lo span.hi (r - span.lo)) }
-    ensures long { length marks.new.items ≡ length marks.old.items }
-    ensures below { AreBelow (span.mark + 1) marks.new.items }
-    ensures marks { OnOk result (AreMarked span.mark marks.new.items list.new.items) }
+    ensures noted { IfOk result (λ r. AreNotedTo ends.now.checked.now span r marks.new.items list.new.items) }
 {
-    note_used(marks, list, span, used_at(checked, span.own, row))?;
-    let next = inner_end(checked, ends, row);
+    note_used(marks, list, span, used_at(ends.checked, span.own, row))?;
+    let next = inner_end(ends, row);
     if row < next && next < span.hi {
         note_all(marks, list, span, lists[row].as_slice())?;
         return Ok(next);
@@ -363,16 +297,14 @@ fn note_row(
 }
 
 /// The row where the construct ends that begins at a row, or 0. Takes no memory.
-fn inner_end(checked: &Checked, ends: &Column, row: usize) -> usize
-    requires ends { AreEnds checked.now ends.now }
-    requires within { row < length (programs.rows checked.now) }
-    ensures { result ≡ 0 ⊎ ((end_row checked.now row ≡ Some result)
-        × (is_opening (at (programs.rows checked.now) row).node ≡ true)) }
+fn inner_end(ends: &Ends<'_>, row: usize) -> usize
+    ensures { let P = ends.now.checked.now in result ≡ 0 ⊎ ((end_row P row ≡ Some result)
+        × (is_opening (at (programs.rows P) row).node ≡ true)) }
 {
-    if !is_opening(row_at(checked, row).node) {
+    if !is_opening(row_at(ends.checked, row).node) {
         return 0;
     }
-    match ends.get(row) {
+    match ends.column.get(row) {
         Some(end) => end as usize,
         None => 0,
     }
@@ -383,18 +315,16 @@ fn note_used(
     marks: &mut Vec<u32>,
     list: &mut Vec<u32>,
     span: Span,
-    binder: Option<usize>,
+    binder: Option<u32>,
 ) -> Result<(), AllocError>
-    requires few { length marks.old.items ≤ MOST }
     requires marks { AreMarked span.mark marks.old.items list.old.items }
     requires binder { IfSome binder (λ b. b < length marks.old.items) }
     ensures list { OnOk result (list.new.items ≡ with_use span.lo span.hi list.old.items binder) }
     ensures long { length marks.new.items ≡ length marks.old.items }
-    ensures below { AreBelow (span.mark + 1) marks.new.items }
     ensures marks { OnOk result (AreMarked span.mark marks.new.items list.new.items) }
 {
     match binder {
-        Some(binder) => note(marks, list, span, binder as u32),
+        Some(binder) => note(marks, list, span, binder),
         None => Ok(()),
     }
 }
@@ -410,7 +340,6 @@ fn note_all(
     requires binders { (b : _) → Among b binders.now → b < length marks.old.items }
     ensures list { OnOk result (list.new.items ≡ with_uses span.lo span.hi list.old.items binders.now) }
     ensures long { length marks.new.items ≡ length marks.old.items }
-    ensures below { AreBelow (span.mark + 1) marks.new.items }
     ensures marks { OnOk result (AreMarked span.mark marks.new.items list.new.items) }
 {
     for binder in binders {
@@ -430,7 +359,6 @@ fn note(
     requires binder { binder < length marks.old.items }
     ensures list { OnOk result (list.new.items ≡ with_use span.lo span.hi list.old.items (Some binder)) }
     ensures long { length marks.new.items ≡ length marks.old.items }
-    ensures below { AreBelow (span.mark + 1) marks.new.items }
     ensures marks { OnOk result (AreMarked span.mark marks.new.items list.new.items) }
 {
     let at = binder as usize;

@@ -1,7 +1,8 @@
 //! The order in which rows are made into instructions (docs/GRAPH.md, "Schemas").
 
-ghost use Rattle.std.specs.Prelude.{◌≡◌, ◌<◌, ◌≤◌, ◌+◌, ◌++◌, ℕ, None, get_or, length, IfOk};
+ghost use Rattle.std.specs.Prelude.{◌≡◌, ◌<◌, ◌+◌, ◌++◌, ℕ, None, get_or, length, IfOk};
 ghost use Rattle.std.specs.Prelude.{OnOk};
+ghost use Rattle.std.proofs.Props.{props};
 ghost use Rattle.id_check.specs.Programs.{rows};
 ghost use Rattle.id_desugar.specs.Gathering.{AreChains};
 ghost use Rattle.id_desugar.specs.Regions.{head_at, in_block, in_procedure, loop_heads, loops_by, order_of, reach};
@@ -23,9 +24,17 @@ struct Chains {
     nexts: Column,
 }
 
-/// The heads of loops, in order of place.
-pub fn loop_heads(alloc: Global, checked: &Checked) -> Result<Vec<u32>, AllocError>
-    ensures { IfOk result (λ v. v.items ≡ loop_heads checked.now) }
+/// A checked program, lent, with the heads of its loops, in order of place.
+#[derive(Drop)]
+pub struct Loops<'t> {
+    pub checked: &'t Checked,
+    pub heads: Vec<u32>,
+    pub ghost headed: { heads.items ≡ loop_heads checked.now } by { Prim.hlevel props },
+}
+
+/// The program with the heads of its loops.
+pub fn find_loops<'t>(alloc: Global, checked: &'t Checked) -> Result<Loops<'t>, AllocError>
+    ensures { IfOk result (λ l. l.checked.now ≡ checked.now) }
 {
     let count = checked.table.rows.len();
     let reach = reach(checked);
@@ -34,7 +43,7 @@ pub fn loop_heads(alloc: Global, checked: &Checked) -> Result<Vec<u32>, AllocErr
     }
     let mut heads = Vec::new(alloc);
     if reach == 0 {
-        return Ok(heads);
+        return Ok(Loops { checked, heads });
     }
     let mut placed = Column::none(alloc, reach)?;
     for row in 0..count {
@@ -45,7 +54,7 @@ pub fn loop_heads(alloc: Global, checked: &Checked) -> Result<Vec<u32>, AllocErr
             heads.push(head)?;
         }
     }
-    Ok(heads)
+    Ok(Loops { checked, heads })
 }
 
 /// One more than the greatest place of a loop, or 0. Takes no memory.
@@ -76,33 +85,32 @@ fn place_head(checked: &Checked, placed: &mut Column, n: usize)
     }
 }
 
-/// The order in which the rows are made, where these are the heads of loops: the last, then those of procedures, then
-/// those of each loop's block.
-pub fn order_of(alloc: Global, checked: &Checked, loops: &[u32]) -> Result<Vec<u32>, AllocError>
-    requires { loops.now ≡ loop_heads checked.now }
-    ensures { IfOk result (λ v. v.items ≡ order_of checked.now) }
+/// The order in which the rows are made: the last, then those of procedures, then those of each loop's block.
+pub fn order_of(alloc: Global, loops: &Loops<'_>) -> Result<Vec<u32>, AllocError>
+    ensures { IfOk result (λ v. v.items ≡ order_of loops.now.checked.now) }
 {
+    let checked = loops.checked;
     let count = checked.table.rows.len();
     if count > MOST {
         return Err(AllocError);
     }
     let mut order = Vec::with_capacity(alloc, count)?;
     if count > 0 {
-        order.push((count - 1) as u32)?;
-        push_procedures(checked, &mut order, count - 1)?;
-        push_loops(alloc, checked, &mut order, loops, count - 1)?;
+        let last = (count - 1) as u32;
+        order.push(last)?;
+        push_procedures(checked, &mut order, last)?;
+        push_loops(alloc, checked, &mut order, loops.heads.as_slice(), last)?;
     }
     Ok(order)
 }
 
 /// Those of the first `last` rows that stand in blocks of procedures.
-fn push_procedures(checked: &Checked, order: &mut Vec<u32>, last: usize) -> Result<(), AllocError>
-    requires few { last ≤ MOST }
+fn push_procedures(checked: &Checked, order: &mut Vec<u32>, last: u32) -> Result<(), AllocError>
     ensures { OnOk result (order.new.items ≡ order.old.items ++ those (in_procedure checked.now) last) }
 {
     for row in 0..last {
-        if is_in_procedure(checked, row) {
-            order.push(row as u32)?;
+        if is_in_procedure(checked, row as usize) {
+            order.push(row)?;
         }
     }
     Ok(())
@@ -121,9 +129,8 @@ fn push_loops(
     checked: &Checked,
     order: &mut Vec<u32>,
     loops: &[u32],
-    last: usize,
+    last: u32,
 ) -> Result<(), AllocError>
-    requires few { last ≤ MOST }
     requires last { last + 1 ≡ length (rows checked.now) }
     requires loops { (h : ℕ) → Among h loops.now → h < last }
     ensures { OnOk result (order.new.items ≡ order.old.items ++ loops_by checked.now last loops.now) }
@@ -143,7 +150,7 @@ fn push_block(
     checked: &Checked,
     chains: &Chains,
     order: &mut Vec<u32>,
-    last: usize,
+    last: u32,
     head: usize,
 ) -> Result<(), AllocError>
     requires last { last + 1 ≡ length (rows checked.now) }
@@ -162,8 +169,7 @@ fn push_block(
 }
 
 /// The chains of the first `last` rows.
-fn find_chains(alloc: Global, checked: &Checked, last: usize) -> Result<Chains, AllocError>
-    requires few { last ≤ MOST }
+fn find_chains(alloc: Global, checked: &Checked, last: u32) -> Result<Chains, AllocError>
     requires last { last + 1 ≡ length (rows checked.now) }
     ensures { IfOk result (λ c. AreChains checked.now 0 last c.firsts c.nexts) }
 {
@@ -181,16 +187,15 @@ fn find_chains(alloc: Global, checked: &Checked, last: usize) -> Result<Chains, 
 }
 
 /// Puts a row at the beginning of the chain of its block. Takes no memory.
-fn link(checked: &Checked, chains: &mut Chains, last: usize, row: usize)
-    requires few { last ≤ MOST }
+fn link(checked: &Checked, chains: &mut Chains, last: u32, row: u32)
     requires last { last + 1 ≡ length (rows checked.now) }
     requires row { row < last }
     requires chains { AreChains checked.now (row + 1) last chains.old.firsts chains.old.nexts }
     ensures { AreChains checked.now row last chains.new.firsts chains.new.nexts }
 {
     let _ = last;
-    let block = row_at(checked, row).block as usize;
+    let block = row_at(checked, row as usize).block as usize;
     let next = chains.firsts.get(block);
-    chains.nexts.set(row, next);
-    chains.firsts.set(block, Some(row as u32));
+    chains.nexts.set(row as usize, next);
+    chains.firsts.set(block, Some(row));
 }

@@ -18,6 +18,7 @@ use Rattle.id_check.specs.declared.checked.Checked.{Checked}
 use Rattle.id_check.specs.Programs.{region, rows}
 use Rattle.id_check.proofs.ProgramsLemmas.{table_of}
 use Rattle.id_desugar.specs.Ends.{end_of, is_row, next_of, variable_of}
+use Rattle.id_desugar.proofs.EndsLemmas.{row_inside, stands_inside}
 use Rattle.id_desugar.specs.Regions.{bound_of, carried, first_variable, handed, has_index, imports_of, is_loop_head, nexts_from, nexts_of, taken}
 use Rattle.id_pieces.specs.Rows.{block, entries_row, node, switches_at, turn_row}
 use Rattle.id_pieces.proofs.EndsLemmas.{body_low, first_answers, itself_eq, loop_is, some_answer, tested, turn_low}
@@ -236,12 +237,24 @@ turn_block P h s within is =
 pub rows_few : (P : Checked) → length (rows P) < 2 ^ 64
 rows_few P = omega (arith, P.table.rows.ok.0)
 
+pub rows_half : (P : Checked) → length (rows P) < 2 ^ 63
+rows_half P = let rows = P.table.rows in omega (arith, rows.ok.0, rows.ok.1, rows.small)
+
+-- a `Start` stands at a row
+pub start_inside : (P : Checked) (n : ℕ) → node P n ≡ Start → n < length (rows P)
+start_inside P n e = stands_inside P n Start e (λ bad. cc)
+
+-- what a loop carries on stands at rows
+pub carried_inside : (P : Checked) (h i : ℕ) → i < length (carried P h) → h + 1 < length (rows P)
+carried_inside P h i l = by (has_index P h) refl l
+  where
+    by : (t : Truth) → has_index P h ≡ t → i < length (cond t ((h + 1) ∷ (h + 2) ∷ (h + 3) ∷ []) []) → h + 1 < length (rows P)
+    by true e k = row_inside (rows P) (h + 1) is_carried refl e
+    by false e k = absurd (omega (arith, k))
+
 -- what past the end of the table stands is no `next`
 next_inside : (P : Checked) (m : ℕ) (x k o v : ℕ) → node P m ≡ Next x k o v → m < length (rows P)
-next_inside P m x k o v e = elim (cases_lt m (length (rows P))) [
-  | inl l ↦ l
-  | inr l ↦ (let bad : Next x k o v ≡ Head = sym e ∙ ap (λ (r : Row). r.node) (get_or-eq_default (rows P) no_row l) in cc)
-]
+next_inside P m x k o v e = stands_inside P m (Next x k o v) e (λ bad. cc)
 
 -- the label of the variable of a `next` is a row
 pub label_inside : (P : Checked) (m x k o v : ℕ) → node P m ≡ Next x k o v → (block P m + 1 + k < length (rows P)) × (node P (block P m + 1 + k) ≡ Variable)
@@ -263,10 +276,7 @@ carried_few P h = by (has_index P h)
 
 -- nor the head of a loop
 pub head_inside : (P : Checked) (h : ℕ) → is_loop_head (node P h) ≡ true → h < length (rows P)
-head_inside P h e = elim (cases_lt h (length (rows P))) [
-  | inl l ↦ l
-  | inr l ↦ absurd (false≢true (sym (ap (λ (r : Row). is_loop_head r.node) (get_or-eq_default (rows P) no_row l)) ∙ e))
-]
+head_inside P h e = row_inside (rows P) h is_loop_head refl e
 
 -- the switches that a row names are a row
 pub switches_inside : (P : Checked) (n : ℕ) (m : Node) → 0 < length (rows P) → node P n ≡ m → switches_at m < length (rows P)
@@ -277,6 +287,16 @@ switches_inside P n (Loop h w l) some e = elim (cases_lt n (length (rows P))) [
   | inr k ↦ (let bad : Loop h w l ≡ Head = sym e ∙ ap (λ (r : Row). r.node) (get_or-eq_default (rows P) no_row k) in cc)
 ]
 switches_inside P n _ some e = some
+
+-- those of what begins at any number are no more than rows
+pub switches_few : (P : Checked) (h : ℕ) → switches_at (node P (end_of P h)) ≤ length (rows P)
+switches_few P h = elim (cases_lt 0 (length (rows P))) [
+  | inl k ↦ let l = switches_inside P (end_of P h) (node P (end_of P h)) k refl in omega (arith, l)
+  | inr k ↦
+      let past : length (rows P) ≤ end_of P h = omega (arith, k) in
+      let none : switches_at (node P (end_of P h)) ≡ 0 = ap (λ (r : Row). switches_at r.node) (get_or-eq_default (rows P) no_row past) in
+      omega (arith, none)
+]
 
 -- what the switches of a loop hand on begins with the upper bound of its index and its variables
 pub nexts_first : (P : Checked) (h : ℕ) → is_loop_head (node P h) ≡ true

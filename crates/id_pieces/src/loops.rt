@@ -2,14 +2,13 @@
 //! memory.
 
 ghost use Rattle.std.specs.Prelude.{◌≡◌, ◌<◌, ◌^◌, true, length};
-ghost use Rattle.id_check.specs.Programs as programs;
 ghost use Rattle.id_desugar.specs.Ends.{end_of};
 ghost use Rattle.id_desugar.specs.Regions.{imports_of, is_loop_head, nexts_of};
 ghost use Rattle.id_pieces.specs.Rows as rows;
 ghost use Rattle.id_pieces.specs.Rows.{first_binder, entries_row, home, label, outer_at, switches_at, turn_row};
 
 use id_check::Checked;
-use id_desugar::{Kernel, binder_at, end_of, first_variable, has_index, row_at};
+use id_desugar::{Kernel, binder_at, first_variable, has_index, row_at};
 use id_table::Node;
 
 /// The binders that the head at a row imports.
@@ -46,17 +45,13 @@ pub fn entries_row(kernel: &Kernel<'_>, head: usize) -> usize
 
 /// The row of the switches of the loop with this head.
 fn switches_row(kernel: &Kernel<'_>, head: usize) -> usize
-    requires { head < length (programs.rows kernel.now.checked.now) }
-    ensures switches { result ≡ switches_at (rows.node kernel.now.checked.now (end_of kernel.now.checked.now head)) }
-    ensures within { result < length (programs.rows kernel.now.checked.now) }
+    ensures { result ≡ switches_at (rows.node kernel.now.checked.now (end_of kernel.now.checked.now head)) }
 {
-    let end = end_of(kernel.checked, &kernel.ends, head);
-    switches_at(row_at(kernel.checked, end).node)
+    switches_at(row_at(kernel.checked, kernel.end_of(head)).node)
 }
 
 /// The row of what hands on what the loop with this head imports.
 pub fn turn_row(kernel: &Kernel<'_>, head: usize) -> usize
-    requires { head < length (programs.rows kernel.now.checked.now) }
     ensures { result ≡ turn_row kernel.now.checked.now head }
 {
     let behind = if has_index(kernel.checked, head) {

@@ -24,7 +24,7 @@ use crate::calls::{called, param_of};
 use crate::loops::{entries_row, imports_at, nexts_at};
 use crate::operators::{binary_op, holds_array, port_at, port_of};
 use id_check::Checked;
-use id_desugar::{Kernel, carried_count, end_of, first_variable, next_of, row_at};
+use id_desugar::{Kernel, carried_count, first_variable, row_at};
 use id_instr::{Dyadic, Op, PortKind};
 use id_table::Node;
 use id_value::{Arithmetic, Comparison, Constant, Kind};
@@ -32,7 +32,6 @@ use std::alloc::AllocError;
 
 /// Adds the instructions of the row n.
 pub fn push_pieces(kernel: &Kernel<'_>, n: usize, pieces: &mut Vec<Piece>) -> Result<(), AllocError>
-    requires { n < length (programs.rows kernel.now.checked.now) }
     ensures { OnOk result (pieces.new.items ≡ pieces.old.items ++ made kernel.now.checked.now n) }
 {
     let row = row_at(kernel.checked, n);
@@ -47,7 +46,6 @@ fn push_row(
     node: Node,
     pieces: &mut Vec<Piece>,
 ) -> Result<(), AllocError>
-    requires within { n < length (programs.rows kernel.now.checked.now) }
     requires node { node ≡ rows.node kernel.now.checked.now n }
     ensures { OnOk result (pieces.new.items ≡ pieces.old.items ++ made_of kernel.now.checked.now n place node) }
 {
@@ -82,7 +80,6 @@ fn push_marker(
     node: Node,
     pieces: &mut Vec<Piece>,
 ) -> Result<(), AllocError>
-    requires within { n < length (programs.rows kernel.now.checked.now) }
     requires node { node ≡ rows.node kernel.now.checked.now n }
     requires marker { is_thing node ≡ false }
     ensures { OnOk result (pieces.new.items ≡ pieces.old.items ++ made_of kernel.now.checked.now n place node) }
@@ -90,14 +87,14 @@ fn push_marker(
     let checked = kernel.checked;
     match node {
         Node::Head => {
-            let result = result_of(row_at(checked, end_of(checked, &kernel.ends, n)).node);
+            let result = result_of(row_at(checked, kernel.end_of(n)).node);
             push_head(port_of(result), place, pieces)
         }
         Node::Split { .. } | Node::Switches { .. } => {
             push_switches(checked, imports_at(kernel, n), place, pieces)
         }
         Node::Enter { .. } => {
-            let call = end_of(checked, &kernel.ends, n);
+            let call = kernel.end_of(n);
             push_enter(called(checked, n), call, place, pieces)
         }
         Node::Arg { enter, index, .. } => {
@@ -126,7 +123,6 @@ fn push_of_loop(
     node: Node,
     pieces: &mut Vec<Piece>,
 ) -> Result<(), AllocError>
-    requires within { n < length (programs.rows kernel.now.checked.now) }
     requires node { node ≡ rows.node kernel.now.checked.now n }
     requires marker { is_of_loop node ≡ true }
     ensures { OnOk result (pieces.new.items ≡ pieces.old.items ++ made_of kernel.now.checked.now n place node) }
@@ -135,17 +131,11 @@ fn push_of_loop(
     match node {
         Node::Bounds { .. } => push_bounds(place, pieces),
         Node::Start => push_start(kernel, n, place, pieces),
-        Node::LoopHead { .. } => {
-            push_head(
-                port_at(checked, end_of(checked, &kernel.ends, n)),
-                place,
-                pieces,
-            )
-        }
+        Node::LoopHead { .. } => { push_head(port_at(checked, kernel.end_of(n)), place, pieces) }
         Node::Carried { kind } => push(pieces, Op::Merge(port_of(kind)), place),
         Node::Count => push_count(place, pieces),
         Node::Variable => {
-            let next = next_of(checked, &kernel.nexts, n) as usize;
+            let next = kernel.next_of(n) as usize;
             push(pieces, Op::Merge(port_at(checked, next)), place)
         }
         Node::Entries => {
@@ -243,7 +233,6 @@ fn push_turn(
     place: usize,
     pieces: &mut Vec<Piece>,
 ) -> Result<(), AllocError>
-    requires head { head < length (programs.rows checked.now) }
     ensures { OnOk result (pieces.new.items ≡ pieces.old.items
         ++ rows.piece (Plain (Next Signal)) place
         ∷ for_each checked.now Next place (carried checked.now head ++ imports.now)) }
@@ -266,17 +255,11 @@ fn push_start(
     place: usize,
     pieces: &mut Vec<Piece>,
 ) -> Result<(), AllocError>
-    requires within { n < length (programs.rows kernel.now.checked.now) }
-    requires start { rows.node kernel.now.checked.now n ≡ Start }
+    requires { rows.node kernel.now.checked.now n ≡ Start }
     ensures { OnOk result (pieces.new.items ≡ pieces.old.items ++ made_of kernel.now.checked.now n place Start) }
 {
     let head = n + 1;
-    push_enter(
-        head,
-        end_of(kernel.checked, &kernel.ends, head),
-        place,
-        pieces,
-    )?;
+    push_enter(head, kernel.end_of(head), place, pieces)?;
     push_sends(kernel, head, place, pieces)
 }
 
@@ -313,7 +296,6 @@ fn push_carried_sends(
     place: usize,
     pieces: &mut Vec<Piece>,
 ) -> Result<(), AllocError>
-    requires head { head < length (programs.rows checked.now) }
     ensures { OnOk result (pieces.new.items
         ≡ pieces.old.items ++ map (send_to checked.now place) (map param_entry (carried checked.now head))) }
 {

@@ -4,14 +4,18 @@ use Rattle.std.proofs.Common.{◌≡◌, ◌+◌, ap, arith, length, refl}
 use Rattle.std.proofs.lemmas.Result.{on_ok_weaker}
 use Rattle.id_desugar.specs.Regions.{carried, is_loop_head}
 use Rattle.id_pieces.proofs.FeedsLemmas.{start_arcs}
-use Rattle.id_pieces.proofs.LoopsLemmas.{start_head}
+use Rattle.id_pieces.proofs.LoopsLemmas.{rows_few, start_head, start_inside}
 use Rattle.id_build.proofs.feeds.push_start.Goals as goal
 
-pub carried_count-first-requires : goal.carried_count-first-requires
-carried_count-first-requires c = (start_head c.args.slots.now.kernel.now.checked.now c.args.n c.requires.within c.requires.start).0
-
 pub nexts_at-nexts-requires : goal.nexts_at-nexts-requires
-nexts_at-nexts-requires c = ap is_loop_head (start_head c.args.slots.now.kernel.now.checked.now c.args.n c.requires.within c.requires.start).1
+nexts_at-nexts-requires c =
+    let P = c.args.slots.now.kernel.now.checked.now in
+    ap is_loop_head (start_head P c.args.n (start_inside P c.args.n c.requires) c.requires).1
+
+pub overflow_add-head : goal.overflow_add-head
+overflow_add-head c =
+    let P = c.args.slots.now.kernel.now.checked.now in
+    omega (arith, start_inside P c.args.n c.requires, rows_few P)
 
 pub returns : goal.returns
 returns c =

@@ -16,14 +16,14 @@ push_bare-requires c =
     let P = S.kernel.now.checked.now in
     let F = S.firsts.items in
     let order = order_of P in
-    let fit = row_fits P order F (is_order P order refl) (firsts_in S order refl) (few_in S order refl) c.args.n c.requires.within in
+    let fit = row_fits P order F (is_order P order refl) (firsts_in S order refl) (few_in S order refl) c.args.n in
     let own = c.as_slice.ensures.value ∙ c.in_ok-push_pieces.ensures
-    ∙ ap (λ (x : List Piece). x ++ made P c.args.n) c.requires.empty in
+    ∙ ap (λ (x : List Piece). x ++ made P c.args.n) c.requires in
     subst (λ (x : List Piece). All (λ (p : Piece). Fits F p.form) x) (sym own) fit
 
 pub returns-clause-bare : goal.returns-clause-bare
 returns-clause-bare c =
     let S = c.args.slots.now in
     let own = c.as_slice.ensures.value ∙ c.in_ok-push_pieces.ensures
-    ∙ ap (λ (x : List Piece). x ++ made S.kernel.now.checked.now c.args.n) c.requires.empty in
+    ∙ ap (λ (x : List Piece). x ++ made S.kernel.now.checked.now c.args.n) c.requires in
     c.in_ok-push_bare.ensures ∙ ap (λ (x : List Piece). c.args.instrs.now.items ++ instrs_from S.firsts.items 0 x []) own

@@ -19,5 +19,5 @@ returns-then-is_head c =
     let test : is_head (node P h) ≡ true =
     ap (λ (r : Row). is_head r.node) (sym c.row_at.ensures) ∙ sym c.is_head.ensures ∙ c.if-is_head.true in
     on_ok_weaker c.add_procedure.result (λ new.
-    blocks_push P F (heads_below (rows P) h) c.args.blocks.now.items c.add_procedure.new.blocks.items h c.requires.blocks new
+    blocks_push P F (heads_below (rows P) h) c.args.blocks.now.items c.add_procedure.new.blocks.items h c.requires new
     ∙ ap (map (block_of P (number_by F))) (sym (heads_next P h test))) c.add_procedure.ensures

@@ -5,17 +5,9 @@ use Rattle.id_desugar.specs.Regions.{order_of}
 use Rattle.id_pieces.specs.declared.arc.Piece.{Piece}
 use Rattle.id_pieces.specs.Made.{instrs_from, pieces_in}
 use Rattle.id_pieces.specs.Rows.{made}
-use Rattle.id_build.proofs.BuildableLemmas.{is_order}
-use Rattle.id_build.proofs.FillLemmas.{Among-get_or, pieces_in-next}
+use Rattle.id_build.proofs.FillLemmas.{pieces_in-next}
 use Rattle.id_build.proofs.JoinedLemmas.{bare-append}
 use Rattle.id_build.proofs.program.bare_instrs.Goals as goal
-
-pub add_bare-requires-clause-within : goal.add_bare-requires-clause-within
-add_bare-requires-clause-within c =
-    let k = c.args.slots.now.kernel.now in
-    let order = c.as_slice-order.result.now in
-    let is : order ≡ order_of k.checked.now = c.as_slice-order.ensures.value ∙ k.ordered in
-    (is_order k.checked.now order is).within (get_or order c.loop-n.n-index 0) (Among-get_or order c.loop-n.n-index (omega arith))
 
 pub loop-n-preserved : goal.loop-n-preserved
 loop-n-preserved c =

@@ -28,13 +28,6 @@ index_mut-requires c =
     let h = o.within (get_or order c.loop-n.n-index 0) (Among-get_or order c.loop-n.n-index (omega arith)) in
     omega (arith, h, c.loop-n.invariant.many, c.loop-n.firsts.ok.0)
 
-pub made_count-count-requires : goal.made_count-count-requires
-made_count-count-requires c =
-    let k = c.args.kernel.now in
-    let order = c.as_slice-order.result.now in
-    let o = is_order k.checked.now order (c.as_slice-order.ensures.value ∙ k.ordered) in
-    o.within (get_or order c.loop-n.n-index 0) (Among-get_or order c.loop-n.n-index (omega arith))
-
 pub returns-then-count-gt1000000-clause-large : goal.returns-then-count-gt1000000-clause-large
 returns-then-count-gt1000000-clause-large c = λ e.
     (let k = c.args.kernel.now in

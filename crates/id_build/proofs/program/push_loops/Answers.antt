@@ -7,14 +7,8 @@ use Rattle.id_pieces.specs.Schemas.{block_of}
 use Rattle.id_build.proofs.BlocksLemmas.{loop_head_at}
 use Rattle.id_build.proofs.program.push_loops.Goals as goal
 
-pub add_loop-requires-clause-within : goal.add_loop-requires-clause-within
-add_loop-requires-clause-within c =
-    let k = c.args.slots.now.kernel.now in
-    let is = c.as_slice-heads.ensures.value ∙ k.headed in
-    (loop_head_at k.checked.now c.as_slice-heads.result.now c.loop-head.head-index is c.loop-head-test.true).0
-
-pub add_loop-requires-clause-head : goal.add_loop-requires-clause-head
-add_loop-requires-clause-head c =
+pub add_loop-requires : goal.add_loop-requires
+add_loop-requires c =
     let k = c.args.slots.now.kernel.now in
     let is = c.as_slice-heads.ensures.value ∙ k.headed in
     (loop_head_at k.checked.now c.as_slice-heads.result.now c.loop-head.head-index is c.loop-head-test.true).1

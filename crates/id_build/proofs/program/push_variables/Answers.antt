@@ -28,7 +28,7 @@ loop-variable-preserved c =
     let i = v - (h + 1) in
     let f : Entry → ℕ = λ q. number_by F q.row q.part in
     let low = c.loop-variable.auto.variable in
-    let high : v < entries_row P h = omega (arith, c.loop-variable-test.true, c.requires.imported) in
+    let high : v < entries_row P h = omega (arith, c.loop-variable-test.true, c.requires) in
     let ns = carried P h ++ nexts_of P h in
     let less : i < length ns = omega (arith, low, high, length-append (carried P h) (nexts_of P h)) in
     let up : (v + 1) - (h + 1) ≡ i + 1 = omega (arith, low) in
@@ -45,7 +45,7 @@ returns c =
     let f : Entry → ℕ = λ q. number_by c.args.slots.now.firsts.items q.row q.part in
     let i = c.loop-variable.variable - (h + 1) in
     let ns = carried P h ++ nexts_of P h in
-    let end : length ns ≤ i = omega (arith, c.loop-variable-test.false, c.requires.imported, length-append (carried P h) (nexts_of P h)) in
+    let end : length ns ≤ i = omega (arith, c.loop-variable-test.false, c.requires, length-append (carried P h) (nexts_of P h)) in
     rest_done (λ z. map f (variable_entries (h + 1 + i) z)) i ns c.loop-variable.entries.items _ refl end c.loop-variable.invariant
     ∙ ap (λ (z : List ℕ). c.args.entries.now.items ++ z) (carried_entries P c.args.slots.now.firsts.items h)
 

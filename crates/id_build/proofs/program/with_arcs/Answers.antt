@@ -9,7 +9,6 @@ use Rattle.id_pieces.specs.Made.{arc_of, arcs_in, connected, instrs_from, IsBetw
 use Rattle.id_pieces.specs.Rows.{feeds}
 use Rattle.id_build.proofs.BuildableLemmas.{IsBuildable-checked, is_order}
 use Rattle.id_pieces.proofs.FeedsLemmas.{arcs_in-at}
-use Rattle.id_build.proofs.FillLemmas.{Among-get_or}
 use Rattle.id_build.proofs.JoinedLemmas.{AreBetween-left, AreBetween-right, instrs_from-append, length-connected, length-instrs_from}
 use Rattle.id_build.proofs.PassesLemmas.{few_in, firsts_in}
 use Rattle.id_build.proofs.SchemasLemmas.{IsFrom-arcs_in}
@@ -31,13 +30,6 @@ loop-n-init c =
       long = ap length bare ∙ length-instrs_from F 0 ps [];
       between = IsFrom-arcs_in P order F (IsBuildable-checked P) (is_order P order is) (firsts_in S order is);
     }
-
-pub connect_row-requires-clause-within : goal.connect_row-requires-clause-within
-connect_row-requires-clause-within c =
-    let k = c.args.slots.now.kernel.now in
-    let order = c.as_slice-order.result.now in
-    let is : order ≡ order_of k.checked.now = c.as_slice-order.ensures.value ∙ k.ordered in
-    (is_order k.checked.now order is).within (get_or order c.loop-n.n-index 0) (Among-get_or order c.loop-n.n-index (omega arith))
 
 pub connect_row-requires-clause-few : goal.connect_row-requires-clause-few
 connect_row-requires-clause-few c =

@@ -5,28 +5,21 @@ use Rattle.id_table.specs.declared.row.Row.{Row}
 use Rattle.id_table.specs.declared.row.Node.TheVariants.{Entries, Split, Start, Switches, Turn}
 use Rattle.id_desugar.specs.Regions.{carried, imports_of, is_loop_head}
 use Rattle.id_pieces.specs.Rows.{made_of, node}
-use Rattle.id_pieces.proofs.LoopsLemmas.{start_head}
-use Rattle.id_build.proofs.BuildableLemmas.{turn_head}
+use Rattle.id_pieces.proofs.LoopsLemmas.{rows_few, start_head, start_inside}
 use Rattle.id_build.proofs.SizeLemmas.{length-entries, length-split, length-start, length-switches, length-turn}
 use Rattle.id_build.proofs.size.made_count.Goals as goal
-
-pub carried_count-carried-requires : goal.carried_count-carried-requires
-carried_count-carried-requires c =
-    let P = c.args.kernel.now.checked.now in
-    let is : node P c.args.n ≡ Start = ap (λ r. r.node) (sym c.row_at-row.ensures) ∙ c.in-Start.is in
-    (start_head P c.args.n c.requires is).0
-
-pub carried_count-requires : goal.carried_count-requires
-carried_count-requires c =
-    let P = c.args.kernel.now.checked.now in
-    let is : node P c.args.n ≡ Turn = ap (λ r. r.node) (sym c.row_at-row.ensures) ∙ c.in-Turn.is in
-    omega (arith, turn_head P c.args.n c.requires is, ap (λ (r : Row). r.block) c.row_at-row.ensures)
 
 pub nexts_at-nexts-requires : goal.nexts_at-nexts-requires
 nexts_at-nexts-requires c =
     let P = c.args.kernel.now.checked.now in
     let is : node P c.args.n ≡ Start = ap (λ r. r.node) (sym c.row_at-row.ensures) ∙ c.in-Start.is in
-    ap is_loop_head (start_head P c.args.n c.requires is).1
+    ap is_loop_head (start_head P c.args.n (start_inside P c.args.n is) is).1
+
+pub overflow_add-head : goal.overflow_add-head
+overflow_add-head c =
+    let P = c.args.kernel.now.checked.now in
+    let is : node P c.args.n ≡ Start = ap (λ r. r.node) (sym c.row_at-row.ensures) ∙ c.in-Start.is in
+    omega (arith, start_inside P c.args.n is, rows_few P)
 
 pub returns-in-Split-clause-count : goal.returns-in-Split-clause-count
 returns-in-Split-clause-count c =

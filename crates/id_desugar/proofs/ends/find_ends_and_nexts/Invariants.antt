@@ -4,6 +4,6 @@ use Rattle.id_desugar.proofs.ends.find_ends_and_nexts.Given as goal
 
 abbrev pub invariant-loop-n : goal.invariant-loop-n
 invariant-loop-n l = record {
-  ends : AreFirst l.checked (end_at l.checked) l.n l.ends;
+  ends : AreFirst l.checked (end_at l.checked) l.n l.column;
   nexts : AreFirst l.checked (next_at l.checked) l.n l.nexts;
 }

@@ -17,7 +17,7 @@ all_added P h v n old new none e = sym (ap (λ z. new ++ z) (nexts-none P v n no
 
 pub loop-row-preserved : goal.loop-row-preserved
 loop-row-preserved c =
-    let P = c.args.checked.now in
+    let P = c.args.spans.now.ends.checked.now in
     let row = c.loop-row.row in
     let v = first_variable P c.args.head in
     let n = v + length (rows P) - row in
@@ -35,26 +35,23 @@ loop-row-preserved c =
 
 pub returns-after-loop-row : goal.returns-after-loop-row
 returns-after-loop-row c =
-    let P = c.args.checked.now in
+    let P = c.args.spans.now.ends.checked.now in
     let row = c.loop-row.row in
     all_added P c.args.head row (first_variable P c.args.head + length (rows P) - row) c.args.list.now.items c.loop-row.list.items
     (no_variable P row (omega (arith, c.loop-row-test.false, c.len-row-end.ensures))) c.loop-row.invariant
 
 pub returns-then-not-is_variable : goal.returns-then-not-is_variable
 returns-then-not-is_variable c =
-    let P = c.args.checked.now in
+    let P = c.args.spans.now.ends.checked.now in
     let row = c.loop-row.row in
     all_added P c.args.head row (first_variable P c.args.head + length (rows P) - row) c.args.list.now.items c.loop-row.list.items
     (sym (c.is_variable.ensures ∙ ap (λ (r : Row). is_variable r.node) c.row_at.ensures) ∙ c.if-not-is_variable.true) c.loop-row.invariant
 
 pub loop-row-init : goal.loop-row-init
 loop-row-init c =
-    let P = c.args.checked.now in
+    let P = c.args.spans.now.ends.checked.now in
     let v = first_variable P c.args.head in
     let all : v + length (rows P) - v ≡ length (rows P) = omega arith in
     let start = c.first_variable-row.ensures in
     ap (λ z. c.args.list.now.items ++ nexts_from P z (v + length (rows P) - z)) start
     ∙ ap (λ z. c.args.list.now.items ++ nexts_from P v z) all
-
-pub next_of-requires : goal.next_of-requires
-next_of-requires c = record { nexts = c.requires.nexts; within = omega (arith, c.loop-row-test.true, c.len-row-end.ensures) }

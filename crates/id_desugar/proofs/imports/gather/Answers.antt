@@ -1,5 +1,5 @@
 -- At first nothing is noted.
-use Rattle.std.proofs.Common.{◌≡◌, ◌-◌, refl, ap, sym, ◌∙◌, subst, arith}
+use Rattle.std.proofs.Common.{◌≡◌, ◌-◌, ap, sym, ◌∙◌, subst, arith}
 use Rattle.id_desugar.specs.Gathering.{AreMarked, used_in}
 use Rattle.id_desugar.specs.Regions.{imports_by}
 use Rattle.id_desugar.proofs.NotesLemmas.{AreMarked-none}
@@ -11,32 +11,27 @@ loop-row-init c =
     let none : 0 ≡ lo - lo = omega arith in (
       omega arith,
       omega arith,
-      c.new-list.ensures.items ∙ ap (imports_by (used_in c.args.checked.now c.args.span.own) lo c.args.span.hi) none,
-      refl,
-      subst (AreMarked c.args.span.mark c.args.marks.now.items) (sym c.new-list.ensures.items)
-          (AreMarked-none c.args.span.mark c.args.marks.now.items c.requires.marks),
+      record {
+        many = c.requires.marks.many;
+        marked = subst (AreMarked c.args.span.mark c.args.marks.now.items) (sym c.new-list.ensures.items)
+            (AreMarked-none c.args.span.mark c.args.marks.now.items c.requires.marks.below);
+        list = c.new-list.ensures.items ∙ ap (imports_by (used_in c.args.ends.now.checked.now c.args.span.own) lo c.args.span.hi) none;
+      },
     )
 
 pub note_row-requires : goal.note_row-requires
-note_row-requires c =
-    let i = c.loop-row.invariant in
-    record {
-      ends = c.requires.ends;
-      few = c.requires.few;
-      within = c.requires.within;
-      row = (i.0, c.loop-row-test.true);
-      lists = c.requires.lists;
-      count = c.requires.count;
-      long = i.3 ∙ c.requires.long;
-      marks = i.4;
-      list = i.2;
-    }
+note_row-requires c = record {
+  within = c.requires.within;
+  row = (c.loop-row.invariant.0, c.loop-row-test.true);
+  lists = c.requires.lists;
+  count = c.requires.count;
+  noted = c.loop-row.invariant.2;
+}
 
 pub loop-row-preserved : goal.loop-row-preserved
 loop-row-preserved c =
-    let i = c.loop-row.invariant in
     let row = c.in_ok-row.ensures.row in
-    (omega (arith, i.0, row.0), omega (arith, row.1), c.in_ok-row.ensures.list, c.in_ok-row.ensures.long ∙ i.3, c.in_ok-row.ensures.marks)
+    (omega (arith, c.loop-row.invariant.0, row.0), omega (arith, row.1), c.in_ok-row.ensures.noted)
 
 pub returns : goal.returns
 returns c =
@@ -45,7 +40,6 @@ returns c =
     let hi = c.args.span.hi in
     let end : c.loop-row.row - lo ≡ hi - lo = omega (arith, i.0, i.1, c.loop-row-test.false) in
     record {
-      list = subst (λ k. c.loop-row.list.items ≡ imports_by (used_in c.args.checked.now c.args.span.own) lo hi k) end i.2;
-      long = i.3;
-      marks = i.4.below;
+      list = subst (λ k. c.loop-row.list.items ≡ imports_by (used_in c.args.ends.now.checked.now c.args.span.own) lo hi k) end i.2.list;
+      marks = record { many = i.2.many; below = i.2.marked.below };
     }

@@ -10,15 +10,5 @@ returns-in_ok-push-clause-marks c =
     subst (AreMarked s (slice_set c.args.marks.now.items c.args.binder s)) (sym c.in_ok-push.ensures.items)
     (AreMarked-noted s c.args.binder c.args.marks.now.items c.args.list.now.items c.requires.marks c.requires.binder)
 
-pub returns-in_ok-push-clause-below : goal.returns-in_ok-push-clause-below
-returns-in_ok-push-clause-below c =
-    (AreMarked-noted c.args.span.mark c.args.binder c.args.marks.now.items c.args.list.now.items c.requires.marks c.requires.binder).below
-
-pub returns-in_err-push-clause-below : goal.returns-in_err-push-clause-below
-returns-in_err-push-clause-below c = c.requires.marks.below
-
-pub returns-else-is_outside-clause-below : goal.returns-else-is_outside-clause-below
-returns-else-is_outside-clause-below c = c.requires.marks.below
-
 pub returns-else-is_outside-clause-marks : goal.returns-else-is_outside-clause-marks
 returns-else-is_outside-clause-marks c = c.requires.marks

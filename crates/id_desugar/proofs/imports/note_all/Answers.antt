@@ -34,8 +34,5 @@ pub returns-clause-list : goal.returns-clause-list
 returns-clause-list c = c.loop-binder.invariant.0
     ∙ ap (with_uses c.args.span.lo c.args.span.hi c.args.list.now.items) (take_all c.loop-binder.binder-index c.args.binders.now c.loop-binder-test.false)
 
-pub returns-clause-below : goal.returns-clause-below
-returns-clause-below c = c.loop-binder.invariant.2.below
-
 pub returns-clause-marks : goal.returns-clause-marks
 returns-clause-marks c = c.loop-binder.invariant.2

@@ -14,10 +14,9 @@ use Rattle.id_desugar.proofs.imports.note_row.Goals as goal
 
 pub note_used-requires : goal.note_used-requires
 note_used-requires c = record {
-  few = omega (arith, c.requires.few, c.requires.long);
-  marks = c.requires.marks;
-  binder = used_within c.args.checked.now c.args.span.own c.args.row (length c.args.marks.now.items) c.used_at.result
-      (omega (arith, c.requires.row.1, c.requires.within)) c.used_at.ensures c.requires.long;
+  marks = c.requires.noted.marked;
+  binder = used_within c.args.ends.now.checked.now c.args.span.own c.args.row (length c.args.marks.now.items) c.used_at.result
+      (omega (arith, c.requires.row.1, c.requires.within)) c.used_at.ensures c.requires.noted.many;
 }
 
 inner : {A : Type 0} (n row : ℕ) → row < n → n ≡ 0 ⊎ A → A
@@ -35,7 +34,7 @@ listed P own lo hi s e L xs f count w low l m is h =
 
 pub note_all-requires : goal.note_all-requires
 note_all-requires c =
-    let P = c.args.checked.now in
+    let P = c.args.ends.now.checked.now in
     let own = c.args.span.own in
     let e = c.inner_end-next.result in
     let s = c.args.row in
@@ -48,13 +47,13 @@ note_all-requires c =
       marks = c.in_ok-note_used.ensures.marks;
       binders = λ b h. (
           let low = imports_within P own (s + 1) e (e - (s + 1)) b within (subst (Among b) list h) in
-          omega (arith, low, c.in_ok-note_used.ensures.long, c.requires.long)
+          omega (arith, low, c.in_ok-note_used.ensures.long, c.requires.noted.many)
           );
     }
 
 pub returns-then-next-span : goal.returns-then-next-span
 returns-then-next-span c =
-    let P = c.args.checked.now in
+    let P = c.args.ends.now.checked.now in
     let own = c.args.span.own in
     let lo = c.args.span.lo in
     let hi = c.args.span.hi in
@@ -62,31 +61,33 @@ returns-then-next-span c =
     let e = c.inner_end-next.result in
     let xs = c.index-lists-row.result in
     let one = imports_by-next (used_in P own) lo hi s c.args.list.now.items c.note_used.new.list.items c.used_at.result
-    c.requires.row.0 c.requires.list c.used_at.ensures c.in_ok-note_used.ensures.list in
+    c.requires.row.0 c.requires.noted.list c.used_at.ensures c.in_ok-note_used.ensures.list in
     let list : c.as_slice.result.now ≡ imports (used_in P own) (s + 1) e =
     c.as_slice.ensures ∙ listed P own lo hi s e c.args.lists.now xs c.requires.lists c.requires.count c.requires.within c.requires.row.0
     c.if-row-next.true c.if-next-span.true c.index-lists-row.is c.inner_end-next.ensures in
     record {
       row = (c.if-row-next.true, omega (arith, c.if-next-span.true));
-      list = imports_by-over (used_in P own) lo hi s e c.note_used.new.list.items c.as_slice.result.now c.note_all.new.list.items c.requires.row.0
-          c.if-row-next.true (omega (arith, c.if-next-span.true)) one list c.in_ok-note_all.ensures.list;
-      long = c.in_ok-note_all.ensures.long ∙ c.in_ok-note_used.ensures.long;
-      below = c.in_ok-note_all.ensures.below;
-      marks = c.in_ok-note_all.ensures.marks;
+      noted = record {
+        many = c.in_ok-note_all.ensures.long ∙ c.in_ok-note_used.ensures.long ∙ c.requires.noted.many;
+        marked = c.in_ok-note_all.ensures.marks;
+        list = imports_by-over (used_in P own) lo hi s e c.note_used.new.list.items c.as_slice.result.now c.note_all.new.list.items c.requires.row.0
+            c.if-row-next.true (omega (arith, c.if-next-span.true)) one list c.in_ok-note_all.ensures.list;
+      };
     }
 
 pub returns : goal.returns
 returns c = record {
   row = (omega arith, omega (arith, c.requires.row.1));
-  list = imports_by-next (used_in c.args.checked.now c.args.span.own) c.args.span.lo c.args.span.hi c.args.row c.args.list.now.items
-      c.note_used.new.list.items c.used_at.result c.requires.row.0 c.requires.list c.used_at.ensures c.in_ok-note_used.ensures.list;
-  long = c.in_ok-note_used.ensures.long;
-  below = c.in_ok-note_used.ensures.below;
-  marks = c.in_ok-note_used.ensures.marks;
+  noted = record {
+    many = c.in_ok-note_used.ensures.long ∙ c.requires.noted.many;
+    marked = c.in_ok-note_used.ensures.marks;
+    list = imports_by-next (used_in c.args.ends.now.checked.now c.args.span.own) c.args.span.lo c.args.span.hi c.args.row c.args.list.now.items
+        c.note_used.new.list.items c.used_at.result c.requires.row.0 c.requires.noted.list c.used_at.ensures c.in_ok-note_used.ensures.list;
+  };
 }
 
 pub bounds-lists-row : goal.bounds-lists-row
 bounds-lists-row c = omega (arith, c.requires.lists.many, c.requires.row.1, c.requires.within)
 
 pub overflow_add-result : goal.overflow_add-result
-overflow_add-result c = omega (arith, c.requires.row.1, c.requires.within, c.requires.few)
+overflow_add-result c = omega (arith, c.requires.row.1, c.requires.within, c.args.ends.now.few)

@@ -21,7 +21,6 @@ pub link-requires : goal.link-requires
 link-requires c =
     let up : c.loop-row.row ≡ c.loop-row.row - 1 + 1 = omega (arith, c.loop-row-test.true) in
     record {
-      few = c.requires.few;
       last = c.requires.last;
       row = omega (arith, c.loop-row.invariant.0, c.loop-row-test.true);
       chains = subst (λ r. AreChains c.args.checked.now r c.args.last c.loop-row.chains.firsts c.loop-row.chains.nexts) up c.loop-row.invariant.1;

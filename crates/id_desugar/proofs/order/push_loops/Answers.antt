@@ -29,7 +29,7 @@ returns-then-is_empty c =
     sym (ap (λ z. old ++ z) none ∙ append-nil old)
 
 pub find_chains-requires : goal.find_chains-requires
-find_chains-requires c = record { few = c.requires.few; last = c.requires.last }
+find_chains-requires c = record { last = c.requires.last }
 
 pub push_block-requires : goal.push_block-requires
 push_block-requires c = record {

@@ -14,6 +14,3 @@ pub returns : goal.returns
 returns c =
     ap (λ v. v + length c.nexts_at.result.now) c.first_variable.ensures
     ∙ ap (λ (l : List ℕ). first_variable c.args.kernel.now.checked.now c.args.head + length l) c.nexts_at.ensures.nexts
-
-pub first_variable-requires : goal.first_variable-requires
-first_variable-requires c = head_inside c.args.kernel.now.checked.now c.args.head c.requires

@@ -3,7 +3,7 @@ use Rattle.std.proofs.Common.{◌∙◌, ◌++◌, ◌∷◌, [], ◌<◌, lengt
 use Rattle.id_desugar.specs.Regions.{carried}
 use Rattle.id_pieces.specs.Rows.{param_entry, send_to}
 use Rattle.id_pieces.proofs.FeedsLemmas.{rest_done}
-use Rattle.id_pieces.proofs.LoopsLemmas.{carried_at}
+use Rattle.id_pieces.proofs.LoopsLemmas.{carried_at, carried_inside, rows_half}
 use Rattle.id_pieces.proofs.SendsLemmas.{carried_entries-next}
 use Rattle.id_pieces.proofs.pieces.push_carried_sends.Goals as goal
 
@@ -23,3 +23,10 @@ loop-part-preserved c =
 pub returns : goal.returns
 returns c = rest_done (λ z. map (send_to c.args.checked.now c.args.place) (map param_entry z)) c.loop-part.part (carried c.args.checked.now c.args.head)
     c.loop-part.pieces.items _ refl (omega (arith, c.loop-part-test.false, c.carried_count-part-end.ensures.count)) c.loop-part.invariant
+
+pub overflow_add-entry : goal.overflow_add-entry
+overflow_add-entry c =
+    let P = c.args.checked.now in
+    let h = c.args.head in
+    let low : c.loop-part.part < length (carried P h) = omega (arith, c.loop-part-test.true, c.carried_count-part-end.ensures.count) in
+    omega (arith, carried_inside P h c.loop-part.part low, rows_half P, c.loop-part-test.true, c.carried_count-part-end.ensures.few)

@@ -4,12 +4,6 @@ use Rattle.id_pieces.specs.Rows.{node}
 use Rattle.id_pieces.proofs.LoopsLemmas.{entries_within, head_inside, loop_head_is}
 use Rattle.id_pieces.proofs.pieces.push_sends.Goals as goal
 
-pub push_carried_sends-requires : goal.push_carried_sends-requires
-push_carried_sends-requires c = record { head = head_inside c.args.kernel.now.checked.now c.args.head c.requires }
-
-pub first_variable-first-requires : goal.first_variable-first-requires
-first_variable-first-requires c = head_inside c.args.kernel.now.checked.now c.args.head c.requires
-
 pub push_variable_sends-requires : goal.push_variable_sends-requires
 push_variable_sends-requires c =
     let P = c.args.kernel.now.checked.now in

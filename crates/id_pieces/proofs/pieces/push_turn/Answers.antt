@@ -7,7 +7,7 @@ use Rattle.id_instr.specs.declared.instr.PortKind.TheVariants.{Signal}
 use Rattle.id_pieces.specs.declared.arc.Form.TheVariants.{Plain}
 use Rattle.id_pieces.specs.Rows.{for_each, piece, port_at}
 use Rattle.id_pieces.proofs.FeedsLemmas.{rest_done}
-use Rattle.id_pieces.proofs.LoopsLemmas.{carried_at}
+use Rattle.id_pieces.proofs.LoopsLemmas.{carried_at, carried_inside, rows_half}
 use Rattle.id_pieces.proofs.SendsLemmas.{begun, for_each-before, for_each-next}
 use Rattle.id_pieces.proofs.pieces.push_turn.Goals as goal
 
@@ -47,3 +47,10 @@ loop-import-preserved c =
 pub returns : goal.returns
 returns c = rest_done (for_each c.args.checked.now Next c.args.place) c.loop-import.import-index c.args.imports.now c.loop-import.pieces.items _ refl
     c.loop-import-test.false c.loop-import.invariant
+
+pub overflow_add-entry : goal.overflow_add-entry
+overflow_add-entry c =
+    let P = c.args.checked.now in
+    let h = c.args.head in
+    let low : c.loop-part.part < length (carried P h) = omega (arith, c.loop-part-test.true, c.carried_count-part-end.ensures.count) in
+    omega (arith, carried_inside P h c.loop-part.part low, rows_half P, c.loop-part-test.true, c.carried_count-part-end.ensures.few)

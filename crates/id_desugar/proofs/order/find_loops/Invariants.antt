@@ -2,7 +2,7 @@
 use Rattle.std.proofs.Common.{◌≡◌, ◌<◌, ℕ, None, get_or, length}
 use Rattle.id_scope.specs.Scopes.{first_of}
 use Rattle.id_desugar.specs.Regions.{head_at, loop_heads_by}
-use Rattle.id_desugar.proofs.order.loop_heads.Given as goal
+use Rattle.id_desugar.proofs.order.find_loops.Given as goal
 
 abbrev pub invariant-loop-row : goal.invariant-loop-row
 invariant-loop-row l = record {
