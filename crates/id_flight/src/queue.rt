@@ -14,7 +14,8 @@ use id_tag::{Context, Message, Plain, PlainCell, PlainToken};
 use std::alloc::{AllocError, Global};
 use std::marker::Model;
 
-/// Room aside is asked for so many messages at least, since both lists are asked again where one has none left.
+/// Room aside is asked for as many messages as there is room for in the row, but for so many at the most, since both
+/// lists are asked again where one has none left.
 const MANY: usize = 128;
 
 /// Messages in the order in which they were sent, in 64 bytes each, but for the few whose numbers don't fit: those
@@ -177,11 +178,9 @@ impl Queue {
     {
         self.room = 0;
         self.parcels.reserve(more)?;
-        self.asides.reserve(more.max(MANY))?;
-        self.room = self
-            .parcels
-            .room()
-            .min(self.asides.capacity() - self.asides.len());
+        let room = self.parcels.room();
+        self.asides.reserve(more.max(room.min(MANY)))?;
+        self.room = room.min(self.asides.capacity() - self.asides.len());
         Ok(())
     }
 
