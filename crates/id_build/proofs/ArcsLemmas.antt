@@ -5,10 +5,10 @@ use Rattle.std.proofs.lemmas.Bool.{eqb-true}
 use Rattle.id_build.proofs.JoinedLemmas.{is_from, is_from-here}
 use Rattle.id_check.specs.declared.checked.Checked.{Checked}
 use Rattle.id_instr.specs.declared.dests.Dest.{Dest}
-use Rattle.id_pieces.specs.declared.arc.Arc.{Arc}
-use Rattle.id_pieces.specs.declared.arc.Feed.{Feed}
-use Rattle.id_pieces.specs.Made.{arc_of, arcs_in, dest_of, dests_from}
-use Rattle.id_pieces.specs.Rows.{feeds}
+use Rattle.id_build.specs.declared.arc.Arc.{Arc}
+use Rattle.id_build.specs.declared.arc.Feed.{Feed}
+use Rattle.id_build.specs.Made.{arc_of, arcs_in, dest_of, dests_from}
+use Rattle.id_build.specs.Rows.{feeds}
 use Rattle.id_value.proofs.DifferLemmas.{AllDiffer-append}
 use Rattle.id_value.proofs.AmongLemmas.{Among-either, Among-from_map, Among-left, Among-map, Among-right}
 use Rattle.id_value.specs.List.{AllDiffer, Among}

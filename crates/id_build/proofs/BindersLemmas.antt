@@ -24,8 +24,8 @@ use Rattle.id_check.proofs.HomesLemmas.{home, home_in}
 use Rattle.id_desugar.specs.Ends.{next_of}
 use Rattle.id_desugar.specs.Regions.{carried, first_variable, is_outside, has, with_use, imports_by, nexts_from}
 use Rattle.id_desugar.specs.Regions.{nexts_of}
-use Rattle.id_pieces.specs.Rows.{block, home as label_home, home_by, label, label_by, node}
-use Rattle.id_pieces.proofs.LoopsLemmas.{carried_is, carried_nodes, next_is, switches_high, switches_low}
+use Rattle.id_build.specs.Rows.{block, home as label_home, home_by, label, label_by, node}
+use Rattle.id_build.proofs.LoopsLemmas.{carried_is, carried_nodes, next_is, switches_high, switches_low}
 use Rattle.id_build.proofs.RegionsLemmas.{T, index_loop, index_region, index_rows, inner, not_span, step_side}
 use Rattle.id_build.proofs.RegionsLemmas.{switches_top}
 use Rattle.id_build.proofs.OrderLemmas.{has_among}

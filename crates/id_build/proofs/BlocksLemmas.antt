@@ -13,17 +13,17 @@ use Rattle.id_table.specs.Turns.{IsDefOf, heads_below, params_at, params_below}
 use Rattle.id_check.specs.declared.checked.Checked.{Checked}
 use Rattle.id_check.specs.Programs.{rows}
 use Rattle.id_instr.specs.declared.instr.Block.{Block}
-use Rattle.id_pieces.specs.Made.{number_by}
+use Rattle.id_build.specs.Made.{number_by}
 use Rattle.id_desugar.specs.Ends.{end_of}
 use Rattle.id_desugar.specs.Regions.{carried, first_variable, has_index, is_loop_head, loop_heads, nexts_of}
 use Rattle.id_desugar.proofs.EndsLemmas.{row_inside}
 use Rattle.id_desugar.proofs.HeadsLemmas.{loop_heads-is}
-use Rattle.id_pieces.specs.Rows.{Entry, entries, entries_by, node, param_entry, variable_entries}
-use Rattle.id_pieces.specs.Schemas.{block_of}
+use Rattle.id_build.specs.Rows.{Entry, entries, entries_by, node, param_entry, variable_entries}
+use Rattle.id_build.specs.Schemas.{block_of}
 use Rattle.id_value.specs.List.{Among}
 use Rattle.id_check.proofs.ProgramsLemmas.{table_of}
 use Rattle.id_table.proofs.BlocksLemmas.{not_last}
-use Rattle.id_pieces.proofs.EndsLemmas.{end_is}
+use Rattle.id_build.proofs.EndsLemmas.{end_is}
 use Rattle.id_build.proofs.FillLemmas.{Among-get_or}
 
 -- whether the row is a parameter of the procedure with this head

@@ -12,8 +12,8 @@ use Rattle.id_scope.specs.Scopes.{first_of}
 use Rattle.id_check.proofs.ProgramsLemmas.{table_of}
 use Rattle.id_desugar.specs.Ends.{end_at, end_of, ends_what}
 use Rattle.id_desugar.specs.Regions.{bound_of, carried, first_variable, handed, has, has_index, imports_by, imports_of, is_loop_head, is_outside, nexts_of, taken, used, with_use}
-use Rattle.id_pieces.specs.Rows.{block, made, made_of, node}
-use Rattle.id_pieces.proofs.LoopsLemmas.{entries_are, head_inside, loop_rows, start_head, start_inside, switches_high}
+use Rattle.id_build.specs.Rows.{block, made, made_of, node}
+use Rattle.id_build.proofs.LoopsLemmas.{entries_are, head_inside, loop_rows, start_head, start_inside, switches_high}
 use Rattle.id_desugar.proofs.EndsLemmas.{row_inside}
 use Rattle.id_build.proofs.SizeLemmas.{length-entries, length-split, length-start, length-switches, length-turn}
 

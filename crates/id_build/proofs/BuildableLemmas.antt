@@ -23,11 +23,11 @@ use Rattle.id_check.proofs.ProgramsLemmas.{table_of}
 use Rattle.id_desugar.specs.Ends.{end_of, next_of}
 use Rattle.id_desugar.specs.Regions.{carried, has_index, imports_of, nexts_of, order_of}
 use Rattle.id_instr.specs.declared.instr.Op.TheVariants.{Next as NextOp}
-use Rattle.id_pieces.specs.Rows.{block, body_of, entering, entries_row, first_binder, made_of, node, output, part_of, turn_row}
+use Rattle.id_build.specs.Rows.{block, body_of, entering, entries_row, first_binder, made_of, node, output, part_of, turn_row}
 use Rattle.id_build.proofs.CallsLemmas.{enter_of_arg}
-use Rattle.id_pieces.proofs.EndsLemmas.{HeadOf, body_region, end_is, of_arm, of_loop, of_procedure, of_side, not_last, region_of}
-use Rattle.id_pieces.proofs.LoopsLemmas.{bounds_there, carried_index, carried_is, carried_nodes, entries_node, entries_stand, entries_within, index_carried}
-use Rattle.id_pieces.proofs.LoopsLemmas.{next_is, reset_is, start_head, switches_high, switches_low, turn_block, turn_is, turn_nodes}
+use Rattle.id_build.proofs.EndsLemmas.{HeadOf, body_region, end_is, of_arm, of_loop, of_procedure, of_side, not_last, region_of}
+use Rattle.id_build.proofs.LoopsLemmas.{bounds_there, carried_index, carried_is, carried_nodes, entries_node, entries_stand, entries_within, index_carried}
+use Rattle.id_build.proofs.LoopsLemmas.{next_is, reset_is, start_head, switches_high, switches_low, turn_block, turn_is, turn_nodes}
 use Rattle.id_build.proofs.ImportsLemmas.{first_seen, loop_seen, name_seen, split_seen, switches_seen, turn_seen, upper_seen}
 use Rattle.id_build.proofs.OrderLemmas.{IsOrder, IsOrder-order_of}
 use Rattle.id_build.proofs.RowLemmas.{AllSeen, Gives, Heads, HasEntries, IsBuildable, IsEntered, IsOrigin, IsPart}

@@ -6,7 +6,7 @@ use Rattle.id_table.specs.Turns.{IsDefOf}
 use Rattle.id_check.specs.declared.checked.Checked.{Checked}
 use Rattle.id_check.specs.Programs.{rows}
 use Rattle.id_check.proofs.ProgramsLemmas.{table_of}
-use Rattle.id_pieces.specs.Rows.{node, param_at}
+use Rattle.id_build.specs.Rows.{node, param_at}
 
 -- what an argument names as its `Enter` is one
 pub enter_of_arg : (P : Checked) (m e k v : ℕ) → m < length (rows P) → node P m ≡ Arg e k v → (x : ℕ) × (node P e ≡ Enter x)

@@ -20,12 +20,12 @@ use Rattle.id_desugar.specs.Regions.{carried, has_index, imports_of}
 use Rattle.id_instr.specs.declared.instr.Op.TheVariants.{Merge, Switch}
 use Rattle.id_instr.specs.declared.dests.Port.{Port}
 use Rattle.id_instr.specs.declared.dests.Port.TheVariants.{Zero, One}
-use Rattle.id_pieces.specs.declared.arc.Origin.{Origin}
-use Rattle.id_pieces.specs.declared.arc.Feed.{Feed}
-use Rattle.id_pieces.specs.declared.arc.Piece.{Piece}
-use Rattle.id_pieces.specs.Rows.{block, bounds_feeds, carried_feeds, entering, entries_row, entry_feeds, feed, feeds_of}
-use Rattle.id_pieces.specs.Rows.{import_feeds, label, made, made_of, name_in, named_in, node, origin, origin_of, output}
-use Rattle.id_pieces.specs.Rows.{part_of, reply, switches, trigger_of, turn_feeds, turn_row}
+use Rattle.id_build.specs.declared.arc.Origin.{Origin}
+use Rattle.id_build.specs.declared.arc.Feed.{Feed}
+use Rattle.id_build.specs.declared.arc.Piece.{Piece}
+use Rattle.id_build.specs.Rows.{block, bounds_feeds, carried_feeds, entering, entries_row, entry_feeds, feed, feeds_of}
+use Rattle.id_build.specs.Rows.{import_feeds, label, made, made_of, name_in, named_in, node, origin, origin_of, output}
+use Rattle.id_build.specs.Rows.{part_of, reply, switches, trigger_of, turn_feeds, turn_row}
 use Rattle.id_build.proofs.NamesSeen.{Comes, HasSwitches, comes, from_entry, from_label, from_switch, of_arms, of_turns}
 use Rattle.id_build.proofs.RowLemmas.{AllSeen, Gives, HasEntries, Heads, IsBuildable, IsEntered, IsOrigin, IsOriginOf}
 use Rattle.id_build.proofs.RowLemmas.{IsPart, IsSeen, IsTurned, IsValue, Suits, SuitsBounds, SuitsCarried, for_each-at}

@@ -8,8 +8,8 @@ use Rattle.std.proofs.lemmas.Bool.Decides.{eqb_tells}
 use Rattle.std.proofs.lemmas.Option.{slice_get-get_or, unwrap_or-slice_get}
 use Rattle.id_build.proofs.NumberLemmas.{first_in-push, pieces_in-push}
 use Rattle.id_check.specs.declared.checked.Checked.{Checked}
-use Rattle.id_pieces.specs.Made.{first_in, number_by, pieces_in}
-use Rattle.id_pieces.specs.Rows.{made}
+use Rattle.id_build.specs.Made.{first_in, number_by, pieces_in}
+use Rattle.id_build.specs.Rows.{made}
 use Rattle.id_value.proofs.AmongLemmas.{Among-from_at}
 use Rattle.id_value.specs.List.{AllDiffer, Among}
 use Rattle.id_check.specs.Programs.{rows}

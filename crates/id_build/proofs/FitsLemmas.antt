@@ -21,12 +21,12 @@ use Rattle.id_desugar.specs.Regions.{carried, first_variable, has_index, imports
 use Rattle.id_instr.specs.declared.instr.Op.{Op}
 use Rattle.id_instr.specs.declared.instr.PortKind.{PortKind}
 use Rattle.id_instr.specs.declared.instr.Op.TheVariants.{Merge, Switch, Next as NextOp}
-use Rattle.id_pieces.specs.declared.arc.Form.{Form}
-use Rattle.id_pieces.specs.declared.arc.Form.TheVariants.{Plain, EnterAt, SendTo, FetchAt}
-use Rattle.id_pieces.specs.declared.arc.Piece.{Piece}
-use Rattle.id_pieces.specs.Made.{AreFirsts, EntriesFit, Fits, first_in, number_by, pieces_in}
-use Rattle.id_pieces.specs.Rows.{block, called, entries_row, for_each, import_entries, made, made_of, node, param_at, param_entry, send_to, variable_entries}
-use Rattle.id_pieces.proofs.LoopsLemmas.{entries_node, entries_stand, entries_within, start_head}
+use Rattle.id_build.specs.declared.arc.Form.{Form}
+use Rattle.id_build.specs.declared.arc.Form.TheVariants.{Plain, EnterAt, SendTo, FetchAt}
+use Rattle.id_build.specs.declared.arc.Piece.{Piece}
+use Rattle.id_build.specs.Made.{AreFirsts, EntriesFit, Fits, first_in, number_by, pieces_in}
+use Rattle.id_build.specs.Rows.{block, called, entries_row, for_each, import_entries, made, made_of, node, param_at, param_entry, send_to, variable_entries}
+use Rattle.id_build.proofs.LoopsLemmas.{entries_node, entries_stand, entries_within, start_head}
 use Rattle.id_build.proofs.OrderLemmas.{IsOrder}
 use Rattle.id_build.proofs.SizeLemmas.{length-entries}
 

@@ -27,9 +27,9 @@ use Rattle.id_check.proofs.ProgramsLemmas.{bound_name_row, bound_use_row, next_u
 use Rattle.id_desugar.specs.Ends.{end_of, next_of}
 use Rattle.id_desugar.specs.Regions.{bound_of, first_variable, has_index}
 use Rattle.id_desugar.specs.Regions.{is_outside, used, used_by, imports_of, handed, is_right_in, nexts_from, nexts_of, taken}
-use Rattle.id_pieces.specs.Rows.{block, first_binder, home as label_home, home_by, label, label_by, node, outer_at}
-use Rattle.id_pieces.proofs.EndsLemmas.{if_is, turn_low}
-use Rattle.id_pieces.proofs.LoopsLemmas.{carried_index, carried_nodes, index_carried, loop_rows, next_is, start_head, switches_high, switches_low, the_carried, the_loop}
+use Rattle.id_build.specs.Rows.{block, first_binder, home as label_home, home_by, label, label_by, node, outer_at}
+use Rattle.id_build.proofs.EndsLemmas.{if_is, turn_low}
+use Rattle.id_build.proofs.LoopsLemmas.{carried_index, carried_nodes, index_carried, loop_rows, next_is, start_head, switches_high, switches_low, the_carried, the_loop}
 use Rattle.id_build.proofs.NamesSeen.{Sees, own, handed as sees_handed, entered as sees_entered, of_arms, of_turns}
 use Rattle.id_build.proofs.RegionsLemmas.{T, head_before, head_low, heads_rise, in_rows, index_region, index_rows, inner, not_span, split_is, start_is, step_arm}
 use Rattle.id_build.proofs.RegionsLemmas.{step_top, switches_head, switches_is, switches_of, switches_top, top_rows}

@@ -1,3 +1,9 @@
+pub mod ResultLemmas
+pub mod SendsLemmas
+pub mod PushedLemmas
+pub mod LoopsLemmas
+pub mod EndsLemmas
+pub mod SlotsLemmas
 pub mod BuildableLemmas
 pub mod CallsLemmas
 pub mod BindersLemmas

@@ -11,7 +11,7 @@ use Rattle.id_table.specs.Rows.{arm_at, top}
 use Rattle.id_check.specs.declared.checked.Checked.{Checked}
 use Rattle.id_check.specs.Programs.{region, rows}
 use Rattle.id_desugar.specs.Regions.{imports_of}
-use Rattle.id_pieces.specs.Rows.{entries_row, handed_by, home, label, name_in, node, output, same_region, slot_of}
+use Rattle.id_build.specs.Rows.{entries_row, handed_by, home, label, name_in, node, output, same_region, slot_of}
 
 -- switches for the predicate t stand at the row n: those of a conditional, or of a loop
 pub data HasSwitches (P : Checked) (n t : ℕ) : Type 0 where

@@ -6,9 +6,9 @@ use Rattle.std.specs.Prelude.{slice_get}
 use Rattle.std.proofs.lemmas.Bool.{eqb-true}
 use Rattle.std.proofs.lemmas.Bool.Decides.{eqb_tells}
 use Rattle.id_check.specs.declared.checked.Checked.{Checked}
-use Rattle.id_pieces.specs.declared.arc.Piece.{Piece}
-use Rattle.id_pieces.specs.Made.{first_in, pieces_in}
-use Rattle.id_pieces.specs.Rows.{made}
+use Rattle.id_build.specs.declared.arc.Piece.{Piece}
+use Rattle.id_build.specs.Made.{first_in, pieces_in}
+use Rattle.id_build.specs.Rows.{made}
 use Rattle.id_value.proofs.PlacesLemmas.{slice_get-left, slice_get-right}
 use Rattle.id_value.specs.List.{AllDiffer, Among}
 

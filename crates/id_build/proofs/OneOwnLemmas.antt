@@ -6,7 +6,7 @@ use Rattle.id_check.specs.declared.checked.Checked.{Checked}
 use Rattle.id_check.specs.Programs.{rows}
 use Rattle.id_desugar.specs.Regions.{order_of}
 use Rattle.id_instr.specs.Graph.{Parts}
-use Rattle.id_pieces.specs.Made.{AreFirsts, graph_by, number_by}
+use Rattle.id_build.specs.Made.{AreFirsts, graph_by, number_by}
 use Rattle.id_build.specs.Own.{IsOwn}
 
 -- the numbers of first instructions are as the order says

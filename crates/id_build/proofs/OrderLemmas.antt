@@ -13,8 +13,8 @@ use Rattle.id_check.specs.Programs.{rows}
 use Rattle.id_check.proofs.ProgramsLemmas.{table_of}
 use Rattle.id_desugar.specs.Regions.{has, in_block, in_procedure, is_loop_head, loop_heads, loops_by, order_by, order_of, those}
 use Rattle.id_desugar.proofs.HeadsLemmas.{loop_heads-differ, loop_heads-has, loop_heads-is}
-use Rattle.id_pieces.specs.Made.{first_in, pieces_in}
-use Rattle.id_pieces.specs.Rows.{answer_row, block, made, node, size, size_below}
+use Rattle.id_build.specs.Made.{first_in, pieces_in}
+use Rattle.id_build.specs.Rows.{answer_row, block, made, node, size, size_below}
 
 -- each row is there once, the answer's first
 pub record IsOrder (P : Checked) (order : List ℕ) : Type 0 where

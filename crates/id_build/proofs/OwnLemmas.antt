@@ -8,10 +8,10 @@ use Rattle.id_value.specs.List.{Among}
 use Rattle.id_check.specs.declared.checked.Checked.{Checked}
 use Rattle.id_check.specs.Programs.{rows}
 use Rattle.id_desugar.specs.Regions.{order_of}
-use Rattle.id_pieces.specs.Made.{AreFirsts, first_in, graph_by, number_by}
+use Rattle.id_build.specs.Made.{AreFirsts, first_in, graph_by, number_by}
 use Rattle.id_build.specs.Own.{IsOwn, own_number}
-use Rattle.id_pieces.specs.Rows.{made}
-use Rattle.id_pieces.specs.Schemas.{Numbered}
+use Rattle.id_build.specs.Rows.{made}
+use Rattle.id_build.specs.Schemas.{Numbered}
 use Rattle.id_build.proofs.OrderLemmas.{IsOrder}
 use Rattle.id_build.proofs.RowLemmas.{IsBuildable}
 use Rattle.id_build.proofs.SchemasLemmas.{Numbered-graph_by}

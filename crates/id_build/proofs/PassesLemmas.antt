@@ -1,8 +1,8 @@
 -- Lemmas on specs/Passes.antt: what is so of any list that is the kernel's order.
 use Rattle.std.proofs.Common.{◌≡◌, ◌≤◌, ℕ, List, ap, arith, length, subst, sym}
 use Rattle.id_desugar.specs.Regions.{order_of}
-use Rattle.id_pieces.specs.declared.slots.Slots.{Slots}
-use Rattle.id_pieces.specs.Made.{AreFirsts, pieces_in}
+use Rattle.id_build.specs.declared.slots.Slots.{Slots}
+use Rattle.id_build.specs.Made.{AreFirsts, pieces_in}
 use Rattle.id_build.specs.Passes.{firsts_of, program_of}
 use Rattle.id_build.proofs.OrderLemmas.{length-pieces_in}
 

@@ -15,9 +15,9 @@ use Rattle.id_check.specs.declared.checked.Checked.{Checked}
 use Rattle.id_check.specs.Programs.{region, rows}
 use Rattle.id_check.proofs.ProgramsLemmas.{table_of}
 use Rattle.id_desugar.specs.Ends.{end_of}
-use Rattle.id_pieces.specs.Rows.{block, node}
-use Rattle.id_pieces.proofs.EndsLemmas.{body_low, if_is, loop_same, not_last}
-use Rattle.id_pieces.proofs.LoopsLemmas.{loop_rows, switches_low, the_loop, turn_nodes}
+use Rattle.id_build.specs.Rows.{block, node}
+use Rattle.id_build.proofs.EndsLemmas.{body_low, if_is, loop_same, not_last}
+use Rattle.id_build.proofs.LoopsLemmas.{loop_rows, switches_low, the_loop, turn_nodes}
 
 pub split_is : (m : Node) → is_split m ≡ true → (t : ℕ) × (m ≡ Split t)
 split_is (Split t) e = (t, refl)

@@ -25,14 +25,14 @@ use Rattle.id_instr.specs.declared.instr.Op.TheVariants.{Merge, Switch, Next as 
 use Rattle.id_instr.specs.declared.instr.PortKind.{PortKind}
 use Rattle.id_instr.specs.declared.dests.Port.{Port}
 use Rattle.id_instr.specs.declared.dests.Port.TheVariants.{Zero, One}
-use Rattle.id_pieces.specs.declared.arc.Form.TheVariants.{Plain}
-use Rattle.id_pieces.specs.declared.arc.Origin.{Origin}
-use Rattle.id_pieces.specs.declared.arc.Feed.{Feed}
-use Rattle.id_pieces.specs.declared.arc.Piece.{Piece}
-use Rattle.id_pieces.specs.Rows.{Entry, block, body_of, bounds_feeds, carried_feeds, entering, entries_row, entry_feeds, feed, feeds_of, first_binder, for_each}
-use Rattle.id_pieces.specs.Rows.{import_entries, import_feeds, label, loop_entries, made, made_of, name_in, node, op_by}
-use Rattle.id_pieces.specs.Rows.{home as bound_home, origin, output, param_entry, part_of, piece, send_to, switches, turn_feeds, turn_row, variable_entries}
-use Rattle.id_pieces.specs.Schemas.{HasSide}
+use Rattle.id_build.specs.declared.arc.Form.TheVariants.{Plain}
+use Rattle.id_build.specs.declared.arc.Origin.{Origin}
+use Rattle.id_build.specs.declared.arc.Feed.{Feed}
+use Rattle.id_build.specs.declared.arc.Piece.{Piece}
+use Rattle.id_build.specs.Rows.{Entry, block, body_of, bounds_feeds, carried_feeds, entering, entries_row, entry_feeds, feed, feeds_of, first_binder, for_each}
+use Rattle.id_build.specs.Rows.{import_entries, import_feeds, label, loop_entries, made, made_of, name_in, node, op_by}
+use Rattle.id_build.specs.Rows.{home as bound_home, origin, output, param_entry, part_of, piece, send_to, switches, turn_feeds, turn_row, variable_entries}
+use Rattle.id_build.specs.Schemas.{HasSide}
 use Rattle.id_build.proofs.NamesSeen.{Sees}
 
 -- among these instructions this part has this port

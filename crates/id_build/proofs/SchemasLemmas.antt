@@ -12,14 +12,14 @@ use Rattle.id_instr.specs.declared.instr.Op.{Op}
 use Rattle.id_instr.specs.declared.instr.Instr.{Instr}
 use Rattle.id_instr.specs.declared.dests.Dest.{Dest}
 use Rattle.id_instr.specs.declared.dests.Port.{Port}
-use Rattle.id_pieces.specs.declared.arc.Arc.{Arc}
-use Rattle.id_pieces.specs.declared.arc.Feed.{Feed}
-use Rattle.id_pieces.specs.declared.arc.Piece.{Piece}
-use Rattle.id_pieces.specs.Made.{AreFirsts, arc_of, arcs_in, dest_of, dests_from, first_in, graph_by, instrs_from, IsFrom, joined, number_by, pieces_in}
-use Rattle.id_pieces.specs.Rows.{answer_row, feed, feeds, made, node, op_by, piece}
+use Rattle.id_build.specs.declared.arc.Arc.{Arc}
+use Rattle.id_build.specs.declared.arc.Feed.{Feed}
+use Rattle.id_build.specs.declared.arc.Piece.{Piece}
+use Rattle.id_build.specs.Made.{AreFirsts, arc_of, arcs_in, dest_of, dests_from, first_in, graph_by, instrs_from, IsFrom, joined, number_by, pieces_in}
+use Rattle.id_build.specs.Rows.{answer_row, feed, feeds, made, node, op_by, piece}
 use Rattle.id_instr.specs.Graph.{arcs, arcs_on, false_arcs}
 use Rattle.id_instr.specs.Ports.{two_sides}
-use Rattle.id_pieces.specs.Schemas.{HasSide, Numbered, Schemas}
+use Rattle.id_build.specs.Schemas.{HasSide, Numbered, Schemas}
 use Rattle.id_value.proofs.AmongLemmas.{Among-either, Among-from_at}
 use Rattle.id_value.specs.List.{AllDiffer, Among}
 use Rattle.id_check.specs.Programs.{place, region, rows}

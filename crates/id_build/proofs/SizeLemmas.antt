@@ -8,7 +8,7 @@ use Rattle.id_desugar.specs.Regions.{carried, imports_of, nexts_of}
 use Rattle.id_instr.specs.declared.instr.Op.{Op}
 use Rattle.id_instr.specs.declared.instr.Op.TheVariants.{Merge, Switch, Next as NextOp}
 use Rattle.id_instr.specs.declared.instr.PortKind.{PortKind}
-use Rattle.id_pieces.specs.Rows.{block, for_each, loop_entries, made, made_of, send_to, size, size_below}
+use Rattle.id_build.specs.Rows.{block, for_each, loop_entries, made, made_of, send_to, size, size_below}
 use Rattle.id_build.proofs.RowLemmas.{length-loop_entries}
 
 -- each of these binders has one instruction

@@ -3,8 +3,8 @@ use Rattle.std.specs.Prelude.{◌≡◌, ℕ, ◌+◌, List}
 use Rattle.id_check.specs.declared.checked.Checked.{Checked}
 use Rattle.id_desugar.specs.Regions.{order_of}
 use Rattle.id_instr.specs.Graph.{Parts}
-use Rattle.id_pieces.specs.Made.{AreFirsts, first_in, graph_by}
-use Rattle.id_pieces.specs.Schemas.{Numbered, Schemas}
+use Rattle.id_build.specs.Made.{AreFirsts, first_in, graph_by}
+use Rattle.id_build.specs.Schemas.{Numbered, Schemas}
 
 -- the number of the part k of the row n: k more than what the rows before it make, in the order of the rows
 abbrev pub own_number : Checked → ℕ → ℕ → ℕ

@@ -2,11 +2,11 @@
 use Rattle.std.specs.Prelude.{ℕ, List, map}
 use Rattle.id_check.specs.declared.checked.Checked.{Checked}
 use Rattle.id_instr.specs.declared.instr.Block.{Block}
-use Rattle.id_pieces.specs.Made.{arc_of, number_by}
-use Rattle.id_pieces.specs.Schemas.{block_of}
-use Rattle.id_pieces.specs.declared.arc.Arc.{Arc}
-use Rattle.id_pieces.specs.declared.arc.Feed.{Feed}
-use Rattle.id_pieces.specs.declared.slots.Slots.{Slots}
+use Rattle.id_build.specs.Made.{arc_of, number_by}
+use Rattle.id_build.specs.Schemas.{block_of}
+use Rattle.id_build.specs.declared.arc.Arc.{Arc}
+use Rattle.id_build.specs.declared.arc.Feed.{Feed}
+use Rattle.id_build.specs.declared.slots.Slots.{Slots}
 
 -- the program whose graph is made
 abbrev pub program_of : Slots → Checked

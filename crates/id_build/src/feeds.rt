@@ -4,21 +4,23 @@ ghost use Rattle.std.specs.Prelude.{◌≡◌, ◌++◌, ◌<◌, ◌+◌, ◌-�
 ghost use Rattle.std.specs.Prelude.{map, true, false, OnOk};
 ghost use Rattle.id_check.specs.Programs as programs;
 ghost use Rattle.id_desugar.specs.Regions as regions;
-ghost use Rattle.id_pieces.specs.Rows.{body_of, entry_feeds, feeds, feeds_of, first_binder, import_feeds};
-ghost use Rattle.id_pieces.specs.Rows.{bounds_feeds, carried_feeds, turn_feeds};
-ghost use Rattle.id_pieces.specs.Rows as rows;
+ghost use Rattle.id_build.specs.Rows.{body_of, entry_feeds, feeds, feeds_of, first_binder, import_feeds};
+ghost use Rattle.id_build.specs.Rows.{bounds_feeds, carried_feeds, turn_feeds};
+ghost use Rattle.id_build.specs.Rows as rows;
 ghost use Rattle.id_table.specs.declared.row.Node.TheVariants.{Start, Count};
 ghost use Rattle.id_table.specs.Rows.{at};
 ghost use Rattle.id_table.specs.Tables.{is_thing};
 ghost use Rattle.id_instr.specs.declared.dests.Port.TheVariants.{Zero, One};
 ghost use Rattle.id_desugar.specs.Ends.{end_of, next_of};
-ghost use Rattle.id_pieces.specs.Made.{arc_to, is_of_loop};
+ghost use Rattle.id_build.specs.Made.{arc_to, is_of_loop};
 ghost use Rattle.id_build.specs.Passes.{arcs_of, firsts_of, program_of};
 
+use crate::arc::{Arc, Origin};
+use crate::loops::{first_binder, imports_at, nexts_at, turn_row};
 use crate::origins::{name_in, origin, output, part_of, trigger_of};
+use crate::slots::{Slots, number_at};
 use id_desugar::{carried_count, has_index, row_at};
 use id_instr::Port;
-use id_pieces::{Arc, Origin, Slots, first_binder, imports_at, nexts_at, number_at, turn_row};
 use id_table::{Node, Region, Row};
 use std::alloc::AllocError;
 

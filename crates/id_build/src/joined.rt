@@ -1,12 +1,13 @@
 //! Instructions with their arcs (docs/GRAPH.md, "Schemas").
 
 ghost use Rattle.std.specs.Prelude.{◌≡◌, ◌<◌, ◌^◌, ◌++◌, [], fold, length, vec_len, OnOk, All};
-ghost use Rattle.id_pieces.specs.Rows.{op_by};
-ghost use Rattle.id_pieces.specs.Made.{Fits, instrs_from, IsBetween, connected, number_by, with_dest};
+ghost use Rattle.id_build.specs.Rows.{op_by};
+ghost use Rattle.id_build.specs.Made.{Fits, instrs_from, IsBetween, connected, number_by, with_dest};
 ghost use Rattle.id_build.specs.Passes.{firsts_of};
 
+use crate::arc::{Arc, Form, Piece};
+use crate::slots::{Slots, number_at};
 use id_instr::{Dest, Dests, Instr, Op, Others};
-use id_pieces::{Arc, Form, Piece, Slots, number_at};
 use std::alloc::{AllocError, Global};
 
 /// Adds the instructions of these pieces, without arcs.

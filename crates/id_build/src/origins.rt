@@ -1,12 +1,14 @@
 //! Where values come from (docs/GRAPH.md, "Sources").
 
 ghost use Rattle.std.specs.Prelude.{◌≡◌, ◌<◌, ◌^◌};
-ghost use Rattle.id_pieces.specs.Rows.{handed_by, name_in, named_in, node, origin, output, part_of, reply};
-ghost use Rattle.id_pieces.specs.Rows.{same_region, trigger_of};
+ghost use Rattle.id_build.specs.Rows.{handed_by, name_in, named_in, node, origin, output, part_of, reply};
+ghost use Rattle.id_build.specs.Rows.{same_region, trigger_of};
 ghost use Rattle.id_build.specs.Passes.{program_of};
 
+use crate::arc::Origin;
+use crate::loops::{entries_row, home, label};
+use crate::slots::{Slots, slot_of};
 use id_desugar::{binder_at, row_at};
-use id_pieces::{Origin, Slots, entries_row, home, label, slot_of};
 use id_table::{Node, Region};
 
 /// What the first instruction of a row gives.

@@ -8,23 +8,25 @@ ghost use Rattle.id_desugar.specs.Regions.{carried, first_variable, imports_of, 
 ghost use Rattle.id_instr.specs.Graph.{parts};
 ghost use Rattle.id_table.specs.Tables as tables;
 ghost use Rattle.id_table.specs.Turns.{heads_below};
-ghost use Rattle.id_pieces.specs.Rows as rows;
-ghost use Rattle.id_pieces.specs.Rows.{feeds, import_entries, made, param_entry, size, variable_entries};
+ghost use Rattle.id_build.specs.Rows as rows;
+ghost use Rattle.id_build.specs.Rows.{feeds, import_entries, made, param_entry, size, variable_entries};
 ghost use Rattle.id_build.specs.Own.{IsOwn};
 ghost use Rattle.id_build.specs.Passes.{arcs_of, block_at, firsts_of, program_of};
-ghost use Rattle.id_pieces.specs.Schemas.{all_heads};
-ghost use Rattle.id_pieces.specs.Made.{AreFirsts, IsBetween, connected, graph_by};
-ghost use Rattle.id_pieces.specs.Made.{instrs_from, number_by, pieces_in};
+ghost use Rattle.id_build.specs.Schemas.{all_heads};
+ghost use Rattle.id_build.specs.Made.{AreFirsts, IsBetween, connected, graph_by};
+ghost use Rattle.id_build.specs.Made.{instrs_from, number_by, pieces_in};
 
+use crate::arc::{Arc, Piece};
+use crate::calls::is_param;
+use crate::error::BuildError;
 use crate::feeds::push_feeds;
 use crate::joined::{connect_all, push_bare};
+use crate::loops::{entries_row, imports_at};
+use crate::pieces::push_pieces;
 use crate::size::made_count;
+use crate::slots::{Slots, find_slots, number_at};
 use id_desugar::{Kernel, row_at};
 use id_instr::{Block, Graph, Instr};
-use id_pieces::{
-    Arc, BuildError, Piece, Slots, entries_row, find_slots, imports_at, is_param, number_at,
-    push_pieces,
-};
 use id_table::Node;
 use id_value::Sequence;
 use std::alloc::{AllocError, Global};

@@ -6,11 +6,11 @@ ghost use Rattle.std.proofs.Props.{props};
 ghost use Rattle.id_check.specs.declared.checked.Checked.{Checked};
 ghost use Rattle.id_check.specs.Programs as programs;
 ghost use Rattle.id_desugar.specs.Ends.{end_of};
-ghost use Rattle.id_pieces.specs.Rows.{HasNoSplit, is_plain, made, made_of, size};
+ghost use Rattle.id_build.specs.Rows.{HasNoSplit, is_plain, made, made_of, size};
 
+use crate::loops::{imports_at, nexts_at};
 use id_check::Checked;
 use id_desugar::{Ends, Kernel, carried_count, find_ends, row_at};
-use id_pieces::{imports_at, nexts_at};
 use id_table::Node;
 use std::alloc::{AllocError, Global};
 

@@ -10,7 +10,7 @@ use Rattle.id_core.specs.Observed.{answer}
 use Rattle.id_record.specs.declared.kept.Keeps.TheVariants.{All}
 use Rattle.id_instr.specs.Graph.{Parts}
 use Rattle.id_laws.specs.Laws.{QuietIsComplete}
-use Rattle.id_pieces.specs.Schemas.{Schemas}
+use Rattle.id_build.specs.Schemas.{Schemas}
 use Rattle.id_source.specs.declared.SourceValue.{SourceValue}
 use Rattle.id_source.specs.Rounds.{IsAnswer}
 use Rattle.id_source.specs.Sources.{AreInputs, Source, source}

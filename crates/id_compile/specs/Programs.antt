@@ -17,7 +17,7 @@ use Rattle.id_value.specs.declared.Constant.{Constant}
 use Rattle.id_source.specs.declared.inputs.Wanted.{Wanted}
 use Rattle.id_source.specs.Inputs.{AreInputsOf, wanted}
 use Rattle.id_instr.specs.Graph.{Parts}
-use Rattle.id_pieces.specs.Rows.{size}
+use Rattle.id_build.specs.Rows.{size}
 use Rattle.id_build.specs.Own.{IsOwn}
 use Rattle.id_compile.specs.declared.compiled.CompileError.{CompileError}
 use Rattle.id_compile.specs.declared.compiled.CompileError.TheVariants as compiler

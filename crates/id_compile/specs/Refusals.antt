@@ -16,7 +16,7 @@ use Rattle.id_source.specs.Sources.{source}
 use Rattle.id_source.specs.Inputs.{AreRefusedInputs}
 use Rattle.id_source.specs.declared.Fact.{Fact}
 use Rattle.id_source.specs.Computed.{AreFacts, HasMoreFacts}
-use Rattle.id_pieces.specs.Rows.{size}
+use Rattle.id_build.specs.Rows.{size}
 use Rattle.id_sink.specs.declared.sink.PrintError.{PrintError}
 use Rattle.id_sink.specs.Told.{SinkView, Prints}
 use Rattle.id_sink.specs.Texts.{place_text}

@@ -1,7 +1,7 @@
 //! From a text to its graph: tokens, tree, checks, schemas.
 
 ghost use Rattle.std.specs.Prelude.{◌≡◌, ◌<◌, ◌≤◌, length, IfErr, IfOk, OnOk};
-ghost use Rattle.id_pieces.specs.Rows.{size};
+ghost use Rattle.id_build.specs.Rows.{size};
 ghost use Rattle.id_build.specs.Own.{IsOwn};
 ghost use Rattle.id_tree.specs.Distinct.{Distinct};
 ghost use Rattle.id_check.specs.Noted.{tree_in};

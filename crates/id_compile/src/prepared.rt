@@ -3,7 +3,7 @@
 ghost use Rattle.std.specs.Prelude.{◌≡◌, ◌≢◌, ◌≤◌, length, map, IfOk, IfErr, OnOk};
 ghost use Rattle.id_source.specs.Sources.{AreInputs};
 ghost use Rattle.id_source.specs.Inputs.{AreInputsOf};
-ghost use Rattle.id_pieces.specs.Rows.{size};
+ghost use Rattle.id_build.specs.Rows.{size};
 ghost use Rattle.id_compile.specs.Kept.{AreInputs-prop};
 ghost use Rattle.id_compile.specs.Programs.{IsPlacedWithin, IsProgramOf};
 ghost use Rattle.id_compile.specs.Refusals.{AreRefusedFor, IsInsideOf, IsRefusedSource};

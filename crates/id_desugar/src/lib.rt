@@ -6,7 +6,7 @@
 //! imports, in order of first use, and the switches of a loop its variables before them.
 //! Errors: want of memory alone.
 //! Read first: docs/GRAPH.md ("Imports"), `specs/Regions.antt`, `specs/Ends.antt`, then `Kernel` and `regions`.
-//! Not here: instructions (`id_pieces`) and arcs (`id_build`).
+//! Not here: instructions and arcs (`id_build`).
 #![tactic(auto)]
 
 mod access;

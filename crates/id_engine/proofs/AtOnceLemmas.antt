@@ -13,11 +13,11 @@ use Rattle.id_check.specs.declared.checked.Checked.{Checked}
 use Rattle.id_check.specs.Programs.{rows}
 use Rattle.id_instr.specs.Graph.{Parts}
 use Rattle.id_instr.specs.declared.instr.Instr.{Instr}
-use Rattle.id_pieces.specs.Rows.{made, op_by, piece}
-use Rattle.id_pieces.specs.Schemas.{Numbered, Schemas}
-use Rattle.id_pieces.specs.declared.arc.Form.{Form}
-use Rattle.id_pieces.specs.declared.arc.Form.TheVariants.{EnterAt, FetchAt, Plain, SendTo}
-use Rattle.id_pieces.specs.declared.arc.Piece.{Piece}
+use Rattle.id_build.specs.Rows.{made, op_by, piece}
+use Rattle.id_build.specs.Schemas.{Numbered, Schemas}
+use Rattle.id_build.specs.declared.arc.Form.{Form}
+use Rattle.id_build.specs.declared.arc.Form.TheVariants.{EnterAt, FetchAt, Plain, SendTo}
+use Rattle.id_build.specs.declared.arc.Piece.{Piece}
 use Rattle.id_laws.specs.Bounded.{messages_at_once, messages_for}
 use Rattle.id_laws.specs.ByBlock.{messages_in_row, messages_of}
 use Rattle.id_engine.specs.AtOnce.{messages_below, messages_of_program}

@@ -9,7 +9,7 @@ use Rattle.id_source.specs.declared.Path.{Path}
 use Rattle.id_source.specs.Rounds.{Holds}
 use Rattle.id_source.specs.Sources.{Source, source}
 use Rattle.id_build.specs.Own.{schemas_of}
-use Rattle.id_pieces.specs.Schemas.{Schemas}
+use Rattle.id_build.specs.Schemas.{Schemas}
 use Rattle.id_core.specs.Machines.{run, start}
 use Rattle.id_runs.specs.Legal.{IsSameBut}
 use Rattle.id_laws.specs.Bounded.{Bounded, IsActive, IsActiveBy, index_has, loop_begins, messages_at_once, something_on}

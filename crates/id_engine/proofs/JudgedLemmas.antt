@@ -8,7 +8,7 @@ use Rattle.id_instr.specs.Graph.{Parts}
 use Rattle.id_source.specs.Sources.{AreInputs, source}
 use Rattle.id_source.specs.Inputs.{AreInputsOf}
 use Rattle.id_build.specs.Own.{IsOwn, schemas_of}
-use Rattle.id_pieces.specs.Rows.{size}
+use Rattle.id_build.specs.Rows.{size}
 use Rattle.id_core.specs.Events.{EventView}
 use Rattle.id_core.specs.Machines.{MachineView, start, run}
 use Rattle.id_runs.specs.Legal.{IsLegalList, IsSameBut, LegalLists, next}

@@ -10,7 +10,7 @@ use Rattle.id_core.specs.Steps.{State}
 use Rattle.id_runs.specs.Legal.{IsRunOf, LeadTo, LegalLists, no_more, follow}
 use Rattle.id_laws.specs.Laws.{IsSound, Soundness}
 use Rattle.id_build.specs.Own.{schemas_of}
-use Rattle.id_pieces.specs.Schemas.{Schemas}
+use Rattle.id_build.specs.Schemas.{Schemas}
 use Rattle.id_engine.specs.Moments.{AllMoments}
 use Rattle.id_engine.proofs.HeldBackLemmas.{inputs_of}
 

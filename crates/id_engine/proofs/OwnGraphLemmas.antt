@@ -11,12 +11,12 @@ use Rattle.id_desugar.specs.Regions.{is_loop_head, loop_heads, loops_by, order_b
 use Rattle.id_instr.specs.Graph.{Parts}
 use Rattle.id_instr.specs.declared.instr.Op.TheVariants as op
 use Rattle.id_instr.specs.declared.instr.PortKind.TheVariants as port
-use Rattle.id_pieces.specs.declared.arc.Form.TheVariants.{Plain}
-use Rattle.id_pieces.specs.Made.{arc_of, arcs_in, first_in, graph_by, instrs_from, number_by, pieces_in}
+use Rattle.id_build.specs.declared.arc.Form.TheVariants.{Plain}
+use Rattle.id_build.specs.Made.{arc_of, arcs_in, first_in, graph_by, instrs_from, number_by, pieces_in}
 use Rattle.id_build.specs.Own.{IsOwn, own_number}
-use Rattle.id_pieces.specs.Rows as pieces
-use Rattle.id_pieces.specs.Rows.{feeds, made}
-use Rattle.id_pieces.specs.Schemas.{Numbered}
+use Rattle.id_build.specs.Rows as pieces
+use Rattle.id_build.specs.Rows.{feeds, made}
+use Rattle.id_build.specs.Schemas.{Numbered}
 use Rattle.id_build.proofs.OneOwnLemmas.{one_own}
 use Rattle.id_engine.specs.OneProgram.{AreAlike}
 use Rattle.id_engine.proofs.SameFactsLemmas.{AreAlike-sym}

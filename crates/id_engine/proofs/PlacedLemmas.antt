@@ -28,12 +28,12 @@ use Rattle.id_instr.specs.declared.instr.Op.{Op}
 use Rattle.id_instr.specs.declared.instr.Op.TheVariants.{Merge, Next as NextOp, Switch}
 use Rattle.id_instr.specs.declared.instr.PortKind.{PortKind}
 use Rattle.id_source.proofs.CheckedLemmas.{placed_of}
-use Rattle.id_pieces.specs.declared.arc.Form.{Form}
-use Rattle.id_pieces.specs.declared.arc.Piece.{Piece}
+use Rattle.id_build.specs.declared.arc.Form.{Form}
+use Rattle.id_build.specs.declared.arc.Piece.{Piece}
 use Rattle.id_desugar.specs.Regions.{carried, imports_of}
-use Rattle.id_pieces.proofs.EndsLemmas.{not_last}
-use Rattle.id_pieces.specs.Rows.{Entry, block, for_each, loop_entries, made_of, node, piece, send_to}
-use Rattle.id_pieces.specs.Schemas.{Makes, Schemas}
+use Rattle.id_build.proofs.EndsLemmas.{not_last}
+use Rattle.id_build.specs.Rows.{Entry, block, for_each, loop_entries, made_of, node, piece, send_to}
+use Rattle.id_build.specs.Schemas.{Makes, Schemas}
 use Rattle.id_check.proofs.ProgramsLemmas.{table_of}
 use Rattle.id_compile.specs.Programs.{IsPlacedWithin}
 

@@ -7,7 +7,7 @@ use Rattle.id_source.specs.declared.SourceFault.{SourceFault}
 use Rattle.id_source.specs.Sources.{Source, AreInputs}
 use Rattle.id_source.specs.Names.{AreSomeNames}
 use Rattle.id_source.specs.Rounds.{Answers, IsAnswer, Faulty}
-use Rattle.id_pieces.specs.Schemas.{Schemas}
+use Rattle.id_build.specs.Schemas.{Schemas}
 use Rattle.id_record.specs.declared.kept.Keeps.TheVariants as keeps
 use Rattle.id_core.specs.Machines.{World, MachineView, IsQuiet, start, run}
 use Rattle.id_core.specs.Observed.{faults}

@@ -35,14 +35,14 @@ use Rattle.id_instr.specs.declared.instr.Op.TheVariants as op
 use Rattle.id_instr.specs.declared.instr.PortKind.TheVariants as port
 use Rattle.id_instr.specs.declared.dests.Port.TheVariants.{Zero, One}
 use Rattle.id_instr.specs.declared.instr.PortKind.{PortKind}
-use Rattle.id_pieces.specs.declared.arc.Feed.{Feed}
-use Rattle.id_pieces.specs.declared.arc.Form.{Form}
-use Rattle.id_pieces.specs.declared.arc.Form.TheVariants.{Plain, EnterAt, SendTo, FetchAt}
-use Rattle.id_pieces.specs.declared.arc.Origin.{Origin}
-use Rattle.id_pieces.specs.declared.arc.Piece.{Piece}
-use Rattle.id_pieces.specs.Rows as pieces
-use Rattle.id_pieces.specs.Schemas.{Feeds, Makes, Numbered, Schemas, all_heads, block_of}
-use Rattle.id_pieces.proofs.EndsLemmas.{tested}
+use Rattle.id_build.specs.declared.arc.Feed.{Feed}
+use Rattle.id_build.specs.declared.arc.Form.{Form}
+use Rattle.id_build.specs.declared.arc.Form.TheVariants.{Plain, EnterAt, SendTo, FetchAt}
+use Rattle.id_build.specs.declared.arc.Origin.{Origin}
+use Rattle.id_build.specs.declared.arc.Piece.{Piece}
+use Rattle.id_build.specs.Rows as pieces
+use Rattle.id_build.specs.Schemas.{Feeds, Makes, Numbered, Schemas, all_heads, block_of}
+use Rattle.id_build.proofs.EndsLemmas.{tested}
 use Rattle.id_engine.specs.OneProgram.{AreAlike}
 
 -- ---- rows that are there

@@ -40,7 +40,7 @@ use Rattle.id_engine.proofs.LeftLemmas.{HasWent-from}
 use Rattle.id_engine.proofs.AnsweredLemmas.{late_unallowed, refused_unallowed}
 use Rattle.id_core.specs.Events.{EventView}
 use Rattle.id_build.specs.Own.{IsOwn}
-use Rattle.id_pieces.specs.Rows.{size}
+use Rattle.id_build.specs.Rows.{size}
 use Rattle.id_trace.specs.Traces.{trace_text}
 use Rattle.id_engine.specs.Runs.Ends.{quiet as ends_quiet, fault as ends_fault, stopped as ends_stopped}
 

@@ -5,7 +5,7 @@ use Rattle.std.specs.Prelude.{List, length, Result}
 use Rattle.id_check.specs.declared.checked.Checked.{Checked}
 use Rattle.id_check.specs.Programs.{rows}
 use Rattle.id_instr.specs.Graph.{Parts}
-use Rattle.id_pieces.specs.Schemas.{Schemas}
+use Rattle.id_build.specs.Schemas.{Schemas}
 use Rattle.id_source.specs.declared.Fact.{Fact}
 use Rattle.id_source.specs.declared.Path.{Path}
 use Rattle.id_source.specs.Sources.{source}

@@ -15,7 +15,7 @@ use Rattle.id_source.specs.Names.{IsNameValue}
 use Rattle.id_source.specs.Rounds.{Faulty, Holds, IsAnswer, IsWaiting, Rounds}
 use Rattle.id_instr.specs.Graph.{Parts}
 use Rattle.id_build.specs.Own.{IsOwn, own_number}
-use Rattle.id_pieces.specs.Schemas.{Schemas}
+use Rattle.id_build.specs.Schemas.{Schemas}
 use Rattle.id_compile.specs.Programs.{IsProgramOf}
 
 -- the two programs have one tree, the same rows, names and `main`, and each row has one binder, kind and depth in both

@@ -2,7 +2,7 @@
 use Rattle.std.proofs.Common.{ℕ, arith}
 use Rattle.id_source.specs.Sources.{Source, AreInputs}
 use Rattle.id_instr.specs.Graph.{Parts}
-use Rattle.id_pieces.specs.Schemas.{Schemas}
+use Rattle.id_build.specs.Schemas.{Schemas}
 use Rattle.id_runs.proofs.OneMessage.{at_most_one}
 use Rattle.id_runs.proofs.Runs.{reached}
 use Rattle.id_laws.proofs.Rows.Known.{known}

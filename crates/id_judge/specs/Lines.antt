@@ -7,7 +7,7 @@ use Rattle.id_tag.specs.declared.Message.{Message}
 use Rattle.id_tag.specs.declared.Tag.{Tag}
 use Rattle.id_tag.specs.Routes.{route_of}
 use Rattle.id_source.specs.Sources.{Source, AreInputs}
-use Rattle.id_pieces.specs.Schemas.{Schemas}
+use Rattle.id_build.specs.Schemas.{Schemas}
 use Rattle.id_value.specs.declared.Constant.{Constant}
 use Rattle.id_value.specs.List.{Among}
 use Rattle.id_record.specs.declared.kept.Keeps.{Keeps}

@@ -13,8 +13,8 @@ use Rattle.id_value.specs.declared.Constant.{Constant}
 use Rattle.id_value.specs.declared.Constant.TheVariants as value
 use Rattle.id_ops.specs.Operators.{constant_value}
 use Rattle.id_source.specs.Sources.{AreFor, AreInputs, source, constant_kind}
-use Rattle.id_pieces.specs.Rows.{node, port_at, port_of}
-use Rattle.id_pieces.specs.Schemas.{Numbered, Schemas}
+use Rattle.id_build.specs.Rows.{node, port_at, port_of}
+use Rattle.id_build.specs.Schemas.{Numbered, Schemas}
 use Rattle.id_laws.specs.Activations.{main_head}
 use Rattle.id_laws.proofs.Rows.Arcs.{enters}
 use Rattle.id_laws.proofs.Rows.Blocks.{a_param}

@@ -19,10 +19,10 @@ use Rattle.id_source.specs.Facts.{GoesOn, outermost, below}
 use Rattle.id_desugar.specs.Ends.{end_of}
 use Rattle.id_desugar.specs.Regions.{has_index}
 use Rattle.id_source.specs.Rounds.{Every, Holds}
-use Rattle.id_pieces.specs.declared.arc.Origin.{Origin}
+use Rattle.id_build.specs.declared.arc.Origin.{Origin}
 use Rattle.id_table.specs.Loops.{bounds_row}
 use Rattle.id_table.specs.Tables.{is_within}
-use Rattle.id_pieces.specs.Rows.{answer_row, block, called, node, origin, output, switches_at}
+use Rattle.id_build.specs.Rows.{answer_row, block, called, node, origin, output, switches_at}
 use Rattle.id_runs.specs.Activations.{Activation, at_iteration, main_context, main_activation, tag_in}
 use Rattle.id_runs.specs.Events.{Event, FiresAs, GivesOn}
 

@@ -13,10 +13,10 @@ use Rattle.id_source.specs.declared.Fact.TheVariants.{On, Has}
 use Rattle.id_source.specs.Facts.{ForStands, below}
 use Rattle.id_source.specs.Sources.{Source, AreInputs}
 use Rattle.id_source.specs.Rounds.{Holds}
-use Rattle.id_pieces.specs.declared.arc.Form.{Form}
-use Rattle.id_pieces.specs.declared.arc.Form.TheVariants.{Plain, EnterAt, SendTo, FetchAt}
-use Rattle.id_pieces.specs.declared.arc.Piece.{Piece}
-use Rattle.id_pieces.specs.Rows.{answer_row, made, node}
+use Rattle.id_build.specs.declared.arc.Form.{Form}
+use Rattle.id_build.specs.declared.arc.Form.TheVariants.{Plain, EnterAt, SendTo, FetchAt}
+use Rattle.id_build.specs.declared.arc.Piece.{Piece}
+use Rattle.id_build.specs.Rows.{answer_row, made, node}
 use Rattle.id_laws.specs.Determinate.{RunOf, end_of}
 use Rattle.id_laws.specs.Laws.{messages}
 use Rattle.id_laws.specs.Bounded.{messages_for}

@@ -15,8 +15,8 @@ use Rattle.id_source.specs.declared.SourceValue.{SourceValue}
 use Rattle.id_source.specs.declared.Fact.{Fact}
 use Rattle.id_source.specs.declared.Fact.TheVariants.{On, Has, Shape, Put, Ask}
 use Rattle.id_source.specs.Sources.{Source}
-use Rattle.id_pieces.specs.declared.arc.Origin.{Origin}
-use Rattle.id_pieces.specs.Rows.{home, label, node, origin, output}
+use Rattle.id_build.specs.declared.arc.Origin.{Origin}
+use Rattle.id_build.specs.Rows.{home, label, node, origin, output}
 use Rattle.id_runs.specs.Activations.{Activation, tag_in}
 use Rattle.id_runs.specs.Cells.{ReadBy, WrittenBy}
 use Rattle.id_runs.specs.Events.{Event}

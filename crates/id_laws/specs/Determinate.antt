@@ -1,7 +1,7 @@
 -- *Determinate*: what all runs of one source have in common (docs/MEANING.md, "Laws").
 use Rattle.std.specs.Prelude.{◌≡◌, ℕ, List, [], IsPermutation}
 use Rattle.id_instr.specs.Graph.{Parts}
-use Rattle.id_pieces.specs.Schemas.{Schemas}
+use Rattle.id_build.specs.Schemas.{Schemas}
 use Rattle.id_core.specs.Machines.{World, IsQuiet, start, run}
 use Rattle.id_core.specs.Observed as shown
 use Rattle.id_source.specs.Sources.{Source, AreInputs}

@@ -37,9 +37,9 @@ use Rattle.id_source.specs.Sources.{Source, AreInputs, IsOfKind}
 use Rattle.id_source.specs.Facts.{site}
 use Rattle.id_source.specs.Rounds.{Holds, Faulty, FaultFree, Answers, IsAnswer, IsCoherent, IsWaiting}
 use Rattle.id_source.specs.Names.{IsNameValue}
-use Rattle.id_pieces.specs.declared.arc.Form.{Form}
-use Rattle.id_pieces.specs.Rows.{label}
-use Rattle.id_pieces.specs.Schemas.{Makes, Schemas}
+use Rattle.id_build.specs.declared.arc.Form.{Form}
+use Rattle.id_build.specs.Rows.{label}
+use Rattle.id_build.specs.Schemas.{Makes, Schemas}
 use Rattle.id_valid.specs.Validator.{IsValid}
 use Rattle.id_runs.specs.Activations.{activation_of}
 -- *Suited* speaks of the runs of every valid graph, *Serials* of those of every graph

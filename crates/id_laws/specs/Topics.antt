@@ -41,10 +41,10 @@ use Rattle.id_source.specs.Facts.{ask, below, put, shape, site, without}
 use Rattle.id_source.specs.Rounds.{Holds}
 use Rattle.id_desugar.specs.Ends.{end_of}
 use Rattle.id_desugar.specs.Regions.{has_index, imports_of}
-use Rattle.id_pieces.specs.declared.arc.Origin.{Origin}
-use Rattle.id_pieces.specs.declared.arc.Form.{Form}
-use Rattle.id_pieces.specs.Rows.{block, entering, next_of, node, origin, output}
-use Rattle.id_pieces.specs.Schemas.{Makes, Feeds}
+use Rattle.id_build.specs.declared.arc.Origin.{Origin}
+use Rattle.id_build.specs.declared.arc.Form.{Form}
+use Rattle.id_build.specs.Rows.{block, entering, next_of, node, origin, output}
+use Rattle.id_build.specs.Schemas.{Makes, Feeds}
 use Rattle.id_runs.specs.Activations.{Activation, at_iteration, tag_in}
 use Rattle.id_runs.specs.Events.{Event, FiresAs}
 use Rattle.id_runs.specs.Runs.{Moving}

@@ -12,9 +12,9 @@ use Rattle.id_ops.specs.declared.Fired.TheVariants.{Sent}
 use Rattle.id_ops.specs.Operators.{constant_value}
 use Rattle.id_value.specs.declared.Constant.{Constant}
 use Rattle.id_source.specs.Sources.{Source, IsInput}
-use Rattle.id_pieces.specs.declared.arc.Origin.{Origin}
-use Rattle.id_pieces.specs.Rows.{Entry, answer_row, loop_entries, node, param_of}
-use Rattle.id_pieces.specs.Schemas.{Feeds}
+use Rattle.id_build.specs.declared.arc.Origin.{Origin}
+use Rattle.id_build.specs.Rows.{Entry, answer_row, loop_entries, node, param_of}
+use Rattle.id_build.specs.Schemas.{Feeds}
 use Rattle.id_runs.specs.Activations.{Activation, at_iteration, main_activation, tag_in}
 use Rattle.id_runs.specs.Cells.{Replies}
 use Rattle.id_runs.specs.Events.{Event, FiresAs, fired_event}

@@ -1,6 +1,6 @@
 use Rattle.std.proofs.Common.{sym, subst}
 use Rattle.id_build.specs.Own.{schemas_of}
-use Rattle.id_pieces.specs.Schemas.{Schemas}
+use Rattle.id_build.specs.Schemas.{Schemas}
 use Rattle.id_source.specs.Sources.{source}
 use Rattle.id_by_hand.proofs.RunLemmas.{answered}
 use Rattle.id_by_hand.proofs.answer_of.Goals as goal

@@ -11,12 +11,12 @@ use Rattle.id_table.specs.declared.row.Node.TheVariants.{Program}
 use Rattle.id_check.specs.declared.checked.Checked.{Checked}
 use Rattle.id_check.specs.Programs.{rows}
 use Rattle.id_desugar.specs.Regions.{in_block, those}
-use Rattle.id_pieces.specs.declared.arc.Form.{Form}
-use Rattle.id_pieces.specs.declared.arc.Form.TheVariants.{Plain, EnterAt, SendTo, FetchAt}
-use Rattle.id_pieces.specs.declared.arc.Piece.{Piece}
-use Rattle.id_pieces.specs.Rows.{answer_row, block, made, node, op_by, piece}
-use Rattle.id_pieces.specs.Schemas.{Makes}
-use Rattle.id_pieces.proofs.EndsLemmas.{not_last}
+use Rattle.id_build.specs.declared.arc.Form.{Form}
+use Rattle.id_build.specs.declared.arc.Form.TheVariants.{Plain, EnterAt, SendTo, FetchAt}
+use Rattle.id_build.specs.declared.arc.Piece.{Piece}
+use Rattle.id_build.specs.Rows.{answer_row, block, made, node, op_by, piece}
+use Rattle.id_build.specs.Schemas.{Makes}
+use Rattle.id_build.proofs.EndsLemmas.{not_last}
 use Rattle.id_runs.specs.Activations.{Activation}
 use Rattle.id_runs.specs.Keys.{Key}
 use Rattle.id_laws.proofs.Rows.Assumed.{IsKnown}

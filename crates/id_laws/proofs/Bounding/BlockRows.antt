@@ -22,11 +22,11 @@ use Rattle.id_tag.specs.declared.Value.{Value}
 use Rattle.id_source.specs.Sources.{Source}
 use Rattle.id_desugar.specs.Ends.{end_of}
 use Rattle.id_desugar.specs.Regions.{has_index, imports_of}
-use Rattle.id_pieces.specs.declared.arc.Form.{Form}
-use Rattle.id_pieces.specs.Rows.{Entry, block, called, entering, node, param_of}
-use Rattle.id_pieces.specs.Schemas.{Numbered}
-use Rattle.id_pieces.proofs.EndsLemmas.{body_region, end_is}
-use Rattle.id_pieces.proofs.LoopsLemmas.{entries_node}
+use Rattle.id_build.specs.declared.arc.Form.{Form}
+use Rattle.id_build.specs.Rows.{Entry, block, called, entering, node, param_of}
+use Rattle.id_build.specs.Schemas.{Numbered}
+use Rattle.id_build.proofs.EndsLemmas.{body_region, end_is}
+use Rattle.id_build.proofs.LoopsLemmas.{entries_node}
 use Rattle.id_runs.specs.Activations.{Activation, at_iteration, main_activation}
 use Rattle.id_runs.specs.Events.{Event}
 use Rattle.id_runs.specs.Serials.{ContextsApart}

@@ -21,9 +21,9 @@ use Rattle.id_tag.specs.declared.Payload.TheVariants.{Token, Read, Write}
 use Rattle.id_core.specs.Machines.{World}
 use Rattle.id_source.specs.declared.Path.{Path}
 use Rattle.id_source.specs.Sources.{Source}
-use Rattle.id_pieces.specs.declared.arc.Piece.{Piece}
-use Rattle.id_pieces.specs.Rows.{answer_row, block, made_of, node}
-use Rattle.id_pieces.specs.Schemas.{Numbered}
+use Rattle.id_build.specs.declared.arc.Piece.{Piece}
+use Rattle.id_build.specs.Rows.{answer_row, block, made_of, node}
+use Rattle.id_build.specs.Schemas.{Numbered}
 use Rattle.id_runs.specs.Activations.{Activation, activation_of, main_activation, tag_in}
 use Rattle.id_runs.specs.Events.{Event}
 use Rattle.id_runs.specs.Keys.{Key, AtPort, ByFetch, ByStore, key_of}

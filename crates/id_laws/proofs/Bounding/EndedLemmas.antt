@@ -25,7 +25,7 @@ use Rattle.id_source.specs.Rounds.{Every, Holds, Rounds}
 use Rattle.id_source.specs.Computed.{AreFacts}
 use Rattle.id_source.proofs.PathOrderLemmas.{same_steps, step_total}
 use Rattle.id_source.proofs.RoundsLemmas.{Rounds-follow}
-use Rattle.id_pieces.specs.Rows.{node}
+use Rattle.id_build.specs.Rows.{node}
 use Rattle.id_laws.proofs.Rows.Assumed.{IsKnown}
 use Rattle.id_laws.proofs.Validity.HasKinds.{expression_thing}
 use Rattle.id_laws.proofs.Rows.Known.{known}

@@ -20,7 +20,7 @@ use Rattle.id_source.specs.declared.Fact.TheVariants.{On, Has}
 use Rattle.id_source.specs.declared.Fact.{Fact}
 use Rattle.id_source.specs.Rounds.{Holds}
 use Rattle.id_source.specs.Sources.{Source, AreInputs}
-use Rattle.id_pieces.specs.Schemas.{Numbered}
+use Rattle.id_build.specs.Schemas.{Numbered}
 use Rattle.id_runs.specs.Activations.{Activation}
 use Rattle.id_runs.specs.Events.{Event, FiresAs, fired_event, payload_of}
 use Rattle.id_runs.specs.Keys.{AtPort, key_of}

@@ -22,9 +22,9 @@ use Rattle.id_tag.specs.declared.Value.{Value}
 use Rattle.id_tag.specs.declared.Payload.{Payload}
 use Rattle.id_tag.specs.declared.Payload.TheVariants.{Token, Read, Write}
 use Rattle.id_source.specs.Sources.{Source}
-use Rattle.id_pieces.specs.declared.arc.Form.{Form}
-use Rattle.id_pieces.specs.Rows.{node, op_by}
-use Rattle.id_pieces.specs.Schemas.{Makes, Numbered}
+use Rattle.id_build.specs.declared.arc.Form.{Form}
+use Rattle.id_build.specs.Rows.{node, op_by}
+use Rattle.id_build.specs.Schemas.{Makes, Numbered}
 use Rattle.id_runs.specs.Activations.{Activation, activation_of, tag_in}
 use Rattle.id_runs.specs.Events.{Event}
 use Rattle.id_runs.specs.Keys.{Key, AtPort, ByFetch, ByStore, key_of}

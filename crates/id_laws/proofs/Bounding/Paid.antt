@@ -18,8 +18,8 @@ use Rattle.id_source.specs.Facts.{ForStands, GoesOn, below, by_bounds, by_predic
 use Rattle.id_source.specs.Facts as facts
 use Rattle.id_source.specs.Rounds.{Every, Holds}
 use Rattle.id_desugar.specs.Ends.{end_of}
-use Rattle.id_pieces.specs.Rows.{block, node}
-use Rattle.id_pieces.proofs.EndsLemmas.{body_region}
+use Rattle.id_build.specs.Rows.{block, node}
+use Rattle.id_build.proofs.EndsLemmas.{body_region}
 use Rattle.id_tag.specs.declared.Context.{Context}
 use Rattle.id_runs.specs.Activations.{Activation, at_iteration, main_activation}
 use Rattle.id_runs.specs.Events.{Event}

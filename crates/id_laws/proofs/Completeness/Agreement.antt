@@ -15,7 +15,7 @@ use Rattle.id_ops.specs.declared.Operands.TheVariants.{One, Two}
 use Rattle.id_ops.specs.declared.Fresh.{Fresh}
 use Rattle.id_ops.specs.Operators.{fired, fired_by, constant_value}
 use Rattle.id_source.specs.Sources.{constant_kind}
-use Rattle.id_pieces.specs.Rows.{binary_op, port_of}
+use Rattle.id_build.specs.Rows.{binary_op, port_of}
 
 -- each operator of the language is made as one of the machine that comes to the same, on any values
 pub agree_unary : (o : UnaryOp) (c : Constant) (t : Tag) (f : Fresh) → fired (Unary o) t (One (constant_value c)) f ≡ fired_by (result_of_unary o c)

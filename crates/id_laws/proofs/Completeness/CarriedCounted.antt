@@ -35,10 +35,10 @@ use Rattle.id_source.specs.Facts.{below, ForStands, GoesOn, by_predicate, by_bou
 use Rattle.id_source.specs.Facts as facts
 use Rattle.id_source.specs.Rounds.{Every, Holds}
 use Rattle.id_source.specs.declared.Fact.{Fact}
-use Rattle.id_pieces.specs.declared.arc.Origin.{Origin}
-use Rattle.id_pieces.specs.Rows.{block, name_in, label, node, feed, feeds_of, origin, output, trigger_of}
-use Rattle.id_pieces.specs.Rows.{home as home_of, home_by, label_by, part_of}
-use Rattle.id_pieces.specs.Schemas.{Feeds, Numbered}
+use Rattle.id_build.specs.declared.arc.Origin.{Origin}
+use Rattle.id_build.specs.Rows.{block, name_in, label, node, feed, feeds_of, origin, output, trigger_of}
+use Rattle.id_build.specs.Rows.{home as home_of, home_by, label_by, part_of}
+use Rattle.id_build.specs.Schemas.{Feeds, Numbered}
 use Rattle.id_runs.specs.Activations.{Activation, at_iteration}
 use Rattle.id_runs.specs.Events.{Event}
 use Rattle.id_runs.specs.Runs.{Reach}

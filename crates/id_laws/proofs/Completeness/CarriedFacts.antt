@@ -46,9 +46,9 @@ use Rattle.id_source.specs.Facts.{loop_test_on, first_has, turn_on, loop_stateme
 use Rattle.id_source.specs.Facts.{StoreStands, site, shape, store_on, loop_store_on, bounds_low_on, bounds_high_on, shape_made, array_has}
 use Rattle.id_source.specs.Facts.{fetch_target_on, fetch_index_on, asks, fetch_has, store_target_on, store_index_on, store_value_on, puts}
 use Rattle.id_source.specs.Rounds.{Every, Rounds, Holds}
-use Rattle.id_pieces.specs.declared.arc.Origin.{Origin}
-use Rattle.id_pieces.specs.Rows.{home as home_of, label, node, origin, output, trigger_of, binary_op, holds_array, port_at}
-use Rattle.id_pieces.specs.Schemas.{Feeds, Numbered}
+use Rattle.id_build.specs.declared.arc.Origin.{Origin}
+use Rattle.id_build.specs.Rows.{home as home_of, label, node, origin, output, trigger_of, binary_op, holds_array, port_at}
+use Rattle.id_build.specs.Schemas.{Feeds, Numbered}
 use Rattle.id_runs.specs.Activations.{Activation, main_activation, tag_in, at_iteration}
 use Rattle.id_runs.specs.Events.{Event, FiresAs}
 use Rattle.id_runs.specs.Runs.{Reach}
@@ -63,7 +63,7 @@ use Rattle.id_laws.proofs.Rows.LoopFacts.{loop_is}
 use Rattle.id_laws.proofs.Validity.PortsTake.{Takes, takes_constant}
 use Rattle.id_laws.proofs.Rows.Regions.{region_of, same_depth}
 use Rattle.id_laws.proofs.Rows.Blocks.{a_param}
-use Rattle.id_pieces.proofs.EndsLemmas as ends
+use Rattle.id_build.proofs.EndsLemmas as ends
 use Rattle.id_laws.proofs.Validity.HasKinds.{port_taking, binder_thing, operand_of, Has_kind}
 use Rattle.id_laws.proofs.Completeness.Firings.{IsSettled, alone_fired, both_fired, came, spoken, start_handled, alone_formed, sent_handled}
 use Rattle.id_build.proofs.NamesSeen.{Sees}
@@ -72,7 +72,7 @@ use Rattle.id_laws.proofs.Completeness.Triggers.{Home, home, live_turned, one_ac
 use Rattle.id_laws.proofs.Rows.Speakers.{own_origin, name_origin, block_origin, expression_speaks, binder_speaks, fed_as, fetch_origin}
 use Rattle.id_laws.proofs.Paths.Seats.{main_path}
 use Rattle.id_laws.proofs.Telling.TurnedOn.{holds_by}
-use Rattle.id_pieces.specs.declared.arc.Form.TheVariants.{FetchAt}
+use Rattle.id_build.specs.declared.arc.Form.TheVariants.{FetchAt}
 use Rattle.id_laws.proofs.Completeness.CarriedValues.{gives_out, expression_plain, home_plain, merged, named_kind, stands_constant, value_fits}
 use Rattle.id_laws.proofs.Telling.FiringMeans.{constant_stands}
 use Rattle.id_laws.specs.Topics.{Addresses, of_fetch, of_store, Named, StandsFor, number_stands, truth_stands, name_stands}

@@ -25,12 +25,12 @@ use Rattle.id_source.specs.declared.Fact.TheVariants.{Has}
 use Rattle.id_source.specs.Sources.{Source, AreInputs}
 use Rattle.id_source.specs.Facts.{Chooses, then_arm, else_arm, below, without, LoopStands, NextStands, between}
 use Rattle.id_source.specs.Rounds.{Holds}
-use Rattle.id_pieces.specs.declared.arc.Origin.{Origin}
-use Rattle.id_pieces.specs.Rows as built
-use Rattle.id_pieces.specs.Rows.{block, entering, first_binder, loop_entries, name_in, next_of, label, node, feed, origin, output, trigger_of, port_at, port_of}
-use Rattle.id_pieces.specs.Rows.{called, home as home_of, home_by, label_by, param_of}
+use Rattle.id_build.specs.declared.arc.Origin.{Origin}
+use Rattle.id_build.specs.Rows as built
+use Rattle.id_build.specs.Rows.{block, entering, first_binder, loop_entries, name_in, next_of, label, node, feed, origin, output, trigger_of, port_at, port_of}
+use Rattle.id_build.specs.Rows.{called, home as home_of, home_by, label_by, param_of}
 use Rattle.id_desugar.specs.Regions.{first_variable, nexts_of}
-use Rattle.id_pieces.specs.Schemas.{Feeds, Numbered}
+use Rattle.id_build.specs.Schemas.{Feeds, Numbered}
 use Rattle.id_runs.specs.Activations.{Activation, tag_in, at_iteration}
 use Rattle.id_runs.specs.Events.{Event, FiresAs}
 use Rattle.id_runs.specs.Runs.{Reach, handled}
@@ -52,14 +52,14 @@ use Rattle.id_laws.proofs.Validity.PortsTake.{Takes}
 use Rattle.id_laws.proofs.Rows.Regions.{region_of, same_depth}
 use Rattle.id_laws.proofs.Rows.Blocks.{a_param}
 use Rattle.id_laws.proofs.Rows.Conditionals.{arm_live, arm_of, arms_test, Conditional, conditional, no_within, test_at}
-use Rattle.id_pieces.proofs.EndsLemmas as ends
+use Rattle.id_build.proofs.EndsLemmas as ends
 use Rattle.id_laws.proofs.Validity.HasKinds.{port_taking, binder_thing, expression_thing, operand_of}
 use Rattle.id_laws.proofs.Completeness.Firings.{IsSettled, alone_fired, both_fired, came, spoken, alone_formed, both_formed, sent_handled}
 use Rattle.id_build.proofs.NamesSeen.{Sees, listed}
 use Rattle.id_laws.proofs.Completeness.Triggers.{Home, home, live_turned, one_activation, second_came}
 use Rattle.id_laws.proofs.Rows.Speakers.{own_origin, binder_speaks, fed_as}
 use Rattle.id_laws.proofs.Paths.Seats.{below_is, length_snoc, entered_path}
-use Rattle.id_pieces.specs.declared.arc.Form.TheVariants.{Plain, EnterAt, SendTo}
+use Rattle.id_build.specs.declared.arc.Form.TheVariants.{Plain, EnterAt, SendTo}
 use Rattle.id_laws.proofs.Completeness.CarriedValues.{sent_in, expression_plain, merged, stands_constant, value_fits}
 use Rattle.id_laws.proofs.Rows.Calls.{arg_at, call_at, enter_at, as_def, called_head, called_is}
 use Rattle.id_table.specs.Turns.{IsDefOf, params_at}

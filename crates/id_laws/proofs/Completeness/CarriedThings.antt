@@ -17,9 +17,9 @@ use Rattle.id_core.specs.Machines.{World}
 use Rattle.id_source.specs.declared.Path.{Path}
 use Rattle.id_source.specs.declared.SourceValue.{SourceValue}
 use Rattle.id_source.specs.Sources.{Source, AreInputs, value_of}
-use Rattle.id_pieces.specs.declared.arc.Origin.{Origin}
-use Rattle.id_pieces.specs.Rows.{home, label, node, origin, port_at}
-use Rattle.id_pieces.specs.Schemas.{Numbered}
+use Rattle.id_build.specs.declared.arc.Origin.{Origin}
+use Rattle.id_build.specs.Rows.{home, label, node, origin, port_at}
+use Rattle.id_build.specs.Schemas.{Numbered}
 use Rattle.id_runs.specs.Activations.{Activation, tag_in}
 use Rattle.id_runs.specs.Events.{Event}
 use Rattle.id_runs.specs.Runs.{Reach, handled}
@@ -34,7 +34,7 @@ use Rattle.id_laws.proofs.Validity.HasKinds.{binder_thing, expression_thing, ope
 use Rattle.id_laws.proofs.Completeness.Firings.{IsSettled, alone_fired, spoken}
 use Rattle.id_laws.proofs.Completeness.Triggers.{one_activation}
 use Rattle.id_laws.proofs.Rows.Speakers.{expression_speaks, binder_speaks}
-use Rattle.id_pieces.specs.declared.arc.Form.TheVariants.{Plain}
+use Rattle.id_build.specs.declared.arc.Form.TheVariants.{Plain}
 use Rattle.id_laws.proofs.Completeness.CarriedValues.{expression_plain, home_plain, label_plain, merged, stands_constant}
 use Rattle.id_laws.specs.Topics.{StandsFor}
 

@@ -24,7 +24,7 @@ use Rattle.id_source.specs.declared.Site.{Site}
 use Rattle.id_source.specs.declared.SourceValue.{SourceValue}
 use Rattle.id_source.specs.declared.SourceValue.TheVariants as source
 use Rattle.id_source.specs.Sources.{Source, IsOfKind, value_of}
-use Rattle.id_pieces.specs.Rows.{block, home, home_by, label, label_by, node, port_of}
+use Rattle.id_build.specs.Rows.{block, home, home_by, label, label_by, node, port_of}
 use Rattle.id_runs.specs.Events.{Event}
 use Rattle.id_laws.specs.Topics.{Named, StandsFor, number_stands, truth_stands, name_stands}
 use Rattle.id_laws.proofs.Rows.Assumed.{IsKnown}

@@ -29,10 +29,10 @@ use Rattle.id_ops.specs.declared.Fired.TheVariants.{Side, Nothing}
 use Rattle.id_core.specs.Machines.{World}
 use Rattle.id_source.specs.Sources.{Source}
 use Rattle.id_desugar.specs.Regions.{imports_of}
-use Rattle.id_pieces.specs.declared.arc.Origin.{Origin}
-use Rattle.id_pieces.specs.Rows.{block, bounds_feeds, carried_feeds, entering, feed, import_feeds, loop_entries, name_in, node}
-use Rattle.id_pieces.specs.Rows.{origin, output, param_entry, part_of, port_at, port_of, turn_feeds, turn_row}
-use Rattle.id_pieces.specs.Schemas.{Feeds, Numbered}
+use Rattle.id_build.specs.declared.arc.Origin.{Origin}
+use Rattle.id_build.specs.Rows.{block, bounds_feeds, carried_feeds, entering, feed, import_feeds, loop_entries, name_in, node}
+use Rattle.id_build.specs.Rows.{origin, output, param_entry, part_of, port_at, port_of, turn_feeds, turn_row}
+use Rattle.id_build.specs.Schemas.{Feeds, Numbered}
 use Rattle.id_runs.specs.Activations.{Activation, at_iteration, tag_in}
 use Rattle.id_runs.specs.Events.{Event}
 use Rattle.id_runs.specs.Runs.{Reach, handled}
@@ -162,13 +162,13 @@ module _ (S : Source) (g : Parts) (number : ℕ → ℕ → ℕ) (numbered : Num
         (start_node P known h x) opened at fits to_context to_value says)
 
     -- what is handed on came to the next one
-    turn_does : (j : ℕ) → j < 3 → Does P turn (suc j) (Rattle.id_pieces.specs.declared.arc.Form.TheVariants.Plain (op.Next (port_at P (h + 1 + j))))
+    turn_does : (j : ℕ) → j < 3 → Does P turn (suc j) (Rattle.id_build.specs.declared.arc.Form.TheVariants.Plain (op.Next (port_at P (h + 1 + j))))
     turn_does j less =
         let name : get_or (turned P h) j 0 ≡ h + 1 + j =
         ap (λ cs. get_or (cs ++ imports_of P h) j 0) (three_carried P h c.has) ∙ before_get (imports_of P h) j less in
-        subst (λ i. Does P turn (suc j) (Rattle.id_pieces.specs.declared.arc.Form.TheVariants.Plain (op.Next (port_at P i)))) name
+        subst (λ i. Does P turn (suc j) (Rattle.id_build.specs.declared.arc.Form.TheVariants.Plain (op.Next (port_at P i)))) name
         (subst (λ k. j < length (turned P k) →
-        Does P turn (suc j) (Rattle.id_pieces.specs.declared.arc.Form.TheVariants.Plain (op.Next (port_at P (get_or (turned P k) j 0))))) (turn_in P known h x)
+        Does P turn (suc j) (Rattle.id_build.specs.declared.arc.Form.TheVariants.Plain (op.Next (port_at P (get_or (turned P k) j 0))))) (turn_in P known h x)
         (λ l. moves_name j (turn_node P known h x) l) (three_turned P h c.has j less))
 
     -- what feeds what hands it on

@@ -28,9 +28,9 @@ use Rattle.id_source.specs.declared.SourceValue.TheVariants as source
 use Rattle.id_source.specs.declared.Fact.TheVariants.{Has}
 use Rattle.id_source.specs.Rounds.{Holds}
 use Rattle.id_source.specs.Sources.{Source}
-use Rattle.id_pieces.specs.declared.arc.Origin.{Origin}
-use Rattle.id_pieces.specs.declared.arc.Form.TheVariants.{Plain}
-use Rattle.id_pieces.specs.Schemas.{Feeds, Numbered}
+use Rattle.id_build.specs.declared.arc.Origin.{Origin}
+use Rattle.id_build.specs.declared.arc.Form.TheVariants.{Plain}
+use Rattle.id_build.specs.Schemas.{Feeds, Numbered}
 use Rattle.id_runs.specs.Activations.{Activation, at_iteration, main_activation, tag_in}
 use Rattle.id_runs.specs.Events.{Event, FiresAs, fired_event}
 use Rattle.id_runs.specs.Runs.{Origin as ComesFrom, Reach, handled}
@@ -45,8 +45,8 @@ use Rattle.id_laws.proofs.Rows.Arcs.{Does, makes}
 use Rattle.id_laws.proofs.Rows.Assumed.{IsKnown}
 use Rattle.id_laws.proofs.Paths.Sent.{dests_are}
 use Rattle.id_laws.proofs.Rows.Start.{is_there}
-use Rattle.id_pieces.specs.declared.arc.Form.{Form}
-use Rattle.id_pieces.specs.Rows.{op_by}
+use Rattle.id_build.specs.declared.arc.Form.{Form}
+use Rattle.id_build.specs.Rows.{op_by}
 
 -- nothing is in flight, and each number that a place of the source Has is one of the language
 pub record IsSettled (S : Source) (s : World) : Type 0 where

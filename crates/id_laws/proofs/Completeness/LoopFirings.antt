@@ -24,10 +24,10 @@ use Rattle.id_ops.specs.Operators.{fired}
 use Rattle.id_core.specs.Machines.{World}
 use Rattle.id_source.specs.Sources.{Source}
 use Rattle.id_desugar.specs.Regions.{imports_of}
-use Rattle.id_pieces.specs.declared.arc.Origin.{Origin}
-use Rattle.id_pieces.specs.declared.arc.Form.TheVariants.{SendTo}
-use Rattle.id_pieces.specs.Rows.{Entry, entering, entries_row, loop_entries, name_in, node, output, port_at, trigger_of, turn_row}
-use Rattle.id_pieces.specs.Schemas.{Feeds, Numbered}
+use Rattle.id_build.specs.declared.arc.Origin.{Origin}
+use Rattle.id_build.specs.declared.arc.Form.TheVariants.{SendTo}
+use Rattle.id_build.specs.Rows.{Entry, entering, entries_row, loop_entries, name_in, node, output, port_at, trigger_of, turn_row}
+use Rattle.id_build.specs.Schemas.{Feeds, Numbered}
 use Rattle.id_runs.specs.Activations.{Activation, at_iteration, tag_in}
 use Rattle.id_runs.specs.Events.{Event, FiresAs}
 use Rattle.id_runs.specs.Runs.{Reach, handled}

@@ -37,8 +37,8 @@ use Rattle.id_source.specs.Facts.{put}
 use Rattle.id_source.specs.Orders.{SiteBefore, StepBefore, StepsBefore}
 use Rattle.id_source.specs.Sources.{Source, AreInputs}
 use Rattle.id_source.specs.Rounds.{Holds, IsWaiting}
-use Rattle.id_pieces.specs.Rows.{node}
-use Rattle.id_pieces.specs.Schemas.{Numbered}
+use Rattle.id_build.specs.Rows.{node}
+use Rattle.id_build.specs.Schemas.{Numbered}
 use Rattle.id_observe.specs.Paths.{name_by}
 use Rattle.id_runs.specs.Activations.{tag_in}
 use Rattle.id_runs.specs.Cells.{WrittenBy, cell_at}

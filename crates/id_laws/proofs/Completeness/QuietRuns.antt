@@ -57,11 +57,11 @@ use Rattle.id_source.specs.Names.{IsNameValue}
 use Rattle.id_source.specs.Sources.{Source, AreInputs, body_of, main_body, value_of}
 use Rattle.id_source.specs.Facts.{outermost, FaultRule, unary_fails, binary_fails, bad_bounds, out_of_fetch, out_of_store, second_store}
 use Rattle.id_source.specs.Rounds.{Every, Holds, FaultFree, Answers, IsAnswer}
-use Rattle.id_pieces.specs.declared.arc.Origin.{Origin}
+use Rattle.id_build.specs.declared.arc.Origin.{Origin}
 use Rattle.id_desugar.specs.Ends.{end_of}
-use Rattle.id_pieces.specs.Rows.{label, node, answer_row, binary_op, holds_array, origin, output, port_at, port_of, result_of}
-use Rattle.id_pieces.specs.Rows as built
-use Rattle.id_pieces.specs.Schemas.{Feeds, Numbered}
+use Rattle.id_build.specs.Rows.{label, node, answer_row, binary_op, holds_array, origin, output, port_at, port_of, result_of}
+use Rattle.id_build.specs.Rows as built
+use Rattle.id_build.specs.Schemas.{Feeds, Numbered}
 use Rattle.id_runs.specs.Activations.{Activation, main_activation, tag_in}
 use Rattle.id_runs.specs.Events.{Event, FiresAs, GivesOn, fired_event, payload_of}
 use Rattle.id_runs.specs.Cells.{WrittenBy}
@@ -84,7 +84,7 @@ use Rattle.id_runs.proofs.OneMessage.{fired_once}
 use Rattle.id_laws.proofs.Completeness.CarriedFacts.{address_made, address_part, carried, cells_of, one_structure, body_region, structure_of}
 use Rattle.id_laws.proofs.Completeness.CarriedThings.{constant_spoken, here_is, operand_spoken, said_at}
 use Rattle.id_laws.proofs.Completeness.CarriedValues.{sent_in, stands_constant}
-use Rattle.id_pieces.proofs.EndsLemmas.{end_is}
+use Rattle.id_build.proofs.EndsLemmas.{end_is}
 use Rattle.id_laws.proofs.Completeness.Firings.{IsSettled, PartFired, alone_fired, both_fired, came, sent_handled, start_handled}
 use Rattle.id_laws.proofs.Validity.HasKinds.{port_taking, operand_of, binder_thing, expression_thing}
 use Rattle.id_laws.proofs.Validity.PortsTake.{Takes, takes_constant}

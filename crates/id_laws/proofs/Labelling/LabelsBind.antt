@@ -18,8 +18,8 @@ use Rattle.id_instr.specs.declared.instr.Op.{Op}
 use Rattle.id_instr.specs.declared.instr.Op.TheVariants as op
 use Rattle.id_instr.specs.Graph.{Parts}
 use Rattle.id_core.specs.Observed as shown
-use Rattle.id_pieces.specs.Rows.{block, label, label_by, node, op_by}
-use Rattle.id_pieces.specs.Schemas.{Numbered, Made}
+use Rattle.id_build.specs.Rows.{block, label, label_by, node, op_by}
+use Rattle.id_build.specs.Schemas.{Numbered, Made}
 use Rattle.id_desugar.specs.Ends.{end_of, next_of}
 use Rattle.id_laws.specs.Activations.{main_head, of_arms, of_call, of_loop}
 use Rattle.id_laws.specs.Topics.{of_fetch, IsPart}
@@ -33,7 +33,7 @@ use Rattle.id_laws.proofs.Rows.LoopRows.{LoopPlace, entries_place, loop_marks, v
 use Rattle.id_laws.proofs.Rows.Loops.{LoopOf, bounds_place, carried_loop, count_at, count_loop, counted_of, has_three, index_at, index_within, loop_by, loop_of_row}
 use Rattle.id_laws.proofs.Rows.Conditionals.{conditional}
 use Rattle.id_laws.proofs.Rows.Tokens.{one_part}
-use Rattle.id_pieces.specs.declared.arc.Form.{Form}
+use Rattle.id_build.specs.declared.arc.Form.{Form}
 use Rattle.id_laws.proofs.Rows.Calls.{call_at, enter_at}
 
 -- ---- counts

@@ -8,8 +8,8 @@ use Rattle.id_instr.specs.declared.instr.Instr.{Instr}
 use Rattle.id_instr.specs.Graph.{Parts}
 use Rattle.id_core.specs.Observed as shown
 use Rattle.id_source.specs.Sources.{source}
-use Rattle.id_pieces.specs.Rows.{label}
-use Rattle.id_pieces.specs.Schemas.{Numbered}
+use Rattle.id_build.specs.Rows.{label}
+use Rattle.id_build.specs.Schemas.{Numbered}
 use Rattle.id_laws.specs.Laws.{IsBinder, AreLabels}
 use Rattle.id_laws.specs.Topics.{IsPart}
 use Rattle.id_laws.proofs.Rows.Assumed.{IsKnown}

@@ -17,9 +17,9 @@ use Rattle.id_instr.specs.declared.instr.Op.TheVariants as op
 use Rattle.id_instr.specs.Graph.{Parts}
 use Rattle.id_valid.specs.Validator.{is_value}
 use Rattle.id_core.specs.Observed as shown
-use Rattle.id_pieces.specs.declared.arc.Form.TheVariants.{Plain}
-use Rattle.id_pieces.specs.Rows.{block, label, label_by, node, op_by, port_at}
-use Rattle.id_pieces.specs.Schemas.{Numbered, Made, IsNumber}
+use Rattle.id_build.specs.declared.arc.Form.TheVariants.{Plain}
+use Rattle.id_build.specs.Rows.{block, label, label_by, node, op_by, port_at}
+use Rattle.id_build.specs.Schemas.{Numbered, Made, IsNumber}
 use Rattle.id_laws.specs.Activations.{main_head, Begins, of_call, of_loop, Tests, of_arms, of_turns}
 use Rattle.id_laws.specs.Topics.{of_fetch, of_store, IsPart}
 use Rattle.id_laws.proofs.Rows.Stores.{address_at}
@@ -31,7 +31,7 @@ use Rattle.id_laws.proofs.Rows.Arcs.{gets_last, allocates, addresses, fetches, g
 use Rattle.id_laws.proofs.Rows.Arcs.{bounds_meet, begins_index, carries, meets_bound, goes_further, hands_index, has_one, adds_one}
 use Rattle.id_laws.proofs.Labelling.LabelsBind.{CarriedAs, of_index, of_loop_itself, bounds_at_loop, carried_as, claims_place, count_place}
 use Rattle.id_laws.proofs.Rows.LoopRows.{LoopPlace, LabelAt, label_at, variable_at, head_place, start_place, entries_place, switches_place, reset_place}
-use Rattle.id_pieces.specs.declared.arc.Form.{Form}
+use Rattle.id_build.specs.declared.arc.Form.{Form}
 use Rattle.id_laws.proofs.Rows.Calls.{CallAt, ArgAt, call_at, arg_at, arg_place}
 use Rattle.id_desugar.specs.Ends.{end_of, next_of}
 

@@ -5,7 +5,7 @@ use Rattle.id_table.specs.declared.row.Node.TheVariants.{Call, Loop, Start}
 use Rattle.id_table.specs.Tables.{begins_block, is_expression, is_thing}
 use Rattle.id_check.specs.declared.checked.Checked.{Checked}
 use Rattle.id_check.specs.Programs.{place, region, rows}
-use Rattle.id_pieces.specs.Rows.{node}
+use Rattle.id_build.specs.Rows.{node}
 use Rattle.id_laws.specs.Activations.{Begins, of_call, of_loop}
 use Rattle.id_laws.proofs.Rows.Assumed.{IsKnown}
 use Rattle.id_laws.proofs.Rows.Loops.{loop_of_start, start_place, start_region}

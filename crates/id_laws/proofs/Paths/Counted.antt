@@ -9,7 +9,7 @@ use Rattle.id_table.specs.Loops.{index_row}
 use Rattle.id_check.specs.declared.checked.Checked.{Checked}
 use Rattle.id_check.specs.Programs.{region, rows}
 use Rattle.id_desugar.specs.Regions.{bound_of, handed, imports_of, nexts_of, taken}
-use Rattle.id_pieces.specs.Rows.{block, handed_by, home, home_by, label, label_by, name_in, node, origin, origin_of, output, same_region, slot_of}
+use Rattle.id_build.specs.Rows.{block, handed_by, home, home_by, label, label_by, name_in, node, origin, origin_of, output, same_region, slot_of}
 use Rattle.id_build.proofs.NamesSeen.{named, region_is}
 use Rattle.id_laws.specs.Activations.{of_turns}
 use Rattle.id_laws.proofs.Rows.Assumed.{IsKnown}

@@ -15,7 +15,7 @@ use Rattle.id_source.specs.declared.Path.{Path}
 use Rattle.id_source.specs.declared.PathStep.{PathStep}
 use Rattle.id_source.specs.Sources.{Source}
 use Rattle.id_source.specs.Facts.{below, without}
-use Rattle.id_pieces.specs.Rows.{block, node}
+use Rattle.id_build.specs.Rows.{block, node}
 use Rattle.id_build.proofs.NamesSeen.{Sees, own, handed, entered as entered_in}
 use Rattle.id_runs.specs.Activations.{Activation, at_iteration}
 use Rattle.id_runs.specs.Events.{Event}

@@ -24,8 +24,8 @@ use Rattle.id_ops.specs.declared.Fired.{Fired}
 use Rattle.id_ops.specs.declared.Fired.TheVariants.{Out, Side, Sent, Moved, Asked, Stored, Failed, Nothing}
 use Rattle.id_ops.specs.Operators.{address_in, fired, fired_by, fired_enter, fired_next, fired_reset, may_hold}
 use Rattle.id_check.specs.declared.checked.Checked.{Checked}
-use Rattle.id_pieces.specs.declared.arc.Form.{Form}
-use Rattle.id_pieces.specs.Rows.{node, op_by}
+use Rattle.id_build.specs.declared.arc.Form.{Form}
+use Rattle.id_build.specs.Rows.{node, op_by}
 use Rattle.id_laws.proofs.Rows.Arcs.{Does, starts, returns, enters, constant, unary, binary, turns_on, hands, joins, opens, passes, gets, names, answers}
 use Rattle.id_laws.proofs.Rows.Arcs.{sends_in, gives_back, varies, takes_in, moves_on, moves_name, advances, resets, gets_last}
 use Rattle.id_laws.proofs.Rows.Arcs.{allocates, addresses, fetches, gets_reply, stores}

@@ -20,8 +20,8 @@ use Rattle.id_valid.specs.Roles.{op_at}
 use Rattle.id_core.specs.Machines.{World}
 use Rattle.id_source.specs.declared.Site.{Site}
 use Rattle.id_source.specs.Sources.{Source}
-use Rattle.id_pieces.specs.Rows.{node}
-use Rattle.id_pieces.specs.Schemas.{Numbered}
+use Rattle.id_build.specs.Rows.{node}
+use Rattle.id_build.specs.Schemas.{Numbered}
 use Rattle.id_runs.specs.Cells.{Replies, cell_at}
 use Rattle.id_runs.specs.Events.{Event, FiresAs, fired_event, payload_of}
 use Rattle.id_runs.specs.Runs.{Reach, handled}

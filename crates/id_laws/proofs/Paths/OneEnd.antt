@@ -15,8 +15,8 @@ use Rattle.id_tag.specs.declared.Value.{Value}
 use Rattle.id_tag.specs.declared.Value.TheVariants as value
 use Rattle.id_runs.proofs.Givings.{gives_once}
 use Rattle.id_source.specs.Sources.{Source}
-use Rattle.id_pieces.specs.Rows.{block, node, origin, output}
-use Rattle.id_pieces.specs.Schemas.{Numbered}
+use Rattle.id_build.specs.Rows.{block, node, origin, output}
+use Rattle.id_build.specs.Schemas.{Numbered}
 use Rattle.id_runs.specs.Activations.{Activation, at_iteration}
 use Rattle.id_runs.specs.Events.{Event, FiresOnce}
 use Rattle.id_runs.specs.Serials.{ContextsApart}

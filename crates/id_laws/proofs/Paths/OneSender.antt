@@ -29,8 +29,8 @@ use Rattle.id_source.specs.declared.SourceValue.TheVariants as source
 use Rattle.id_source.specs.declared.Fact.TheVariants.{Has}
 use Rattle.id_source.specs.Rounds.{Holds}
 use Rattle.id_source.specs.Sources.{Source}
-use Rattle.id_pieces.specs.Rows.{node, op_by}
-use Rattle.id_pieces.specs.Schemas.{Numbered}
+use Rattle.id_build.specs.Rows.{node, op_by}
+use Rattle.id_build.specs.Schemas.{Numbered}
 use Rattle.id_runs.specs.Activations.{Activation, main_activation, tag_in, activation_of}
 use Rattle.id_runs.specs.Events.{Event, Took, Looked, Wrote, Waits, Blocked, Fires, FiresOnce, sends_of, FiresAs, Enters, payload_of}
 use Rattle.id_runs.specs.Keys.{Key, AtPort, ByFetch, ByStore, key_of}
@@ -56,7 +56,7 @@ use Rattle.id_laws.proofs.Telling.FiringMeans.{IsBacked}
 use Rattle.id_laws.proofs.Paths.Senders.{CameBy, AskedBy, StoredBy, SentSo, as_token, as_read, as_write, sent_so}
 use Rattle.id_laws.proofs.Rows.Start.{Started, started, starts_once}
 use Rattle.id_laws.proofs.Rows.Tokens.{one_part}
-use Rattle.id_pieces.specs.declared.arc.Form.{Form}
+use Rattle.id_build.specs.declared.arc.Form.{Form}
 use Rattle.id_laws.proofs.Paths.Seats.{seat_other, live_path}
 use Rattle.id_laws.proofs.Telling.StartTells.{seats, opening_live}
 use Rattle.id_runs.proofs.Enters.{entered_by}

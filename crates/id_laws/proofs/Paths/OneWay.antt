@@ -18,9 +18,9 @@ use Rattle.id_tag.specs.declared.Value.{Value}
 use Rattle.id_ops.specs.declared.Fired.TheVariants.{Entered}
 use Rattle.id_value.specs.declared.Constant.{Constant}
 use Rattle.id_source.specs.Sources.{Source, IsInput}
-use Rattle.id_pieces.specs.declared.arc.Origin.{Origin}
-use Rattle.id_pieces.specs.Rows.{Entry, answer_row, block, node, origin, called, param_of}
-use Rattle.id_pieces.specs.Schemas.{Feeds, Numbered}
+use Rattle.id_build.specs.declared.arc.Origin.{Origin}
+use Rattle.id_build.specs.Rows.{Entry, answer_row, block, node, origin, called, param_of}
+use Rattle.id_build.specs.Schemas.{Feeds, Numbered}
 use Rattle.id_runs.specs.Activations.{Activation, at_iteration, main_activation, tag_in}
 use Rattle.id_runs.specs.Events.{Event, FiresOnce, FiresAs, fired_event}
 use Rattle.id_runs.specs.Cells.{Replies}
@@ -44,7 +44,7 @@ use Rattle.id_laws.proofs.Telling.LoopEntries.{GivenAs, as_carried, as_first, as
 use Rattle.id_laws.proofs.Rows.Loops.{carried_loop, carried_node, counted_of}
 use Rattle.id_laws.proofs.Rows.Loops.{last_region, loop_of_head, loop_of_row, loop_of_start, reset_last, switches_node, switches_row, switches_within, turn_node}
 use Rattle.id_laws.proofs.Paths.OneEnd.{one_end}
-use Rattle.id_pieces.proofs.LoopsLemmas.{entries_node, next_is}
+use Rattle.id_build.proofs.LoopsLemmas.{entries_node, next_is}
 use Rattle.id_laws.proofs.Rows.Blocks.{IsParam, a_param, params_differ}
 use Rattle.id_laws.proofs.Rows.Conditionals.{arm_of, conditional, sides_apart}
 use Rattle.id_laws.proofs.Telling.Origins.{origin_shows}

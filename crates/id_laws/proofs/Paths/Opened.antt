@@ -10,8 +10,8 @@ use Rattle.id_tag.specs.declared.Context.{Context}
 use Rattle.id_source.specs.declared.Path.{Path}
 use Rattle.id_source.specs.Sources.{Source}
 use Rattle.id_source.specs.Facts.{below}
-use Rattle.id_pieces.specs.Rows.{block, node}
-use Rattle.id_pieces.specs.Schemas.{Numbered}
+use Rattle.id_build.specs.Rows.{block, node}
+use Rattle.id_build.specs.Schemas.{Numbered}
 use Rattle.id_runs.specs.Activations.{Activation, at_iteration, main_context}
 use Rattle.id_runs.specs.Events.{Event}
 use Rattle.id_runs.specs.Serials.{ContextsApart}
@@ -22,7 +22,7 @@ use Rattle.id_laws.proofs.Rows.Calls.{called_head}
 use Rattle.id_laws.proofs.Rows.Conditionals.{main_head_is}
 use Rattle.id_laws.proofs.Rows.Loops.{LoopOf, loop_of_row, loop_of_start, start_place}
 use Rattle.id_table.specs.Turns.{IsDefOf}
-use Rattle.id_pieces.proofs.EndsLemmas.{body_region}
+use Rattle.id_build.proofs.EndsLemmas.{body_region}
 use Rattle.id_laws.proofs.Rows.Regions.{region_of}
 use Rattle.id_laws.proofs.Paths.Seats.{OneSeat, one_seat, one_path, entered_path, live_path, not_main, one_opening}
 use Rattle.id_desugar.specs.Ends.{end_of}

@@ -13,7 +13,7 @@ use Rattle.id_core.specs.Events.{EventView, tag_of}
 use Rattle.id_core.specs.Machines.{World}
 use Rattle.id_source.specs.declared.Path.{Path}
 use Rattle.id_source.specs.Sources.{Source}
-use Rattle.id_pieces.specs.Schemas.{Numbered}
+use Rattle.id_build.specs.Schemas.{Numbered}
 use Rattle.id_runs.specs.Activations.{Activation, activation_of, at_iteration, main_context}
 use Rattle.id_runs.specs.Events.{Event, payload_of}
 use Rattle.id_runs.specs.Runs.{Moving, Reach, flying, handled}

@@ -11,7 +11,7 @@ use Rattle.id_source.specs.declared.Path.{Path}
 use Rattle.id_source.specs.declared.PathStep.{PathStep}
 use Rattle.id_source.specs.Sources.{Source}
 use Rattle.id_source.specs.Facts.{outermost, below}
-use Rattle.id_pieces.specs.Schemas.{Numbered}
+use Rattle.id_build.specs.Schemas.{Numbered}
 use Rattle.id_runs.specs.Activations.{Activation, at_iteration, main_context, main_activation, tag_in}
 use Rattle.id_runs.specs.Events.{Event, FiresAs, FiresOnce, fired_event}
 use Rattle.id_laws.specs.Activations.{Seat, Outermost, Below, path_at, Begins, Opens, SeatOf, main_seat, made_seat, PathOf}

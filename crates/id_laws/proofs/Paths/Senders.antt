@@ -46,8 +46,8 @@ use Rattle.id_core.specs.Steps.{token_to}
 use Rattle.id_record.specs.Records.{dests_at, sent_by}
 use Rattle.id_core.specs.Machines.{World}
 use Rattle.id_source.specs.Sources.{Source}
-use Rattle.id_pieces.specs.Rows.{node, op_by}
-use Rattle.id_pieces.specs.Schemas.{Numbered, IsNumber}
+use Rattle.id_build.specs.Rows.{node, op_by}
+use Rattle.id_build.specs.Schemas.{Numbered, IsNumber}
 use Rattle.id_runs.specs.Activations.{Activation, at_iteration, tag_in, activation_of}
 use Rattle.id_runs.specs.Events.{Event, Looked, FiresAs, GivesOn, fired_event, payload_of, sends_of}
 use Rattle.id_runs.specs.Cells.{Replies, cell_at}

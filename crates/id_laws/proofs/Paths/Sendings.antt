@@ -12,8 +12,8 @@ use Rattle.id_check.specs.Programs.{region, rows}
 use Rattle.id_instr.specs.declared.dests.Port.TheVariants.{Zero}
 use Rattle.id_instr.specs.declared.instr.Op.TheVariants as op
 use Rattle.id_instr.specs.declared.instr.PortKind.{PortKind}
-use Rattle.id_pieces.specs.declared.arc.Form.{Form}
-use Rattle.id_pieces.specs.Rows.{called, loop_entries, node, op_by, param_of}
+use Rattle.id_build.specs.declared.arc.Form.{Form}
+use Rattle.id_build.specs.Rows.{called, loop_entries, node, op_by, param_of}
 use Rattle.id_laws.specs.Activations.{Begins}
 use Rattle.id_laws.specs.Topics.{IsPart, Turned, WayBack, ContextOf, topic_at, wants}
 use Rattle.id_laws.specs.Ways.{SendsTo, of_argument, of_entry}

@@ -5,7 +5,7 @@ use Rattle.id_value.specs.List.{Among}
 use Rattle.id_instr.specs.declared.dests.Dest.{Dest}
 use Rattle.id_instr.specs.declared.instr.Instr.{Instr}
 use Rattle.id_instr.specs.Graph.{Parts, arcs_on}
-use Rattle.id_pieces.specs.Schemas.{Sends}
+use Rattle.id_build.specs.Schemas.{Sends}
 
 -- the destination is one of the instruction's of this number, on the side
 pub sends_there : (g : Parts) (m : ℕ) (b : Truth) (d : Dest) (o : Option Instr) → slice_get g.instrs m ≡ o → Among d (option_map_or (arcs_on b) o [])

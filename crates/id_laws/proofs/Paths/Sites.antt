@@ -22,8 +22,8 @@ use Rattle.id_source.specs.declared.Site.{Site}
 use Rattle.id_source.specs.Sources.{Source}
 use Rattle.id_source.specs.Facts.{ask, put, site}
 use Rattle.id_source.specs.Rounds.{Holds}
-use Rattle.id_pieces.specs.Rows.{node}
-use Rattle.id_pieces.specs.Schemas.{Numbered}
+use Rattle.id_build.specs.Rows.{node}
+use Rattle.id_build.specs.Schemas.{Numbered}
 use Rattle.id_runs.specs.Activations.{Activation, tag_in}
 use Rattle.id_runs.specs.Cells.{ReadBy, WrittenBy}
 use Rattle.id_runs.specs.Events.{Event, Looked, Wrote, FiresAs, FiresOnce, fired_event, payload_of}

@@ -21,8 +21,8 @@ use Rattle.id_observe.proofs.PathsLemmas.{Leads, under_main, under_enter, path_o
 use Rattle.id_source.specs.declared.Path.{Path}
 use Rattle.id_source.specs.declared.PathStep.{PathStep}
 use Rattle.id_source.specs.Sources.{Source}
-use Rattle.id_pieces.specs.Rows.{node}
-use Rattle.id_pieces.specs.Schemas.{Numbered}
+use Rattle.id_build.specs.Rows.{node}
+use Rattle.id_build.specs.Schemas.{Numbered}
 use Rattle.id_runs.specs.Activations.{Activation, activation_of, tag_in}
 use Rattle.id_runs.specs.Events.{Event}
 use Rattle.id_runs.specs.Runs.{Reach}

@@ -30,18 +30,18 @@ use Rattle.id_instr.specs.declared.instr.Op.TheVariants as op
 use Rattle.id_instr.specs.declared.instr.PortKind.TheVariants.{Signal, Int}
 use Rattle.id_desugar.specs.Ends.{end_of}
 use Rattle.id_desugar.specs.Regions.{carried, first_variable, has_index, imports_of, nexts_of}
-use Rattle.id_pieces.specs.declared.arc.Origin.{Origin}
-use Rattle.id_pieces.specs.declared.arc.Form.{Form}
-use Rattle.id_pieces.specs.declared.arc.Form.TheVariants.{Plain, EnterAt, SendTo, FetchAt}
-use Rattle.id_pieces.specs.Rows.{node, body_of, result_of, port_of, port_at, binary_op, made_of, feed, feeds_of, import_feeds, name_in, origin}
-use Rattle.id_pieces.specs.Rows.{output, param_of, trigger_of, piece, block, Entry, loop_entries, entering, turn_row, next_of}
-use Rattle.id_pieces.specs.Rows.{entry_feeds, turn_feeds, send_to, for_each, import_entries, variable_entries, entries_row, first_binder}
-use Rattle.id_pieces.specs.Rows.{bounds_feeds, carried_feeds, holds_array, param_entry}
-use Rattle.id_pieces.specs.Rows as pieces
+use Rattle.id_build.specs.declared.arc.Origin.{Origin}
+use Rattle.id_build.specs.declared.arc.Form.{Form}
+use Rattle.id_build.specs.declared.arc.Form.TheVariants.{Plain, EnterAt, SendTo, FetchAt}
+use Rattle.id_build.specs.Rows.{node, body_of, result_of, port_of, port_at, binary_op, made_of, feed, feeds_of, import_feeds, name_in, origin}
+use Rattle.id_build.specs.Rows.{output, param_of, trigger_of, piece, block, Entry, loop_entries, entering, turn_row, next_of}
+use Rattle.id_build.specs.Rows.{entry_feeds, turn_feeds, send_to, for_each, import_entries, variable_entries, entries_row, first_binder}
+use Rattle.id_build.specs.Rows.{bounds_feeds, carried_feeds, holds_array, param_entry}
+use Rattle.id_build.specs.Rows as pieces
 use Rattle.id_instr.specs.declared.instr.Op.{Op}
 use Rattle.id_instr.specs.declared.instr.PortKind.{PortKind}
-use Rattle.id_pieces.specs.declared.arc.Piece.{Piece}
-use Rattle.id_pieces.specs.Schemas.{Makes, Feeds}
+use Rattle.id_build.specs.declared.arc.Piece.{Piece}
+use Rattle.id_build.specs.Schemas.{Makes, Feeds}
 use Rattle.id_laws.specs.Activations.{Begins, of_call, of_loop, Tests, of_arms, of_turns}
 use Rattle.id_laws.specs.Topics.{Addresses, of_fetch, of_store, IsPart}
 
@@ -111,8 +111,8 @@ some_is h = cc
 same_form : (o f : Form) (e e' : ℕ) → Some (piece o e) ≡ Some (piece f e') → (o ≡ f) × (e' ≡ e)
 same_form o f e e' h =
     let both : piece o e ≡ piece f e' = cc in (
-      ap (λ (z : Rattle.id_pieces.specs.declared.arc.Piece.Piece). z.form) both,
-      ap (λ (z : Rattle.id_pieces.specs.declared.arc.Piece.Piece). z.place) (sym both),
+      ap (λ (z : Rattle.id_build.specs.declared.arc.Piece.Piece). z.form) both,
+      ap (λ (z : Rattle.id_build.specs.declared.arc.Piece.Piece). z.place) (sym both),
     )
 
 -- a part that is made, as its row's node has it
@@ -408,9 +408,9 @@ pub data Arc (P : Checked) (n : ℕ) : ℕ → Port → Origin → Type 0 where
 
 moved : {P : Checked} {n : ℕ} (s t : Origin) (part k : ℕ) (p q : Port) → feed s part p ≡ feed t k q → Arc P n k q t → Arc P n part p s
 moved {P} {n} s t part k p q is a =
-    let origin_is : s ≡ t = ap (λ (z : Rattle.id_pieces.specs.declared.arc.Feed.Feed). z.origin) is in
-    let part_is : part ≡ k = ap (λ (z : Rattle.id_pieces.specs.declared.arc.Feed.Feed). z.part) is in
-    let port_is : p ≡ q = ap (λ (z : Rattle.id_pieces.specs.declared.arc.Feed.Feed). z.port) is in
+    let origin_is : s ≡ t = ap (λ (z : Rattle.id_build.specs.declared.arc.Feed.Feed). z.origin) is in
+    let part_is : part ≡ k = ap (λ (z : Rattle.id_build.specs.declared.arc.Feed.Feed). z.part) is in
+    let port_is : p ≡ q = ap (λ (z : Rattle.id_build.specs.declared.arc.Feed.Feed). z.port) is in
     subst (λ (z : ℕ × (Port × Origin)). Arc P n z.0 z.1.0 z.1.1) {x = (k, (q, t))} {y = (part, (p, s))}
     (λ i. (sym part_is i, (sym port_is i, sym origin_is i))) a
 
@@ -423,11 +423,11 @@ import_fed : (P : Checked) (t : Origin) (r : Region) (j : ℕ) (bs : List ℕ) (
     → Among (feed s part p) (import_feeds P t r j bs) → ImportFed P t r j bs s part p
 import_fed P t r j [] s part p h = absurd h
 import_fed P t r j (b ∷ bs) s part p (inl is) =
-    by_test 0 (omega arith) (let z : part ≡ j = ap (λ (y : Rattle.id_pieces.specs.declared.arc.Feed.Feed). y.part) is in omega (arith, z))
-    (ap (λ (y : Rattle.id_pieces.specs.declared.arc.Feed.Feed). y.port) is) (ap (λ (y : Rattle.id_pieces.specs.declared.arc.Feed.Feed). y.origin) is)
+    by_test 0 (omega arith) (let z : part ≡ j = ap (λ (y : Rattle.id_build.specs.declared.arc.Feed.Feed). y.part) is in omega (arith, z))
+    (ap (λ (y : Rattle.id_build.specs.declared.arc.Feed.Feed). y.port) is) (ap (λ (y : Rattle.id_build.specs.declared.arc.Feed.Feed). y.origin) is)
 import_fed P t r j (b ∷ bs) s part p (inr (inl is)) =
-    by_name 0 (omega arith) (let z : part ≡ j = ap (λ (y : Rattle.id_pieces.specs.declared.arc.Feed.Feed). y.part) is in omega (arith, z))
-    (ap (λ (y : Rattle.id_pieces.specs.declared.arc.Feed.Feed). y.port) is) (ap (λ (y : Rattle.id_pieces.specs.declared.arc.Feed.Feed). y.origin) is)
+    by_name 0 (omega arith) (let z : part ≡ j = ap (λ (y : Rattle.id_build.specs.declared.arc.Feed.Feed). y.part) is in omega (arith, z))
+    (ap (λ (y : Rattle.id_build.specs.declared.arc.Feed.Feed). y.port) is) (ap (λ (y : Rattle.id_build.specs.declared.arc.Feed.Feed). y.origin) is)
 import_fed P t r j (b ∷ bs) s part p (inr (inr h)) = behind (import_fed P t r (j + 1) bs s part p h)
   where
     behind : ImportFed P t r (j + 1) bs s part p → ImportFed P t r j (b ∷ bs) s part p
@@ -507,9 +507,9 @@ entry_fed w i j (b ∷ bs) s part p (inl is) =
     record {
       slot = 0;
       less = omega arith;
-      at = ap (λ (y : Rattle.id_pieces.specs.declared.arc.Feed.Feed). y.part) is ∙ first;
-      port = ap (λ (y : Rattle.id_pieces.specs.declared.arc.Feed.Feed). y.port) is;
-      from = ap (λ (y : Rattle.id_pieces.specs.declared.arc.Feed.Feed). y.origin) is ∙ ap (pieces.part_of w) from;
+      at = ap (λ (y : Rattle.id_build.specs.declared.arc.Feed.Feed). y.part) is ∙ first;
+      port = ap (λ (y : Rattle.id_build.specs.declared.arc.Feed.Feed). y.port) is;
+      from = ap (λ (y : Rattle.id_build.specs.declared.arc.Feed.Feed). y.origin) is ∙ ap (pieces.part_of w) from;
     }
 entry_fed w i j (b ∷ bs) s part p (inr h) =
     let z = entry_fed w (i + 1) (j + 1) bs s part p h in
@@ -544,9 +544,9 @@ turn_fed P r j (b ∷ bs) s part p (inl is) =
     record {
       slot = 0;
       less = omega arith;
-      at = ap (λ (y : Rattle.id_pieces.specs.declared.arc.Feed.Feed). y.part) is ∙ first;
-      port = ap (λ (y : Rattle.id_pieces.specs.declared.arc.Feed.Feed). y.port) is;
-      from = ap (λ (y : Rattle.id_pieces.specs.declared.arc.Feed.Feed). y.origin) is;
+      at = ap (λ (y : Rattle.id_build.specs.declared.arc.Feed.Feed). y.part) is ∙ first;
+      port = ap (λ (y : Rattle.id_build.specs.declared.arc.Feed.Feed). y.port) is;
+      from = ap (λ (y : Rattle.id_build.specs.declared.arc.Feed.Feed). y.origin) is;
     }
 turn_fed P r j (b ∷ bs) s part p (inr h) =
     let z = turn_fed P r (j + 1) bs s part p h in

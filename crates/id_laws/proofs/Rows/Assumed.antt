@@ -22,7 +22,7 @@ use Rattle.id_check.specs.Programs.{binder, kind, place, region, rows}
 use Rattle.id_desugar.specs.Ends.{end_of}
 use Rattle.id_desugar.specs.Regions.{handed, imports_of, nexts_of, taken}
 use Rattle.id_table.specs.Loops.{depth}
-use Rattle.id_pieces.specs.Rows.{block, called, entering, first_binder, node, param_of}
+use Rattle.id_build.specs.Rows.{block, called, entering, first_binder, node, param_of}
 use Rattle.id_laws.specs.Activations.{main_head, Tests}
 use Rattle.id_laws.specs.Topics.{Addresses}
 use Rattle.id_build.proofs.NamesSeen.{Sees}

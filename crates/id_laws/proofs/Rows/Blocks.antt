@@ -17,8 +17,8 @@ use Rattle.id_check.specs.declared.checked.Checked.{Checked}
 use Rattle.id_check.specs.Programs.{rows}
 use Rattle.id_desugar.specs.Regions.{is_loop_head, loop_heads}
 use Rattle.id_desugar.proofs.HeadsLemmas.{loop_heads-is, loop_heads-has, loop_heads-differ}
-use Rattle.id_pieces.specs.Rows.{node}
-use Rattle.id_pieces.specs.Schemas.{all_heads}
+use Rattle.id_build.specs.Rows.{node}
+use Rattle.id_build.specs.Schemas.{all_heads}
 
 true_false : true ≡ false → ⊥
 true_false h = cc

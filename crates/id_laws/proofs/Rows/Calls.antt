@@ -7,7 +7,7 @@ use Rattle.id_table.specs.Turns.{IsDefOf}
 use Rattle.id_check.specs.declared.checked.Checked.{Checked}
 use Rattle.id_check.specs.Programs.{Stands, binder, place, region, rows}
 use Rattle.id_desugar.specs.Ends.{end_of}
-use Rattle.id_pieces.specs.Rows.{called, node}
+use Rattle.id_build.specs.Rows.{called, node}
 use Rattle.id_laws.proofs.Rows.Assumed.{IsKnown}
 use Rattle.id_value.specs.declared.Kind.{Kind}
 use Rattle.id_source.specs.Sources.{head_of}
@@ -105,7 +105,7 @@ one_enter_at {P} known {n} {n'} within within' is is' same =
     let c = call_at known within is in
     let d = call_at known within' is' in
     let rows_are = (known.apart).apart (end_of P n) (end_of P n') c.within d.within (call_thing c.node) (call_thing d.node) (sym c.place ∙ same ∙ d.place) in
-    let both : Call n c.count ≡ Call n' d.count = sym c.node ∙ ap (Rattle.id_pieces.specs.Rows.node P) rows_are ∙ d.node in
+    let both : Call n c.count ≡ Call n' d.count = sym c.node ∙ ap (Rattle.id_build.specs.Rows.node P) rows_are ∙ d.node in
     cc
 
 some_is : {A : Type 0} {x y : A} → Some x ≡ Some y → x ≡ y

@@ -11,7 +11,7 @@ use Rattle.id_check.specs.Programs.{Stands, place, region, rows}
 use Rattle.id_tag.specs.declared.Value.TheVariants as value
 use Rattle.id_source.specs.Sources.{Source}
 use Rattle.id_source.specs.Facts.{Chooses, then_arm, else_arm}
-use Rattle.id_pieces.specs.Rows.{node, origin}
+use Rattle.id_build.specs.Rows.{node, origin}
 use Rattle.id_runs.specs.Activations.{Activation}
 use Rattle.id_runs.specs.Events.{Event, FiresOnce}
 use Rattle.id_runs.proofs.Givings.{gives_once}
@@ -81,7 +81,7 @@ pub record Conditional (P : Checked) (n s x y : ℕ) : Type 0 where
   pub place : place P s ≡ place P n
   pub region : region P s ≡ region P n
   pub arm_within : (b : Truth) → arm_of b x y < length (rows P)
-  pub arm_expression : (b : Truth) → is_expression (Rattle.id_pieces.specs.Rows.node P (arm_of b x y)) ≡ true
+  pub arm_expression : (b : Truth) → is_expression (Rattle.id_build.specs.Rows.node P (arm_of b x y)) ≡ true
   pub arm_region : (b : Truth) → Rattle.id_check.specs.Programs.region P (arm_of b x y) ≡ arm_at s b
 
 pub conditional : {P : Checked} (known : IsKnown P) {n s x y : ℕ} → n < length (rows P) → node P n ≡ If s x y → Conditional P n s x y

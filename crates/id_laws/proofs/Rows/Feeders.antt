@@ -17,11 +17,11 @@ use Rattle.id_instr.specs.declared.dests.Port.{Port}
 use Rattle.id_instr.specs.declared.dests.Port.TheVariants.{Zero, One}
 use Rattle.id_desugar.specs.Ends.{end_of}
 use Rattle.id_desugar.specs.Regions.{has_index, imports_of}
-use Rattle.id_pieces.specs.declared.arc.Origin.{Origin}
-use Rattle.id_pieces.specs.Rows.{node, body_of, feed, feeds_of, import_feeds, name_in, origin}
-use Rattle.id_pieces.specs.Rows.{output, trigger_of, block, entering, turn_row, next_of}
-use Rattle.id_pieces.specs.Rows as pieces
-use Rattle.id_pieces.specs.Schemas.{Feeds}
+use Rattle.id_build.specs.declared.arc.Origin.{Origin}
+use Rattle.id_build.specs.Rows.{node, body_of, feed, feeds_of, import_feeds, name_in, origin}
+use Rattle.id_build.specs.Rows.{output, trigger_of, block, entering, turn_row, next_of}
+use Rattle.id_build.specs.Rows as pieces
+use Rattle.id_build.specs.Schemas.{Feeds}
 use Rattle.id_laws.specs.Activations.{of_call, of_loop, Tests, of_arms, of_turns}
 use Rattle.id_laws.specs.Topics.{of_fetch, of_store}
 use Rattle.id_laws.proofs.Rows.Arcs.{Arc, carries_on, fed, none_carried, three_carried, to_add, to_add_one, to_argument}

@@ -18,8 +18,8 @@ use Rattle.id_check.proofs.WantedLemmas.{switches_row, array_row, bounds_row, fe
 use Rattle.id_check.proofs.WantedLemmas.{address_kind, store_row}
 use Rattle.id_source.specs.Sources.{head_of}
 use Rattle.id_meaning.proofs.ArgumentsLemmas.{argument-get}
-use Rattle.id_pieces.specs.Rows.{block, called, entering, first_binder, node, outer_at, param_at, param_of}
-use Rattle.id_pieces.specs.Rows as build
+use Rattle.id_build.specs.Rows.{block, called, entering, first_binder, node, outer_at, param_at, param_of}
+use Rattle.id_build.specs.Rows as build
 use Rattle.id_value.specs.declared.Kind.TheVariants as kinds
 use Rattle.id_value.specs.Kinds.{array_kind}
 use Rattle.id_value.specs.List.{Among}
@@ -27,9 +27,9 @@ use Rattle.id_desugar.specs.Regions.{imports_of, nexts_of}
 use Rattle.id_laws.specs.Activations.{main_head, Tests, of_arms, of_turns}
 use Rattle.id_laws.specs.Topics.{Addresses, of_fetch, of_store}
 use Rattle.id_laws.proofs.Rows.Assumed.{IsKnown, is_handed}
-use Rattle.id_pieces.proofs.EndsLemmas.{call_is}
+use Rattle.id_build.proofs.EndsLemmas.{call_is}
 use Rattle.id_build.proofs.ImportsLemmas.{name_seen, split_seen, switches_seen, first_seen, loop_seen, turn_seen}
-use Rattle.id_pieces.proofs.LoopsLemmas.{start_head}
+use Rattle.id_build.proofs.LoopsLemmas.{start_head}
 use Rattle.id_laws.proofs.Rows.LoopRows.{entering_binds, handed_at, import_binds, name_binds}
 use Rattle.id_value.proofs.AmongLemmas.{Among-either, Among-from_map}
 use Rattle.id_table.proofs.DepthLemmas.{depth-head}

@@ -18,15 +18,15 @@ use Rattle.id_instr.specs.declared.instr.Op.TheVariants as op
 use Rattle.id_instr.specs.declared.instr.PortKind.TheVariants.{Signal}
 use Rattle.id_desugar.specs.Ends.{end_of, next_of}
 use Rattle.id_desugar.specs.Regions.{bound_of, carried, first_variable, handed, has_index, imports_of, nexts_from, nexts_of, taken}
-use Rattle.id_pieces.specs.declared.arc.Origin.{Origin}
-use Rattle.id_pieces.specs.declared.arc.Feed.{Feed}
-use Rattle.id_pieces.specs.declared.arc.Form.TheVariants.{Plain}
-use Rattle.id_pieces.specs.Rows.{Entry, block, entering, entries_row, entry_feeds, feed, feeds_of, first_binder}
-use Rattle.id_pieces.specs.Rows.{bounds_feeds, carried_feeds, import_entries, import_feeds, label, label_by, loop_entries, name_in, param_entry}
-use Rattle.id_pieces.specs.Rows.{node, output, port_at, trigger_of, turn_feeds, turn_row, variable_entries}
-use Rattle.id_pieces.specs.Schemas.{Feeds}
-use Rattle.id_pieces.proofs.EndsLemmas.{loop_same}
-use Rattle.id_pieces.proofs.LoopsLemmas.{entries_are, entries_node, entries_stand, entries_within, next_is, loop_rows, the_loop}
+use Rattle.id_build.specs.declared.arc.Origin.{Origin}
+use Rattle.id_build.specs.declared.arc.Feed.{Feed}
+use Rattle.id_build.specs.declared.arc.Form.TheVariants.{Plain}
+use Rattle.id_build.specs.Rows.{Entry, block, entering, entries_row, entry_feeds, feed, feeds_of, first_binder}
+use Rattle.id_build.specs.Rows.{bounds_feeds, carried_feeds, import_entries, import_feeds, label, label_by, loop_entries, name_in, param_entry}
+use Rattle.id_build.specs.Rows.{node, output, port_at, trigger_of, turn_feeds, turn_row, variable_entries}
+use Rattle.id_build.specs.Schemas.{Feeds}
+use Rattle.id_build.proofs.EndsLemmas.{loop_same}
+use Rattle.id_build.proofs.LoopsLemmas.{entries_are, entries_node, entries_stand, entries_within, next_is, loop_rows, the_loop}
 use Rattle.id_build.proofs.NamesSeen.{Sees, handed as by_switches, entered, of_turns as turns}
 use Rattle.id_laws.proofs.Rows.Assumed.{IsKnown}
 use Rattle.id_laws.proofs.Rows.Arcs.{Does, moves_on, moves_name, takes_in, turned, carries_on, behind_turned}

@@ -22,11 +22,11 @@ use Rattle.id_instr.specs.declared.instr.Op.TheVariants as op
 use Rattle.id_desugar.specs.Ends.{next_of, end_of}
 use Rattle.id_desugar.specs.Regions.{bound_of, carried, first_variable, handed, has, has_index, imports_by, imports_of, is_outside, is_right_in}
 use Rattle.id_desugar.specs.Regions.{nexts_from, nexts_of, taken, used, used_by, with_use}
-use Rattle.id_pieces.specs.declared.arc.Form.TheVariants.{Plain}
-use Rattle.id_pieces.specs.Rows.{Entry, block, entering, entries, entries_by, entries_row, first_binder}
-use Rattle.id_pieces.specs.Rows.{import_entries, label, label_by, loop_entries, node, outer_at, param_entry, port_at}
-use Rattle.id_pieces.specs.Rows.{made_of, port_of, variable_entries}
-use Rattle.id_pieces.proofs.LoopsLemmas.{carried_nodes, entries_node, entries_stand, entries_within, index_carried, loop_rows, next_is, switches_high, switches_low}
+use Rattle.id_build.specs.declared.arc.Form.TheVariants.{Plain}
+use Rattle.id_build.specs.Rows.{Entry, block, entering, entries, entries_by, entries_row, first_binder}
+use Rattle.id_build.specs.Rows.{import_entries, label, label_by, loop_entries, node, outer_at, param_entry, port_at}
+use Rattle.id_build.specs.Rows.{made_of, port_of, variable_entries}
+use Rattle.id_build.proofs.LoopsLemmas.{carried_nodes, entries_node, entries_stand, entries_within, index_carried, loop_rows, next_is, switches_high, switches_low}
 use Rattle.id_laws.specs.Activations.{Tests, of_arms, of_turns}
 use Rattle.id_laws.proofs.Rows.Arcs.{Does, doing, enters, names, place_shown, varies, takes_in}
 use Rattle.id_laws.proofs.Rows.Assumed.{is_handed, names_by, names_of}

@@ -14,10 +14,10 @@ use Rattle.id_check.specs.declared.checked.Checked.{Checked}
 use Rattle.id_check.specs.Programs.{Stands, place, region, rows}
 use Rattle.id_desugar.specs.Ends.{end_of, next_of}
 use Rattle.id_desugar.specs.Regions.{has_index}
-use Rattle.id_pieces.specs.Rows.{block, node, switches_at, turn_row}
-use Rattle.id_pieces.proofs.EndsLemmas.{loop_is, loop_same}
+use Rattle.id_build.specs.Rows.{block, node, switches_at, turn_row}
+use Rattle.id_build.proofs.EndsLemmas.{loop_is, loop_same}
 use Rattle.id_build.proofs.RegionsLemmas.{index_loop as arcs_loop, index_region as arcs_region}
-use Rattle.id_pieces.proofs.LoopsLemmas.{next_is}
+use Rattle.id_build.proofs.LoopsLemmas.{next_is}
 use Rattle.id_source.specs.Facts.{ForStands, LoopStands, NextStands}
 use Rattle.id_laws.specs.Activations.{switches_of}
 use Rattle.id_laws.specs.Topics.{result_at, result_of}

@@ -14,8 +14,8 @@ use Rattle.id_table.specs.Tables.{HasPart, begins_block, is_binder}
 use Rattle.id_check.specs.declared.checked.Checked.{Checked}
 use Rattle.id_scope.specs.Scopes.{loops_between}
 use Rattle.id_check.specs.Programs.{region, rows}
-use Rattle.id_pieces.specs.Rows.{block, home, home_by, label, label_by, node}
-use Rattle.id_pieces.proofs.EndsLemmas.{not_last}
+use Rattle.id_build.specs.Rows.{block, home, home_by, label, label_by, node}
+use Rattle.id_build.proofs.EndsLemmas.{not_last}
 use Rattle.id_build.proofs.NamesSeen.{HasSwitches}
 use Rattle.id_build.proofs.NamesSeen as seen
 use Rattle.id_laws.specs.Activations.{Tests, of_arms, of_turns}

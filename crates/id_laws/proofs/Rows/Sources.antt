@@ -7,27 +7,27 @@ use Rattle.id_table.specs.declared.row.Node.TheVariants.{Head, Param, Literal, N
 use Rattle.id_table.specs.declared.row.Node.TheVariants.{Binding, Program, Start, LoopHead, Variable, Entries, Switches, Turn, Next, Reset, Loop}
 use Rattle.id_table.specs.declared.row.Node.TheVariants.{Array, Fetch, Address, Store, Bounds, Carried, Count, Index}
 use Rattle.id_value.specs.declared.Kind.{Kind}
-use Rattle.id_pieces.specs.declared.arc.Form.{Form}
-use Rattle.id_pieces.specs.Rows as pieces
+use Rattle.id_build.specs.declared.arc.Form.{Form}
+use Rattle.id_build.specs.Rows as pieces
 use Rattle.id_table.specs.Rows.{arm_at, at, top}
 use Rattle.id_table.specs.Tables.{HasPart, HasOperand, begins_block, is_binder, is_block, is_carried, is_expression, is_within}
 use Rattle.id_check.specs.declared.checked.Checked.{Checked}
 use Rattle.id_check.specs.Programs.{region, rows}
 use Rattle.id_instr.specs.declared.dests.Port.{Port}
 use Rattle.id_instr.specs.declared.dests.Port.TheVariants.{Zero, One}
-use Rattle.id_pieces.specs.declared.arc.Origin.{Origin}
+use Rattle.id_build.specs.declared.arc.Origin.{Origin}
 use Rattle.id_desugar.specs.Ends.{end_of}
 use Rattle.id_desugar.specs.Regions.{has_index, imports_of}
-use Rattle.id_pieces.specs.Rows.{label, label_by, block, node, output, name_in, named_in, origin_of, origin}
-use Rattle.id_pieces.specs.Rows.{trigger_of, body_of, turn_row, next_of, entering, entries_row}
-use Rattle.id_pieces.specs.Schemas.{Feeds}
+use Rattle.id_build.specs.Rows.{label, label_by, block, node, output, name_in, named_in, origin_of, origin}
+use Rattle.id_build.specs.Rows.{trigger_of, body_of, turn_row, next_of, entering, entries_row}
+use Rattle.id_build.specs.Schemas.{Feeds}
 use Rattle.id_laws.specs.Topics.{of_fetch, of_store, IsPart}
 use Rattle.id_laws.proofs.Rows.Assumed.{IsKnown, is_handed}
 use Rattle.id_laws.proofs.Paths.Counted.{bound_first, bound_side, bound_top, flag_origin}
 use Rattle.id_laws.proofs.Rows.Loops.{LoopOf, IsCounted, carried_loop, carried_within, count_loop, count_region, counted_of, loop_of_head, loop_of_row}
 use Rattle.id_laws.proofs.Rows.Loops.{own_switches, reset_node, reset_within, switches_node, switches_within, turn_at, turn_in, turn_is, turn_node}
 use Rattle.id_laws.proofs.Rows.Loops.{turn_region_at, turn_within, within_counted}
-use Rattle.id_pieces.proofs.LoopsLemmas.{entries_node, entries_stand, entries_within, next_is}
+use Rattle.id_build.proofs.LoopsLemmas.{entries_node, entries_stand, entries_within, next_is}
 use Rattle.id_laws.proofs.Rows.Arcs.{starts, enters, constant, unary, binary, turns_on, hands, joins, opens, gets, names, part_of, fed}
 use Rattle.id_laws.proofs.Rows.Arcs.{Arc, to_back, to_literal, to_unary, to_left, to_right, to_test, to_trigger, to_import_test, to_import, to_then, to_else}
 use Rattle.id_laws.proofs.Rows.Arcs.{to_enter, to_context, to_argument, to_label, to_loop_context, to_entering, to_head, to_loop_back}
@@ -41,7 +41,7 @@ use Rattle.id_laws.proofs.Rows.Arcs.{to_last_test, to_last, to_one, to_add, to_a
 use Rattle.id_laws.proofs.Rows.Calls.{arg_at}
 use Rattle.id_laws.proofs.Rows.Stores.{address_at}
 use Rattle.id_laws.proofs.Rows.Conditionals.{arm_of, arms_test, conditional, no_within, test_at}
-use Rattle.id_pieces.proofs.EndsLemmas.{end_is}
+use Rattle.id_build.proofs.EndsLemmas.{end_is}
 use Rattle.id_build.proofs.NamesSeen.{Sees, Comes, from_label, from_switch, from_entry, comes, listed}
 use Rattle.id_laws.specs.Activations.{Begins, Tests, of_arms, of_turns, of_call, of_loop}
 use Rattle.id_laws.proofs.Rows.Regions.{as_tests, index_loop, label_row, HeadOf, of_block, of_tests, region_of}

@@ -10,9 +10,9 @@ use Rattle.id_check.specs.declared.checked.Checked.{Checked}
 use Rattle.id_check.specs.Programs as checked
 use Rattle.id_check.specs.Programs.{region, rows}
 use Rattle.id_instr.specs.declared.dests.Port.{Port}
-use Rattle.id_pieces.specs.declared.arc.Origin.{Origin}
-use Rattle.id_pieces.specs.Rows.{block, label, label_by, node, name_in, named_in, origin, origin_of, output, feed, feeds_of, reply}
-use Rattle.id_pieces.specs.Schemas.{Feeds}
+use Rattle.id_build.specs.declared.arc.Origin.{Origin}
+use Rattle.id_build.specs.Rows.{block, label, label_by, node, name_in, named_in, origin, origin_of, output, feed, feeds_of, reply}
+use Rattle.id_build.specs.Schemas.{Feeds}
 use Rattle.id_laws.specs.Carried.{speaker, speaker_of}
 use Rattle.id_laws.proofs.Rows.Assumed.{IsKnown}
 

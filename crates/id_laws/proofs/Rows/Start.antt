@@ -26,9 +26,9 @@ use Rattle.id_core.specs.Machines.{input_messages, block_messages}
 use Rattle.id_value.specs.declared.Constant.{Constant}
 use Rattle.id_ops.specs.Operators.{constant_value}
 use Rattle.id_source.specs.Sources.{Source}
-use Rattle.id_pieces.specs.Rows.{Entry, node, answer_row, entries, entries_by, param_entry}
+use Rattle.id_build.specs.Rows.{Entry, node, answer_row, entries, entries_by, param_entry}
 use Rattle.id_instr.specs.declared.instr.Block.{Block}
-use Rattle.id_pieces.specs.Schemas.{Numbered, all_heads, block_of}
+use Rattle.id_build.specs.Schemas.{Numbered, all_heads, block_of}
 use Rattle.id_runs.specs.Activations.{main_activation, tag_in}
 use Rattle.id_runs.specs.Keys.{Key, AtPort, ByFetch, ByStore, key_of}
 use Rattle.id_runs.specs.Runs.{starting}

@@ -6,7 +6,7 @@ use Rattle.id_table.specs.declared.row.Node.TheVariants.{Address, Store}
 use Rattle.id_table.specs.Tables.{HasOperand, HasPart}
 use Rattle.id_check.specs.declared.checked.Checked.{Checked}
 use Rattle.id_check.specs.Programs.{place, region, rows}
-use Rattle.id_pieces.specs.Rows.{holds_array, node, port_at, port_of}
+use Rattle.id_build.specs.Rows.{holds_array, node, port_at, port_of}
 use Rattle.id_source.specs.Facts.{StoreStands}
 use Rattle.id_laws.specs.Topics.{Addresses, of_fetch, of_store}
 use Rattle.id_laws.proofs.Rows.Assumed.{IsKnown}

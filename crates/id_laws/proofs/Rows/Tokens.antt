@@ -7,7 +7,7 @@ use Rattle.id_tag.specs.declared.Tag.{Tag}
 use Rattle.id_tag.specs.declared.Value.{Value}
 use Rattle.id_tag.specs.declared.Payload.TheVariants.{Token}
 use Rattle.id_source.specs.Sources.{Source}
-use Rattle.id_pieces.specs.Schemas.{Numbered}
+use Rattle.id_build.specs.Schemas.{Numbered}
 use Rattle.id_runs.specs.Activations.{Activation, tag_in, activation_of}
 use Rattle.id_runs.specs.Events.{Event}
 use Rattle.id_laws.specs.Topics.{IsPart, Tells, Told, topic_at}

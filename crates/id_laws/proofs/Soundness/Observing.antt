@@ -11,8 +11,8 @@ use Rattle.id_core.specs.Events.{EventView}
 use Rattle.id_core.specs.Machines.{World}
 use Rattle.id_core.specs.Observed as shown
 use Rattle.id_value.specs.declared.Constant.{Constant}
-use Rattle.id_pieces.specs.Rows.{node}
-use Rattle.id_pieces.specs.Schemas.{Numbered}
+use Rattle.id_build.specs.Rows.{node}
+use Rattle.id_build.specs.Schemas.{Numbered}
 use Rattle.id_runs.specs.Events.{Event, payload_of}
 use Rattle.id_runs.specs.Runs.{Reach, handled}
 use Rattle.id_runs.proofs.RecordsOfRuns.{Shows, from_record, recorded}

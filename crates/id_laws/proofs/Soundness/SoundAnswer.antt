@@ -26,8 +26,8 @@ use Rattle.id_source.specs.Sources.{Source, main_body, body_of}
 use Rattle.id_source.specs.Facts.{outermost}
 use Rattle.id_source.specs.Rounds.{Holds, Answers}
 use Rattle.id_desugar.specs.Ends.{end_of}
-use Rattle.id_pieces.specs.Rows.{node, answer_row}
-use Rattle.id_pieces.specs.Schemas.{Numbered}
+use Rattle.id_build.specs.Rows.{node, answer_row}
+use Rattle.id_build.specs.Schemas.{Numbered}
 use Rattle.id_runs.specs.Activations.{main_activation, main_context, at_iteration, tag_in}
 use Rattle.id_runs.specs.Events.{Event}
 use Rattle.id_runs.specs.Runs.{Reach, handled}
@@ -40,7 +40,7 @@ use Rattle.id_laws.proofs.Telling.FiringMeans.{IsBacked}
 use Rattle.id_laws.proofs.Rows.Arcs.{answers, part_of}
 use Rattle.id_laws.proofs.Rows.Tokens.{told_at}
 use Rattle.id_laws.proofs.Paths.Senders.{last_row}
-use Rattle.id_pieces.proofs.EndsLemmas.{end_is}
+use Rattle.id_build.proofs.EndsLemmas.{end_is}
 use Rattle.id_laws.proofs.Rows.Start.{main_is_head, main_within}
 use Rattle.id_laws.proofs.Paths.Seats.{main_path_is}
 use Rattle.id_laws.proofs.Telling.StartTells.{all_tell, seats}

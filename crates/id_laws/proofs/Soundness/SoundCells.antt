@@ -33,8 +33,8 @@ use Rattle.id_source.specs.declared.Fact.TheVariants as fact
 use Rattle.id_source.specs.Facts.{shape}
 use Rattle.id_source.specs.Sources.{Source}
 use Rattle.id_source.specs.Rounds.{Holds}
-use Rattle.id_pieces.specs.Rows.{op_by}
-use Rattle.id_pieces.specs.Schemas.{Numbered}
+use Rattle.id_build.specs.Rows.{op_by}
+use Rattle.id_build.specs.Schemas.{Numbered}
 use Rattle.id_observe.specs.Paths.{made}
 use Rattle.id_observe.specs.Paths.{name_by}
 use Rattle.id_runs.specs.Activations.{activation_of}

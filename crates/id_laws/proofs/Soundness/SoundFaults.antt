@@ -42,7 +42,7 @@ use Rattle.id_source.specs.Orders.{SiteBefore, step_cmp}
 use Rattle.id_source.specs.Sources.{Source}
 use Rattle.id_source.specs.Rounds.{Faulty, Holds}
 use Rattle.id_source.proofs.PathOrderLemmas.{less_number, less_steps, same_number, same_steps, step_total}
-use Rattle.id_pieces.specs.Schemas.{Numbered}
+use Rattle.id_build.specs.Schemas.{Numbered}
 use Rattle.id_runs.specs.Activations.{activation_of}
 use Rattle.id_runs.specs.Cells.{WrittenBy, cell_at}
 use Rattle.id_runs.specs.Events.{Waits, Blocked, Fires, Event, Took, Looked, Wrote, FiresAs, came_to}

@@ -33,8 +33,8 @@ use Rattle.id_source.specs.Sources.{Source}
 use Rattle.id_source.specs.Facts.{binding_has, site}
 use Rattle.id_source.specs.Rounds.{Holds}
 use Rattle.id_source.specs.Names.{IsNameValue}
-use Rattle.id_pieces.specs.Rows.{block, home, home_by, label, label_by, node}
-use Rattle.id_pieces.specs.Schemas.{Numbered}
+use Rattle.id_build.specs.Rows.{block, home, home_by, label, label_by, node}
+use Rattle.id_build.specs.Schemas.{Numbered}
 use Rattle.id_runs.specs.Activations.{Activation, tag_in}
 use Rattle.id_runs.specs.Events.{Event}
 use Rattle.id_runs.specs.Keys.{Key, AtPort, key_of}

@@ -3,7 +3,7 @@ use Rattle.std.proofs.Common.{ℕ, List}
 use Rattle.id_instr.specs.Graph.{Parts}
 use Rattle.id_core.specs.Machines.{World}
 use Rattle.id_source.specs.Sources.{Source}
-use Rattle.id_pieces.specs.Schemas.{Numbered}
+use Rattle.id_build.specs.Schemas.{Numbered}
 use Rattle.id_runs.specs.Events.{Event}
 use Rattle.id_runs.specs.Runs.{Reach}
 use Rattle.id_runs.specs.OneMessage.{Exclusive}

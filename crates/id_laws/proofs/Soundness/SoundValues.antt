@@ -29,9 +29,9 @@ use Rattle.id_source.specs.declared.Site.{Site}
 use Rattle.id_source.specs.declared.Fact.TheVariants.{Has}
 use Rattle.id_source.specs.Sources.{Source}
 use Rattle.id_source.specs.Rounds.{Holds}
-use Rattle.id_pieces.specs.declared.arc.Form.{Form}
-use Rattle.id_pieces.specs.Rows.{node, op_by}
-use Rattle.id_pieces.specs.Schemas.{Makes, Numbered}
+use Rattle.id_build.specs.declared.arc.Form.{Form}
+use Rattle.id_build.specs.Rows.{node, op_by}
+use Rattle.id_build.specs.Schemas.{Makes, Numbered}
 use Rattle.id_runs.specs.Activations.{Activation, activation_of, tag_in}
 use Rattle.id_runs.specs.Cells.{at_once, by_fill}
 use Rattle.id_runs.specs.Events.{Event, FiresAs, payload_of, sends_of}

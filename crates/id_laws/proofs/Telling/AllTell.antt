@@ -37,10 +37,10 @@ use Rattle.id_source.specs.Sources.{Source}
 use Rattle.id_source.specs.Facts.{below, without, argument_has, call_has, fetch_has, put as put_fact, site}
 use Rattle.id_source.specs.Rounds.{Holds}
 use Rattle.id_desugar.specs.Ends.{end_of}
-use Rattle.id_pieces.specs.declared.arc.Form.{Form}
-use Rattle.id_pieces.specs.declared.arc.Origin.{Origin}
-use Rattle.id_pieces.specs.Rows.{answer_row, called, node, op_by, param_of}
-use Rattle.id_pieces.specs.Schemas.{Numbered}
+use Rattle.id_build.specs.declared.arc.Form.{Form}
+use Rattle.id_build.specs.declared.arc.Origin.{Origin}
+use Rattle.id_build.specs.Rows.{answer_row, called, node, op_by, param_of}
+use Rattle.id_build.specs.Schemas.{Numbered}
 use Rattle.id_runs.specs.Activations.{Activation, main_activation, at_iteration, activation_of, tag_in}
 use Rattle.id_runs.specs.Events.{Event, FiresAs, GivesOn}
 use Rattle.id_runs.specs.Runs.{Reach, handled, starting}
@@ -64,7 +64,7 @@ use Rattle.id_laws.proofs.Rows.Arcs.{Does, answers, enters, gets, gets_reply, op
 use Rattle.id_laws.proofs.Rows.Blocks.{a_param, all_listed}
 use Rattle.id_laws.proofs.Rows.Calls.{arg_at, call_at, callee_stands}
 use Rattle.id_laws.proofs.Paths.Sent.{sends_there}
-use Rattle.id_pieces.proofs.EndsLemmas.{end_is}
+use Rattle.id_build.proofs.EndsLemmas.{end_is}
 use Rattle.id_laws.proofs.Rows.Tokens.{one_part, told_at}
 use Rattle.id_laws.proofs.Paths.Seats.{OneSeat, one_path, entered_path, live_path}
 use Rattle.id_laws.proofs.Rows.Sources.{feeds_source, is_mover}

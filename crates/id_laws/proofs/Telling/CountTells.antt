@@ -34,7 +34,7 @@ use Rattle.id_source.specs.Sources.{Source}
 use Rattle.id_source.specs.Facts.{below, without, by_bounds, by_index, index_begins, index_counts}
 use Rattle.id_source.specs.Rounds.{Holds}
 use Rattle.id_desugar.specs.Ends.{end_of}
-use Rattle.id_pieces.specs.Rows.{block, node, origin, output}
+use Rattle.id_build.specs.Rows.{block, node, origin, output}
 use Rattle.id_runs.specs.Activations.{Activation}
 use Rattle.id_runs.specs.Events.{Event, FiresOnce}
 use Rattle.id_runs.proofs.Givings.{gives_once}

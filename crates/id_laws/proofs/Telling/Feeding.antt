@@ -27,10 +27,10 @@ use Rattle.id_source.specs.Facts.{conditional_has}
 use Rattle.id_source.specs.Rounds.{Holds}
 use Rattle.id_desugar.specs.Ends.{end_of}
 use Rattle.id_desugar.specs.Regions.{handed, has_index, imports_of, nexts_of, taken}
-use Rattle.id_pieces.specs.declared.arc.Origin.{Origin}
-use Rattle.id_pieces.specs.Rows.{block, node, body_of, entering, name_in, output, trigger_of, turn_row, origin}
+use Rattle.id_build.specs.declared.arc.Origin.{Origin}
+use Rattle.id_build.specs.Rows.{block, node, body_of, entering, name_in, output, trigger_of, turn_row, origin}
 use Rattle.id_desugar.specs.Ends.{next_of}
-use Rattle.id_pieces.specs.Schemas.{Feeds}
+use Rattle.id_build.specs.Schemas.{Feeds}
 use Rattle.id_runs.specs.Activations.{Activation, at_iteration}
 use Rattle.id_runs.specs.Events.{Event}
 use Rattle.id_laws.specs.Activations.{of_call, of_loop, Tests, of_arms, of_turns, Goes, by_test, Speaks, Moves, Live, count_row, switches_of}
@@ -44,7 +44,7 @@ use Rattle.id_laws.proofs.Telling.FiringMeans.{stands_truth}
 use Rattle.id_laws.proofs.Rows.Loops.{loop_of_head, loop_of_row, loop_of_start, next_block, reset_in, reset_node, turn_in, turn_node}
 use Rattle.id_laws.proofs.Rows.Loops.{bounds_region, carried_loop, carried_stands, count_at, count_loop, count_region, counted_of, counts_stands, own_switches}
 use Rattle.id_laws.proofs.Rows.Loops.{switches_node, switches_region, switches_same, test_row, turn_at, turn_is, turn_region_at, within_counted}
-use Rattle.id_pieces.proofs.LoopsLemmas.{next_is}
+use Rattle.id_build.proofs.LoopsLemmas.{next_is}
 use Rattle.id_build.proofs.NamesSeen.{listed}
 use Rattle.id_laws.proofs.Rows.Arcs.{Arc, to_back, to_literal, to_unary, to_left, to_right, to_test, to_trigger, to_import_test, to_import, to_then, to_else}
 use Rattle.id_laws.proofs.Rows.Arcs.{to_enter, to_context, to_argument, to_label, to_loop_context, to_entering, to_head, to_loop_back, fed}
@@ -57,7 +57,7 @@ use Rattle.id_laws.proofs.Rows.Conditionals.{arm_of, arms_test, chosen, conditio
 use Rattle.id_laws.proofs.Rows.Arcs.{to_carried_context, to_first_index, to_first_bound, to_first_flag, to_next_index, to_next_bound, to_next_flag}
 use Rattle.id_laws.proofs.Rows.Arcs.{to_lower, to_upper, to_first_test, to_first, to_carried, to_index_now, to_bound, to_further_test, to_further}
 use Rattle.id_laws.proofs.Rows.Arcs.{to_last_test, to_last, to_one, to_add, to_add_one, carries_on, three_carried, none_carried}
-use Rattle.id_pieces.proofs.EndsLemmas.{end_is}
+use Rattle.id_build.proofs.EndsLemmas.{end_is}
 use Rattle.id_laws.proofs.Rows.Regions.{HeadOf, of_block, of_tests, no_depth, region_of}
 use Rattle.id_laws.proofs.Rows.Sources.{begins_other, tests_other, is_mover, mover_returns, Returns, to_trigger_again, to_result, to_variable_again, to_entry_again}
 use Rattle.id_laws.proofs.Rows.Sources.{to_carried_again, turn_counts}

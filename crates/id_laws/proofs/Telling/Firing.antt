@@ -18,7 +18,7 @@ use Rattle.id_check.specs.declared.checked.Checked.{Checked}
 use Rattle.id_check.specs.Programs.{place, region, rows}
 use Rattle.id_instr.specs.declared.dests.Port.{Port}
 use Rattle.id_instr.specs.declared.dests.Port.TheVariants.{Zero, One}
-use Rattle.id_pieces.specs.declared.arc.Form.{Form}
+use Rattle.id_build.specs.declared.arc.Form.{Form}
 use Rattle.id_instr.specs.declared.instr.PortKind.TheVariants.{Signal as SignalKind}
 use Rattle.id_tag.specs.declared.Tag.{Tag}
 use Rattle.id_tag.specs.declared.Value.{Value}
@@ -38,7 +38,7 @@ use Rattle.id_source.specs.Facts.{below, without, next_has}
 use Rattle.id_source.specs.Rounds.{Holds}
 use Rattle.id_desugar.specs.Ends.{end_of}
 use Rattle.id_desugar.specs.Regions.{carried, has_index, imports_of}
-use Rattle.id_pieces.specs.Rows.{block, next_of, node, port_at, binary_op, holds_array, op_by, param_of, port_of, result_of}
+use Rattle.id_build.specs.Rows.{block, next_of, node, port_at, binary_op, holds_array, op_by, param_of, port_of, result_of}
 use Rattle.id_runs.specs.Activations.{Activation, at_iteration, tag_in, activation_of}
 use Rattle.id_runs.specs.Events.{Event, FiresOnce}
 use Rattle.id_laws.specs.Activations as Activations

@@ -26,7 +26,7 @@ use Rattle.id_source.specs.Facts.{site}
 use Rattle.id_source.specs.declared.Fact.TheVariants.{Has}
 use Rattle.id_source.specs.Rounds.{Faulty, Holds}
 use Rattle.id_value.specs.Results.{is_whole}
-use Rattle.id_pieces.specs.Rows.{Entry, loop_entries, node, param_of}
+use Rattle.id_build.specs.Rows.{Entry, loop_entries, node, param_of}
 use Rattle.id_runs.specs.Activations.{Activation, at_iteration, tag_in}
 use Rattle.id_runs.specs.Events.{Event, FiresAs, FiresOnce}
 use Rattle.id_laws.specs.Activations.{Begins, Opens, PathOf, Live, ReturnsTo}

@@ -8,7 +8,7 @@ use Rattle.id_check.specs.declared.checked.Checked.{Checked}
 use Rattle.id_check.specs.Programs.{rows}
 use Rattle.id_desugar.specs.Ends.{next_of}
 use Rattle.id_desugar.specs.Regions.{carried, first_variable, has_index, imports_of, nexts_from, nexts_of}
-use Rattle.id_pieces.specs.Rows.{Entry, entering, entries_row, first_binder, import_entries, loop_entries, node, param_entry, variable_entries}
+use Rattle.id_build.specs.Rows.{Entry, entering, entries_row, first_binder, import_entries, loop_entries, node, param_entry, variable_entries}
 use Rattle.id_laws.proofs.Rows.Arcs.{carries_on, three_carried}
 use Rattle.id_laws.proofs.Rows.LoopRows.{variable_within}
 

@@ -20,8 +20,8 @@ use Rattle.id_source.specs.Facts.{NextStands, below, without, first_has, loop_ha
 use Rattle.id_source.specs.Rounds.{Holds}
 use Rattle.id_desugar.specs.Ends.{end_of, next_of}
 use Rattle.id_desugar.specs.Regions.{has_index, imports_of, nexts_of}
-use Rattle.id_pieces.specs.Rows.{Entry, block, entering, entries_row, first_binder, node, param_entry}
-use Rattle.id_pieces.proofs.LoopsLemmas.{entries_node, entries_stand, entries_within, next_is}
+use Rattle.id_build.specs.Rows.{Entry, block, entering, entries_row, first_binder, node, param_entry}
+use Rattle.id_build.proofs.LoopsLemmas.{entries_node, entries_stand, entries_within, next_is}
 use Rattle.id_build.proofs.NamesSeen.{Sees, listed}
 use Rattle.id_runs.specs.Activations.{Activation, at_iteration, tag_in}
 use Rattle.id_runs.specs.Events.{Event}

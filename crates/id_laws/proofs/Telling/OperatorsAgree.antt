@@ -22,7 +22,7 @@ use Rattle.id_ops.specs.declared.Operands.TheVariants.{One, Two}
 use Rattle.id_ops.specs.declared.Fired.{Fired}
 use Rattle.id_ops.specs.declared.Fired.TheVariants.{Nothing}
 use Rattle.id_ops.specs.Operators.{constant_value, fired_by, fired_unary, fired_binary}
-use Rattle.id_pieces.specs.Rows.{binary_op}
+use Rattle.id_build.specs.Rows.{binary_op}
 
 -- the firing does nothing, or what the outcome says
 abbrev pub Agrees : Fired → Outcome → Type 0

@@ -35,7 +35,7 @@ use Rattle.id_source.specs.Sources.{Source, value_of}
 use Rattle.id_source.specs.Facts.{without, literal_has, unary_has, binary_has, binding_has, unary_fails, binary_fails}
 use Rattle.id_source.specs.Facts.{site, shape, shape_made, array_has, asks, puts, bad_bounds, out_of_fetch, out_of_store}
 use Rattle.id_source.specs.Rounds.{Holds, Faulty}
-use Rattle.id_pieces.specs.Rows.{node, port_at, binary_op}
+use Rattle.id_build.specs.Rows.{node, port_at, binary_op}
 use Rattle.id_runs.specs.Activations.{Activation, tag_in}
 use Rattle.id_runs.specs.Events.{Event}
 use Rattle.id_laws.specs.Activations.{PathOf, Live}

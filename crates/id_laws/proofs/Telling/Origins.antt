@@ -16,7 +16,7 @@ use Rattle.id_source.specs.Sources.{Source}
 use Rattle.id_source.specs.Facts.{name_has, block_has, without}
 use Rattle.id_source.specs.Rounds.{Holds}
 use Rattle.id_desugar.specs.Regions.{has_index, imports_of}
-use Rattle.id_pieces.specs.Rows.{block, entries_row, home, home_by, label, label_by, node, output, name_in, named_in, origin_of, origin}
+use Rattle.id_build.specs.Rows.{block, entries_row, home, home_by, label, label_by, node, output, name_in, named_in, origin_of, origin}
 use Rattle.id_runs.specs.Activations.{Activation}
 use Rattle.id_runs.specs.Events.{Event}
 use Rattle.id_laws.specs.Activations.{Live, Tests, of_arms, of_turns}
@@ -27,7 +27,7 @@ use Rattle.id_laws.proofs.Paths.Counted.{bound_first, bound_side, bound_top, fla
 use Rattle.id_laws.proofs.Rows.Loops.{LoopOf, IsCounted, carried_stands, counted_of as counted_of_loop, index_at, index_region, loop_of_row, own_switches}
 use Rattle.id_laws.proofs.Rows.Loops.{switches_node, switches_same}
 use Rattle.id_laws.proofs.Rows.LoopRows.{variable_of_next}
-use Rattle.id_pieces.proofs.LoopsLemmas.{entries_node, entries_stand}
+use Rattle.id_build.proofs.LoopsLemmas.{entries_node, entries_stand}
 use Rattle.id_laws.proofs.Rows.Regions.{as_tests, index_loop, region_of, same_depth}
 use Rattle.id_build.proofs.NamesSeen.{Sees, Comes, from_label, from_switch, from_entry, comes}
 use Rattle.id_laws.proofs.Paths.Seats.{OneSeat}

@@ -23,8 +23,8 @@ use Rattle.id_source.specs.declared.Fact.TheVariants.{Has}
 use Rattle.id_source.specs.Sources.{Source, IsInput, value_of}
 use Rattle.id_source.specs.Facts.{outermost, without, param_has}
 use Rattle.id_source.specs.Rounds.{Holds}
-use Rattle.id_pieces.specs.Rows.{answer_row}
-use Rattle.id_pieces.specs.Schemas.{Numbered}
+use Rattle.id_build.specs.Rows.{answer_row}
+use Rattle.id_build.specs.Schemas.{Numbered}
 use Rattle.id_runs.specs.Activations.{main_activation, tag_in, Activation}
 use Rattle.id_runs.specs.Events.{Event}
 use Rattle.id_runs.specs.Runs.{Reach, starting}

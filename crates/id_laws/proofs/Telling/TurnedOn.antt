@@ -28,7 +28,7 @@ use Rattle.id_source.specs.Facts.{fetch_index_on, store_target_on, store_index_o
 use Rattle.id_source.specs.Facts.{BodyStores, StoreStands, loop_store_on, ForStands, GoesOn, by_predicate, by_bounds, lower_on, upper_on}
 use Rattle.id_source.specs.Facts as facts
 use Rattle.id_source.specs.Rounds.{Every, Rounds, Holds}
-use Rattle.id_pieces.specs.Rows.{node}
+use Rattle.id_build.specs.Rows.{node}
 use Rattle.id_runs.specs.Activations.{Activation}
 use Rattle.id_runs.specs.Events.{Event}
 use Rattle.id_laws.specs.Activations.{PathOf, Goes, by_test, by_index, of_arms, of_turns, of_call, of_loop, Live, at_start, on_side, entered, again}
@@ -37,7 +37,7 @@ use Rattle.id_laws.proofs.Rows.Loops.{LoopOf, body_at, bounds_mean, counted_of, 
 use Rattle.id_laws.proofs.Rows.Loops.{same_loop, start_place, start_region, switches_node, test_row}
 use Rattle.id_laws.proofs.Paths.Opened.{InLoop, live_loop, loop_path, next_path}
 use Rattle.id_laws.proofs.Rows.Regions.{region_of}
-use Rattle.id_pieces.specs.Rows.{block}
+use Rattle.id_build.specs.Rows.{block}
 use Rattle.id_table.specs.Loops.{IsLoopOf, bounds_row}
 use Rattle.id_table.specs.Turns.{IsStatement}
 use Rattle.id_source.specs.Facts.{BodyBinds, NextStands, loop_test_on, turn_on, loop_statement_on, next_on, last_on}

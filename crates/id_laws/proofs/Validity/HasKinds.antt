@@ -40,7 +40,7 @@ use Rattle.id_source.specs.Sources.{Source, AreFor, AreInputs, IsArrayAt, IsInpu
 use Rattle.id_source.specs.Facts.{Rule, Chooses, then_arm, else_arm, param_has, literal_has, unary_has, binary_has, name_has, conditional_has, block_has}
 use Rattle.id_source.specs.Facts.{binding_has, argument_has, call_has, first_has, next_has, loop_has, index_begins, index_counts, array_has, fetch_has, asks, puts, site}
 use Rattle.id_source.specs.Rounds.{Every, Rounds, Holds}
-use Rattle.id_pieces.specs.Rows.{node, port_at, param_of}
+use Rattle.id_build.specs.Rows.{node, port_at, param_of}
 use Rattle.id_laws.specs.Activations.{main_head}
 use Rattle.id_laws.specs.Topics.{of_fetch, of_store}
 use Rattle.id_laws.proofs.Rows.Assumed.{IsKnown}

@@ -9,7 +9,7 @@ use Rattle.id_check.specs.declared.checked.Checked.{Checked}
 use Rattle.id_source.specs.declared.SourceValue.{SourceValue}
 use Rattle.id_source.specs.declared.SourceValue.TheVariants as source
 use Rattle.id_source.specs.Sources.{IsOfKind, constant_kind, value_of}
-use Rattle.id_pieces.specs.Rows.{port_of}
+use Rattle.id_build.specs.Rows.{port_of}
 
 -- a port of this kind is one for values of the kind of this value
 abbrev pub Takes : Checked → SourceValue → PortKind → Type 0

@@ -35,14 +35,14 @@ use Rattle.id_instr.specs.declared.instr.Instr.{Instr}
 use Rattle.id_instr.specs.declared.instr.Block.{Block}
 use Rattle.id_instr.specs.Ports.{port_kind, two_sides}
 use Rattle.id_instr.specs.Graph.{Parts, arcs, arcs_on, false_arcs}
-use Rattle.id_pieces.specs.declared.arc.Origin.{Origin}
+use Rattle.id_build.specs.declared.arc.Origin.{Origin}
 use Rattle.id_desugar.specs.Ends.{end_of, next_of}
 use Rattle.id_desugar.specs.Regions.{carried, has_index, imports_of}
-use Rattle.id_pieces.specs.Rows.{node, answer_row, body_of, name_in, feed, feeds_of, origin, trigger_of, called, op_by}
-use Rattle.id_pieces.specs.Rows.{output, Entry, block, entering, entries, entry_feeds, import_feeds, loop_entries}
-use Rattle.id_pieces.specs.Rows.{param_entry, part_of, turn_feeds, turn_row, bounds_feeds, carried_feeds, entries_by}
-use Rattle.id_pieces.specs.declared.arc.Feed.{Feed}
-use Rattle.id_pieces.specs.Schemas.{Feeds, HasSide, Numbered, Sends, block_of}
+use Rattle.id_build.specs.Rows.{node, answer_row, body_of, name_in, feed, feeds_of, origin, trigger_of, called, op_by}
+use Rattle.id_build.specs.Rows.{output, Entry, block, entering, entries, entry_feeds, import_feeds, loop_entries}
+use Rattle.id_build.specs.Rows.{param_entry, part_of, turn_feeds, turn_row, bounds_feeds, carried_feeds, entries_by}
+use Rattle.id_build.specs.declared.arc.Feed.{Feed}
+use Rattle.id_build.specs.Schemas.{Feeds, HasSide, Numbered, Sends, block_of}
 use Rattle.id_valid.specs.Roles.{op_at, merge_kind, is_first, is_second, is_entry, is_reply, replies_to, same_port}
 use Rattle.id_valid.specs.Roles.{is_dest, arcs_into, needs_no_arc}
 use Rattle.id_valid.specs.Validator.{IsFed}
@@ -56,14 +56,14 @@ use Rattle.id_laws.proofs.Rows.Arcs.{none_carried, three_carried, gets_reply, st
 use Rattle.id_laws.proofs.Rows.Feeders.{FromArm, import_listed, imports_fed, one_feed}
 use Rattle.id_laws.proofs.Rows.Blocks.{all_listed, param_listed}
 use Rattle.id_laws.proofs.Rows.LoopRows.{entered_as}
-use Rattle.id_pieces.proofs.EndsLemmas.{loop_same, not_last}
-use Rattle.id_pieces.proofs.LoopsLemmas.{switches_high, switches_low}
+use Rattle.id_build.proofs.EndsLemmas.{loop_same, not_last}
+use Rattle.id_build.proofs.LoopsLemmas.{switches_high, switches_low}
 use Rattle.id_laws.proofs.Rows.Loops.{counted_of, loop_of_start}
 use Rattle.id_laws.proofs.Rows.Assumed.{IsKnown}
 use Rattle.id_laws.proofs.Rows.Tokens.{one_part}
 use Rattle.id_laws.proofs.Validity.ValidCounts.{any_among, sum_at, sum_once, count_among, count_some, count_once}
 use Rattle.id_laws.proofs.Validity.ValidTests.{same_number, second_of, third_of, fourth_of, still, or_last, dest, is_dest-itself, dest_is}
-use Rattle.id_pieces.specs.declared.arc.Form.{Form}
+use Rattle.id_build.specs.declared.arc.Form.{Form}
 use Rattle.id_laws.proofs.Rows.Calls.{enter_at}
 use Rattle.id_laws.proofs.Validity.ValidRoles.{block_among, entry_there, stands}
 

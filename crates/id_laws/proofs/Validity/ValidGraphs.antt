@@ -23,9 +23,9 @@ use Rattle.id_instr.specs.Ports.{port_kind, sends}
 use Rattle.id_instr.specs.Graph.{Parts, arcs, kind_at}
 use Rattle.id_source.specs.Sources.{source}
 use Rattle.id_desugar.specs.Ends.{end_of}
-use Rattle.id_pieces.specs.Rows.{node, answer_row, port_at, port_of, result_of, called, op_by, param_of, Entry, entries}
-use Rattle.id_pieces.specs.Rows.{loop_entries, param_entry, entries_by}
-use Rattle.id_pieces.specs.Schemas.{Numbered, Schemas, block_of}
+use Rattle.id_build.specs.Rows.{node, answer_row, port_at, port_of, result_of, called, op_by, param_of, Entry, entries}
+use Rattle.id_build.specs.Rows.{loop_entries, param_entry, entries_by}
+use Rattle.id_build.specs.Schemas.{Numbered, Schemas, block_of}
 use Rattle.id_valid.specs.Roles.{op_at, back_kind}
 use Rattle.id_valid.specs.Validator.{is_value, IsAnswer, IsTaken, IsEntered, IsSentTo, AreNamed, IsSound, IsValid}
 use Rattle.id_laws.specs.Activations.{main_head, Begins, of_call, of_loop}
@@ -37,15 +37,15 @@ use Rattle.id_laws.proofs.Rows.Arcs.{meets_bound, goes_further, hands_index, has
 use Rattle.id_laws.proofs.Rows.Arcs.{passes, gets}
 use Rattle.id_laws.proofs.Rows.Blocks.{a_param, all_listed}
 use Rattle.id_laws.proofs.Rows.LoopRows.{loop_merge}
-use Rattle.id_pieces.proofs.EndsLemmas.{end_is}
-use Rattle.id_pieces.proofs.LoopsLemmas.{the_loop, start_head}
+use Rattle.id_build.proofs.EndsLemmas.{end_is}
+use Rattle.id_build.proofs.LoopsLemmas.{the_loop, start_head}
 use Rattle.id_laws.proofs.Rows.Assumed.{IsKnown}
 use Rattle.id_laws.proofs.Rows.Start.{main_block, main_is_head, main_within, the_block}
 use Rattle.id_laws.proofs.Validity.ValidCounts.{any_among, all_among}
 use Rattle.id_laws.proofs.Validity.ValidKinds.{typed}
 use Rattle.id_laws.proofs.Validity.ValidPorts.{cell_at, port_is}
 use Rattle.id_laws.proofs.Validity.ValidTests.{same_number}
-use Rattle.id_pieces.specs.declared.arc.Form.{Form}
+use Rattle.id_build.specs.declared.arc.Form.{Form}
 use Rattle.id_laws.proofs.Rows.Calls.{arg_at, call_at, called_head}
 use Rattle.id_laws.proofs.Validity.ValidFeeds.{counts_side, fed as port_fed}
 use Rattle.id_laws.proofs.Validity.ValidRoles.{op_made, block_among, entry_there, fills, does_at, stands}

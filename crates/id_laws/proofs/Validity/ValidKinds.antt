@@ -23,11 +23,11 @@ use Rattle.id_instr.specs.declared.instr.PortKind.TheVariants.{Signal, Bool as T
 use Rattle.id_instr.specs.Held.{address_kind, held_kind, structure_kind}
 use Rattle.id_instr.specs.Ports.{operand_kind, port_kind}
 use Rattle.id_desugar.specs.Regions.{carried, has_index, nexts_of, imports_of}
-use Rattle.id_pieces.specs.declared.arc.Origin.{Origin}
+use Rattle.id_build.specs.declared.arc.Origin.{Origin}
 use Rattle.id_desugar.specs.Ends.{end_of, next_of}
-use Rattle.id_pieces.specs.Rows.{node, port_of, port_at, holds_array, binary_op, result_of, body_of, output, trigger_of}
-use Rattle.id_pieces.specs.Rows.{name_in, origin, op_by, param_of, block, entering, first_binder, part_of, turn_row}
-use Rattle.id_pieces.specs.Schemas.{Feeds}
+use Rattle.id_build.specs.Rows.{node, port_of, port_at, holds_array, binary_op, result_of, body_of, output, trigger_of}
+use Rattle.id_build.specs.Rows.{name_in, origin, op_by, param_of, block, entering, first_binder, part_of, turn_row}
+use Rattle.id_build.specs.Schemas.{Feeds}
 use Rattle.id_laws.specs.Activations.{Begins, of_call, of_loop, Tests, of_arms, of_turns}
 use Rattle.id_laws.specs.Topics.{Addresses, of_fetch, of_store}
 use Rattle.id_laws.proofs.Rows.Stores.{address_at}
@@ -44,10 +44,10 @@ use Rattle.id_laws.proofs.Rows.Arcs.{to_import_test, to_import, to_then, to_else
 use Rattle.id_laws.proofs.Rows.Arcs.{to_context, to_argument, to_loop_context, to_entering, to_head, to_loop_back}
 use Rattle.id_laws.proofs.Rows.Arcs.{to_variable, to_entry, to_turn, to_turn_name, to_next, to_reset, to_low, to_high}
 use Rattle.id_laws.proofs.Rows.Arcs.{to_target, to_index, to_fetch, to_store, to_stored}
-use Rattle.id_pieces.proofs.EndsLemmas.{end_is, HeadOf, of_procedure, of_arm, region_of, turn_low}
+use Rattle.id_build.proofs.EndsLemmas.{end_is, HeadOf, of_procedure, of_arm, region_of, turn_low}
 use Rattle.std.proofs.lemmas.Bool.{cases_lt}
-use Rattle.id_pieces.proofs.EndsLemmas as ends
-use Rattle.id_pieces.proofs.LoopsLemmas.{carried_nodes, switches_high, switches_low, turn_nodes, the_loop, next_is, reset_is, start_head, turn_block, turn_is}
+use Rattle.id_build.proofs.EndsLemmas as ends
+use Rattle.id_build.proofs.LoopsLemmas.{carried_nodes, switches_high, switches_low, turn_nodes, the_loop, next_is, reset_is, start_head, turn_block, turn_is}
 use Rattle.id_build.proofs.ImportsLemmas.{split_seen, switches_seen, first_seen, loop_seen, turn_seen, upper_seen}
 use Rattle.id_build.proofs.RowLemmas.{IsSeen}
 use Rattle.id_laws.proofs.Rows.Assumed.{IsKnown}
@@ -57,7 +57,7 @@ use Rattle.id_build.proofs.NamesSeen.{listed}
 use Rattle.id_laws.proofs.Rows.LoopRows.{carried_row, carried_rows, entered_as, entering_binds, handed_at, handed_binder}
 use Rattle.id_laws.proofs.Rows.LoopRows.{handed_carried, import_binds}
 use Rattle.id_laws.proofs.Validity.WantedKinds.{operands_of}
-use Rattle.id_pieces.specs.declared.arc.Form.{Form}
+use Rattle.id_build.specs.declared.arc.Form.{Form}
 use Rattle.id_laws.proofs.Rows.Calls.{arg_at}
 use Rattle.id_laws.proofs.Validity.ValidPorts.{SentBy, Operand, Sender, sender, named_sender, operand, cell_at, port_is, same_ports, unary_port}
 

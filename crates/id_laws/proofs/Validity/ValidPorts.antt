@@ -27,15 +27,15 @@ use Rattle.id_instr.specs.declared.instr.PortKind.TheVariants.{Int as IntPort}
 use Rattle.id_instr.specs.Held.{held_kind, structure_kind}
 use Rattle.id_instr.specs.Ports as ports
 use Rattle.id_instr.specs.Ports.{outcome_kind, sends}
-use Rattle.id_pieces.specs.declared.arc.Origin.{Origin}
+use Rattle.id_build.specs.declared.arc.Origin.{Origin}
 use Rattle.id_desugar.specs.Regions.{imports_of}
-use Rattle.id_pieces.specs.Rows.{node, port_of, port_at, holds_array, binary_op, output, name_in, named_in, origin_of}
-use Rattle.id_pieces.specs.Rows.{origin, op_by, block, entries_row, label, label_by}
+use Rattle.id_build.specs.Rows.{node, port_of, port_at, holds_array, binary_op, output, name_in, named_in, origin_of}
+use Rattle.id_build.specs.Rows.{origin, op_by, block, entries_row, label, label_by}
 use Rattle.id_laws.specs.Activations.{Tests, of_arms, of_turns}
 use Rattle.id_laws.specs.Topics.{Addresses}
 use Rattle.id_laws.proofs.Rows.Arcs.{Does, constant, unary, binary, hands, joins, takes_in, gets_last, allocates, gets_reply}
 use Rattle.id_laws.proofs.Rows.Arcs.{gets}
-use Rattle.id_pieces.proofs.LoopsLemmas.{entries_node, entries_stand, entries_within}
+use Rattle.id_build.proofs.LoopsLemmas.{entries_node, entries_stand, entries_within}
 use Rattle.id_build.proofs.ImportsLemmas.{name_seen}
 use Rattle.id_build.proofs.RowLemmas.{IsSeen}
 use Rattle.id_laws.proofs.Rows.Assumed.{IsKnown, is_handed}
@@ -43,7 +43,7 @@ use Rattle.id_build.proofs.NamesSeen.{Comes, HasSwitches, from_entry, from_label
 use Rattle.id_build.proofs.NamesSeen as seen
 use Rattle.id_laws.proofs.Rows.LoopRows.{BinderAt, HandedAt, carried_row, handed_binder, label_at}
 use Rattle.id_laws.proofs.Validity.WantedKinds.{operands_of}
-use Rattle.id_pieces.specs.declared.arc.Form.{Form}
+use Rattle.id_build.specs.declared.arc.Form.{Form}
 
 some_is : {A : Type 0} {x y : A} → Some x ≡ Some y → x ≡ y
 some_is h = cc

@@ -19,8 +19,8 @@ use Rattle.id_instr.specs.declared.instr.Op.TheVariants.{Merge}
 use Rattle.id_instr.specs.declared.instr.Instr.{Instr}
 use Rattle.id_instr.specs.declared.instr.Block.{Block}
 use Rattle.id_instr.specs.Graph.{Parts}
-use Rattle.id_pieces.specs.Rows.{node, port_at, op_by, Entry, entries}
-use Rattle.id_pieces.specs.Schemas.{Numbered, all_heads, block_of}
+use Rattle.id_build.specs.Rows.{node, port_at, op_by, Entry, entries}
+use Rattle.id_build.specs.Schemas.{Numbered, all_heads, block_of}
 use Rattle.id_valid.specs.Roles.{op_at, merge_kind, back_kind, is_first, is_second, is_entry}
 use Rattle.id_valid.specs.Validator.{FillsRoles}
 use Rattle.id_laws.proofs.Rows.Arcs.{Does, starts, returns, doing, makes, gives_back}
@@ -29,7 +29,7 @@ use Rattle.id_laws.proofs.Rows.LoopRows.{entry_merge}
 use Rattle.id_laws.proofs.Rows.Assumed.{IsKnown}
 use Rattle.id_laws.proofs.Validity.ValidCounts.{any_among, among_any}
 use Rattle.id_laws.proofs.Validity.ValidTests.{same_number, number_is}
-use Rattle.id_pieces.specs.declared.arc.Form.{Form}
+use Rattle.id_build.specs.declared.arc.Form.{Form}
 
 true_false : true ≡ false → ⊥
 true_false h = cc

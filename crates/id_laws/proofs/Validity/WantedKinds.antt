@@ -13,7 +13,7 @@ use Rattle.id_check.specs.declared.checked.Checked.{Checked}
 use Rattle.id_scope.specs.Kinds.{binary_kind}
 use Rattle.id_check.specs.Programs.{Stands, kind}
 use Rattle.id_check.proofs.WantedLemmas.{arithmetic_row, logic_row, order_row, equality_row}
-use Rattle.id_pieces.specs.Rows.{binary_op, port_of}
+use Rattle.id_build.specs.Rows.{binary_op, port_of}
 
 -- the operands of an operator between them are of one kind, which the instruction takes
 pub record Operands (P : Checked) (o : BinaryOp) (a b : ℕ) : Type 0 where

@@ -2,9 +2,9 @@
 use Rattle.std.proofs.Common.{◌≡◌, refl}
 use Rattle.std.proofs.lemmas.Result.{on_ok_weaker}
 use Rattle.id_instr.specs.declared.dests.Port.TheVariants.{Zero}
-use Rattle.id_pieces.specs.Made.{number_by}
-use Rattle.id_pieces.specs.Rows.{origin}
-use Rattle.id_pieces.proofs.FeedsLemmas.{two_arcs}
+use Rattle.id_build.specs.Made.{number_by}
+use Rattle.id_build.specs.Rows.{origin}
+use Rattle.id_build.proofs.PushedLemmas.{two_arcs}
 use Rattle.id_build.proofs.feeds.push_arms.Goals as goal
 
 pub returns : goal.returns

@@ -2,9 +2,9 @@
 use Rattle.std.proofs.Common.{◌≡◌, ◌+◌, ◌∷◌, [], arith, refl}
 use Rattle.std.proofs.lemmas.Result.{on_ok_weaker}
 use Rattle.id_instr.specs.declared.dests.Port.TheVariants.{Zero, One}
-use Rattle.id_pieces.specs.Made.{number_by}
-use Rattle.id_pieces.specs.Rows.{feed, origin, output}
-use Rattle.id_pieces.proofs.FeedsLemmas.{then_two}
+use Rattle.id_build.specs.Made.{number_by}
+use Rattle.id_build.specs.Rows.{feed, origin, output}
+use Rattle.id_build.proofs.PushedLemmas.{then_two}
 use Rattle.id_build.proofs.feeds.push_bounds.Goals as goal
 
 pub returns : goal.returns

@@ -3,10 +3,10 @@ use Rattle.std.proofs.Common.{◌≡◌, ◌∙◌, ◌-◌, ◌++◌, ◌∷◌
 use Rattle.std.proofs.lemmas.Result.{on_ok_weaker}
 use Rattle.id_table.specs.declared.row.Node.TheVariants.{Bounds}
 use Rattle.id_instr.specs.declared.dests.Port.TheVariants.{Zero, One}
-use Rattle.id_pieces.specs.declared.arc.Feed.{Feed}
-use Rattle.id_pieces.specs.Made.{arc_of, number_by}
-use Rattle.id_pieces.specs.Rows.{bounds_feeds, feed, node, origin, output, part_of}
-use Rattle.id_pieces.proofs.FeedsLemmas.{then_two}
+use Rattle.id_build.specs.declared.arc.Feed.{Feed}
+use Rattle.id_build.specs.Made.{arc_of, number_by}
+use Rattle.id_build.specs.Rows.{bounds_feeds, feed, node, origin, output, part_of}
+use Rattle.id_build.proofs.PushedLemmas.{then_two}
 use Rattle.id_build.proofs.feeds.push_bounds_sends.Goals as goal
 
 pub returns-in_ok-push_two-in-Bounds-2 : goal.returns-in_ok-push_two-in-Bounds-2

@@ -3,10 +3,10 @@ use Rattle.std.proofs.Common.{◌≡◌, ◌∙◌, ◌+◌, ◌-◌, ◌++◌, 
 use Rattle.std.proofs.lemmas.Result.{on_ok_weaker}
 use Rattle.id_desugar.specs.Regions.{has_index}
 use Rattle.id_instr.specs.declared.dests.Port.TheVariants.{Zero}
-use Rattle.id_pieces.specs.declared.arc.Feed.{Feed}
-use Rattle.id_pieces.specs.Made.{arc_of, number_by}
-use Rattle.id_pieces.specs.Rows.{feed, name_in, output, part_of}
-use Rattle.id_pieces.proofs.FeedsLemmas.{then_one}
+use Rattle.id_build.specs.declared.arc.Feed.{Feed}
+use Rattle.id_build.specs.Made.{arc_of, number_by}
+use Rattle.id_build.specs.Rows.{feed, name_in, output, part_of}
+use Rattle.id_build.proofs.PushedLemmas.{then_one}
 use Rattle.id_build.proofs.feeds.push_carried_turns.Goals as goal
 
 pub returns : goal.returns

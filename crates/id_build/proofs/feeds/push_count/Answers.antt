@@ -2,10 +2,10 @@
 use Rattle.std.proofs.Common.{◌≡◌, ◌∙◌, ◌+◌, ◌++◌, ◌∷◌, [], List, ap, append-nil, arith, refl, sym}
 use Rattle.std.proofs.lemmas.Result.{on_ok_weaker}
 use Rattle.id_instr.specs.declared.dests.Port.TheVariants.{Zero, One}
-use Rattle.id_pieces.specs.declared.arc.Feed.{Feed}
-use Rattle.id_pieces.specs.Made.{number_by}
-use Rattle.id_pieces.specs.Rows.{block, feed, name_in, output, part_of, trigger_of}
-use Rattle.id_pieces.proofs.FeedsLemmas.{then_one, then_two}
+use Rattle.id_build.specs.declared.arc.Feed.{Feed}
+use Rattle.id_build.specs.Made.{number_by}
+use Rattle.id_build.specs.Rows.{block, feed, name_in, output, part_of, trigger_of}
+use Rattle.id_build.proofs.PushedLemmas.{then_one, then_two}
 use Rattle.id_build.proofs.feeds.push_count.Goals as goal
 
 pub returns : goal.returns

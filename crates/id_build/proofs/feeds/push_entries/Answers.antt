@@ -2,9 +2,9 @@
 use Rattle.std.proofs.Common.{◌≡◌, ◌∙◌, ◌+◌, ◌<◌, ◌≤◌, ◌++◌, ◌∷◌, [], add-zero, ap, arith, length, map, refl}
 use Rattle.id_desugar.specs.Regions.{carried, imports_of}
 use Rattle.id_instr.specs.declared.dests.Port.TheVariants.{Zero}
-use Rattle.id_pieces.specs.Made.{arc_of, number_by}
-use Rattle.id_pieces.specs.Rows.{entry_feeds, part_of, turn_row}
-use Rattle.id_pieces.proofs.FeedsLemmas.{arc_is, entry_feeds-next, rest_done}
+use Rattle.id_build.specs.Made.{arc_of, number_by}
+use Rattle.id_build.specs.Rows.{entry_feeds, part_of, turn_row}
+use Rattle.id_build.proofs.PushedLemmas.{arc_is, entry_feeds-next, rest_done}
 use Rattle.id_build.proofs.feeds.push_entries.Goals as goal
 
 pub loop-part-preserved : goal.loop-part-preserved

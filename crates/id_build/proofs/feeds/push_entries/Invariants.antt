@@ -1,8 +1,8 @@
 -- The arcs so far, and those that are left.
 use Rattle.std.proofs.Common.{◌≡◌, ◌++◌, ◌+◌, drop, length, map}
 use Rattle.id_desugar.specs.Regions.{carried, imports_of}
-use Rattle.id_pieces.specs.Made.{arc_of}
-use Rattle.id_pieces.specs.Rows.{entry_feeds, turn_row}
+use Rattle.id_build.specs.Made.{arc_of}
+use Rattle.id_build.specs.Rows.{entry_feeds, turn_row}
 use Rattle.id_build.proofs.feeds.push_entries.Given as goal
 
 abbrev pub invariant-loop-part : goal.invariant-loop-part

@@ -2,9 +2,9 @@
 use Rattle.std.proofs.Common.{◌≡◌, ◌+◌, arith, refl}
 use Rattle.std.proofs.lemmas.Result.{on_ok_weaker}
 use Rattle.id_instr.specs.declared.dests.Port.TheVariants.{Zero}
-use Rattle.id_pieces.specs.Made.{number_by}
-use Rattle.id_pieces.specs.Rows.{output}
-use Rattle.id_pieces.proofs.FeedsLemmas.{one_arc, third}
+use Rattle.id_build.specs.Made.{number_by}
+use Rattle.id_build.specs.Rows.{output}
+use Rattle.id_build.proofs.PushedLemmas.{one_arc, third}
 use Rattle.id_build.proofs.feeds.push_fetch.Goals as goal
 
 pub returns : goal.returns

@@ -2,8 +2,8 @@
 use Rattle.std.proofs.Common.{◌≡◌, refl}
 use Rattle.std.proofs.lemmas.Result.{on_ok_weaker}
 use Rattle.id_instr.specs.declared.dests.Port.TheVariants.{Zero}
-use Rattle.id_pieces.specs.Made.{number_by}
-use Rattle.id_pieces.proofs.FeedsLemmas.{one_arc}
+use Rattle.id_build.specs.Made.{number_by}
+use Rattle.id_build.proofs.PushedLemmas.{one_arc}
 use Rattle.id_build.proofs.feeds.push_first.Goals as goal
 
 pub returns : goal.returns

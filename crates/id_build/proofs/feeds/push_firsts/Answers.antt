@@ -1,8 +1,8 @@
 -- The arcs of the first value of one more variable are pushed.
 use Rattle.std.proofs.Common.{◌≡◌, ◌∙◌, ◌+◌, ◌++◌, add-zero, ap, arith, get_or, map, refl}
-use Rattle.id_pieces.specs.Made.{arc_of, number_by}
-use Rattle.id_pieces.specs.Rows.{first_binder, import_feeds, name_in, output}
-use Rattle.id_pieces.proofs.FeedsLemmas.{first_feeds-next, rest_done, two_are}
+use Rattle.id_build.specs.Made.{arc_of, number_by}
+use Rattle.id_build.specs.Rows.{first_binder, import_feeds, name_in, output}
+use Rattle.id_build.proofs.PushedLemmas.{first_feeds-next, rest_done, two_are}
 use Rattle.id_build.proofs.feeds.push_firsts.Goals as goal
 
 pub loop-next-preserved : goal.loop-next-preserved

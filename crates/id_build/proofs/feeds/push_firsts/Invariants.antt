@@ -1,7 +1,7 @@
 -- The arcs so far, and those that are left.
 use Rattle.std.proofs.Common.{◌≡◌, ◌++◌, ◌+◌, drop, map}
-use Rattle.id_pieces.specs.Made.{arc_of, number_by}
-use Rattle.id_pieces.specs.Rows.{first_binder, import_feeds, output}
+use Rattle.id_build.specs.Made.{arc_of, number_by}
+use Rattle.id_build.specs.Rows.{first_binder, import_feeds, output}
 use Rattle.id_build.proofs.feeds.push_firsts.Given as goal
 
 abbrev pub invariant-loop-next : goal.invariant-loop-next

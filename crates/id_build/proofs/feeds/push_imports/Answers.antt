@@ -1,8 +1,8 @@
 -- The arcs of one more import are pushed.
 use Rattle.std.proofs.Common.{◌≡◌, ◌+◌, ◌++◌, add-zero, ap, arith, get_or, map, refl}
-use Rattle.id_pieces.specs.Made.{arc_of, number_by}
-use Rattle.id_pieces.specs.Rows.{import_feeds, name_in}
-use Rattle.id_pieces.proofs.FeedsLemmas.{import_feeds-next, rest_done, two_are}
+use Rattle.id_build.specs.Made.{arc_of, number_by}
+use Rattle.id_build.specs.Rows.{import_feeds, name_in}
+use Rattle.id_build.proofs.PushedLemmas.{import_feeds-next, rest_done, two_are}
 use Rattle.id_build.proofs.feeds.push_imports.Goals as goal
 
 pub loop-binder-preserved : goal.loop-binder-preserved

@@ -1,7 +1,7 @@
 -- The arcs so far, and those that are left.
 use Rattle.std.proofs.Common.{◌≡◌, ◌++◌, ◌+◌, drop, map}
-use Rattle.id_pieces.specs.Made.{arc_of, number_by}
-use Rattle.id_pieces.specs.Rows.{import_feeds}
+use Rattle.id_build.specs.Made.{arc_of, number_by}
+use Rattle.id_build.specs.Rows.{import_feeds}
 use Rattle.id_build.proofs.feeds.push_imports.Given as goal
 
 abbrev pub invariant-loop-binder : goal.invariant-loop-binder

@@ -3,9 +3,9 @@ use Rattle.std.proofs.Common.{◌≡◌, ◌∙◌, ◌+◌, ◌-◌, ap, arith,
 use Rattle.std.proofs.lemmas.Result.{on_ok_weaker}
 use Rattle.id_desugar.specs.Ends.{end_of}
 use Rattle.id_instr.specs.declared.dests.Port.TheVariants.{Zero, One}
-use Rattle.id_pieces.specs.Made.{number_by}
-use Rattle.id_pieces.specs.Rows.{output, turn_row}
-use Rattle.id_pieces.proofs.FeedsLemmas.{two_arcs}
+use Rattle.id_build.specs.Made.{number_by}
+use Rattle.id_build.specs.Rows.{output, turn_row}
+use Rattle.id_build.proofs.PushedLemmas.{two_arcs}
 use Rattle.id_build.proofs.feeds.push_loop_head.Goals as goal
 
 pub returns : goal.returns

@@ -4,7 +4,7 @@ use Rattle.id_check.specs.Programs.{rows}
 use Rattle.id_table.specs.declared.row.Node.TheVariants.{Carried}
 use Rattle.id_table.specs.Tables.{is_carried}
 use Rattle.id_desugar.proofs.EndsLemmas.{row_inside}
-use Rattle.id_pieces.specs.Rows.{node}
+use Rattle.id_build.specs.Rows.{node}
 use Rattle.id_build.proofs.BuildableLemmas.{carried_head}
 use Rattle.id_build.proofs.feeds.push_of_loop.Goals as goal
 

@@ -1,9 +1,9 @@
 -- The arcs that are pushed are those of the two feeds.
 use Rattle.std.proofs.Common.{◌≡◌, refl}
 use Rattle.std.proofs.lemmas.Result.{on_ok_weaker}
-use Rattle.id_pieces.specs.Made.{number_by}
-use Rattle.id_pieces.specs.Rows.{origin}
-use Rattle.id_pieces.proofs.FeedsLemmas.{two_are}
+use Rattle.id_build.specs.Made.{number_by}
+use Rattle.id_build.specs.Rows.{origin}
+use Rattle.id_build.proofs.PushedLemmas.{two_are}
 use Rattle.id_build.proofs.feeds.push_operands.Goals as goal
 
 pub returns : goal.returns

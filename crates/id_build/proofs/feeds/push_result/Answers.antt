@@ -3,9 +3,9 @@ use Rattle.std.proofs.Common.{◌≡◌, ◌∙◌, ◌+◌, ap, arith, refl}
 use Rattle.std.proofs.lemmas.Result.{on_ok_weaker}
 use Rattle.id_instr.specs.declared.dests.Port.TheVariants.{One}
 use Rattle.id_desugar.specs.Ends.{end_of}
-use Rattle.id_pieces.specs.Made.{number_by}
-use Rattle.id_pieces.specs.Rows.{body_of, node, origin}
-use Rattle.id_pieces.proofs.FeedsLemmas.{one_arc}
+use Rattle.id_build.specs.Made.{number_by}
+use Rattle.id_build.specs.Rows.{body_of, node, origin}
+use Rattle.id_build.proofs.PushedLemmas.{one_arc}
 use Rattle.id_build.proofs.feeds.push_result.Goals as goal
 
 pub returns : goal.returns

@@ -3,8 +3,8 @@
 use Rattle.std.proofs.Common.{◌≡◌, ◌+◌, ap, arith, length, refl}
 use Rattle.std.proofs.lemmas.Result.{on_ok_weaker}
 use Rattle.id_desugar.specs.Regions.{carried, is_loop_head}
-use Rattle.id_pieces.proofs.FeedsLemmas.{start_arcs}
-use Rattle.id_pieces.proofs.LoopsLemmas.{rows_few, start_head, start_inside}
+use Rattle.id_build.proofs.PushedLemmas.{start_arcs}
+use Rattle.id_build.proofs.LoopsLemmas.{rows_few, start_head, start_inside}
 use Rattle.id_build.proofs.feeds.push_start.Goals as goal
 
 pub nexts_at-nexts-requires : goal.nexts_at-nexts-requires

@@ -3,10 +3,10 @@ use Rattle.std.proofs.Common.{◌≡◌, ◌∙◌, ◌+◌, ◌<◌, ◌≤◌,
 use Rattle.std.proofs.lemmas.List.{map-append}
 use Rattle.id_desugar.specs.Regions.{carried, imports_of}
 use Rattle.id_instr.specs.declared.dests.Port.TheVariants.{Zero}
-use Rattle.id_pieces.specs.declared.arc.Arc.{Arc}
-use Rattle.id_pieces.specs.Made.{arc_of, number_by}
-use Rattle.id_pieces.specs.Rows.{carried_feeds, feed, name_in, trigger_of, turn_feeds}
-use Rattle.id_pieces.proofs.FeedsLemmas.{added, arc_is, rest_done, turn_feeds-next}
+use Rattle.id_build.specs.declared.arc.Arc.{Arc}
+use Rattle.id_build.specs.Made.{arc_of, number_by}
+use Rattle.id_build.specs.Rows.{carried_feeds, feed, name_in, trigger_of, turn_feeds}
+use Rattle.id_build.proofs.PushedLemmas.{added, arc_is, rest_done, turn_feeds-next}
 use Rattle.id_build.proofs.feeds.push_turn.Goals as goal
 
 pub loop-binder-preserved : goal.loop-binder-preserved

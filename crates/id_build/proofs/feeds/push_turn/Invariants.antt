@@ -2,8 +2,8 @@
 use Rattle.std.proofs.Common.{◌≡◌, ◌++◌, ◌∷◌, ◌+◌, drop, length, map}
 use Rattle.id_instr.specs.declared.dests.Port.TheVariants.{Zero}
 use Rattle.id_desugar.specs.Regions.{carried, imports_of}
-use Rattle.id_pieces.specs.Made.{arc_of, number_by}
-use Rattle.id_pieces.specs.Rows.{carried_feeds, feed, trigger_of, turn_feeds}
+use Rattle.id_build.specs.Made.{arc_of, number_by}
+use Rattle.id_build.specs.Rows.{carried_feeds, feed, trigger_of, turn_feeds}
 use Rattle.id_build.proofs.feeds.push_turn.Given as goal
 
 abbrev pub invariant-loop-binder : goal.invariant-loop-binder

@@ -3,7 +3,7 @@ use Rattle.std.proofs.Common.{◌∙◌, ap, arith}
 use Rattle.std.proofs.Math.ListN.{set}
 use Rattle.std.proofs.lemmas.Result.{on_ok_weaker}
 use Rattle.id_build.proofs.JoinedLemmas.{connected_at-set}
-use Rattle.id_pieces.specs.Made.{dest_of}
+use Rattle.id_build.specs.Made.{dest_of}
 use Rattle.id_build.proofs.joined.connect.Goals as goal
 
 pub returns : goal.returns

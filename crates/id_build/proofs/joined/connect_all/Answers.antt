@@ -1,8 +1,8 @@
 -- Each arc goes between two of the instructions, and is joined to the first.
 use Rattle.std.proofs.Common.{◌∙◌, ap, arith, false, get_or, length, sym, take}
 use Rattle.std.proofs.lemmas.List.Sums.{fold_more}
-use Rattle.id_pieces.specs.Made.{connected}
-use Rattle.id_pieces.specs.declared.arc.Arc.{Arc}
+use Rattle.id_build.specs.Made.{connected}
+use Rattle.id_build.specs.declared.arc.Arc.{Arc}
 use Rattle.id_instr.specs.declared.dests.Port.TheVariants.{Zero}
 use Rattle.id_build.proofs.JoinedLemmas.{length-connected}
 use Rattle.id_build.proofs.joined.connect_all.Goals as goal

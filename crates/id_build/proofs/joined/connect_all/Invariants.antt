@@ -1,7 +1,7 @@
 -- The instructions with the arcs so far.
 use Rattle.std.proofs.Common.{◌≡◌, take}
 use Rattle.std.specs.Prelude.{fold}
-use Rattle.id_pieces.specs.Made.{connected}
+use Rattle.id_build.specs.Made.{connected}
 use Rattle.id_build.proofs.joined.connect_all.Given as goal
 
 abbrev pub invariant-loop-arc : goal.invariant-loop-arc

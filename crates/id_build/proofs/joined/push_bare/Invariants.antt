@@ -1,6 +1,6 @@
 -- The instructions so far, and those of the pieces that are left.
 use Rattle.std.proofs.Common.{◌≡◌, ◌++◌, [], drop}
-use Rattle.id_pieces.specs.Made.{instrs_from}
+use Rattle.id_build.specs.Made.{instrs_from}
 use Rattle.id_build.proofs.joined.push_bare.Given as goal
 
 abbrev pub invariant-loop-piece : goal.invariant-loop-piece

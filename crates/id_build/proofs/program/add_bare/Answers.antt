@@ -2,9 +2,9 @@
 use Rattle.std.proofs.Common.{◌∙◌, ◌++◌, List, [], ap, refl, subst, sym}
 use Rattle.std.specs.Prelude.{All}
 use Rattle.id_desugar.specs.Regions.{order_of}
-use Rattle.id_pieces.specs.declared.arc.Piece.{Piece}
-use Rattle.id_pieces.specs.Made.{Fits, instrs_from}
-use Rattle.id_pieces.specs.Rows.{made}
+use Rattle.id_build.specs.declared.arc.Piece.{Piece}
+use Rattle.id_build.specs.Made.{Fits, instrs_from}
+use Rattle.id_build.specs.Rows.{made}
 use Rattle.id_build.proofs.BuildableLemmas.{is_order}
 use Rattle.id_build.proofs.FitsLemmas.{row_fits}
 use Rattle.id_build.proofs.PassesLemmas.{few_in, firsts_in}

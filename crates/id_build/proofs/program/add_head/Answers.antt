@@ -5,9 +5,9 @@ use Rattle.id_table.specs.declared.row.Row.{Row}
 use Rattle.id_table.specs.Tables.{is_head}
 use Rattle.id_check.specs.Programs.{rows}
 use Rattle.id_table.specs.Turns.{heads_below}
-use Rattle.id_pieces.specs.Made.{number_by}
-use Rattle.id_pieces.specs.Rows.{node}
-use Rattle.id_pieces.specs.Schemas.{block_of}
+use Rattle.id_build.specs.Made.{number_by}
+use Rattle.id_build.specs.Rows.{node}
+use Rattle.id_build.specs.Schemas.{block_of}
 use Rattle.id_build.proofs.BlocksLemmas.{blocks_push, heads_next}
 use Rattle.id_build.proofs.program.add_head.Goals as goal
 

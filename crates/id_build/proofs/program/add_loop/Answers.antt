@@ -1,7 +1,7 @@
 -- The block of a loop.
 use Rattle.std.proofs.Common.{◌∙◌, ◌++◌, ◌∷◌, [], ap}
 use Rattle.std.proofs.lemmas.Result.{on_ok_weaker}
-use Rattle.id_pieces.specs.Made.{number_by}
+use Rattle.id_build.specs.Made.{number_by}
 use Rattle.id_build.proofs.program.add_loop.Goals as goal
 
 pub returns : goal.returns

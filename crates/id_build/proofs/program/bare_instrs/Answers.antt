@@ -2,9 +2,9 @@
 use Rattle.std.proofs.Common.{◌≡◌, ◌∙◌, ◌++◌, ℕ, List, [], ap, arith, get_or, sym, take, take_all}
 use Rattle.id_instr.specs.declared.instr.Instr.{Instr}
 use Rattle.id_desugar.specs.Regions.{order_of}
-use Rattle.id_pieces.specs.declared.arc.Piece.{Piece}
-use Rattle.id_pieces.specs.Made.{instrs_from, pieces_in}
-use Rattle.id_pieces.specs.Rows.{made}
+use Rattle.id_build.specs.declared.arc.Piece.{Piece}
+use Rattle.id_build.specs.Made.{instrs_from, pieces_in}
+use Rattle.id_build.specs.Rows.{made}
 use Rattle.id_build.proofs.FillLemmas.{pieces_in-next}
 use Rattle.id_build.proofs.JoinedLemmas.{bare-append}
 use Rattle.id_build.proofs.program.bare_instrs.Goals as goal

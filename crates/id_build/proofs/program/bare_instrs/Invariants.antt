@@ -1,6 +1,6 @@
 -- The instructions of the rows so far.
 use Rattle.std.proofs.Common.{◌≡◌, [], take}
-use Rattle.id_pieces.specs.Made.{instrs_from, pieces_in}
+use Rattle.id_build.specs.Made.{instrs_from, pieces_in}
 use Rattle.id_build.proofs.program.bare_instrs.Given as goal
 
 abbrev pub invariant-loop-n : goal.invariant-loop-n

@@ -3,9 +3,9 @@ use Rattle.std.proofs.Common.{◌≡◌, ◌∙◌, ◌++◌, ap, arith, length,
 use Rattle.std.proofs.lemmas.List.{map-append}
 use Rattle.id_check.specs.Programs.{rows}
 use Rattle.id_table.specs.Turns.{heads_below}
-use Rattle.id_pieces.specs.Made.{number_by}
+use Rattle.id_build.specs.Made.{number_by}
 use Rattle.id_desugar.specs.Regions.{loop_heads}
-use Rattle.id_pieces.specs.Schemas.{block_of}
+use Rattle.id_build.specs.Schemas.{block_of}
 use Rattle.id_build.proofs.program.blocks.Goals as goal
 
 pub returns : goal.returns

@@ -2,8 +2,8 @@
 use Rattle.std.proofs.Common.{◌≡◌, map}
 use Rattle.id_check.specs.Programs.{rows}
 use Rattle.id_table.specs.Turns.{heads_below}
-use Rattle.id_pieces.specs.Made.{number_by}
-use Rattle.id_pieces.specs.Schemas.{block_of}
+use Rattle.id_build.specs.Made.{number_by}
+use Rattle.id_build.specs.Schemas.{block_of}
 use Rattle.id_build.proofs.program.blocks.Given as goal
 
 abbrev pub invariant-loop-head : goal.invariant-loop-head

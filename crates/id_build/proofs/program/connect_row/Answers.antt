@@ -1,9 +1,9 @@
 -- The arcs of the row are its own, since there were none.
 use Rattle.std.proofs.Common.{◌∙◌, ◌++◌, List, ap, length, map, subst, sym}
 use Rattle.std.specs.Prelude.{All, fold}
-use Rattle.id_pieces.specs.declared.arc.Arc.{Arc}
-use Rattle.id_pieces.specs.Made.{IsBetween, arc_of, connected}
-use Rattle.id_pieces.specs.Rows.{feeds}
+use Rattle.id_build.specs.declared.arc.Arc.{Arc}
+use Rattle.id_build.specs.Made.{IsBetween, arc_of, connected}
+use Rattle.id_build.specs.Rows.{feeds}
 use Rattle.id_build.proofs.program.connect_row.Goals as goal
 
 pub connect_all-requires-clause-from : goal.connect_all-requires-clause-from

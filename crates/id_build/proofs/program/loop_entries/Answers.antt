@@ -2,9 +2,9 @@
 use Rattle.std.proofs.Common.{◌∙◌, ◌^◌, ◌≤◌, ◌++◌, List, ℕ, ap, length, map, refl, sym, subst}
 use Rattle.std.proofs.lemmas.List.{append_assoc, map-append}
 use Rattle.id_desugar.specs.Regions.{carried, first_variable, imports_of, nexts_of, order_of}
-use Rattle.id_pieces.specs.Made.{number_by}
-use Rattle.id_pieces.specs.Rows.{Entry, entries_by, entries_row, import_entries, node, param_entry, variable_entries}
-use Rattle.id_pieces.proofs.LoopsLemmas.{head_inside, loop_head_is}
+use Rattle.id_build.specs.Made.{number_by}
+use Rattle.id_build.specs.Rows.{Entry, entries_by, entries_row, import_entries, node, param_entry, variable_entries}
+use Rattle.id_build.proofs.LoopsLemmas.{head_inside, loop_head_is}
 use Rattle.id_build.proofs.BuildableLemmas.{is_order}
 use Rattle.id_build.proofs.FitsLemmas.{entries_fit}
 use Rattle.id_build.proofs.PassesLemmas.{few_in, firsts_in}

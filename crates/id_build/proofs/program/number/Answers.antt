@@ -1,7 +1,7 @@
 -- Each row is there once, and has the next number.
 use Rattle.std.proofs.Common.{◌+◌, ℕ, ◌<◌, List, ap, arith, get_or, length, take_all, ◌∙◌}
 use Rattle.std.proofs.lemmas.Grind.{common_steps}
-use Rattle.id_pieces.specs.Made.{first_in, pieces_in}
+use Rattle.id_build.specs.Made.{first_in, pieces_in}
 use Rattle.id_build.proofs.FillLemmas.{Among-get_or, count_in-next, first_in-next, pieces_in-take, zeros}
 use Rattle.std.proofs.Math.ListN.{length-set}
 use Rattle.id_build.proofs.BuildableLemmas.{is_order}

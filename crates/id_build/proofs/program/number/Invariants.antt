@@ -1,7 +1,7 @@
 -- How many instructions the rows so far make, and the numbers of their first ones.
 use Rattle.std.proofs.Common.{◌≡◌, ℕ, ◌≤◌, ◌<◌, length, take}
 use Rattle.id_check.specs.Programs.{rows}
-use Rattle.id_pieces.specs.Made.{first_in, number_by, pieces_in}
+use Rattle.id_build.specs.Made.{first_in, number_by, pieces_in}
 use Rattle.id_build.proofs.program.number.Given as goal
 
 abbrev pub invariant-loop-n : goal.invariant-loop-n

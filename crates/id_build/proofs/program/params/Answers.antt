@@ -5,8 +5,8 @@ use Rattle.id_table.specs.declared.row.Row.{Row}
 use Rattle.id_table.specs.Tables.{is_param}
 use Rattle.id_check.specs.Programs.{rows}
 use Rattle.id_table.specs.Turns.{params_at, params_below}
-use Rattle.id_pieces.specs.Made.{number_by}
-use Rattle.id_pieces.specs.Rows.{node}
+use Rattle.id_build.specs.Made.{number_by}
+use Rattle.id_build.specs.Rows.{node}
 use Rattle.id_desugar.specs.Ends.{end_of}
 use Rattle.id_desugar.proofs.EndsLemmas.{begun_inside}
 use Rattle.id_build.proofs.BlocksLemmas.{end_behind, entries_next, is_taken, none_past, params_between, params_entries, params_start, params_stop}

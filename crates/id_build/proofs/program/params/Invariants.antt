@@ -2,7 +2,7 @@
 use Rattle.std.proofs.Common.{◌≡◌, map}
 use Rattle.id_check.specs.Programs.{rows}
 use Rattle.id_table.specs.Turns.{params_below}
-use Rattle.id_pieces.specs.Made.{number_by}
+use Rattle.id_build.specs.Made.{number_by}
 use Rattle.id_build.proofs.program.params.Given as goal
 
 abbrev pub invariant-loop-n : goal.invariant-loop-n

@@ -4,7 +4,7 @@ use Rattle.id_desugar.specs.Regions.{order_of}
 use Rattle.id_instr.specs.declared.instr.Block.{Block}
 use Rattle.id_instr.specs.declared.instr.Instr.{Instr}
 use Rattle.id_instr.specs.Graph.{parts}
-use Rattle.id_pieces.specs.Made.{graph_by}
+use Rattle.id_build.specs.Made.{graph_by}
 use Rattle.id_build.specs.Own.{IsOwn}
 use Rattle.id_build.proofs.BuildableLemmas.{IsBuildable-checked, is_order}
 use Rattle.id_build.proofs.OwnLemmas.{IsOwn-made}

@@ -1,10 +1,10 @@
 -- The entries of the imports of a loop are the parts of a row, whose numbers an instruction can have.
 use Rattle.std.proofs.Common.{◌≡◌, ◌∙◌, ◌+◌, ◌<◌, ◌≤◌, ◌++◌, ◌∷◌, [], ℕ, ap, arith, length, map, refl}
 use Rattle.id_desugar.specs.Regions.{imports_of}
-use Rattle.id_pieces.specs.Made.{number_by}
-use Rattle.id_pieces.specs.Rows.{Entry, import_entries}
-use Rattle.id_pieces.proofs.FeedsLemmas.{rest_done}
-use Rattle.id_pieces.proofs.SendsLemmas.{import_entries-next}
+use Rattle.id_build.specs.Made.{number_by}
+use Rattle.id_build.specs.Rows.{Entry, import_entries}
+use Rattle.id_build.proofs.PushedLemmas.{rest_done}
+use Rattle.id_build.proofs.SendsLemmas.{import_entries-next}
 use Rattle.id_build.proofs.program.push_imported.Goals as goal
 
 pub overflow_cast-first : goal.overflow_cast-first

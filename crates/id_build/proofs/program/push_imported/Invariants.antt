@@ -1,8 +1,8 @@
 -- The numbers of the entries so far, and of those that are left.
 use Rattle.std.proofs.Common.{◌≡◌, ◌++◌, drop, map}
 use Rattle.id_desugar.specs.Regions.{imports_of}
-use Rattle.id_pieces.specs.Made.{number_by}
-use Rattle.id_pieces.specs.Rows.{Entry, import_entries}
+use Rattle.id_build.specs.Made.{number_by}
+use Rattle.id_build.specs.Rows.{Entry, import_entries}
 use Rattle.id_build.proofs.program.push_imported.Given as goal
 
 abbrev pub invariant-loop-part : goal.invariant-loop-part

@@ -2,8 +2,8 @@
 use Rattle.std.proofs.Common.{◌∙◌, ◌++◌, ◌∷◌, [], List, ap, get_or, map, sym, take, take_all}
 use Rattle.std.proofs.lemmas.List.{append_assoc, map-append, take_more}
 use Rattle.id_instr.specs.declared.instr.Block.{Block}
-use Rattle.id_pieces.specs.Made.{number_by}
-use Rattle.id_pieces.specs.Schemas.{block_of}
+use Rattle.id_build.specs.Made.{number_by}
+use Rattle.id_build.specs.Schemas.{block_of}
 use Rattle.id_build.proofs.BlocksLemmas.{loop_head_at}
 use Rattle.id_build.proofs.program.push_loops.Goals as goal
 

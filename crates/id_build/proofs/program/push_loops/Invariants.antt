@@ -1,7 +1,7 @@
 -- The blocks of the loops so far.
 use Rattle.std.proofs.Common.{◌≡◌, ◌++◌, map, take}
-use Rattle.id_pieces.specs.Made.{number_by}
-use Rattle.id_pieces.specs.Schemas.{block_of}
+use Rattle.id_build.specs.Made.{number_by}
+use Rattle.id_build.specs.Schemas.{block_of}
 use Rattle.id_build.proofs.program.push_loops.Given as goal
 
 abbrev pub invariant-loop-head : goal.invariant-loop-head

@@ -2,10 +2,10 @@
 -- of its imports.
 use Rattle.std.proofs.Common.{◌≡◌, ◌∙◌, ◌+◌, ◌-◌, ◌<◌, ◌≤◌, ◌++◌, ◌∷◌, [], List, ℕ, ap, add-zero, arith, length, length-append, map, drop, refl, sym}
 use Rattle.id_desugar.specs.Regions.{carried, nexts_of}
-use Rattle.id_pieces.specs.Made.{number_by}
-use Rattle.id_pieces.specs.Rows.{Entry, entries_row, variable_entries}
-use Rattle.id_pieces.proofs.FeedsLemmas.{rest_done}
-use Rattle.id_pieces.proofs.SendsLemmas.{variable_entries-next}
+use Rattle.id_build.specs.Made.{number_by}
+use Rattle.id_build.specs.Rows.{Entry, entries_row, variable_entries}
+use Rattle.id_build.proofs.PushedLemmas.{rest_done}
+use Rattle.id_build.proofs.SendsLemmas.{variable_entries-next}
 use Rattle.id_build.proofs.BlocksLemmas.{carried_entries}
 use Rattle.id_build.proofs.program.push_variables.Goals as goal
 

@@ -1,8 +1,8 @@
 -- The numbers of the entries so far, and of those that are left.
 use Rattle.std.proofs.Common.{◌≡◌, ◌++◌, ◌+◌, ◌-◌, drop, map}
 use Rattle.id_desugar.specs.Regions.{carried, nexts_of}
-use Rattle.id_pieces.specs.Made.{number_by}
-use Rattle.id_pieces.specs.Rows.{Entry, variable_entries}
+use Rattle.id_build.specs.Made.{number_by}
+use Rattle.id_build.specs.Rows.{Entry, variable_entries}
 use Rattle.id_build.proofs.program.push_variables.Given as goal
 
 abbrev pub invariant-loop-variable : goal.invariant-loop-variable

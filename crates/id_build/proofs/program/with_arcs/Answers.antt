@@ -5,10 +5,10 @@ use Rattle.std.proofs.lemmas.List.{drop_all}
 use Rattle.std.proofs.lemmas.List.Sums.{fold-append}
 use Rattle.id_instr.specs.declared.instr.Instr.{Instr}
 use Rattle.id_desugar.specs.Regions.{order_of}
-use Rattle.id_pieces.specs.Made.{arc_of, arcs_in, connected, instrs_from, IsBetween, pieces_in}
-use Rattle.id_pieces.specs.Rows.{feeds}
+use Rattle.id_build.specs.Made.{arc_of, arcs_in, connected, instrs_from, IsBetween, pieces_in}
+use Rattle.id_build.specs.Rows.{feeds}
 use Rattle.id_build.proofs.BuildableLemmas.{IsBuildable-checked, is_order}
-use Rattle.id_pieces.proofs.FeedsLemmas.{arcs_in-at}
+use Rattle.id_build.proofs.PushedLemmas.{arcs_in-at}
 use Rattle.id_build.proofs.JoinedLemmas.{AreBetween-left, AreBetween-right, instrs_from-append, length-connected, length-instrs_from}
 use Rattle.id_build.proofs.PassesLemmas.{few_in, firsts_in}
 use Rattle.id_build.proofs.SchemasLemmas.{IsFrom-arcs_in}

@@ -1,7 +1,7 @@
 -- The instructions with the arcs so far get those of the rows that are left.
 use Rattle.std.proofs.Common.{◌≡◌, [], drop, length}
 use Rattle.std.specs.Prelude.{All, fold}
-use Rattle.id_pieces.specs.Made.{arcs_in, connected, instrs_from, IsBetween, pieces_in}
+use Rattle.id_build.specs.Made.{arcs_in, connected, instrs_from, IsBetween, pieces_in}
 use Rattle.id_build.specs.Passes.{firsts_of, program_of}
 use Rattle.id_build.proofs.program.with_arcs.Given as goal
 

@@ -1,7 +1,7 @@
 -- Rows make no fewer instructions together than some of them.
 use Rattle.std.proofs.Common.{◌≡◌, ◌∙◌, ap, arith, length, ◌≤◌}
 use Rattle.id_check.specs.Programs.{rows}
-use Rattle.id_pieces.specs.Rows.{size, size_below}
+use Rattle.id_build.specs.Rows.{size, size_below}
 use Rattle.id_build.proofs.SizeLemmas.{size_below-next, size_below-within}
 use Rattle.id_build.proofs.size.is_small.Goals as goal
 

@@ -1,6 +1,6 @@
 -- The instructions of the rows so far.
 use Rattle.std.proofs.Common.{◌≡◌, ◌≤◌}
-use Rattle.id_pieces.specs.Rows.{size_below}
+use Rattle.id_build.specs.Rows.{size_below}
 use Rattle.id_build.proofs.size.is_small.Given as goal
 
 abbrev pub invariant-loop-n : goal.invariant-loop-n

@@ -2,7 +2,7 @@
 use Rattle.std.proofs.Common.{◌≡◌, ◌∙◌, true, inl, inr, refl, ap, sym, arith, length}
 use Rattle.std.proofs.lemmas.Bool.{cases_lt}
 use Rattle.id_check.specs.Programs.{place, rows}
-use Rattle.id_pieces.specs.Rows.{is_plain, made, made_of, node, size_below}
+use Rattle.id_build.specs.Rows.{is_plain, made, made_of, node, size_below}
 use Rattle.id_build.proofs.SizeLemmas.{size_below-next, size_below-within}
 use Rattle.id_build.proofs.size.is_small_and_plain.Goals as goal
 

@@ -2,7 +2,7 @@
 use Rattle.std.proofs.Common.{◌≡◌, ◌≤◌, arith, length, subst}
 use Rattle.id_check.specs.declared.checked.Checked.{Checked}
 use Rattle.id_check.specs.Programs.{rows}
-use Rattle.id_pieces.specs.Rows.{made, size_below}
+use Rattle.id_build.specs.Rows.{made, size_below}
 use Rattle.id_build.proofs.SizeLemmas.{size_below-next}
 use Rattle.id_build.proofs.size.is_surely_small.Goals as goal
 

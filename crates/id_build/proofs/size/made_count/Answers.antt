@@ -4,8 +4,8 @@ use Rattle.id_check.specs.Programs.{place}
 use Rattle.id_table.specs.declared.row.Row.{Row}
 use Rattle.id_table.specs.declared.row.Node.TheVariants.{Entries, Split, Start, Switches, Turn}
 use Rattle.id_desugar.specs.Regions.{carried, imports_of, is_loop_head}
-use Rattle.id_pieces.specs.Rows.{made_of, node}
-use Rattle.id_pieces.proofs.LoopsLemmas.{rows_few, start_head, start_inside}
+use Rattle.id_build.specs.Rows.{made_of, node}
+use Rattle.id_build.proofs.LoopsLemmas.{rows_few, start_head, start_inside}
 use Rattle.id_build.proofs.SizeLemmas.{length-entries, length-split, length-start, length-switches, length-turn}
 use Rattle.id_build.proofs.size.made_count.Goals as goal
 

@@ -3,8 +3,8 @@ use Rattle.std.proofs.Common.{◌≡◌, ◌∙◌, ◌-◌, ◌+◌, ap, sym, a
 use Rattle.id_table.specs.declared.row.Row.{Row}
 use Rattle.id_table.specs.declared.row.Node.TheVariants.{Entries, Split, Start, Switches, Turn}
 use Rattle.id_desugar.specs.Ends.{end_of}
-use Rattle.id_pieces.specs.Rows.{block, node}
-use Rattle.id_pieces.proofs.LoopsLemmas.{rows_few, start_inside}
+use Rattle.id_build.specs.Rows.{block, node}
+use Rattle.id_build.proofs.LoopsLemmas.{rows_few, start_inside}
 use Rattle.id_build.proofs.BoundLemmas.{entries-most, split-most, start-most, switches-most, turn-most}
 use Rattle.id_build.proofs.size.most_made.Goals as goal
 

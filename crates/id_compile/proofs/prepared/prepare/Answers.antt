@@ -1,6 +1,6 @@
 use Rattle.std.proofs.Common.{◌≡◌, ◌≢◌, ◌≤◌, length, map, sym, subst}
 use Rattle.id_source.specs.Sources.{AreInputs}
-use Rattle.id_pieces.specs.Rows.{size}
+use Rattle.id_build.specs.Rows.{size}
 use Rattle.id_compile.specs.declared.error.EngineError.TheVariants.{Write}
 use Rattle.id_compile.specs.Programs.{CompiledView, IsPlacedWithin, IsProgramOf}
 use Rattle.id_compile.specs.Refusals.{AreRefusedFor, IsInsideOf, IsRefusedSource}
