@@ -12,14 +12,17 @@ use Rattle.id_bank.specs.Cells.{CellState, Present, Deferred, Cells}
 abbrev pub Held : Type 0
 Held = (Value × Tag) ⊎ List Tag
 
+-- what a cell in this state holds
 abbrev pub held_by : CellState → Held
 held_by (Present v w) = inl (v, w)
 held_by (Deferred ts) = inr ts
 
+-- the state of a cell that holds this
 abbrev pub from_held : Held → CellState
 from_held (inl p) = Present p.0 p.1
 from_held (inr ts) = Deferred ts
 
+-- the state of a cell that holds what a cell in a state holds is that state
 pub from_held-held_by : (s : CellState) → from_held (held_by s) ≡ s
 from_held-held_by (Present v w) = refl
 from_held-held_by (Deferred ts) = refl

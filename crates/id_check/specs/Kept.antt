@@ -39,6 +39,7 @@ three-prop t x y p f g h = λ d e i. (
   h d.8 e.8 i,
 )
 
+-- there is at most one proof that no two things of a tree have one place
 pub Distinct-prop : (e : Tree) → IsProp (Distinct e)
 Distinct-prop (literal v p) = Unit-prop
 Distinct-prop (unary o a p) = ×_prop not-prop (Distinct-prop a)

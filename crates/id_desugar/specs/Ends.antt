@@ -36,6 +36,7 @@ end_at P h n = if ends_what h (at (rows P) n).node then Some n else None
 abbrev pub end_row : Checked → ℕ → Option ℕ
 end_row P h = first_of (end_at P h) (length (rows P))
 
+-- the row where what begins at the row h ends, or 0 if nothing does
 abbrev pub end_of : Checked → ℕ → ℕ
 end_of P h = unwrap_or (end_row P h) 0
 
@@ -52,6 +53,7 @@ next_at P v n = let r = at (rows P) n in if is_row v (variable_of r.block r.node
 abbrev pub next_row : Checked → ℕ → Option ℕ
 next_row P v = first_of (next_at P v) (length (rows P))
 
+-- the row of the `next` of the variable at the row v, or 0 if none stands there
 abbrev pub next_of : Checked → ℕ → ℕ
 next_of P v = unwrap_or (next_row P v) 0
 

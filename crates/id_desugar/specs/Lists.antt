@@ -4,6 +4,7 @@ use Rattle.std.specs.Prelude.{ℕ, zero, suc, List, [], replicate, Option, None,
 use Rattle.std.specs.declared.alloc.Global.{Global}
 use Rattle.std.specs.declared.boxed.Box.{Box}
 
+-- the rows of the list behind the box, or none if there is no box
 abbrev pub listed : Option (Box (Vec ℕ Global) Global) → List ℕ
 listed None = []
 listed (Some rows) = (box_value rows).items

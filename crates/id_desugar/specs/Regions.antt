@@ -66,6 +66,7 @@ abbrev pub order_by : Checked → ℕ → List ℕ
 order_by P zero = []
 order_by P (suc n) = n ∷ (those (in_procedure P) n ++ loops_by P n (loop_heads P))
 
+-- the rows in the order in which they are made
 abbrev pub order_of : Checked → List ℕ
 order_of P = order_by P (length (rows P))
 
@@ -92,6 +93,7 @@ used P g i = used_by (is_right_in P g i) (binder P i) (at (rows P) i).node
 abbrev pub is_outside : ℕ → ℕ → ℕ → Bool
 is_outside lo hi b = nat_lt b lo || nat_le hi b
 
+-- whether the list has this binder
 abbrev pub has : List ℕ → ℕ → Bool
 has [] b = false
 has (x ∷ xs) b = if x == b then true else has xs b

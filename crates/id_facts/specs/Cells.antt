@@ -31,6 +31,7 @@ abbrev pub named_value : ℕ → Trail → ℕ → RowValue → Option Point
 named_value s p n (Name t) = if nat_eq t s then Some (record { path = p; row = n }) else None
 named_value s p n _ = None
 
+-- where something Has the structure by the fact, if it is one of that
 abbrev pub named_by : ℕ → RowFact → Option Point
 named_by s (Has p n v) = named_value s p n v
 named_by s _ = None
@@ -79,6 +80,7 @@ abbrev pub first_on : List RowFact → Trail → ℕ → List ℕ → Option ℕ
 first_on fs p n [] = None
 first_on fs p n (i ∷ is) = if is_on p n (fact_at fs i) then Some i else first_on fs p n is
 
+-- the number of the first fact in its chain by which the row is On at the path, if there is one
 abbrev pub find : Cells → Trail → ℕ → Option ℕ
 find c p n = first_on (items c) p n (chain c (chain_at p n))
 
@@ -105,12 +107,15 @@ values c g p n = or_these (value_by p n g) (told (value_by p n) (items c) (chain
 abbrev pub shapes : Cells → ℕ → List Bounds
 shapes c s = told (bounds_by s) (items c) (chain c (chain_by Shapes s (pos 0)))
 
+-- where the structure is a value, by the facts
 abbrev pub named : Cells → ℕ → List Point
 named c s = told (named_by s) (items c) (chain c (chain_by Named s (pos 0)))
 
+-- what is put into the cell of this index of the structure, by the facts
 abbrev pub puts : Cells → ℕ → ℤ → List RowValue
 puts c s j = told (put_by s j) (items c) (chain c (chain_by Puts s j))
 
+-- the fetches that ask for the cell of this index of the structure, by the facts
 abbrev pub asks : Cells → ℕ → ℤ → List Point
 asks c s j = told (ask_by s j) (items c) (chain c (chain_by Asks s j))
 

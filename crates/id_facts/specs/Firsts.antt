@@ -22,6 +22,7 @@ abbrev pub ons : Trail → List ℕ → List RowFact
 ons p [] = []
 ons p (n ∷ ns) = On p n ∷ ons p ns
 
+-- the facts that the row Has these values at the path
 abbrev pub haves : Trail → ℕ → List RowValue → List RowFact
 haves p n [] = []
 haves p n (v ∷ vs) = Has p n v ∷ haves p n vs
@@ -31,6 +32,7 @@ abbrev pub input_fact : ℕ → Option Constant → List RowFact
 input_fact b None = []
 input_fact b (Some k) = Has Outermost b (row_value k) ∷ []
 
+-- the facts that the parameters at these rows Have, one by one, the inputs from number n on, as far as there are any
 abbrev pub input_facts : ℕ → List ℕ → List Constant → List RowFact
 input_facts n [] ks = []
 input_facts n (b ∷ bs) ks = input_fact b (slice_get ks n) ++ input_facts (suc n) bs ks

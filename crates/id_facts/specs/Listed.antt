@@ -57,6 +57,7 @@ path_at P fs q = record { steps = steps_of P fs (steps_in_all q) q }
 abbrev pub site_at : Checked → List RowFact → Trail → ℕ → Site
 site_at P fs q n = site (path_at P fs q) (place P n)
 
+-- the name in the source of the structure with this number: the site of the fact of that number
 abbrev pub name_at : Checked → List RowFact → ℕ → Site
 name_at P fs i = site_at P fs (path_of (fact_at fs i)) (row_of (fact_at fs i))
 
@@ -95,6 +96,7 @@ abbrev pub NamesArray : Checked → List RowFact → RowValue → Type 0
 NamesArray P fs (Name i) = IsArrayOn P fs i
 NamesArray P fs _ = Unit {0}
 
+-- each structure that the fact speaks of has the number of a fact that an `array` is On
 abbrev pub NamesArrays : Checked → List RowFact → RowFact → Type 0
 NamesArrays P fs (row.On p n) = Unit {0}
 NamesArrays P fs (row.Has p n v) = NamesArray P fs v
@@ -137,6 +139,7 @@ pub record IsPart (S : Source) (n : ℕ) (fs : List RowFact) : Type 0 where
 abbrev pub point_cmp : Path → ℕ → Path → ℕ → Ordering
 point_cmp p d q e = ordering_then (slice_cmp step_cmp p.steps q.steps) (nat_cmp d e)
 
+-- how two sites compare: by path, and then by place
 abbrev pub site_cmp : Site → Site → Ordering
 site_cmp a b = point_cmp a.path a.place b.path b.place
 
@@ -146,23 +149,28 @@ sort_of (value.Int n) = 0
 sort_of (value.Bool b) = 1
 sort_of (value.Name s) = 2
 
+-- how two values compare: numbers before truth values before structures, and then as values of one sort
 abbrev pub value_cmp : SourceValue → SourceValue → Ordering
 value_cmp (value.Int m) (value.Int n) = int_cmp m n
 value_cmp (value.Bool b) (value.Bool c) = bool_cmp b c
 value_cmp (value.Name s) (value.Name t) = site_cmp s t
 value_cmp v w = nat_cmp (sort_of v) (sort_of w)
 
+-- how two Shapes compare: by the structure's name, then by its lower bound, and then by its upper one
 abbrev pub shape_cmp : Shape → Shape → Ordering
 shape_cmp s t = ordering_then (site_cmp s.name t.name) (ordering_then (int_cmp s.low t.low) (int_cmp s.high t.high))
 
+-- how two cells compare: by the structure's name, and then by the index
 abbrev pub cell_cmp : Site → ℤ → Site → ℤ → Ordering
 cell_cmp s i t j = ordering_then (site_cmp s t) (int_cmp i j)
 
+-- how two Puts compare: by the cell, then by the store, and then by the value
 abbrev pub put_cmp : Put → Put → Ordering
 put_cmp p q =
     ordering_then (cell_cmp p.name p.index q.name q.index)
     (ordering_then (site_cmp p.store q.store) (value_cmp p.value q.value))
 
+-- how two Asks compare: by the fetch, and then by the cell
 abbrev pub ask_cmp : Ask → Ask → Ordering
 ask_cmp a b = ordering_then (site_cmp a.fetch b.fetch) (cell_cmp a.name a.index b.name b.index)
 

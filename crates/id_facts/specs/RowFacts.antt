@@ -55,6 +55,7 @@ path_of (Shape s lo hi) = Outermost
 path_of (Put p n s i v) = p
 path_of (Ask p n s i) = p
 
+-- the row of the fact; of a Shape the first
 abbrev pub row_of : RowFact → ℕ
 row_of (On p n) = n
 row_of (Has p n v) = n
@@ -73,9 +74,11 @@ abbrev pub mark_of : Trail → ℕ
 mark_of Outermost = 0
 mark_of (Below i k) = (i % 262144 + 1) * 40503 + k % 262144 * 162013
 
+-- a number below 262144 for an index or a whole number
 abbrev pub index_mark : ℤ → ℕ
 index_mark i = unsigned_abs i % 262144
 
+-- a number for each sort of what facts are looked up by
 abbrev pub sort_mark : Sort → ℕ
 sort_mark Shapes = 65537
 sort_mark Named = 98317
@@ -105,10 +108,12 @@ abbrev pub is_path_inside : ℕ → Trail → Truth
 is_path_inside n Outermost = true
 is_path_inside n (Below i k) = nat_lt i n
 
+-- whether the structure that the value is, if it is one, is there, where there are n facts
 abbrev pub is_value_inside : ℕ → RowValue → Truth
 is_value_inside n (Name i) = nat_lt i n
 is_value_inside n _ = true
 
+-- whether all that the fact speaks of is there, where there are n facts: its path, and its structures
 abbrev pub is_inside : ℕ → RowFact → Truth
 is_inside n (On p m) = is_path_inside n p
 is_inside n (Has p m v) = is_path_inside n p && is_value_inside n v
@@ -125,6 +130,7 @@ is_among f (g ∷ gs) = same_fact g f || is_among f gs
 abbrev pub learnt : List RowFact → RowFact → List RowFact
 learnt fs f = if is_inside (length fs) f && not (is_among f fs) then fs ++ f ∷ [] else fs
 
+-- the facts with each of these in turn, where it is not there, and all is that it speaks of
 abbrev pub all_learnt : List RowFact → List RowFact → List RowFact
 all_learnt fs [] = fs
 all_learnt fs (g ∷ gs) = all_learnt (learnt fs g) gs
@@ -136,6 +142,7 @@ value_mark (Bool true) = 1
 value_mark (Bool false) = 0
 value_mark (Name s) = s % 262144
 
+-- the chain in which a fact is found among all
 abbrev pub member_chain : RowFact → ℕ
 member_chain (On p n) = chain_at p n
 member_chain (Has p n v) = (chain_at p n + value_mark v * 77041) % 262144

@@ -31,6 +31,7 @@ abbrev pub state_of : ℕ → Port → ℕ
 state_of element port.Zero = element * 4 + 2
 state_of element port.One = element * 4 + 3
 
+-- the port of a slot, by its state
 abbrev pub slot_port : Slot → Port
 slot_port s = if s.state % 2 == 0 then port.Zero else port.One
 
@@ -38,6 +39,7 @@ slot_port s = if s.state % 2 == 0 then port.Zero else port.One
 abbrev pub slot_half : Slot → Option Half
 slot_half s = option_map (λ v. record { port = slot_port s; value = v }) (slot_value s)
 
+-- the tag of a slot, by its state, its key and its instruction
 abbrev pub slot_tag : Slot → Tag
 slot_tag s = record {
   context = record { element = s.state / 4; serial = s.key % 2 ^ 32 };
@@ -45,6 +47,7 @@ slot_tag s = record {
   instr = s.instr;
 }
 
+-- what waits in a slot, with its tag
 abbrev pub slot_entry : Slot → Option (Tag × Half)
 slot_entry s = option_map (λ h. (slot_tag s, h)) (slot_half s)
 
@@ -66,6 +69,7 @@ empty_slot = record {
 abbrev pub pair_half : Pair → Tag → Option Half
 pair_half p t = option_or (held p.first t) (held p.second t)
 
+-- what waits in a pair of slots, each with its tag
 abbrev pub pair_entries : Pair → List (Tag × Half)
 pair_entries p = filter_map slot_entry (p.first ∷ p.second ∷ [])
 

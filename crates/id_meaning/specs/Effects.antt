@@ -42,6 +42,7 @@ abbrev pub callee_by : Checked → Option ℕ → Node
 callee_by P None = node.Head
 callee_by P (Some d) = (at (rows P) d).node
 
+-- what stands where the `Enter` at the row e has its binder, or a `Head` where it has none
 abbrev pub callee_of : Checked → ℕ → Node
 callee_of P e = callee_by P (binder P e)
 
@@ -60,6 +61,7 @@ abbrev pub entered_of : Checked → Cells → Trail → ℕ → Node → Option 
 entered_of P c p n (node.Call e k) = entered_by e (find c p n) (callee_of P e)
 entered_of P c p n _ = None
 
+-- the call at the row n at the path, if a call stands there and is On
 abbrev pub entered : Checked → Cells → Trail → ℕ → Option OnCall
 entered P c p n = entered_of P c p n (at (rows P) n).node
 
@@ -79,6 +81,7 @@ passed_of P c g p k (node.Arg e i v) =
     then On p v ∷ param_haves k.path (param_row (length (rows P)) k.head i) (values c g p v) else []
 passed_of P c g p k _ = []
 
+-- the facts that come by these rows, as far as they are arguments of the call
 abbrev pub all_passed : Checked → Cells → RowFact → Trail → OnCall → List ℕ → List RowFact
 all_passed P c g p k [] = []
 all_passed P c g p k (m ∷ ms) = passed_of P c g p k (at (rows P) m).node ++ all_passed P c g p k ms
@@ -90,6 +93,7 @@ call_by P l c g p n (Some k) =
     On k.path k.body ∷ (haves p n (values c g k.path k.body)
     ++ all_passed P c g p k (targets l.args.rows.items k.enter))
 
+-- the facts that come by the call at the row n at the path, if a call stands there and is On
 abbrev pub call_at : Checked → Links → Cells → RowFact → Trail → ℕ → List RowFact
 call_at P l c g p n = call_by P l c g p n (entered P c p n)
 
@@ -99,6 +103,7 @@ pass_by P e i v None = []
 pass_by P e i v (Some k) =
     if nat_eq k.enter e then param_haves k.path (param_row (length (rows P)) k.head i) (v ∷ []) else []
 
+-- that the parameter of this index Has the value in the calls at these rows that are On and of the `Enter` e
 abbrev pub all_passes : Checked → Cells → Trail → RowValue → ℕ → ℕ → List ℕ → List RowFact
 all_passes P c p v e i [] = []
 all_passes P c p v e i (n ∷ ns) = pass_by P e i v (entered P c p n) ++ all_passes P c p v e i ns
@@ -119,6 +124,7 @@ first_of P c g p n q h m (node.Next x k o v) =
     then haves q m (seen c g (out_of (items c) (far_from P n (binder P o)) p) (binder P o)) else []
 first_of P c g p n q h m _ = []
 
+-- the facts that these rows Have their first values, as far as they are variables of the loop with the head h
 abbrev pub firsts : Checked → Cells → RowFact → Trail → ℕ → Trail → ℕ → List ℕ → List RowFact
 firsts P c g p n q h [] = []
 firsts P c g p n q h (m ∷ ms) =
@@ -131,6 +137,7 @@ start_by P l c g p n (Some i) (node.Loop h w t) =
     ++ firsts P c g p n (Below i 0) h (targets l.args.rows.items h)
 start_by P l c g p n _ _ = []
 
+-- the facts that come by the loop at the row n at the path, if a loop stands there and is On
 abbrev pub start_at : Checked → Links → Cells → RowFact → Trail → ℕ → List RowFact
 start_at P l c g p n = start_by P l c g p n (find c p n) (at (rows P) n).node
 
@@ -140,6 +147,7 @@ is_awaited_by P c q m w None = false
 is_awaited_by P c q m w (Some b) =
     nat_eq b m && same_trail (out_of (items c) (far_from P w.row (Some b)) w.path) q
 
+-- whether what this waits for is the row m at the path q
 abbrev pub is_awaited : Checked → Cells → Trail → ℕ → Wait → Truth
 is_awaited P c q m w = is_awaited_by P c q m w (awaited P w.user)
 
@@ -179,10 +187,12 @@ counted_by l r (Int v) (Int b) =
     if r.first then goes_on l r v (int_le v b) else goes_on l r (v +ℤ pos 1) (int_lt v b)
 counted_by l r _ _ = []
 
+-- the facts that come by a value, the lower bound of the index or its last value, with each of these upper bounds
 abbrev pub counted_with : Links → Counting → RowValue → List RowValue → List RowFact
 counted_with l r v [] = []
 counted_with l r v (b ∷ bs) = counted_by l r v b ++ counted_with l r v bs
 
+-- the facts that come by each of these values with each of these upper bounds
 abbrev pub counted : Links → Counting → List RowValue → List RowValue → List RowFact
 counted l r [] bs = []
 counted l r (v ∷ vs) bs = counted_with l r v bs ++ counted l r vs bs
@@ -194,6 +204,7 @@ begin_by P l c g p (Some i) (node.Loop h w t) =
     (seen c g p (lower_at (rows P) h)) (seen c g p (upper_at (rows P) h))
 begin_by P l c g p _ _ = []
 
+-- the facts that come by the bounds of the loop at the row n at the path, if a loop stands there and is On
 abbrev pub begin_at : Checked → Links → Cells → RowFact → Trail → ℕ → List RowFact
 begin_at P l c g p n = begin_by P l c g p (find c p n) (at (rows P) n).node
 
@@ -204,6 +215,7 @@ counting_by P x (Some r) (Some q) =
     then Some (record { path = q; index = x; switches = r.switches; last = r.last; first = false }) else None
 counting_by P x _ _ = None
 
+-- what comes next where the index at the row x has a value at the path, if its loop may have a next iteration
 abbrev pub counting_of : Checked → Cells → Trail → ℕ → Option Counting
 counting_of P c p x = counting_by P x (iteration_of P c p) (next_of p)
 
@@ -219,6 +231,7 @@ index_by P l c p n v (node.Index x) =
     (seen c (Has p n v) (out_of (items c) (far_from P n (awaited P n)) p) (awaited P n))
 index_by P l c p n v _ = []
 
+-- the facts that come where the row n has the value at the path, if it is an index
 abbrev pub index_at : Checked → Links → Cells → Trail → ℕ → RowValue → List RowFact
 index_at P l c p n v = index_by P l c p n v (at (rows P) n).node
 
@@ -236,6 +249,7 @@ woken P l c q m v w =
     then woken_by P w v (find c w.path w.row) (at (rows P) w.row).node (at (rows P) w.user).node
     ++ index_woken P l c (Has q m v) w v (at (rows P) w.row).node else []
 
+-- the facts that come where the row m Has the value at the path q, by those of these that wait for it
 abbrev pub all_woken : Checked → Links → Cells → Trail → ℕ → RowValue → List Wait → List RowFact
 all_woken P l c q m v [] = []
 all_woken P l c q m v (w ∷ ws) = woken P l c q m v w ++ all_woken P l c q m v ws
@@ -247,6 +261,7 @@ abbrev pub on_at : Option Trail → ℕ → List RowFact
 on_at None n = []
 on_at (Some p) n = On p n ∷ []
 
+-- the fact that the row Has the value at the path, if there is one
 abbrev pub has_at : Option Trail → ℕ → RowValue → List RowFact
 has_at None n v = []
 has_at (Some p) n v = Has p n v ∷ []
@@ -293,6 +308,7 @@ abbrev pub exit_by : Checked → ℕ → ℕ → RowValue → RowFact → List R
 exit_by P k n v (On p m) = if is_end P (at (rows P) m).node k n then Has p m v ∷ [] else []
 exit_by P k n v _ = []
 
+-- the fact that comes by the call or loop in which the path ends, where the row n is its end and Has the value there
 abbrev pub exit_at : Checked → Cells → Trail → ℕ → RowValue → List RowFact
 exit_at P c Outermost n v = []
 exit_at P c (Below i k) n v = exit_by P k n v (fact_at (items c) i)
@@ -306,6 +322,7 @@ gain P l c p n v m =
     given P c (Has p n v) p m
     ++ (pass_of P l c p n v z ++ (loop_by P l c p n v m z ++ begin_at P l c (Has p n v) p m))
 
+-- the facts that come at these rows, which read the row n that Has the value
 abbrev pub gains : Checked → Links → Cells → Trail → ℕ → RowValue → List ℕ → List RowFact
 gains P l c p n v [] = []
 gains P l c p n v (m ∷ ms) = gain P l c p n v m ++ gains P l c p n v ms

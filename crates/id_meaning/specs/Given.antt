@@ -27,6 +27,7 @@ use Rattle.id_facts.specs.Cells.{shapes, values}
 use Rattle.id_source.specs.Links.{arm_of, beyond, far}
 use Rattle.id_facts.specs.Firsts.{row_value, haves}
 
+-- the constant that the value of a row is, if it is one
 abbrev pub constant_of : RowValue → Option Constant
 constant_of (Int n) = Some (constant.Int n)
 constant_of (Bool b) = Some (constant.Bool b)
@@ -50,22 +51,27 @@ abbrev pub unary_by : Trail → ℕ → UnaryOp → Option Constant → List Row
 unary_by p n o None = []
 unary_by p n o (Some k) = gives p n (result_of_unary o k)
 
+-- the facts that the row n has what the operator gives of each of these operands
 abbrev pub unaries : Trail → ℕ → UnaryOp → List RowValue → List RowFact
 unaries p n o [] = []
 unaries p n o (v ∷ vs) = unary_by p n o (constant_of v) ++ unaries p n o vs
 
+-- the fact that the row n has what the operator gives of a left operand and this right one, if that is a constant
 abbrev pub binary_by : Trail → ℕ → BinaryOp → Constant → Option Constant → List RowFact
 binary_by p n o k None = []
 binary_by p n o k (Some l) = gives p n (result_of_binary o k l)
 
+-- the facts that the row n has what the operator gives of the left operand and each of these right ones
 abbrev pub all_rights : Trail → ℕ → BinaryOp → Constant → List RowValue → List RowFact
 all_rights p n o k [] = []
 all_rights p n o k (w ∷ ws) = binary_by p n o k (constant_of w) ++ all_rights p n o k ws
 
+-- the facts that the row n has what the operator gives of a left operand, if it is a constant, and each right one
 abbrev pub rights_of : Trail → ℕ → BinaryOp → Option Constant → List RowValue → List RowFact
 rights_of p n o None ws = []
 rights_of p n o (Some k) ws = all_rights p n o k ws
 
+-- the facts that the row n has what the operator gives of each of these left operands and each right one
 abbrev pub binaries : Trail → ℕ → BinaryOp → List RowValue → List RowValue → List RowFact
 binaries p n o [] ws = []
 binaries p n o (v ∷ vs) ws = rights_of p n o (constant_of v) ws ++ binaries p n o vs ws
@@ -80,6 +86,7 @@ arm_by c g p n x y (Bool b) = chosen c g p n (arm_of b x y)
 arm_by c g p n x y (Int k) = []
 arm_by c g p n x y (Name s) = []
 
+-- the facts that come by these values of the predicate at a conditional with these arms
 abbrev pub arms : Cells → RowFact → Trail → ℕ → ℕ → ℕ → List RowValue → List RowFact
 arms c g p n x y [] = []
 arms c g p n x y (v ∷ vs) = arm_by c g p n x y v ++ arms c g p n x y vs
@@ -93,15 +100,18 @@ made_by p n i lo (Int hi) = if are_good lo hi then Shape i lo hi ∷ Has p n (Na
 made_by p n i lo (Bool b) = []
 made_by p n i lo (Name s) = []
 
+-- the facts that come of the lower bound of an `array` with each of these upper ones
 abbrev pub made : Trail → ℕ → ℕ → ℤ → List RowValue → List RowFact
 made p n i lo [] = []
 made p n i lo (w ∷ ws) = made_by p n i lo w ++ made p n i lo ws
 
+-- the facts that come of this value as the lower bound of an `array`, if it is a number, with each upper one
 abbrev pub array_by : Trail → ℕ → ℕ → RowValue → List RowValue → List RowFact
 array_by p n i (Int lo) ws = made p n i lo ws
 array_by p n i (Bool b) ws = []
 array_by p n i (Name s) ws = []
 
+-- the facts that come of each of these lower bounds of an `array` with each of these upper ones
 abbrev pub arrays : Trail → ℕ → ℕ → List RowValue → List RowValue → List RowFact
 arrays p n i [] ws = []
 arrays p n i (v ∷ vs) ws = array_by p n i v ws ++ arrays p n i vs ws
@@ -118,15 +128,18 @@ asked_by p n s bs (Int j) = if is_in_some bs j then Ask p n s j ∷ [] else []
 asked_by p n s bs (Bool b) = []
 asked_by p n s bs (Name t) = []
 
+-- that the fetch asks for the cells of these indices that are inside some of these bounds of the structure
 abbrev pub asked : Trail → ℕ → ℕ → List Bounds → List RowValue → List RowFact
 asked p n s bs [] = []
 asked p n s bs (w ∷ ws) = asked_by p n s bs w ++ asked p n s bs ws
 
+-- that the fetch asks for the cells of these indices, of the structure that the value is, if it is one
 abbrev pub fetch_by : Cells → Trail → ℕ → RowValue → List RowValue → List RowFact
 fetch_by c p n (Name s) ws = asked p n s (shapes c s) ws
 fetch_by c p n (Int k) ws = []
 fetch_by c p n (Bool b) ws = []
 
+-- that the fetch asks for the cells of these indices, of the structures that these values are
 abbrev pub fetches : Cells → Trail → ℕ → List RowValue → List RowValue → List RowFact
 fetches c p n [] ws = []
 fetches c p n (v ∷ vs) ws = fetch_by c p n v ws ++ fetches c p n vs ws
@@ -137,20 +150,24 @@ abbrev pub put_in : Trail → ℕ → ℕ → ℤ → List RowValue → List Row
 put_in p n s j [] = []
 put_in p n s j (v ∷ vs) = Put p n s j v ∷ put_in p n s j vs
 
+-- that the store puts these values into the cell of this index, if it is inside some of the structure's bounds
 abbrev pub stored_by : Trail → ℕ → ℕ → List Bounds → List RowValue → RowValue → List RowFact
 stored_by p n s bs vs (Int j) = if is_in_some bs j then put_in p n s j vs else []
 stored_by p n s bs vs (Bool b) = []
 stored_by p n s bs vs (Name t) = []
 
+-- that the store puts these values into the cells of these indices that are inside some of the structure's bounds
 abbrev pub stored : Trail → ℕ → ℕ → List Bounds → List RowValue → List RowValue → List RowFact
 stored p n s bs [] vs = []
 stored p n s bs (w ∷ ws) vs = stored_by p n s bs vs w ++ stored p n s bs ws vs
 
+-- that the store puts these values into the cells of these indices, of the structure that a value is, if it is one
 abbrev pub store_by : Cells → Trail → ℕ → RowValue → List RowValue → List RowValue → List RowFact
 store_by c p n (Name s) ws vs = stored p n s (shapes c s) ws vs
 store_by c p n (Int k) ws vs = []
 store_by c p n (Bool b) ws vs = []
 
+-- that the store puts these values into the cells of these indices, of the structures that the targets are
 abbrev pub stores : Cells → Trail → ℕ → List RowValue → List RowValue → List RowValue → List RowFact
 stores c p n [] ws vs = []
 stores c p n (u ∷ us) ws vs = store_by c p n u ws vs ++ stores c p n us ws vs
@@ -181,10 +198,12 @@ from_on P c g p n i (node.Fetch t j) = fetches c p n (values c g p t) (values c 
 from_on P c g p n i (node.Store a x) = store_at c g p n (at (rows P) a).node x
 from_on P c g p n i _ = []
 
+-- the facts that come at the row n of this node at the path, if it is On there by the fact of this number
 abbrev pub from_found : Checked → Cells → RowFact → Trail → ℕ → Node → Option ℕ → List RowFact
 from_found P c g p n z None = []
 from_found P c g p n z (Some i) = from_on P c g p n i z
 
+-- the facts that come at the row n of this node: at a binding what its expression Has, at any other if it is On
 abbrev pub given_of : Checked → Cells → RowFact → Trail → ℕ → Node → List RowFact
 given_of P c g p n (node.Binding x a) = haves p n (values c g p a)
 given_of P c g p n z = from_found P c g p n z (find c p n)

@@ -32,6 +32,7 @@ near_handled n t x f r = record {
 abbrev pub read_by : PlainToken → PlainCell → Payload
 read_by t c = Read (cell_of c) (tag_in t)
 
+-- a write of the token's value to this cell, from the token's tag
 abbrev pub written_by : PlainToken → PlainCell → Payload
 written_by t c = Write (cell_of c) (whole t.value) (tag_in t)
 

@@ -142,6 +142,7 @@ abbrev pub binder_by : List Row → ℕ → Option ℕ → ℕ → Option ℕ
 binder_by R i None n = None
 binder_by R i (Some x) n = binder_of R x i n
 
+-- the binder of the name that the row i uses, if there is one, where n rows are looked at
 abbrev pub binder_at : List Row → ℕ → ℕ → Option ℕ
 binder_at R n i = binder_by R i (used_name (at R i).node) n
 

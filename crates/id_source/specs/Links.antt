@@ -71,6 +71,7 @@ abbrev pub target_of : Node → Option ℕ
 target_of (Address t i) = Some t
 target_of _ = None
 
+-- the index of the store whose address is a row of this node, if it is one
 abbrev pub index_of : Node → Option ℕ
 index_of (Address t i) = Some i
 index_of _ = None
@@ -149,6 +150,7 @@ abbrev pub linked_of : List Row → Option ℕ → Node → List ℕ
 linked_of R o (Name x) = []
 linked_of R o z = reads_of R o z
 
+-- the rows from which edges lead to the row: none to a name, and else those that it reads
 abbrev pub linked_at : Checked → ℕ → List ℕ
 linked_at P n = let z = (at (rows P) n).node in linked_of (rows P) (beyond P n z) z
 
@@ -160,6 +162,7 @@ awaited_of P u (Next x k o v) = binder P o
 awaited_of P u (Index x) = upper_at (rows P) (at (rows P) u).block
 awaited_of P u _ = None
 
+-- what the row u waits for, if it is a name, a `next` or an index
 abbrev pub awaited : Checked → ℕ → Option ℕ
 awaited P u = awaited_of P u (at (rows P) u).node
 
@@ -169,6 +172,7 @@ users_of l n (Name x) = n ∷ []
 users_of l n (Loop h w t) = targets l.args.rows.items h
 users_of l n _ = []
 
+-- the rows that wait where the row n is On: the name itself, or each `next` of the loop
 abbrev pub users : Checked → Links → ℕ → List ℕ
 users P l n = users_of l n (at (rows P) n).node
 
@@ -236,6 +240,7 @@ asker_of b (Arg e k v) = Some e
 asker_of b (Next x k o v) = Some b
 asker_of b _ = None
 
+-- the row that asks for the row m, if that is an argument or a `next`
 abbrev pub asker_at : List Row → ℕ → Option ℕ
 asker_at R m = asker_of (at R m).block (at R m).node
 
@@ -293,5 +298,6 @@ Statements_at E F ss ts n first o (Binding x a) = (F ≡ E) × (ts ≡ ss ++ rec
 Statements_at E F ss ts n first o (Store a x) = (F ≡ E) × (ts ≡ ss ++ record { row = n; value = n } ∷ [])
 Statements_at E F ss ts n first o _ = (F ≡ E) × (ts ≡ ss)
 
+-- what becomes of the edges and the statements that wait, at the row n, which is r
 abbrev pub Statements : List Row → Edges → Edges → List Statement → List Statement → ℕ → Row → Type 0
 Statements R E F ss ts n r = Statements_at E F ss ts n r.first (switches_of R r) r.node

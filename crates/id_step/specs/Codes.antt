@@ -23,15 +23,19 @@ use Rattle.id_step.specs.Replays.{ElementView}
 abbrev pub coded_graph : Coded Parts
 coded_graph = valid.the_row.coded
 
+-- a message has the code of its type
 abbrev pub coded_message : Coded Message
 coded_message = message.the_row.coded
 
+-- what was fired has the code of its type
 abbrev pub coded_fired : Coded Fired
 coded_fired = fired.the_row.coded
 
+-- what an event came to has the code of its type
 abbrev pub coded_step : Coded Step
 coded_step = step.the_row.coded
 
+-- how much is kept has the code of its type
 abbrev pub coded_keeps : Coded Keeps
 coded_keeps = keeps.the_row.coded
 

@@ -21,6 +21,7 @@ abbrev pub lower_of : Node → Option ℕ
 lower_of (Bounds a b) = Some a
 lower_of _ = None
 
+-- the upper bound of an index whose bounds are a row of this node, if it is such a row
 abbrev pub upper_of : Node → Option ℕ
 upper_of (Bounds a b) = Some b
 upper_of _ = None
@@ -29,6 +30,7 @@ upper_of _ = None
 abbrev pub lower_at : List Row → ℕ → Option ℕ
 lower_at R h = lower_of (at R (bounds_row h)).node
 
+-- the upper bound of the index of the loop with the head h, if it has one
 abbrev pub upper_at : List Row → ℕ → Option ℕ
 upper_at R h = upper_of (at R (bounds_row h)).node
 

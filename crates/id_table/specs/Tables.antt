@@ -142,6 +142,7 @@ is_binder (Next x k o v) = true
 is_binder (Index x) = true
 is_binder _ = false
 
+-- whether the index of a loop stands at a row of this node
 abbrev pub is_index : Node → Bool
 is_index (Index x) = true
 is_index _ = false
@@ -156,10 +157,12 @@ abbrev pub is_within : Node → Bool
 is_within (Within f) = true
 is_within _ = false
 
+-- whether a binding stands at a row of this node
 abbrev pub is_binding : Node → Bool
 is_binding (Binding x a) = true
 is_binding _ = false
 
+-- whether a store stands at a row of this node
 abbrev pub is_store : Node → Bool
 is_store (Store a v) = true
 is_store _ = false
@@ -175,10 +178,12 @@ abbrev pub is_address : Node → Bool
 is_address (Address t i) = true
 is_address _ = false
 
+-- whether a parameter stands at a row of this node
 abbrev pub is_param : Node → Bool
 is_param (Param x k) = true
 is_param _ = false
 
+-- whether a block of the text stands at a row of this node
 abbrev pub is_block : Node → Bool
 is_block (Block b) = true
 is_block _ = false
@@ -188,6 +193,7 @@ abbrev pub is_split : Node → Bool
 is_split (Split t) = true
 is_split _ = false
 
+-- whether a conditional stands at a row of this node
 abbrev pub is_if : Node → Bool
 is_if (If s x y) = true
 is_if _ = false
@@ -197,14 +203,17 @@ abbrev pub is_enter : Node → Bool
 is_enter (Enter x) = true
 is_enter _ = false
 
+-- whether the marker behind an argument of a call stands at a row of this node
 abbrev pub is_arg : Node → Bool
 is_arg (Arg e i v) = true
 is_arg _ = false
 
+-- whether a call stands at a row of this node
 abbrev pub is_call : Node → Bool
 is_call (Call e c) = true
 is_call _ = false
 
+-- whether a definition begins at a row of this node
 abbrev pub is_head : Node → Bool
 is_head Head = true
 is_head _ = false
@@ -221,14 +230,17 @@ has_statements (Block b) = true
 has_statements Body = true
 has_statements _ = false
 
+-- whether a `next` statement stands at a row of this node
 abbrev pub is_next : Node → Bool
 is_next (Next x k o v) = true
 is_next _ = false
 
+-- whether the entry of a loop's variable stands at a row of this node
 abbrev pub is_variable : Node → Bool
 is_variable Variable = true
 is_variable _ = false
 
+-- whether a loop stands at a row of this node
 abbrev pub is_loop : Node → Bool
 is_loop (Loop h w l) = true
 is_loop _ = false
@@ -268,6 +280,7 @@ is_top (Within f) = true
 is_top (Switches t) = true
 is_top _ = false
 
+-- whether a definition stands at a row of this node
 abbrev pub is_def : Node → Bool
 is_def (Def x h k b) = true
 is_def _ = false

@@ -50,6 +50,7 @@ abbrev pub port_of : Bool → Port
 port_of false = Zero
 port_of true = One
 
+-- whether a port is port 1 tells which port it is
 pub port_of-is_port_one : (p : Port) → port_of (is_port_one p) ≡ p
 port_of-is_port_one Zero = refl
 port_of-is_port_one One = refl
@@ -82,6 +83,7 @@ from_parts (inr (inr (inr (inr (inl c))))) = value.Address c
 from_parts (inr (inr (inr (inr (inr (inl c)))))) = value.Context c
 from_parts (inr (inr (inr (inr (inr (inr t)))))) = value.Continuation t
 
+-- the value that holds what a value holds is that value
 pub from_parts-parts_of : (v : Value) → from_parts (parts_of v) ≡ v
 from_parts-parts_of value.Signal = refl
 from_parts-parts_of (value.Int _) = refl

@@ -18,6 +18,7 @@ half bytes i =
     slice_index bytes i + slice_index bytes (i + 1) * 256
     + slice_index bytes (i + 2) * 65536 + slice_index bytes (i + 3) * 16777216
 
+-- the number of eight bytes, the lowest first
 abbrev pub number : List ℕ → ℕ
 number bytes = bit_or (half bytes 0) (half bytes 4 * 2 ^ 32 % 2 ^ 64)
 

@@ -20,6 +20,7 @@ use Rattle.id_tag.specs.declared.Sender.TheVariants.{Element}
 abbrev pub element_of : ℕ → ℕ
 element_of n = n % 256
 
+-- the serial number in the name of a context or of a structure
 abbrev pub serial_of : ℕ → ℕ
 serial_of n = n / 256
 
@@ -40,9 +41,11 @@ structure_of n l h = made_by (element_of n) (serial_of n) l h
 abbrev pub low_of : ℕ → ℤ
 low_of p = pos (p / 2 ^ 44) -ℤ pos (2 ^ 19)
 
+-- the upper bound in the place of a cell, which has it as a number above its least
 abbrev pub high_of : ℕ → ℤ
 high_of p = pos (p / 2 ^ 22 % 2 ^ 22) -ℤ pos (2 ^ 21)
 
+-- the index in the place of a cell, which has it as a number above its least
 abbrev pub index_of : ℕ → ℤ
 index_of p = pos (p % 2 ^ 22) -ℤ pos (2 ^ 21)
 

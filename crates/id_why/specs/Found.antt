@@ -45,10 +45,12 @@ abbrev pub arm_by : Trail → ℕ → ℕ → RowValue → List Point
 arm_by p x y (Bool b) = point p (arm_of b x y) ∷ []
 arm_by p x y _ = []
 
+-- for each of these values of the predicate the arm that it turns on
 abbrev pub arms : Trail → ℕ → ℕ → List RowValue → List Point
 arms p x y [] = []
 arms p x y (v ∷ vs) = arm_by p x y v ++ arms p x y vs
 
+-- what the predicate Has at the path, if there is one
 abbrev pub tested : Known → Trail → Option ℕ → List RowValue
 tested k p None = []
 tested k p (Some t) = values k p t
@@ -71,10 +73,13 @@ abbrev pub argument_by : Trail → ℕ → ℕ → ℕ → Node → List Point
 argument_by q n e h (node.Arg f i v) = if nat_eq f e && nat_eq n (h + 1 + i) then point q v ∷ [] else []
 argument_by q n e h _ = []
 
+-- the arguments among these rows for the parameter at the row n of the call with the `Enter` e, of a procedure
+-- with the head h
 abbrev pub arguments : Checked → Trail → ℕ → ℕ → ℕ → List ℕ → List Point
 arguments P q n e h [] = []
 arguments P q n e h (m ∷ ms) = argument_by q n e h (node_at P m) ++ arguments P q n e h ms
 
+-- the arguments for the parameter at the row n of the call with the `Enter` e, of a procedure with this head
 abbrev pub arguments_of : Checked → Links → Trail → ℕ → ℕ → Option ℕ → List Point
 arguments_of P l q n e None = []
 arguments_of P l q n e (Some h) = arguments P q n e h (targets l.args.rows.items e)
@@ -84,6 +89,7 @@ abbrev pub passed_at : Checked → Links → Trail → ℕ → Node → List Poi
 passed_at P l q n (node.Call e c) = arguments_of P l q n e (head_in (callee_of P e))
 passed_at P l q n _ = []
 
+-- the argument for the parameter at the row n of the call that is On by the fact
 abbrev pub passed_by : Checked → Links → ℕ → RowFact → List Point
 passed_by P l n (On q c) = passed_at P l q n (node_at P c)
 passed_by P l n _ = []
@@ -101,10 +107,12 @@ turned_by i l t (Below j k) m =
     if nat_eq j i && (nat_eq m l || is_row t m) then Some (point (Below j k) m) else None
 turned_by i l t Outermost m = None
 
+-- the predicate or the last expression of a loop, if it is On by the fact at a path that begins at the fact i
 abbrev pub turn_by : ℕ → ℕ → Option ℕ → RowFact → Option Point
 turn_by i l t (On p m) = turned_by i l t p m
 turn_by i l t _ = None
 
+-- where the predicate or the last expression of a loop is On at paths that begin at this fact, if there is one
 abbrev pub turns_at : Known → ℕ → Option ℕ → Option ℕ → List Point
 turns_at k l t None = []
 turns_at k l t (Some i) = told (turn_by i l t) (known_facts k) (targets k.turns.rows.items i)
@@ -145,6 +153,7 @@ may_fill k p c _ = false
 abbrev pub some_if : Truth → Point → Option Point
 some_if b t = if b then Some t else None
 
+-- the store at the row m of this node at the path, if it is one that may fill the cell
 abbrev pub filler_at : Checked → Known → Cell → Trail → ℕ → Node → Option Point
 filler_at P k c p m (node.Store a x) = some_if (may_fill k p c (node_at P a)) (point p m)
 filler_at P k c p m _ = None

@@ -35,6 +35,7 @@ ask_by t _ = None
 abbrev pub known_facts : Known → List RowFact
 known_facts k = items k.cells
 
+-- the numbers of the facts that may be of the thing
 abbrev pub numbers_of : Known → Point → List ℕ
 numbers_of k t = targets k.points.rows.items (chain_at t.path t.row)
 
@@ -43,6 +44,7 @@ abbrev pub any_gives : List RowFact → Point → List ℕ → Truth
 any_gives fs t [] = false
 any_gives fs t (i ∷ is) = gives t (fact_at fs i) || any_gives fs t is
 
+-- whether one of the facts that may be of the thing gives it a value
 abbrev pub is_given : Known → Point → Truth
 is_given k t = any_gives (known_facts k) t (numbers_of k t)
 
@@ -50,6 +52,7 @@ is_given k t = any_gives (known_facts k) t (numbers_of k t)
 abbrev pub asks : Known → Point → List Cell
 asks k t = told (ask_by t) (known_facts k) (numbers_of k t)
 
+-- what the row Has at the path
 abbrev pub values : Known → Trail → ℕ → List RowValue
 values k p n = cell_values k.cells (On Outermost 0) p n
 
@@ -68,6 +71,7 @@ abbrev pub spot_by : RowFact → Option ℕ
 spot_by (On p n) = spot_of p
 spot_by _ = None
 
+-- the fact's own number, if it turns on a store
 abbrev pub store_by : Checked → RowFact → ℕ → List ℕ
 store_by P (On p n) i = store_number (node_at P n) i
 store_by P _ i = []

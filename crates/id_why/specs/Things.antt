@@ -21,6 +21,7 @@ is_thing t (u ∷ us) = same_point u t || is_thing t us
 abbrev pub with_one : List Point → Point → List Point
 with_one us t = if is_thing t us then us else us ++ t ∷ []
 
+-- the things with each of these in turn, where it is not there
 abbrev pub with_all : List Point → List Point → List Point
 with_all us [] = us
 with_all us (t ∷ ts) = with_all (with_one us t) ts

@@ -25,6 +25,7 @@ abbrev pub asking_by : RowFact → List Point
 asking_by (Ask p n s j) = point p n ∷ []
 asking_by _ = []
 
+-- the fetches that ask for a cell by one of these facts
 abbrev pub asking : List RowFact → List Point
 asking [] = []
 asking (f ∷ fs) = asking_by f ++ asking fs
