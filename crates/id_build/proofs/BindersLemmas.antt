@@ -19,7 +19,7 @@ use Rattle.id_table.specs.Loops.{AreCarried, AreEntries, IsNextOf, StandsAt, an_
 use Rattle.id_table.specs.Regions.{Lies, here, in_side}
 use Rattle.id_check.specs.declared.checked.Checked.{Checked}
 use Rattle.id_check.specs.Programs.{region, rows}
-use Rattle.id_scope.specs.Scopes.{takes}
+use Rattle.id_check.specs.Scopes.{takes}
 use Rattle.id_check.proofs.HomesLemmas.{home, home_in}
 use Rattle.id_desugar.specs.Ends.{next_of}
 use Rattle.id_desugar.specs.Regions.{carried, first_variable, is_outside, has, with_use, imports_by, nexts_from}

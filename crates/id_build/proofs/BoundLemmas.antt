@@ -8,7 +8,7 @@ use Rattle.id_table.specs.Rows.{at}
 use Rattle.id_table.specs.Tables.{is_in_loop}
 use Rattle.id_check.specs.declared.checked.Checked.{Checked}
 use Rattle.id_check.specs.Programs.{place, rows}
-use Rattle.id_scope.specs.Scopes.{first_of}
+use Rattle.id_check.specs.Scopes.{first_of}
 use Rattle.id_check.proofs.ProgramsLemmas.{table_of}
 use Rattle.id_desugar.specs.Ends.{end_at, end_of, ends_what}
 use Rattle.id_desugar.specs.Regions.{bound_of, carried, first_variable, handed, has, has_index, imports_by, imports_of, is_loop_head, is_outside, nexts_of, taken, used, with_use}

@@ -18,7 +18,7 @@ use Rattle.id_table.specs.Turns as roots
 use Rattle.id_table.specs.Turns.{IsTable, IsDefOf}
 use Rattle.id_table.proofs.RegionLemmas.{InArm-within, Root-stands}
 use Rattle.id_check.specs.declared.checked.Checked.{Checked}
-use Rattle.id_scope.specs.Scopes.{first_of}
+use Rattle.id_check.specs.Scopes.{first_of}
 use Rattle.id_check.specs.Programs.{region, rows}
 use Rattle.id_desugar.specs.Ends.{ends_what, end_of}
 use Rattle.id_build.specs.Rows.{node}

@@ -21,7 +21,7 @@ use Rattle.id_table.specs.Regions.{Lies, here, in_arm, in_loop, in_side, IsIfOf}
 use Rattle.id_table.proofs.RegionLemmas.{InArm-either, InArm-lies, InArm-within, Lies-chain, Lies-split, Lies-trans}
 use Rattle.id_check.specs.declared.checked.Checked.{Checked}
 use Rattle.id_check.specs.Programs.{Stands, binder, region, rows}
-use Rattle.id_scope.specs.Scopes.{takes, used_name}
+use Rattle.id_check.specs.Scopes.{takes, used_name}
 use Rattle.id_check.proofs.HomesLemmas.{held_binding, home, home_in, inside_loop}
 use Rattle.id_check.proofs.ProgramsLemmas.{bound_name_row, bound_use_row, next_use_row, seen_in}
 use Rattle.id_desugar.specs.Ends.{end_of, next_of}

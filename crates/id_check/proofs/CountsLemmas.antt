@@ -10,10 +10,10 @@ use Rattle.id_table.specs.declared.row.Row.{Row}
 use Rattle.id_table.specs.declared.row.Node.{Node}
 use Rattle.id_table.specs.declared.row.Node.TheVariants.{Call}
 use Rattle.id_table.specs.Rows.{at}
-use Rattle.id_scope.specs.Causes.{count_at, count_in}
+use Rattle.id_check.specs.Causes.{count_at, count_in}
 use Rattle.id_check.specs.Counts.{AreCounts}
-use Rattle.id_scope.proofs.NoneLemmas.{all_same}
-use Rattle.id_scope.proofs.ScopesLemmas.{or_none}
+use Rattle.id_check.proofs.NoneLemmas.{all_same}
+use Rattle.id_check.proofs.ScopesLemmas.{or_none}
 
 -- before any row
 pub counts_none : (R : List Row) (cs : List (Option ℕ)) → cs ≡ replicate (length R) None → AreCounts R 0 cs

@@ -17,7 +17,7 @@ use Rattle.id_table.specs.Regions.{Lies, StandsInArm, here, in_arm, in_loop, in_
 use Rattle.id_table.specs.Turns.{AreParamsOf, IsTable, in_block}
 use Rattle.id_table.proofs.BlocksLemmas.{not_last}
 use Rattle.id_table.proofs.RegionLemmas.{InArm-within, Lies-trans}
-use Rattle.id_scope.specs.Scopes.{bound_name, closes, confines, held, looks, sees_own, takes}
+use Rattle.id_check.specs.Scopes.{bound_name, closes, confines, held, looks, sees_own, takes}
 
 -- the home of a binder's value is where the binder stands, and for a loop's variable the beginning of the loop
 abbrev pub home_in : ℕ → Region → Node → Region

@@ -12,9 +12,9 @@ use Rattle.id_table.specs.Rows.{at, no_row}
 use Rattle.id_table.specs.Tables.{is_param}
 use Rattle.id_table.specs.Turns.{IsDefOf, IsTable, params_at}
 use Rattle.id_table.proofs.BlocksLemmas.{Among-from_params_at, Among-params_at, param_at, param_index, params_at-run, run}
-use Rattle.id_scope.specs.declared.cause.CheckCause.{CheckCause}
-use Rattle.id_scope.specs.declared.cause.CheckCause.TheVariants.{MainKind}
-use Rattle.id_scope.specs.Causes.{array_param, callee, head_in, is_array_param}
+use Rattle.id_check.specs.declared.cause.CheckCause.{CheckCause}
+use Rattle.id_check.specs.declared.cause.CheckCause.TheVariants.{MainKind}
+use Rattle.id_check.specs.Causes.{array_param, callee, head_in, is_array_param}
 use Rattle.id_check.specs.Params.{is_param_of}
 
 -- the head of a definition stands before the last row

@@ -21,23 +21,23 @@ use Rattle.id_table.specs.Regions.{Lies}
 use Rattle.id_table.specs.Turns.{IsTable}
 use Rattle.id_table.proofs.RegionLemmas.{HasPart-operand}
 use Rattle.id_table.proofs.TableLemmas.{IsTable-rows_of}
-use Rattle.id_scope.specs.declared.cause.CheckCause.TheVariants.{Unknown}
+use Rattle.id_check.specs.declared.cause.CheckCause.TheVariants.{Unknown}
 use Rattle.id_check.specs.declared.checked.Checked.{Checked}
-use Rattle.id_scope.specs.declared.cause.CheckCause.{CheckCause}
-use Rattle.id_scope.specs.Causes.{causes_below, causes_in, duplicates, unknown}
-use Rattle.id_scope.specs.declared.kinds.Link.{Link}
-use Rattle.id_scope.specs.declared.kinds.Link.TheVariants.{Fixed, To, Nowhere}
-use Rattle.id_scope.specs.declared.kinds.Link.TheVariants as link
-use Rattle.id_scope.specs.Chains.{goes_to}
-use Rattle.id_scope.specs.Kinds.{AreKinds, EndsIn, binary_kind, constant_kind, in_kind, in_nothing, further, within, kind_within, link_at, link_of, link_of_name, unary_kind}
+use Rattle.id_check.specs.declared.cause.CheckCause.{CheckCause}
+use Rattle.id_check.specs.Causes.{causes_below, causes_in, duplicates, unknown}
+use Rattle.id_check.specs.declared.kinds.Link.{Link}
+use Rattle.id_check.specs.declared.kinds.Link.TheVariants.{Fixed, To, Nowhere}
+use Rattle.id_check.specs.declared.kinds.Link.TheVariants as link
+use Rattle.id_check.specs.Chains.{goes_to}
+use Rattle.id_check.specs.Kinds.{AreKinds, EndsIn, binary_kind, constant_kind, in_kind, in_nothing, further, within, kind_within, link_at, link_of, link_of_name, unary_kind}
 use Rattle.id_check.specs.Programs.{Calls, Stands, binder, kind, region, rows, tree}
-use Rattle.id_scope.specs.Scopes.{binder_by, binder_in, binder_of, binds, bound_name, held, is_name}
-use Rattle.id_scope.specs.Scopes.{is_next_use, keeps, looks, sees, sees_own, takes, used_name, user_of, uses_procedure, uses_value}
-use Rattle.id_scope.proofs.ChainsLemmas.{after, after_within}
+use Rattle.id_check.specs.Scopes.{binder_by, binder_in, binder_of, binds, bound_name, held, is_name}
+use Rattle.id_check.specs.Scopes.{is_next_use, keeps, looks, sees, sees_own, takes, used_name, user_of, uses_procedure, uses_value}
+use Rattle.id_check.proofs.ChainsLemmas.{after, after_within}
 use Rattle.id_check.proofs.HomesLemmas.{bound_home, home, seen_outside}
-use Rattle.id_scope.proofs.LinksLemmas.{link_below, part_of}
+use Rattle.id_check.proofs.LinksLemmas.{link_below, part_of}
 use Rattle.id_check.proofs.NotedLemmas.{IsProgramTree-tree_in}
-use Rattle.id_scope.proofs.ScopesLemmas.{binder_at-below, first_of-some}
+use Rattle.id_check.proofs.ScopesLemmas.{binder_at-below, first_of-some}
 use Rattle.id_table.proofs.BlocksLemmas.{not_last}
 
 -- ---- the table

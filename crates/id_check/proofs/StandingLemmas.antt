@@ -25,16 +25,16 @@ use Rattle.id_table.specs.Tables.{HasOperand, is_expression, is_param, is_thing,
 use Rattle.id_table.specs.Turns.{IsTable, params_at, params_below}
 use Rattle.id_table.proofs.PlacesLemmas.{HasPlace-rows_of}
 use Rattle.id_table.proofs.RegionLemmas.{HasPart-operand}
-use Rattle.id_scope.specs.declared.cause.CheckCause.{CheckCause}
-use Rattle.id_scope.specs.declared.cause.CheckCause.TheVariants.{NoMain, MainKind, Duplicate, Unknown, WrongCount, WrongKind, TooManyParams, Memory}
-use Rattle.id_scope.specs.Scopes.{binder_in, binds, bound_name, is_name, keeps, held, user_of}
-use Rattle.id_scope.specs.Kinds.{unary_kind}
-use Rattle.id_scope.specs.Causes.{HasFirst, IsInside, IsRefusedFor, array_param, callee, causes, causes_below}
-use Rattle.id_scope.specs.Causes.{causes_in, count_at, duplicates, is_count, is_array_param, repeated}
-use Rattle.id_scope.specs.Causes.{second, seconds, unknown, unless_array, unless_found, wrong, wrong_argument, wrong_both}
-use Rattle.id_scope.specs.Causes.{wrong_cell, wrong_count, wrong_equals, wrong_like, wrong_operands, wrong_params}
-use Rattle.id_scope.proofs.LinksLemmas.{part_of}
-use Rattle.id_scope.proofs.ScopesLemmas.{binder_in-below, first_of-some}
+use Rattle.id_check.specs.declared.cause.CheckCause.{CheckCause}
+use Rattle.id_check.specs.declared.cause.CheckCause.TheVariants.{NoMain, MainKind, Duplicate, Unknown, WrongCount, WrongKind, TooManyParams, Memory}
+use Rattle.id_check.specs.Scopes.{binder_in, binds, bound_name, is_name, keeps, held, user_of}
+use Rattle.id_check.specs.Kinds.{unary_kind}
+use Rattle.id_check.specs.Causes.{HasFirst, IsInside, IsRefusedFor, array_param, callee, causes, causes_below}
+use Rattle.id_check.specs.Causes.{causes_in, count_at, duplicates, is_count, is_array_param, repeated}
+use Rattle.id_check.specs.Causes.{second, seconds, unknown, unless_array, unless_found, wrong, wrong_argument, wrong_both}
+use Rattle.id_check.specs.Causes.{wrong_cell, wrong_count, wrong_equals, wrong_like, wrong_operands, wrong_params}
+use Rattle.id_check.proofs.LinksLemmas.{part_of}
+use Rattle.id_check.proofs.ScopesLemmas.{binder_in-below, first_of-some}
 
 -- a thing stands at the place
 abbrev IsThingAt : List Row → ℕ → Type 0

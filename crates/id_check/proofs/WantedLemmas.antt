@@ -28,15 +28,15 @@ use Rattle.id_table.specs.Loops.{IsLoopOf}
 use Rattle.id_table.specs.Rows.{at, no_row}
 use Rattle.id_table.specs.Tables.{HasOperand, is_binder, is_expression, is_param, is_within}
 use Rattle.id_table.specs.Turns.{params_at}
-use Rattle.id_scope.specs.declared.cause.CheckCause.TheVariants.{MainKind, TooManyParams, WrongCount, WrongKind}
+use Rattle.id_check.specs.declared.cause.CheckCause.TheVariants.{MainKind, TooManyParams, WrongCount, WrongKind}
 use Rattle.id_check.specs.declared.checked.Checked.{Checked}
-use Rattle.id_scope.specs.Causes.{array_param, callee, count_at, count_in, head_in, is_count, is_array_param}
-use Rattle.id_scope.specs.Causes.{unless_array, unless_found, wrong, wrong_argument, wrong_both, wrong_cell}
-use Rattle.id_scope.specs.Causes.{wrong_count, wrong_equals, wrong_like, wrong_params}
-use Rattle.id_scope.specs.Kinds.{kind_within, link_of_name, unary_kind}
+use Rattle.id_check.specs.Causes.{array_param, callee, count_at, count_in, head_in, is_count, is_array_param}
+use Rattle.id_check.specs.Causes.{unless_array, unless_found, wrong, wrong_argument, wrong_both, wrong_cell}
+use Rattle.id_check.specs.Causes.{wrong_count, wrong_equals, wrong_like, wrong_params}
+use Rattle.id_check.specs.Kinds.{kind_within, link_of_name, unary_kind}
 use Rattle.id_check.specs.Programs.{Calls, Stands, binder, kind, rows}
-use Rattle.id_scope.specs.Scopes.{first_of}
-use Rattle.id_scope.proofs.LinksLemmas.{part_of}
+use Rattle.id_check.specs.Scopes.{first_of}
+use Rattle.id_check.proofs.LinksLemmas.{part_of}
 use Rattle.id_table.proofs.BlocksLemmas.{Among-from_params_at, param_at}
 use Rattle.id_check.proofs.ProgramsLemmas.{IsBoundAt, binder_has_kind, both_nil, bound_use_row, has_kind, kind_along}
 use Rattle.id_check.proofs.ProgramsLemmas.{kind_element, kind_fixed, next_use_row, none_in, part_row, table_of}

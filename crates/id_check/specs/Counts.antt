@@ -1,7 +1,7 @@
 -- The numbers of arguments of calls, by their `Enter`, for use inside.
 use Rattle.std.specs.Prelude.{◌≡◌, ◌<◌, ℕ, List, length, get_or, Option, None}
 use Rattle.id_table.specs.declared.row.Row.{Row}
-use Rattle.id_scope.specs.Causes.{count_at}
+use Rattle.id_check.specs.Causes.{count_at}
 
 -- the numbers are those of the calls among the first n rows, by `Enter`
 pub record AreCounts (R : List Row) (n : ℕ) (cs : List (Option ℕ)) : Type 0 where

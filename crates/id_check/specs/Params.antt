@@ -3,8 +3,8 @@ use Rattle.std.specs.Prelude.{ℕ, Bool, true, false, ◌&&◌, nat_eq, List, []
 use Rattle.id_table.specs.declared.row.Row.{Row}
 use Rattle.id_table.specs.Rows.{at}
 use Rattle.id_table.specs.Tables.{is_param}
-use Rattle.id_scope.specs.declared.cause.CheckCause.{CheckCause}
-use Rattle.id_scope.specs.declared.cause.CheckCause.TheVariants.{MainKind, TooManyParams}
+use Rattle.id_check.specs.declared.cause.CheckCause.{CheckCause}
+use Rattle.id_check.specs.declared.cause.CheckCause.TheVariants.{MainKind, TooManyParams}
 
 -- whether a parameter of the procedure with this head stands at the row i
 abbrev pub is_param_of : List Row → ℕ → ℕ → Bool

@@ -7,9 +7,9 @@ use Rattle.id_table.specs.declared.row.Node.{Node}
 use Rattle.id_table.specs.declared.row.Node.TheVariants.{Unary, Binary, Split, If, Switches, Next}
 use Rattle.id_table.specs.declared.row.Node.TheVariants.{Fetch, Address, Store, Bounds}
 use Rattle.id_table.specs.declared.row.Node.TheVariants as node
-use Rattle.id_scope.specs.declared.cause.CheckCause.{CheckCause}
-use Rattle.id_scope.specs.Causes.{wrong, wrong_both, wrong_cell, wrong_like, wrong_operands}
-use Rattle.id_scope.specs.Kinds.{unary_kind}
+use Rattle.id_check.specs.declared.cause.CheckCause.{CheckCause}
+use Rattle.id_check.specs.Causes.{wrong, wrong_both, wrong_cell, wrong_like, wrong_operands}
+use Rattle.id_check.specs.Kinds.{unary_kind}
 
 -- the causes in the parts of a row of this node: of another kind than is wanted
 abbrev pub wrong_parts : List Row → (ℕ → Option Kind) → Node → List CheckCause

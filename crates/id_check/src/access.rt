@@ -4,7 +4,7 @@ ghost use Rattle.std.specs.Prelude.{◌≡◌};
 ghost use Rattle.id_check.specs.Programs as programs;
 
 use crate::checked::Checked;
-use id_scope::wide;
+use crate::rows::wide;
 use id_table::Row;
 use id_tree::Kind;
 

@@ -7,9 +7,9 @@ ghost use Rattle.id_check.specs.Kept.{Distinct-prop};
 ghost use Rattle.id_check.specs.Literals.{AreLiterals};
 ghost use Rattle.id_check.specs.Noted.{tree_in};
 ghost use Rattle.id_table.specs.Rows.{parts_of, rows_of};
-ghost use Rattle.id_scope.specs.Causes.{IsMain, causes};
-ghost use Rattle.id_scope.specs.Kinds.{AreKinds};
-ghost use Rattle.id_scope.specs.Scopes.{AreBinders, HasDepths, column};
+ghost use Rattle.id_check.specs.Causes.{IsMain, causes};
+ghost use Rattle.id_check.specs.Kinds.{AreKinds};
+ghost use Rattle.id_check.specs.Scopes.{AreBinders, HasDepths, column};
 
 use id_table::Table;
 use id_tree::{Kind, Program};

@@ -3,7 +3,7 @@
 ghost use Rattle.std.specs.Prelude.{◌≡◌, ℕ, length, nat_eq, nat_lt};
 ghost use Rattle.id_table.specs.Lent.{list_of};
 ghost use Rattle.id_table.specs.Turns.{IsDefOf, params_at};
-ghost use Rattle.id_scope.specs.Causes as causes;
+ghost use Rattle.id_check.specs.Causes as causes;
 ghost use Rattle.id_check.specs.Params as params;
 
 use id_table::{Node, Rows};

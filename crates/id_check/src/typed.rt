@@ -3,10 +3,10 @@
 ghost use Rattle.std.specs.Prelude.{◌≡◌, length};
 ghost use Rattle.std.proofs.Props.{props};
 ghost use Rattle.id_table.specs.Lent.{list_of};
-ghost use Rattle.id_scope.specs.Causes as causes;
+ghost use Rattle.id_check.specs.Causes as causes;
 ghost use Rattle.id_check.specs.Counts.{AreCounts};
 
-use id_scope::wide;
+use crate::rows::wide;
 use id_table::{Node, Rows};
 use id_tree::Kind;
 

@@ -9,9 +9,9 @@ use Rattle.id_grammar.specs.declared.tree.TreeError.TheVariants as parser
 use Rattle.id_grammar.specs.Tree.{Tree}
 use Rattle.id_tree.specs.Distinct.{HasPlace}
 use Rattle.id_tree.specs.Accepted.{StopsAt, RefusedBy}
-use Rattle.id_scope.specs.declared.cause.CheckCause.{CheckCause}
-use Rattle.id_scope.specs.declared.cause.CheckCause.TheVariants as checker
-use Rattle.id_scope.specs.Causes as check
+use Rattle.id_check.specs.declared.cause.CheckCause.{CheckCause}
+use Rattle.id_check.specs.declared.cause.CheckCause.TheVariants as checker
+use Rattle.id_check.specs.Causes as check
 use Rattle.id_value.specs.List.{Among}
 use Rattle.id_value.proofs.AmongLemmas.{Among-right, at-from_Among}
 use Rattle.std.proofs.lemmas.List.Elements.{All-get_or}

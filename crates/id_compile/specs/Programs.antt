@@ -9,10 +9,10 @@ use Rattle.id_grammar.specs.Tree.{Tree}
 use Rattle.id_tree.specs.Distinct.{HasPlace}
 use Rattle.id_tree.specs.Accepted.{Accepts, RefusedBy}
 use Rattle.id_table.specs.Rows.{rows_of}
-use Rattle.id_scope.specs.Causes.{IsMain, IsRefusedFor}
+use Rattle.id_check.specs.Causes.{IsMain, IsRefusedFor}
 use Rattle.id_check.specs.Programs.{rows, tree}
 use Rattle.id_check.specs.declared.checked.Checked.{Checked}
-use Rattle.id_scope.specs.declared.cause.CheckCause.{CheckCause}
+use Rattle.id_check.specs.declared.cause.CheckCause.{CheckCause}
 use Rattle.id_value.specs.declared.Constant.{Constant}
 use Rattle.id_source.specs.declared.inputs.Wanted.{Wanted}
 use Rattle.id_source.specs.Inputs.{AreInputsOf, wanted}

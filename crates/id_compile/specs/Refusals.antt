@@ -9,8 +9,8 @@ use Rattle.id_value.specs.declared.Kind.TheVariants.{Int, Bool, Array, Nested}
 use Rattle.id_grammar.specs.declared.tree.TreeError.{TreeError}
 use Rattle.id_grammar.specs.declared.tree.TreeError.TheVariants as parser
 use Rattle.id_check.specs.declared.checked.Checked.{Checked}
-use Rattle.id_scope.specs.declared.cause.CheckCause.{CheckCause}
-use Rattle.id_scope.specs.declared.cause.CheckCause.TheVariants as checker
+use Rattle.id_check.specs.declared.cause.CheckCause.{CheckCause}
+use Rattle.id_check.specs.declared.cause.CheckCause.TheVariants as checker
 use Rattle.id_source.specs.declared.inputs.InputError.TheVariants as input
 use Rattle.id_source.specs.Sources.{source}
 use Rattle.id_source.specs.Inputs.{AreRefusedInputs}

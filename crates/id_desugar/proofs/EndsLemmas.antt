@@ -7,9 +7,9 @@ use Rattle.std.proofs.lemmas.List.{get_or_past, get_or-replicate, length-replica
 use Rattle.std.specs.Option.{option_or}
 use Rattle.id_check.specs.declared.checked.Checked.{Checked}
 use Rattle.id_check.specs.Programs.{rows}
-use Rattle.id_scope.specs.Scopes.{first_of}
+use Rattle.id_check.specs.Scopes.{first_of}
 use Rattle.id_check.proofs.ProgramsLemmas.{table_of}
-use Rattle.id_scope.proofs.ScopesLemmas.{first_of-some}
+use Rattle.id_check.proofs.ScopesLemmas.{first_of-some}
 use Rattle.id_table.specs.declared.row.Row.{Row}
 use Rattle.id_table.specs.declared.row.Node.{Node}
 use Rattle.id_table.specs.declared.row.Node.TheVariants.{Head, If, Call, Variable, Next, Loop, Def}

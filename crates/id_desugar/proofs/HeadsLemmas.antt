@@ -14,8 +14,8 @@ use Rattle.id_table.specs.Loops.{IsLoopOf}
 use Rattle.id_table.specs.Rows.{at}
 use Rattle.id_table.specs.Tables.{AreApart, is_thing}
 use Rattle.id_table.proofs.PlacesLemmas.{AreApart-rows_of}
-use Rattle.id_scope.specs.Scopes.{first_of}
-use Rattle.id_scope.proofs.ScopesLemmas.{first_of-some}
+use Rattle.id_check.specs.Scopes.{first_of}
+use Rattle.id_check.proofs.ScopesLemmas.{first_of-some}
 use Rattle.id_check.specs.declared.checked.Checked.{Checked}
 use Rattle.id_check.specs.Programs.{rows, tree}
 use Rattle.id_check.proofs.ProgramsLemmas.{table_of}

@@ -12,7 +12,7 @@ use Rattle.id_table.specs.Loops.{InSide, IsLoop, IsLoopOf, IsTurn, right, behind
 use Rattle.id_table.specs.Regions.{Lies, here, in_arm, in_loop, in_side, IsIfOf}
 use Rattle.id_table.specs.Turns.{IsTable}
 use Rattle.id_table.proofs.RegionLemmas.{InArm-either, InArm-within}
-use Rattle.id_scope.specs.Scopes.{is_next_use}
+use Rattle.id_check.specs.Scopes.{is_next_use}
 use Rattle.id_check.specs.declared.checked.Checked.{Checked}
 use Rattle.id_check.specs.Programs.{binder, rows}
 use Rattle.id_check.proofs.ProgramsLemmas.{table_of}

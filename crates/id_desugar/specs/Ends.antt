@@ -8,7 +8,7 @@ use Rattle.id_table.specs.declared.row.Node.TheVariants.{If, Call, Next, Loop, D
 use Rattle.id_table.specs.Rows.{at}
 use Rattle.id_check.specs.declared.checked.Checked.{Checked}
 use Rattle.id_check.specs.Programs.{rows}
-use Rattle.id_scope.specs.Scopes.{first_of}
+use Rattle.id_check.specs.Scopes.{first_of}
 
 -- where what ends at a row of this node begins, if something does: a procedure at its head, a conditional's arms at its
 -- split, a call at its `Enter`, a loop at its head

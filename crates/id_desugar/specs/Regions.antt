@@ -8,7 +8,7 @@ use Rattle.id_table.specs.Rows.{at}
 use Rattle.id_table.specs.Tables.{is_carried, is_switches, is_variable}
 use Rattle.id_check.specs.declared.checked.Checked.{Checked}
 use Rattle.id_check.specs.Programs.{rows, binder}
-use Rattle.id_scope.specs.Scopes.{first_of}
+use Rattle.id_check.specs.Scopes.{first_of}
 use Rattle.id_desugar.specs.Ends.{end_of, next_of}
 
 -- ---- the order

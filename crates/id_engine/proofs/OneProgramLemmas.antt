@@ -19,11 +19,11 @@ use Rattle.id_table.specs.Rows.{add, at, in_top, parts_of, rows_of}
 use Rattle.id_table.specs.Tables.{IsFormed, around, is_def}
 use Rattle.id_table.specs.Turns.{IsTable, params_at}
 use Rattle.id_table.proofs.BlocksLemmas.{not_last}
-use Rattle.id_scope.specs.Causes.{IsMain, causes_below, defines_main, duplicates, repeated, second, seconds}
-use Rattle.id_scope.specs.Chains.{goes_to}
-use Rattle.id_scope.specs.Kinds.{AreKinds, EndsIn, in_kind, in_nothing, further, within, link_at, link_of}
-use Rattle.id_scope.specs.Scopes.{AreBinders, HasDepths, binder_in, binds, bound_name, closes, first_of, held, is_name, takes, user_of}
-use Rattle.id_scope.proofs.LinksLemmas.{link_below, user_below}
+use Rattle.id_check.specs.Causes.{IsMain, causes_below, defines_main, duplicates, repeated, second, seconds}
+use Rattle.id_check.specs.Chains.{goes_to}
+use Rattle.id_check.specs.Kinds.{AreKinds, EndsIn, in_kind, in_nothing, further, within, link_at, link_of}
+use Rattle.id_check.specs.Scopes.{AreBinders, HasDepths, binder_in, binds, bound_name, closes, first_of, held, is_name, takes, user_of}
+use Rattle.id_check.proofs.LinksLemmas.{link_below, user_below}
 use Rattle.id_check.specs.declared.checked.Checked.{Checked}
 use Rattle.id_check.specs.Programs.{binder, kind, rows, tree}
 use Rattle.id_check.proofs.ProgramsLemmas.{binder_below, both_nil, kind_once, table_of}

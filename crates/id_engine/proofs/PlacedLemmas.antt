@@ -20,7 +20,7 @@ use Rattle.id_table.specs.Loops.{AreBounds, Begins, IsLoopOf, IsTurn, behind_cou
 use Rattle.id_table.specs.Regions.{IsIfOf}
 use Rattle.id_table.specs.Turns.{IsDefOf}
 use Rattle.id_check.specs.declared.checked.Checked.{Checked}
-use Rattle.id_scope.specs.Causes.{defines_main}
+use Rattle.id_check.specs.Causes.{defines_main}
 use Rattle.id_check.specs.Programs.{place, rows, tree}
 use Rattle.id_instr.specs.Graph.{Parts}
 use Rattle.id_instr.specs.declared.instr.Instr.{Instr}

@@ -4,7 +4,7 @@ use Rattle.std.specs.Prelude.{◌+ℤ◌, pos, slice_get}
 use Rattle.id_value.specs.declared.Constant.{Constant}
 use Rattle.id_value.specs.declared.Constant.TheVariants as constant
 use Rattle.id_value.specs.declared.FaultKind.TheVariants.{BadBounds, OutOfBounds}
-use Rattle.id_scope.specs.Scopes.{loops_between}
+use Rattle.id_check.specs.Scopes.{loops_between}
 use Rattle.id_table.specs.declared.row.Row.{Row}
 use Rattle.id_table.specs.declared.row.Node.{Node}
 use Rattle.id_table.specs.declared.row.Node.TheVariants.{Call}

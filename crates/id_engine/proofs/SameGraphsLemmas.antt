@@ -17,9 +17,9 @@ use Rattle.id_table.specs.Loops.{IsTurn, right, behind_count}
 use Rattle.id_table.specs.Rows.{at, no_row}
 use Rattle.id_table.specs.Tables.{is_carried, is_param, is_switches, is_variable}
 use Rattle.id_table.specs.Turns.{heads_of, params_at}
-use Rattle.id_scope.specs.Scopes.{first_of}
-use Rattle.id_scope.proofs.LinksLemmas.{part_of}
-use Rattle.id_scope.proofs.ScopesLemmas.{first_of-some}
+use Rattle.id_check.specs.Scopes.{first_of}
+use Rattle.id_check.proofs.LinksLemmas.{part_of}
+use Rattle.id_check.proofs.ScopesLemmas.{first_of-some}
 use Rattle.id_check.specs.declared.checked.Checked.{Checked}
 use Rattle.id_check.specs.Programs.{binder, place, region, rows}
 use Rattle.id_check.proofs.ProgramsLemmas.{binder_below, table_of}

@@ -17,7 +17,7 @@ use Rattle.id_table.specs.declared.row.Node.TheVariants.{Bounds, Carried, Count}
 use Rattle.id_table.specs.Loops.{bounds_row, index_row, upper_at}
 use Rattle.id_table.specs.Rows.{arm_at, top}
 use Rattle.id_check.specs.declared.checked.Checked.{Checked}
-use Rattle.id_scope.specs.Scopes.{loops_between}
+use Rattle.id_check.specs.Scopes.{loops_between}
 use Rattle.id_check.specs.Programs.{place, region, rows}
 use Rattle.id_instr.specs.declared.dests.Port.{Port}
 use Rattle.id_instr.specs.declared.dests.Port.TheVariants.{Zero, One}

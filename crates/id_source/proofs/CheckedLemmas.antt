@@ -11,7 +11,7 @@ use Rattle.id_table.specs.Tables.{AreApart, HasPart, is_binder, is_expression, i
 use Rattle.id_table.proofs.PlacesLemmas.{AreApart-rows_of, HasPlace-rows_of}
 use Rattle.id_tree.specs.Distinct.{HasPlace}
 use Rattle.id_check.specs.declared.checked.Checked.{Checked}
-use Rattle.id_scope.specs.Scopes.{depth_at}
+use Rattle.id_check.specs.Scopes.{depth_at}
 use Rattle.id_check.specs.Programs.{Stands, binder, depth, place, rows, tree}
 use Rattle.id_source.specs.Sources.{Source}
 use Rattle.id_source.specs.Facts.{ForStands, LoopStands, NextStands, between}

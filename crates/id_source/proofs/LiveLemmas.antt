@@ -12,7 +12,7 @@ use Rattle.id_table.specs.Regions.{IsIfOf}
 use Rattle.id_table.specs.Rows.{arm_at, at, top}
 use Rattle.id_table.specs.Tables.{HasNear, HasOperand, HasPart, begins_block, is_index, is_top, is_expression, is_param, is_store, is_thing}
 use Rattle.id_table.specs.Turns.{params_at}
-use Rattle.id_scope.specs.Causes.{defines_main}
+use Rattle.id_check.specs.Causes.{defines_main}
 use Rattle.id_check.specs.Programs.{Stands, place, region, rows}
 use Rattle.id_check.proofs.ProgramsLemmas.{part_row, table_of}
 use Rattle.id_source.specs.declared.Path.{Path}

@@ -5,7 +5,7 @@ use Rattle.id_table.specs.declared.row.Node.{Node}
 use Rattle.id_table.specs.declared.row.Node.TheVariants.{Def}
 use Rattle.id_table.specs.Rows.{at}
 use Rattle.id_table.specs.Tables.{HasOperand, is_thing}
-use Rattle.id_scope.specs.Causes.{defines_main}
+use Rattle.id_check.specs.Causes.{defines_main}
 use Rattle.id_check.specs.Programs.{Stands, rows}
 use Rattle.id_check.proofs.ProgramsLemmas.{part_row}
 use Rattle.id_source.specs.Sources.{Source, body_of, main_body}

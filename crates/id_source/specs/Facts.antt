@@ -21,7 +21,7 @@ use Rattle.id_table.specs.Rows.{arm_at, at}
 use Rattle.id_table.specs.Tables.{is_within}
 use Rattle.id_table.specs.Turns.{IsStatement, params_at}
 use Rattle.id_check.specs.declared.checked.Checked.{Checked}
-use Rattle.id_scope.specs.Scopes.{loops_between}
+use Rattle.id_check.specs.Scopes.{loops_between}
 use Rattle.id_check.specs.Programs.{Stands, binder, place, region, rows}
 use Rattle.id_source.specs.declared.Path.{Path}
 use Rattle.id_source.specs.declared.SourceValue.{SourceValue}

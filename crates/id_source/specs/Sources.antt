@@ -12,7 +12,7 @@ use Rattle.id_table.specs.Rows.{at}
 use Rattle.id_table.specs.Turns.{params_at}
 use Rattle.id_check.specs.declared.checked.Checked.{Checked}
 use Rattle.id_check.specs.Programs.{Stands, place, rows}
-pub use Rattle.id_scope.specs.Kinds.{constant_kind}
+pub use Rattle.id_check.specs.Kinds.{constant_kind}
 use Rattle.id_source.specs.declared.SourceValue.{SourceValue}
 use Rattle.id_source.specs.declared.SourceValue.TheVariants.{Int, Bool, Name}
 

@@ -12,7 +12,7 @@ use Rattle.id_instr.specs.declared.dests.Port.TheVariants.{Zero, One}
 use Rattle.id_instr.specs.declared.instr.Op.TheVariants as op
 use Rattle.id_instr.specs.Graph.{Parts}
 use Rattle.id_instr.specs.Held.{held_kind}
-use Rattle.id_scope.specs.Kinds.{kind_within}
+use Rattle.id_check.specs.Kinds.{kind_within}
 use Rattle.id_value.specs.Bounds.{are_good, is_inside}
 use Rattle.id_value.specs.declared.FaultKind.TheVariants.{BadBounds, OutOfBounds}
 use Rattle.id_bank.specs.declared.cell.WriteAnswer.TheVariants.{Second}

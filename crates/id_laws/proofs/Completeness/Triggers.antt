@@ -6,7 +6,7 @@ use Rattle.id_table.specs.Loops.{depth, loops_from}
 use Rattle.id_table.specs.Rows.{arm_at, top}
 use Rattle.id_table.specs.Tables.{HasPart, begins_block, is_binder}
 use Rattle.id_check.specs.declared.checked.Checked.{Checked}
-use Rattle.id_scope.specs.Scopes.{loops_between}
+use Rattle.id_check.specs.Scopes.{loops_between}
 use Rattle.id_check.specs.Programs.{place, region, rows}
 use Rattle.id_instr.specs.declared.dests.Port.TheVariants.{Zero, One as Second}
 use Rattle.id_instr.specs.declared.instr.Op.TheVariants.{Merge, Switch, Enter as EnterOp}

@@ -9,7 +9,7 @@ use Rattle.id_table.specs.Loops.{depth, loops_from}
 use Rattle.id_table.specs.Rows.{arm_at, at}
 use Rattle.id_table.specs.Tables.{is_binder}
 use Rattle.id_check.specs.declared.checked.Checked.{Checked}
-use Rattle.id_scope.specs.Scopes.{loops_between}
+use Rattle.id_check.specs.Scopes.{loops_between}
 use Rattle.id_check.specs.Programs.{region, rows}
 use Rattle.id_source.specs.declared.Path.{Path}
 use Rattle.id_source.specs.declared.PathStep.{PathStep}

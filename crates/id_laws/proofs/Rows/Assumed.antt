@@ -17,7 +17,7 @@ use Rattle.id_table.specs.Tables.{AreApart, HasOperand, is_binder, is_carried, i
 use Rattle.id_table.specs.Calls.{IsCallOf}
 use Rattle.id_table.specs.Turns.{IsTable, IsDefOf, params_at}
 use Rattle.id_check.specs.declared.checked.Checked.{Checked}
-use Rattle.id_scope.specs.Kinds.{constant_kind, kind_within, unary_kind, binary_kind}
+use Rattle.id_check.specs.Kinds.{constant_kind, kind_within, unary_kind, binary_kind}
 use Rattle.id_check.specs.Programs.{binder, kind, place, region, rows}
 use Rattle.id_desugar.specs.Ends.{end_of}
 use Rattle.id_desugar.specs.Regions.{handed, imports_of, nexts_of, taken}

@@ -8,8 +8,8 @@ use Rattle.id_table.specs.Turns.{IsDefOf, params_at}
 use Rattle.id_table.proofs.BlocksLemmas.{Among-from_params_at}
 use Rattle.id_table.proofs.PlacesLemmas.{AreApart-rows_of}
 use Rattle.id_check.specs.declared.checked.Checked.{Checked}
-use Rattle.id_scope.specs.Causes.{defines_main}
-use Rattle.id_scope.specs.Kinds.{kind_within, link_of}
+use Rattle.id_check.specs.Causes.{defines_main}
+use Rattle.id_check.specs.Kinds.{kind_within, link_of}
 use Rattle.id_check.specs.Programs.{Calls, Stands, binder, kind, region, rows, tree}
 use Rattle.id_check.proofs.ProgramsLemmas.{table_of, bound_name_row, kind_along, kind_fixed}
 use Rattle.id_check.proofs.ProgramsLemmas.{enter_row, callee_row}

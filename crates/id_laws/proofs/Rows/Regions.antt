@@ -12,7 +12,7 @@ use Rattle.id_table.specs.Loops.{StandsInSide, loops_from}
 use Rattle.id_table.specs.Regions.{StandsInArm}
 use Rattle.id_table.specs.Tables.{HasPart, begins_block, is_binder}
 use Rattle.id_check.specs.declared.checked.Checked.{Checked}
-use Rattle.id_scope.specs.Scopes.{loops_between}
+use Rattle.id_check.specs.Scopes.{loops_between}
 use Rattle.id_check.specs.Programs.{region, rows}
 use Rattle.id_build.specs.Rows.{block, home, home_by, label, label_by, node}
 use Rattle.id_build.proofs.EndsLemmas.{not_last}

@@ -12,7 +12,7 @@ use Rattle.id_table.specs.Loops.{index_row}
 use Rattle.id_table.specs.Tables.{HasNear, is_binder}
 use Rattle.id_check.specs.declared.checked.Checked.{Checked}
 use Rattle.id_check.specs.Programs.{place, region, rows}
-use Rattle.id_scope.specs.Scopes.{loops_between}
+use Rattle.id_check.specs.Scopes.{loops_between}
 use Rattle.id_instr.specs.declared.dests.Port.{Port}
 use Rattle.id_instr.specs.declared.dests.Port.TheVariants.{Zero, One}
 use Rattle.id_instr.specs.Graph.{Parts}

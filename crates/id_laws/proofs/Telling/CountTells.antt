@@ -15,7 +15,7 @@ use Rattle.id_table.specs.Loops.{bounds_row, index_row, upper_at, upper_of}
 use Rattle.id_table.specs.Tables.{HasNear, is_expression}
 use Rattle.id_check.specs.declared.checked.Checked.{Checked}
 use Rattle.id_check.specs.Programs.{place, region, rows}
-use Rattle.id_scope.specs.Scopes.{loops_between}
+use Rattle.id_check.specs.Scopes.{loops_between}
 use Rattle.id_instr.specs.declared.instr.Dyadic.TheVariants as dyadic
 use Rattle.id_instr.specs.declared.instr.PortKind.{PortKind}
 use Rattle.id_instr.specs.declared.instr.PortKind.TheVariants.{Signal as SignalKind, Int as IntKind}

@@ -12,7 +12,7 @@ use Rattle.id_tag.specs.declared.Value.TheVariants as value
 use Rattle.id_source.specs.declared.Path.{Path}
 use Rattle.id_source.specs.declared.SourceValue.{SourceValue}
 use Rattle.id_source.specs.declared.SourceValue.TheVariants as source
-use Rattle.id_scope.specs.Scopes.{loops_between}
+use Rattle.id_check.specs.Scopes.{loops_between}
 use Rattle.id_build.proofs.NamesSeen.{Sees}
 use Rattle.id_table.specs.Rows.{arm_at, top}
 use Rattle.id_table.specs.Tables.{HasNear, HasPart, HasOperand, begins_block, is_binder, is_expression, is_top, is_within}

@@ -56,7 +56,7 @@ use Rattle.id_laws.proofs.Rows.Loops.{switches_node, switches_region, switches_w
 use Rattle.id_laws.proofs.Paths.Opened.{InLoop, live_loop, loop_path, next_path}
 use Rattle.id_laws.proofs.Rows.Regions.{no_depth, region_of, same_depth}
 use Rattle.id_build.proofs.NamesSeen.{listed}
-use Rattle.id_scope.specs.Scopes.{loops_between}
+use Rattle.id_check.specs.Scopes.{loops_between}
 use Rattle.id_laws.proofs.Rows.Sources.{tests_other}
 use Rattle.id_laws.proofs.Rows.Arcs.{Does, starts, returns, enters, constant, unary, binary, turns_on, hands, joins, opens, passes, gets, names, answers}
 use Rattle.id_laws.proofs.Rows.Arcs.{sends_in, gives_back, varies, takes_in, moves_on, moves_name, advances, resets, gets_last, allocates, addresses, fetches}

@@ -7,7 +7,7 @@ use Rattle.id_table.specs.Rows.{top}
 use Rattle.id_table.specs.Tables.{begins_block, is_binder}
 use Rattle.id_check.specs.declared.checked.Checked.{Checked}
 use Rattle.id_check.specs.Programs.{place, region, rows}
-use Rattle.id_scope.specs.Scopes.{loops_between}
+use Rattle.id_check.specs.Scopes.{loops_between}
 use Rattle.id_instr.specs.declared.dests.Port.TheVariants.{Zero}
 use Rattle.id_tag.specs.declared.Context.{Context}
 use Rattle.id_tag.specs.declared.Tag.{Tag}

@@ -6,7 +6,7 @@ use Rattle.id_value.proofs.AmongLemmas.{Among-from_at}
 use Rattle.id_table.specs.Rows.{top}
 use Rattle.id_table.specs.Turns.{params_at}
 use Rattle.id_check.specs.declared.checked.Checked.{Checked}
-use Rattle.id_scope.specs.Scopes.{loops_between}
+use Rattle.id_check.specs.Scopes.{loops_between}
 use Rattle.id_check.specs.Programs.{place, region, rows}
 use Rattle.id_instr.specs.declared.dests.Port.{Port}
 use Rattle.id_instr.specs.declared.dests.Port.TheVariants.{Zero}

@@ -26,7 +26,7 @@ use Rattle.id_table.specs.Rows.{at}
 use Rattle.id_table.specs.Tables.{HasOperand, is_thing, is_binder, is_expression}
 use Rattle.id_table.proofs.RegionLemmas.{HasPart-operand}
 use Rattle.id_check.specs.declared.checked.Checked.{Checked}
-use Rattle.id_scope.specs.Kinds.{constant_kind, kind_within, unary_kind, binary_kind}
+use Rattle.id_check.specs.Kinds.{constant_kind, kind_within, unary_kind, binary_kind}
 use Rattle.id_check.specs.Programs.{Stands, kind, place, rows}
 use Rattle.id_source.specs.declared.Path.{Path}
 use Rattle.id_source.specs.declared.SourceValue.{SourceValue}

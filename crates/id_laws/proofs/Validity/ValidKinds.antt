@@ -13,7 +13,7 @@ use Rattle.id_table.specs.Loops.{IsLoop, IsLoopOf}
 use Rattle.id_table.specs.Rows.{arm_at, at}
 use Rattle.id_table.specs.Tables.{HasPart, begins_block, is_carried, is_expression, is_in_loop}
 use Rattle.id_check.specs.declared.checked.Checked.{Checked}
-use Rattle.id_scope.specs.Kinds.{unary_kind}
+use Rattle.id_check.specs.Kinds.{unary_kind}
 use Rattle.id_check.specs.Programs.{kind, region, rows}
 use Rattle.id_check.proofs.WantedLemmas.{unary_row, loop_row, next_row, split_row, switches_row}
 use Rattle.id_instr.specs.declared.dests.Port.{Port}

@@ -19,7 +19,7 @@ use Rattle.id_table.specs.Rows.{at}
 use Rattle.id_table.specs.Tables.{HasPart, HasOperand, is_binder, is_block, is_expression, is_within}
 use Rattle.id_table.proofs.RegionLemmas.{HasPart-operand}
 use Rattle.id_check.specs.declared.checked.Checked.{Checked}
-use Rattle.id_scope.specs.Kinds.{constant_kind, kind_within, unary_kind, binary_kind}
+use Rattle.id_check.specs.Kinds.{constant_kind, kind_within, unary_kind, binary_kind}
 use Rattle.id_check.specs.Programs.{kind, region, rows}
 use Rattle.id_check.proofs.ProgramsLemmas.{bound_name_row}
 use Rattle.id_instr.specs.declared.instr.PortKind.{PortKind}

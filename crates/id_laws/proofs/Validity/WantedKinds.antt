@@ -10,7 +10,7 @@ use Rattle.id_value.specs.declared.Logic.TheVariants.{And, Or}
 use Rattle.id_instr.specs.Ports.{operand_kind, outcome_kind}
 use Rattle.id_table.specs.declared.row.Node.TheVariants.{Binary}
 use Rattle.id_check.specs.declared.checked.Checked.{Checked}
-use Rattle.id_scope.specs.Kinds.{binary_kind}
+use Rattle.id_check.specs.Kinds.{binary_kind}
 use Rattle.id_check.specs.Programs.{Stands, kind}
 use Rattle.id_check.proofs.WantedLemmas.{arithmetic_row, logic_row, order_row, equality_row}
 use Rattle.id_build.specs.Rows.{binary_op, port_of}

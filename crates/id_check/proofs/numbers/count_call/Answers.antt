@@ -9,7 +9,7 @@ use Rattle.id_table.specs.Rows.{at}
 use Rattle.id_check.specs.Counts.{AreCounts}
 use Rattle.id_check.proofs.CountsLemmas.{counts_call, counts_other}
 use Rattle.id_check.proofs.ParamsLemmas.{in_rows}
-use Rattle.id_scope.proofs.LinksLemmas.{part_of}
+use Rattle.id_check.proofs.LinksLemmas.{part_of}
 use Rattle.id_check.proofs.numbers.count_call.Goals as goal
 use Rattle.id_check.proofs.numbers.count_call.Goals.{In-Call}
 

@@ -3,8 +3,8 @@ use Rattle.std.specs.Coded.{le_prop}
 use Rattle.std.proofs.Math.Logic.{∥∥₁_elim}
 use Rattle.std.proofs.Props.{props}
 use Rattle.id_table.specs.declared.row.Row.{Row}
-use Rattle.id_scope.specs.declared.cause.CheckCause.TheVariants.{MainKind}
-use Rattle.id_scope.specs.Causes.{is_array_param}
+use Rattle.id_check.specs.declared.cause.CheckCause.TheVariants.{MainKind}
+use Rattle.id_check.specs.Causes.{is_array_param}
 use Rattle.id_table.specs.Lent.{list_of}
 use Rattle.id_check.proofs.ParamsLemmas.{array_behind, array_found, array_past, head_low, param_low, without_next}
 use Rattle.id_check.proofs.params.first_array.Goals as goal

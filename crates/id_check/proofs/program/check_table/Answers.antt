@@ -1,6 +1,6 @@
 use Rattle.std.proofs.Common.{subst}
 use Rattle.id_table.proofs.TableLemmas.{IsTable-rows_of}
-use Rattle.id_scope.specs.Causes.{IsRefusedFor}
+use Rattle.id_check.specs.Causes.{IsRefusedFor}
 use Rattle.id_check.specs.Noted.{tree_in}
 use Rattle.id_check.proofs.NotedLemmas.{IsProgramTree-tree_in}
 use Rattle.id_check.proofs.StandingLemmas.{IsInside-refused}

@@ -1,9 +1,9 @@
 use Rattle.std.proofs.Common.{◌≡◌, ◌<◌, ℕ, Some, get_or, length, sym, subst}
 use Rattle.std.specs.Prelude.{None}
 use Rattle.id_table.specs.Lent.{list_of}
-use Rattle.id_scope.specs.Causes.{causes, duplicates}
-use Rattle.id_scope.specs.Firsts.{IsFirstOf}
-use Rattle.id_scope.specs.Kinds.{AreKinds}
+use Rattle.id_check.specs.Causes.{causes, duplicates}
+use Rattle.id_check.specs.Firsts.{IsFirstOf}
+use Rattle.id_check.specs.Kinds.{AreKinds}
 use Rattle.id_check.proofs.program.find_columns.Goals as goal
 
 pub find_kinds-requires : goal.find_kinds-requires

@@ -1,6 +1,6 @@
 use Rattle.std.proofs.Common.{◌≡◌, ◌<◌, ℕ, false}
 use Rattle.id_table.specs.Rows.{at}
-use Rattle.id_scope.specs.Causes.{defines_main}
+use Rattle.id_check.specs.Causes.{defines_main}
 use Rattle.id_check.proofs.program.find_main.Given as goal
 
 abbrev pub invariant-loop-n : goal.invariant-loop-n

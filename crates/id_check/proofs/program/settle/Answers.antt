@@ -1,8 +1,8 @@
 use Rattle.std.proofs.Common.{ℕ, get_or, subst}
 use Rattle.std.specs.Prelude.{None}
 use Rattle.id_table.specs.Lent.{list_of}
-use Rattle.id_scope.specs.Causes.{causes}
-use Rattle.id_scope.specs.Firsts.{IsFirstOf}
+use Rattle.id_check.specs.Causes.{causes}
+use Rattle.id_check.specs.Firsts.{IsFirstOf}
 use Rattle.id_check.proofs.StandingLemmas.{IsRefusedFor-first}
 use Rattle.id_check.proofs.program.settle.Goals as goal
 

@@ -1,6 +1,6 @@
 -- The heads of the rows so far, by place, and then those of the places so far.
 use Rattle.std.proofs.Common.{◌≡◌, ◌<◌, ℕ, None, get_or, length}
-use Rattle.id_scope.specs.Scopes.{first_of}
+use Rattle.id_check.specs.Scopes.{first_of}
 use Rattle.id_desugar.specs.Regions.{head_at, loop_heads_by}
 use Rattle.id_desugar.proofs.order.find_loops.Given as goal
 

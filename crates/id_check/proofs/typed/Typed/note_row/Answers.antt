@@ -3,11 +3,11 @@ use Rattle.id_table.specs.declared.row.Row.{Row}
 use Rattle.id_table.specs.declared.row.Node.{Node}
 use Rattle.id_table.specs.declared.row.Node.TheVariants.{Arg, Head}
 use Rattle.id_table.specs.Rows.{at}
-use Rattle.id_scope.specs.declared.cause.CheckCause.{CheckCause}
-use Rattle.id_scope.specs.Causes.{callee, causes_in, wrong_argument}
-use Rattle.id_scope.specs.Firsts.{Notes}
-use Rattle.id_scope.specs.Scopes.{user_of}
-use Rattle.id_scope.proofs.LinksLemmas.{part_of}
+use Rattle.id_check.specs.declared.cause.CheckCause.{CheckCause}
+use Rattle.id_check.specs.Causes.{callee, causes_in, wrong_argument}
+use Rattle.id_check.specs.Firsts.{Notes}
+use Rattle.id_check.specs.Scopes.{user_of}
+use Rattle.id_check.proofs.LinksLemmas.{part_of}
 use Rattle.id_check.specs.declared.typed.Typed.{Typed}
 use Rattle.id_check.specs.Typed.{binder, kind, rows}
 use Rattle.id_check.proofs.ParamsLemmas.{in_rows}

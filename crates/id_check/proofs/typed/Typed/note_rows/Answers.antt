@@ -1,9 +1,9 @@
 use Rattle.std.proofs.Common.{sym, subst, add-one}
 use Rattle.id_table.specs.Rows.{at}
-use Rattle.id_scope.specs.Causes.{causes_below, causes_in}
-use Rattle.id_scope.specs.Firsts.{Notes}
-use Rattle.id_scope.specs.Scopes.{user_of}
-use Rattle.id_scope.proofs.FirstsLemmas.{Notes-append}
+use Rattle.id_check.specs.Causes.{causes_below, causes_in}
+use Rattle.id_check.specs.Firsts.{Notes}
+use Rattle.id_check.specs.Scopes.{user_of}
+use Rattle.id_check.proofs.FirstsLemmas.{Notes-append}
 use Rattle.id_check.specs.Typed.{binder, kind, rows}
 use Rattle.id_check.proofs.typed.Typed.note_rows.Goals as goal
 

@@ -1,5 +1,5 @@
-use Rattle.id_scope.specs.Causes.{causes_below}
-use Rattle.id_scope.specs.Firsts.{Notes}
+use Rattle.id_check.specs.Causes.{causes_below}
+use Rattle.id_check.specs.Firsts.{Notes}
 use Rattle.id_check.specs.Typed.{binder, kind, rows}
 use Rattle.id_check.proofs.typed.Typed.note_rows.Given as goal
 
