@@ -1,5 +1,3 @@
-pub mod RisingLemmas
-pub mod AlikeLemmas
 pub mod AnsweredLemmas
 pub mod HeldLemmas
 pub mod NamesLemmas
@@ -12,27 +10,5 @@ pub mod KeepsLemmas
 pub mod PrintedLemmas
 pub mod HearLemmas
 pub mod JudgedLemmas
-pub mod HeldBackLemmas
-pub mod StatusLemmas
-pub mod SameFactsLemmas
-pub mod SameGraphsLemmas
-pub mod OwnGraphLemmas
-pub mod OneProgramLemmas
-pub mod OneAnswerLemmas
-pub mod ChainLemmas
-pub mod InputsToldLemmas
-pub mod BracesLemmas
-pub mod LoopRowsLemmas
-pub mod NumbersLemmas
-pub mod ToldFactsLemmas
-pub mod OneRoundLemmas
-pub mod AtOnceLemmas
-pub mod FoundEnoughLemmas
-pub mod LastRoundLemmas
-pub mod QuietRoundLemmas
-pub mod MomentsLemmas
-pub mod RecordedLemmas
-pub mod SameReportLemmas
-pub mod JudgedAlikeLemmas
 pub mod ReasonedLemmas
 mod ServedLemmas

@@ -11,7 +11,6 @@ ghost use Rattle.id_engine.specs.Found.{facts_found};
 ghost use Rattle.id_graph.specs.Dot.{dot_text};
 ghost use Rattle.id_engine.specs.Commands.{AreFactsOf, Check, Draw_graph, Facts, IsListingOf, IsPictureOf, List_graph};
 ghost use Rattle.id_engine.specs.Commands.{ShowsAll, ShowsFront};
-ghost use Rattle.id_engine.specs.OneRound.{OneRound};
 ghost use Rattle.id_compile.specs.Programs.{HasProgram};
 ghost use Rattle.id_compile.specs.Refusals.{AreRefusedFacts, AreTakenFacts, IsInsideOf, IsRefusedText};
 ghost use Rattle.id_engine.specs.Reports.{AreRefusedRounds};
@@ -223,11 +222,3 @@ fn facts_of_prepared(
         Err(RoundsError::Memory) => Err(EngineError::Memory),
     }
 }
-
-/// *One round*, a law: all calls of `facts_text` on one text, the same words and the same number print the same facts
-/// in the same bytes; two rounds with the same bytes have the same facts, on any words; each line tells its fact; and
-/// where a round adds no bytes to the round before it these are all facts of the text's source
-/// (docs/PROMISES.md, "The run"). Takes no memory.
-pub fn one_round()
-    ensures { OneRound }
-{}

@@ -1,16 +1,14 @@
-//! Words, or a request on a text, to printed bytes and a status; a program with its inputs, run on worker threads; a
-//! trace, judged as one of a run of a program; and what the status of a run tells of its program.
+//! Words, or a request on a text, to printed bytes and a status; a program with its inputs, run on worker threads; and
+//! a trace, judged as one of a run of a program.
 //!
 //! Keeps: standard output has what was asked for or nothing, standard error one refusal. What is printed of a run is a
 //! report of one that has come to its end, or a front of it.
 //! Errors: `EngineError`.
 //! Read first: `specs/Commands.antt`, `specs/Runs.antt`, then `engine`; `specs/Judged.antt`, then `judge_text`;
-//! `specs/Served.antt`, then `serve`, `drive_asked` and `drive`; `specs/OneAnswer.antt`, then `one_answer`;
-//! `specs/OneRound.antt`, then `one_round`; `specs/Status.antt`, then `status_told`; `specs/AtOnce.antt`, then
-//! `at_once`; `specs/LastRound.antt`, then `last_round`; docs/PROMISES.md.
+//! `specs/Served.antt`, then `serve`, `drive_asked` and `drive`; docs/PROMISES.md.
 //! Not here: which words ask for what (`id_args`), the streams of the process (`idc`), what comes of a text and how a
 //! refusal is told (`id_compile`), runs (`id_elements`), which traces are those of runs (`id_judge`), and every step
-//! between, which have a crate each.
+//! between, which have a crate each; the laws of all that one text shows (`id_promises`).
 #![tactic(auto)]
 
 mod commands;
@@ -18,12 +16,11 @@ mod judge;
 mod memory;
 mod program;
 mod run;
-mod status;
 mod stream;
 mod why;
 mod words;
 
-pub use commands::{check_text, draw_text, facts_text, graph_text, one_round};
+pub use commands::{check_text, draw_text, facts_text, graph_text};
 pub use id_args::{Request, Unasked};
 pub use id_compile::{
     Cause, CompileError, Compiled, Detail, EngineError, Refusal, compile, put_refusal,
@@ -36,8 +33,7 @@ pub use id_sink::{
 };
 pub use judge::{Unjudged, judge_log, judge_text};
 pub use program::{drive_asked, serve};
-pub use run::{at_every_moment, engine, judged_alike, one_answer, one_program, printed_alike};
-pub use status::{at_once, last_round, status_told, stopped_short};
+pub use run::engine;
 pub use stream::settle;
 pub use why::reasons_text;
 pub use words::{drive, drive_settled};

@@ -9,11 +9,6 @@ ghost use Rattle.id_sink.specs.Told.{Prints};
 ghost use Rattle.id_trace.specs.Traces.{trace_text};
 ghost use Rattle.id_print.specs.RunReports.{IsReportFrom};
 ghost use Rattle.id_elements.specs.Runs.{IsByPositions, IsRun, MovesOn};
-ghost use Rattle.id_engine.specs.Alike.{PrintedAlike};
-ghost use Rattle.id_engine.specs.JudgedAlike.{JudgedAlike};
-ghost use Rattle.id_engine.specs.Moments.{AllMoments};
-ghost use Rattle.id_engine.specs.OneAnswer.{OneAnswer};
-ghost use Rattle.id_engine.specs.OneProgram.{OneProgram};
 ghost use Rattle.id_engine.specs.Commands.{ShowsAll, ShowsFront};
 ghost use Rattle.id_engine.specs.Commands as command;
 ghost use Rattle.id_compile.specs.Refusals.{IsInsideOf, IsRefusedRun, IsTakenRun};
@@ -285,51 +280,4 @@ pub fn engine<R: Threads + Wait + Sync, G: Gate + Sync, W: Sink>(
         }
         Err(error) => Err(error),
     }
-}
-
-/// *Printed alike*, a law: all runs of one source that fall quiet print the same bytes, whatever the
-/// numberings of their graphs, the numbers of their elements and the orders of their deliveries, and where
-/// one falls quiet none ends at a fault (docs/PROMISES.md, "The run"). Takes no memory.
-pub fn printed_alike()
-    ensures { PrintedAlike }
-{
-    id_laws::sound();
-    id_laws::determinate();
-}
-
-/// *One program*, a law: two programs of one text are alike, whatever the places of their lists in memory: they have
-/// the same rows, names, `main`, binders and kinds, the schemas give them the same graphs, the same words the same
-/// inputs, and with these they have the same facts, faults and answer (docs/PROMISES.md, "The run"). Takes no memory.
-pub fn one_program()
-    ensures { OneProgram }
-{}
-
-/// *One answer*, a law: all runs of one text on the same words for which `engine` answers and that fall quiet have the
-/// same report, on any numbers of elements and in any orders, but that names may be left out of it; and where one
-/// falls quiet none ends at a fault (docs/PROMISES.md, "The run"). Takes no memory.
-pub fn one_answer()
-    ensures { OneAnswer }
-{
-    id_laws::sound();
-    id_laws::complete();
-}
-
-/// *At every moment*, a law: after each front of its events, in their order, a run for which `engine` answers has shown
-/// facts and faults of the text's source alone, whatever its status (docs/PROMISES.md, "The run"). Takes no memory.
-pub fn at_every_moment()
-    ensures { AllMoments }
-{
-    id_laws::sound();
-    id_laws::legal_lists();
-}
-
-/// *Judged alike*, a law: the trace of a run, as `engine` prints it, is judged legal on as many elements, with the
-/// report and the status of the run; and all judges of one trace say the same (docs/PROMISES.md, "The judge"). Takes no
-/// memory.
-pub fn judged_alike()
-    ensures { JudgedAlike }
-{
-    id_laws::sound();
-    id_laws::legal_lists();
-    id_judge::clear_lines();
 }

@@ -1,7 +1,0 @@
--- A quiet run has shown all but what things have at finitely many paths, so its source's facts are finitely many.
-use Rattle.id_laws.proofs.Bounding.Ending.{at_end}
-use Rattle.id_engine.proofs.QuietRoundLemmas.{LastRound-laws}
-use Rattle.id_engine.proofs.status.last_round.Goals as goal
-
-pub returns : goal.returns
-returns c = LastRound-laws at_end c.complete.ensures

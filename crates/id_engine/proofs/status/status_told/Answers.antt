@@ -1,6 +1,0 @@
--- With enough steps no run stops at them: it falls quiet or shows a fault, and each tells of its source.
-use Rattle.id_engine.proofs.StatusLemmas.{StatusTold-laws}
-use Rattle.id_engine.proofs.status.status_told.Goals as goal
-
-pub returns : goal.returns
-returns c = StatusTold-laws c.bounded.ensures c.sound.ensures c.complete.ensures
