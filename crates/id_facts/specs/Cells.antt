@@ -103,7 +103,7 @@ or_these (Some v) vs = v ∷ []
 abbrev pub values : Cells → RowFact → Trail → ℕ → List RowValue
 values c g p n = or_these (value_by p n g) (told (value_by p n) (items c) (chain c (chain_at p n)))
 
--- the bounds of the structure, where it is a value, what is put into its cell, and what asks for that
+-- the bounds of the structure, by the facts
 abbrev pub shapes : Cells → ℕ → List Bounds
 shapes c s = told (bounds_by s) (items c) (chain c (chain_by Shapes s (pos 0)))
 

@@ -12,12 +12,12 @@ use Rattle.id_facts.specs.declared.facts.Trail.{Trail}
 use Rattle.id_facts.specs.declared.facts.Trail.TheVariants.{Outermost}
 use Rattle.id_source.specs.Sources.{main_body, main_params}
 
--- the value of a row that a constant is, and the other way round
+-- the value of a row that a constant is
 abbrev pub row_value : Constant → RowValue
 row_value (constant.Int n) = Int n
 row_value (constant.Bool b) = Bool b
 
--- the facts that rows are On at the path, and that the row Has values there
+-- the facts that these rows are On at the path
 abbrev pub ons : Trail → List ℕ → List RowFact
 ons p [] = []
 ons p (n ∷ ns) = On p n ∷ ons p ns
@@ -27,7 +27,7 @@ abbrev pub haves : Trail → ℕ → List RowValue → List RowFact
 haves p n [] = []
 haves p n (v ∷ vs) = Has p n v ∷ haves p n vs
 
--- the facts that parameters at these rows have their inputs, the first of which has the number n
+-- the fact that the parameter at the row Has its input, if there is one
 abbrev pub input_fact : ℕ → Option Constant → List RowFact
 input_fact b None = []
 input_fact b (Some k) = Has Outermost b (row_value k) ∷ []

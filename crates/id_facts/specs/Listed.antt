@@ -53,7 +53,7 @@ steps_in_all (Below i k) = suc i
 abbrev pub path_at : Checked → List RowFact → Trail → Path
 path_at P fs q = record { steps = steps_of P fs (steps_in_all q) q }
 
--- the site of the source that a path and a row are, and a structure's name
+-- the site of the source that a path and a row are
 abbrev pub site_at : Checked → List RowFact → Trail → ℕ → Site
 site_at P fs q n = site (path_at P fs q) (place P n)
 
@@ -75,7 +75,7 @@ fact_of P fs (row.Shape s lo hi) = shape (name_at P fs s) lo hi
 fact_of P fs (row.Put p n s j v) = put (name_at P fs s) j (value_at P fs v) (site_at P fs p n)
 fact_of P fs (row.Ask p n s j) = ask (site_at P fs p n) (name_at P fs s) j
 
--- those of all of the facts, which are some of these
+-- the facts of the source that the rows' facts gs are, which are some of fs
 abbrev pub facts_in : Checked → List RowFact → List RowFact → List Fact
 facts_in P fs [] = []
 facts_in P fs (g ∷ gs) = fact_of P fs g ∷ facts_in P fs gs
@@ -135,7 +135,7 @@ pub record IsPart (S : Source) (n : ℕ) (fs : List RowFact) : Type 0 where
 
 -- ---- as a list
 
--- how two points compare, by path and then by place, two sites, and two values
+-- how two points compare: by path, and then by place
 abbrev pub point_cmp : Path → ℕ → Path → ℕ → Ordering
 point_cmp p d q e = ordering_then (slice_cmp step_cmp p.steps q.steps) (nat_cmp d e)
 

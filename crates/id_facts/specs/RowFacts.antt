@@ -47,7 +47,7 @@ same_fact (Put p n s i v) (Put q m t j w) =
 same_fact (Ask p n s i) (Ask q m t j) = same_trail p q && nat_eq n m && nat_eq s t && int_eq i j
 same_fact f g = false
 
--- the path and the row of the fact; of a Shape the empty one and the first
+-- the path of the fact; of a Shape the empty one
 abbrev pub path_of : RowFact → Trail
 path_of (On p n) = p
 path_of (Has p n v) = p
@@ -69,7 +69,7 @@ fact_at fs i = get_or fs i (On Outermost 0)
 
 -- ---- chains
 
--- a number for the path, for an index or a whole number, and for what facts are looked up by
+-- a number for the path
 abbrev pub mark_of : Trail → ℕ
 mark_of Outermost = 0
 mark_of (Below i k) = (i % 262144 + 1) * 40503 + k % 262144 * 162013
@@ -103,7 +103,7 @@ chain_of (Ask p n s i) = chain_by Asks s i
 
 -- ---- all facts
 
--- whether all that it speaks of is there, where there are n facts: its path, and its structures
+-- whether the fact where the path begins, if it has a step, is there, where there are n facts
 abbrev pub is_path_inside : ℕ → Trail → Truth
 is_path_inside n Outermost = true
 is_path_inside n (Below i k) = nat_lt i n
@@ -135,7 +135,7 @@ abbrev pub all_learnt : List RowFact → List RowFact → List RowFact
 all_learnt fs [] = fs
 all_learnt fs (g ∷ gs) = all_learnt (learnt fs g) gs
 
--- a number for a value, and the chain in which a fact is found among all
+-- a number for a value
 abbrev pub value_mark : RowValue → ℕ
 value_mark (Int n) = index_mark n + 2
 value_mark (Bool true) = 1

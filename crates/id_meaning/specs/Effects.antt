@@ -180,8 +180,8 @@ abbrev pub goes_on : Links → Counting → ℤ → Truth → List RowFact
 goes_on l r v true = Has r.path r.index (Int v) ∷ ons r.path (targets l.turns.rows.items r.switches)
 goes_on l r v false = On r.path r.last ∷ []
 
--- those that come by a value, the lower bound of the index or its last value, with this upper bound, with these, and by
--- these values with these
+-- the facts that come by a value, the lower bound of the index or its last value, with this upper bound, if both are
+-- numbers
 abbrev pub counted_by : Links → Counting → RowValue → RowValue → List RowFact
 counted_by l r (Int v) (Int b) =
     if r.first then goes_on l r v (int_le v b) else goes_on l r (v +ℤ pos 1) (int_lt v b)

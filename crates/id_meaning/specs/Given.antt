@@ -46,7 +46,7 @@ gives p n (Gives k) = Has p n (row_value k) ∷ []
 gives p n (Fails k) = []
 gives p n Lacks = []
 
--- and that of an operand, which may be a constant, of these, and of a left one with these right ones
+-- the fact that the row n has what the operator gives of this operand, if it is a constant
 abbrev pub unary_by : Trail → ℕ → UnaryOp → Option Constant → List RowFact
 unary_by p n o None = []
 unary_by p n o (Some k) = gives p n (result_of_unary o k)
@@ -80,7 +80,7 @@ binaries p n o (v ∷ vs) ws = rights_of p n o (constant_of v) ws ++ binaries p 
 abbrev pub chosen : Cells → RowFact → Trail → ℕ → ℕ → List RowFact
 chosen c g p n a = On p a ∷ haves p n (values c g p a)
 
--- the facts that come by this value of the predicate at a conditional with these arms, and by these
+-- the facts that come by this value of the predicate at a conditional with these arms
 abbrev pub arm_by : Cells → RowFact → Trail → ℕ → ℕ → ℕ → RowValue → List RowFact
 arm_by c g p n x y (Bool b) = chosen c g p n (arm_of b x y)
 arm_by c g p n x y (Int k) = []
@@ -93,8 +93,8 @@ arms c g p n x y (v ∷ vs) = arm_by c g p n x y v ++ arms c g p n x y vs
 
 -- ---- structures
 
--- the facts that come of the lower bound with this upper one, with these, and of these lower bounds with these upper
--- ones: the `array` is On by the fact of number i
+-- the facts that come of the lower bound of an `array`, which is On by the fact of number i, with this upper one, if
+-- it is a number and they are good bounds
 abbrev pub made_by : Trail → ℕ → ℕ → ℤ → RowValue → List RowFact
 made_by p n i lo (Int hi) = if are_good lo hi then Shape i lo hi ∷ Has p n (Name i) ∷ [] else []
 made_by p n i lo (Bool b) = []
@@ -121,8 +121,7 @@ abbrev pub is_in_some : List Bounds → ℤ → Truth
 is_in_some [] j = false
 is_in_some (b ∷ bs) j = is_inside b.low b.high j || is_in_some bs j
 
--- that the fetch asks for a cell of the structure with these bounds by this index, by these, for cells of the structure
--- that the value is, and of those that these are
+-- that the fetch asks for the cell of this index, if it is a number inside some of these bounds of the structure
 abbrev pub asked_by : Trail → ℕ → ℕ → List Bounds → RowValue → List RowFact
 asked_by p n s bs (Int j) = if is_in_some bs j then Ask p n s j ∷ [] else []
 asked_by p n s bs (Bool b) = []
@@ -144,8 +143,7 @@ abbrev pub fetches : Cells → Trail → ℕ → List RowValue → List RowValue
 fetches c p n [] ws = []
 fetches c p n (v ∷ vs) ws = fetch_by c p n v ws ++ fetches c p n vs ws
 
--- that the store puts these values into a cell, into that of the structure with these bounds and this index, with
--- these, into cells of the structure that the value is, and of those that these are
+-- that the store puts these values into the cell of this index
 abbrev pub put_in : Trail → ℕ → ℕ → ℤ → List RowValue → List RowFact
 put_in p n s j [] = []
 put_in p n s j (v ∷ vs) = Put p n s j v ∷ put_in p n s j vs

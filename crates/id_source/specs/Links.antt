@@ -66,7 +66,7 @@ abbrev pub test_of : Node → Option ℕ
 test_of (Split t) = Some t
 test_of _ = None
 
--- the target and the index of the store whose address is a row of this node, if it is one
+-- the target of the store whose address is a row of this node, if it is one
 abbrev pub target_of : Node → Option ℕ
 target_of (Address t i) = Some t
 target_of _ = None

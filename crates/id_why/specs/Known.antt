@@ -31,7 +31,7 @@ ask_by t (Ask p n s j) =
     if same_trail p t.path && nat_eq n t.row then Some (record { name = s; index = j }) else None
 ask_by t _ = None
 
--- the facts, and the numbers of those that may be of the thing
+-- the facts
 abbrev pub known_facts : Known → List RowFact
 known_facts k = items k.cells
 
@@ -48,7 +48,7 @@ any_gives fs t (i ∷ is) = gives t (fact_at fs i) || any_gives fs t is
 abbrev pub is_given : Known → Point → Truth
 is_given k t = any_gives (known_facts k) t (numbers_of k t)
 
--- the cells that the thing asks for, and what the row Has at the path
+-- the cells that the thing asks for, by the facts
 abbrev pub asks : Known → Point → List Cell
 asks k t = told (ask_by t) (known_facts k) (numbers_of k t)
 

@@ -17,7 +17,7 @@ abbrev pub is_thing : Point → List Point → Truth
 is_thing t [] = false
 is_thing t (u ∷ us) = same_point u t || is_thing t us
 
--- the things with this one, and with these, where they are not there
+-- the things with this one, where it is not there
 abbrev pub with_one : List Point → Point → List Point
 with_one us t = if is_thing t us then us else us ++ t ∷ []
 
